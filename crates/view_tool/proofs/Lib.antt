@@ -1,0 +1,2 @@
+pub mod LeafLayout
+pub mod Leaves

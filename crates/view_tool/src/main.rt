@@ -1,0 +1,7 @@
+//! The tool.
+#![tactic(auto)]
+
+mod layout;
+mod tree;
+
+fn main() {}
