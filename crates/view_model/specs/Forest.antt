@@ -7,9 +7,9 @@ pub data Forest (R : Type 0) : Type 0 where
   Branch : (row : R) (below after : Forest R) → Forest R
 
 -- how many rows there are
-abbrev pub size_of : {R : Type 0} → Forest R → ℕ
-size_of Nothing = 0
-size_of (Branch row below after) = suc (size_of below + size_of after)
+abbrev pub count_of : {R : Type 0} → Forest R → ℕ
+count_of Nothing = 0
+count_of (Branch row below after) = suc (count_of below + count_of after)
 
 -- two lists of trees, one behind the other
 abbrev pub joined : {R : Type 0} → Forest R → Forest R → Forest R

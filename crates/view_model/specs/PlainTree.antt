@@ -1,5 +1,5 @@
 -- The plain tree: the views, with nothing that a layout leaves behind.
-use Rattle.std.specs.Prelude.{ℕ, List, [], ◌∷◌}
+use Rattle.std.specs.Prelude.{ℕ, ◌==◌, if◌then◌else◌, List, [], ◌∷◌}
 use Rattle.view_model.specs.declared.attributes.Facts.{Facts}
 use Rattle.view_model.specs.declared.kinds.Class.{Class}
 use Rattle.view_model.specs.declared.plain.Tree.{Tree}
@@ -26,3 +26,11 @@ planted layer = Branch (record { number = layer.number; class = layer.class; fac
 -- the plain tree that a tree of the code stands for
 abbrev pub plain : Tree → Forest View
 plain = fold-Tree (Forest View) planted
+
+-- the tree with these trees behind the children of the view of this number
+abbrev pub grown : ℕ → Forest View → Forest View → Forest View
+grown parent new Nothing = Nothing
+grown parent new (Branch view below after) =
+    if view.number == parent
+    then Branch view (joined below new) after
+    else Branch view (grown parent new below) (grown parent new after)

@@ -1,2 +1,17 @@
 pub mod Bounds
+pub mod Carried
+pub mod Command
+pub mod Files
+pub mod Lines
+pub mod Number
+pub mod Refusal
+pub mod Replies
+pub mod Reply
+pub mod Run
+pub mod Step
+pub mod Told
+pub mod Tool
+pub mod Transcript
 pub mod Tree
+pub mod Words
+pub mod WorldNow

@@ -20,11 +20,7 @@ const NO_SIZE: Size = Size { w: 0, h: 0 };
 
 /// The bounds of all views in a window of this size, in the order of their numbers. A view that is gone has none, and
 /// of a root that is gone nothing is told.
-pub fn layout(
-    alloc: Global,
-    root: &Root,
-    window: Size,
-) -> Result<Vec<Option<Rect>>, AllocError>
+pub fn layout(alloc: Global, root: &Root, window: Size) -> Result<Vec<Option<Rect>>, AllocError>
     ensures { IfOk result (λ bounds. laid_from 1 bounds.items ≡ full_layout (tree_of (Some root.now)) window) }
 {
     let mut bounds = Vec::new(alloc);
@@ -105,12 +101,7 @@ fn bounds_of(
         return None;
     }
     let (across, down) = final_specs(start, plan, &kid.facts)?;
-    Some(place(
-        own,
-        room,
-        &kid.facts,
-        measure(kid, across, down),
-    ))
+    Some(place(own, room, &kid.facts, measure(kid, across, down)))
 }
 
 /// The specs of a child's last measuring.

@@ -1,7 +1,62 @@
-//! The tool.
+//! The program `view_tool`: it carries out scripts over a tree of Android views, line by line, and writes exact bounds.
+//!
+//! `tool` is the whole program over handed-in objects; `main` hands it the real ones. On the way from the bytes of a
+//! script to the bytes of the answer: `script` reads, `lines` cuts, `words`, `number` and `command` read a line, `run`
+//! carries out line after line, `world` keeps what they have made, `layout` lays the tree out, `bounds` and `replies`
+//! write the texts, and `reply` gathers them for the sink.
 #![tactic(auto)]
 
+mod bounds;
+mod command;
+mod fault;
 mod layout;
+mod lines;
+mod number;
+mod refusal;
+mod replies;
+mod reply;
+mod run;
+mod script;
+mod tool;
 mod tree;
+mod words;
+mod world;
 
-fn main() {}
+use std::env;
+use std::io::{self, ErrorKind};
+use std::process::ExitCode;
+use tool::{NO_MEMORY, USAGE, tool};
+use tool_io::{FolderShelf, StdinSource, StdoutSink};
+use view_model::Work;
+
+fn main(rt: HostRuntime) -> ExitCode {
+    ExitCode::from(match arguments(&rt) {
+        Ok(arguments) => status_of(&rt, arguments.as_slice()),
+        Err(error) if error.kind() == ErrorKind::OutOfMemory => NO_MEMORY,
+        Err(_) => USAGE,
+    })
+}
+
+/// The words behind the program's name. One that is not UTF-8 is an error.
+fn arguments(rt: &HostRuntime) -> io::Result<Vec<String>> {
+    let mut arguments = Vec::new(rt.alloc());
+    for argument in env::args(rt)?.skip(1) {
+        arguments.push(argument)?;
+    }
+    Ok(arguments)
+}
+
+/// The status of the tool over standard input, standard output and the files of the current folder.
+fn status_of(rt: &HostRuntime, words: &[String]) -> u8 {
+    tool(
+        rt.alloc(),
+        words,
+        &mut FolderShelf::new(rt),
+        &mut StdinSource::new(rt.stdin()),
+        &mut StdoutSink::new(rt.stdout()),
+        &mut Work {
+            measured: 0,
+            painted: 0,
+        },
+    )
+}

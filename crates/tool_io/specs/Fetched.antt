@@ -1,0 +1,16 @@
+-- What a shelf of files answers to a fetch.
+use Rattle.std.specs.Prelude.{◌≡◌, ℕ, ◌≤◌, ◌<◌, length, List, [], ◌∷◌, Option, Some, None, if◌then◌else◌, IsSomeAnd}
+use Rattle.std.specs.Str.{bytes_eq}
+use Rattle.tool_io.specs.declared.shelf.Found.{Found}
+use Rattle.tool_io.specs.declared.shelf.Found.TheVariants.{Whole, Missing, Long}
+
+-- the file of this name: the first of equal names
+abbrev pub file_of : List (List ℕ × List ℕ) → List ℕ → Option (List ℕ)
+file_of [] name = None
+file_of (file ∷ files) name = if bytes_eq file.0 name then Some file.1 else file_of files name
+
+-- what a fetch of a name answers and leaves, with a limit
+abbrev pub Fetched : List (List ℕ × List ℕ) → List ℕ → ℕ → Found → List ℕ → Type 0
+Fetched files name limit Whole bytes = (file_of files name ≡ Some bytes) × (length bytes ≤ limit)
+Fetched files name limit Missing bytes = file_of files name ≡ None
+Fetched files name limit Long bytes = IsSomeAnd (file_of files name) (λ file. limit < length file)

@@ -1,0 +1,9 @@
+pub mod Adapter
+pub mod BytesLeft
+pub mod Calls
+pub mod Causes
+pub mod Counts
+pub mod Fetched
+pub mod Files
+pub mod MemorySink
+pub mod MemorySource

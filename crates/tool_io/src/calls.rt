@@ -1,0 +1,53 @@
+ghost use Rattle.std.specs.Prelude.{◌≡◌, ◌≤◌};
+
+use crate::faults::Failed;
+use std::marker::Model;
+
+/// The calls on an object in memory: which are to fail, how many were made, how many have failed.
+#[derive(Debug, Drop)]
+pub(crate) struct Calls {
+    fails: Vec<u64>,
+    made: u64,
+    faults: u64,
+}
+
+impl Model for Calls {
+    ghost use Rattle.tool_io.specs.Calls.{CallsMade};
+
+    ghost Value = { CallsMade };
+
+    ghost view = { λ calls. record { fails = calls.fails.items; made = calls.made; faults = calls.faults } };
+}
+
+impl Calls {
+    ghost use Rattle.tool_io.specs.Calls.{no_calls, fails_next, after_call, after_failed};
+
+    /// No call was made, and those whose numbers, from 1 on, are in `fails` are to fail.
+    pub(crate) fn new(fails: Vec<u64>) -> Calls
+        ensures { result ≡ no_calls fails.items }
+    {
+        Calls {
+            fails,
+            made: 0,
+            faults: 0,
+        }
+    }
+
+    /// Counts a call, and says whether it is one that is to fail.
+    pub(crate) fn begin(&mut self) -> bool
+        ensures fails { result ≡ fails_next self.old }
+        ensures counted { self.new ≡ after_call self.old }
+    {
+        self.made = self.made.saturating_add(1);
+        self.fails.contains(&self.made)
+    }
+
+    /// Counts that the call has failed.
+    pub(crate) fn fail(&mut self) -> Failed
+        ensures counted { self.new ≡ after_failed self.old }
+        ensures later { self.old.faults ≤ self.new.faults }
+    {
+        self.faults = self.faults.saturating_add(1);
+        Failed
+    }
+}

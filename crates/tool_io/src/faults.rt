@@ -1,0 +1,17 @@
+ghost use Rattle.std.specs.Prelude.{◌≡◌, is_ok};
+ghost use Rattle.tool_io.specs.Causes.{HasCause};
+ghost use Rattle.tool_io.specs.Counts.{faults_after};
+
+/// A call on an object that was handed in has failed.
+#[derive(Clone, Copy, Debug, PartialEq, Eq)]
+pub struct Failed;
+
+/// Raises a count of failed calls where this call failed.
+pub(crate) fn count_fault<T, E>(faults: &mut u64, outcome: &Result<T, E>)
+    ensures counted { faults.new ≡ faults_after faults.old (is_ok outcome.now) }
+    ensures cause { HasCause faults.old faults.new outcome.now }
+{
+    if outcome.is_err() {
+        *faults = faults.saturating_add(1);
+    }
+}

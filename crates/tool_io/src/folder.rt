@@ -1,0 +1,183 @@
+ghost use Rattle.std.specs.Prelude.{◌≡◌, ◌≢◌, ◌<◌, ◌≤◌, ◌↔◌, [], length, IfSome, is_ok};
+ghost use Rattle.std.specs.IoError.{error_kind};
+ghost use Rattle.tool_io.specs.Causes.{Rose};
+ghost use Rattle.tool_io.specs.Counts.{faults_after};
+
+use crate::faults::count_fault;
+use crate::shelf::{Found, Shelf, ShelfFault};
+use std::io::{Error, ErrorKind, Read};
+use std::marker::Model;
+use std::rt::Files;
+use std::{fs, io};
+
+/// A shelf of the files of the current folder, by their names there. A call fails for what is there
+/// and cannot be read, such as a folder. It tells no bytes.
+#[derive(Debug, Drop)]
+pub struct FolderShelf<R> {
+    files: R,
+    faults: u64,
+}
+
+impl<R> Model for FolderShelf<R> {
+    ghost use Rattle.tool_io.specs.Adapter.{Adapter};
+
+    ghost Value = { Adapter R };
+
+    ghost view = { λ s. record { device = s.files; faults = s.faults } };
+}
+
+impl<R> FolderShelf<R> {
+    /// A shelf over the files that this runtime reaches, no call on which has failed.
+    pub fn new(files: R) -> FolderShelf<R>
+        ensures { result ≡ record { device = files; faults = 0 } }
+    {
+        FolderShelf { files, faults: 0 }
+    }
+}
+
+impl<R: Files> Shelf for FolderShelf<R> {
+    ghost use Rattle.std.specs.Prelude.{None};
+
+    ghost files = { λ _. None };
+
+    ghost faults = { λ s. s.faults };
+
+    fn fetch(&mut self, name: &str, into: &mut Vec<u8>, limit: usize) -> Result<Found, ShelfFault>
+        ensures empty { result ≢ Ok Found.Whole → into.new.items ≡ [] }
+        ensures limit { length into.new.items ≤ limit }
+        ensures later { self.old.faults ≤ self.new.faults }
+        ensures failed { result ≡ Err ShelfFault.Failed → Rose self.old.faults self.new.faults }
+
+        // Each failure is counted, also one for want of memory.
+        ensures counted { self.new.faults ≡ faults_after self.old.faults (is_ok result) }
+    {
+        let result = fetch_file(&self.files, name, into, limit);
+        count_fault(&mut self.faults, &result);
+        result
+    }
+}
+
+/// Puts the file of this name into `into`, which is empty after anything but `Found::Whole`.
+fn fetch_file<R: Files>(
+    files: &R,
+    name: &str,
+    into: &mut Vec<u8>,
+    limit: usize,
+) -> Result<Found, ShelfFault>
+    ensures empty { result ≢ Ok Found.Whole → into.new.items ≡ [] }
+    ensures limit { length into.new.items ≤ limit }
+{
+    into.clear();
+    match fs::open(files, name) {
+        Ok(file) => fetch_bytes(file, into, limit),
+        Err(error) if error.kind() == ErrorKind::NotFound => Ok(Found::Missing),
+        Err(error) => Err(fault_of(&error)),
+    }
+}
+
+/// Puts all bytes of a reader into `into`, which is empty after anything but `Found::Whole`. At
+/// most `limit` bytes and one more are read.
+fn fetch_bytes<S: Read + Drop>(
+    reader: S,
+    into: &mut Vec<u8>,
+    limit: usize,
+) -> Result<Found, ShelfFault>
+    requires { into.old.items ≡ [] }
+    ensures empty { result ≢ Ok Found.Whole → into.new.items ≡ [] }
+    ensures limit { length into.new.items ≤ limit }
+
+    // What it answers and leaves is told by the bytes that the reader has, where it tells them.
+    ensures found { result ≢ Ok Found.Missing }
+    ensures whole { result ≡ Ok Found.Whole → IfSome (S.remaining reader) (λ bytes. into.new.items ≡ bytes) }
+    ensures long { result ≡ Ok Found.Long → IfSome (S.remaining reader) (λ bytes. limit < length bytes) }
+{
+    let most = (limit as u64).saturating_add(1);
+    let read = reader.take(most).read_to_end(into);
+    let result = match read {
+        Ok(_) if into.len() <= limit => return Ok(Found::Whole),
+        Ok(_) => Ok(Found::Long),
+        Err(error) => Err(fault_of(&error)),
+    };
+    into.clear();
+    result
+}
+
+/// Want of memory, or another failure.
+fn fault_of(error: &Error) -> ShelfFault
+    ensures { (result ≡ ShelfFault.NoMemory) ↔ (error_kind error.now ≡ ErrorKind.OutOfMemory) }
+{
+    match error.kind() {
+        ErrorKind::OutOfMemory => ShelfFault::NoMemory,
+        _ => ShelfFault::Failed,
+    }
+}
+
+#[cfg(test)]
+mod tests {
+    use super::*;
+    use std::test::Fail;
+
+    /// A reader of zeros without end, which fails at its third read, and counts the bytes.
+    #[derive(Drop)]
+    struct Zeros {
+        given: usize,
+        reads: u8,
+    }
+
+    impl Read for Zeros {
+        fn read(&mut self, buf: &mut [u8]) -> io::Result<usize> {
+            self.reads = self.reads.saturating_add(1);
+            if self.reads == 3 {
+                return Err(io::Error::from(io::ErrorKind::TimedOut));
+            }
+            let count = buf.len().min(1000);
+            self.given = self.given.saturating_add(count);
+            Ok(count)
+        }
+    }
+
+    #[test]
+    fn fetches_a_file_of_the_folder(rt: HostRuntime) -> Result<(), Fail> {
+        let name = "fetched_by_a_test_of_tool_io";
+        fs::write(&rt, name, b"layout")?;
+        let mut shelf = FolderShelf::new(&rt);
+        let mut into = Vec::new(rt.alloc());
+        let long = shelf.fetch(name, &mut into, 5);
+        let whole = shelf.fetch(name, &mut into, 6);
+        fs::remove_file(&rt, name)?;
+        assert_eq!(rt; (long, whole), (Ok(Found::Long), Ok(Found::Whole)));
+        assert_eq!(rt; into.as_slice(), b"layout".as_slice());
+        Ok(())
+    }
+
+    #[test]
+    fn a_missing_file_is_no_failure_and_a_folder_is_one(rt: HostRuntime) {
+        let mut shelf = FolderShelf::new(&rt);
+        let mut into = Vec::new(rt.alloc());
+        let missing = shelf.fetch("no_such_file", &mut into, 6);
+        let folder = shelf.fetch(".", &mut into, 6);
+        assert_eq!(rt;
+            (missing, folder),
+            (Ok(Found::Missing), Err(ShelfFault::Failed))
+        );
+        assert_eq!(rt; shelf.faults, 1);
+    }
+
+    #[test]
+    fn a_read_that_fails_ends_the_fetch(rt: HostRuntime) {
+        let mut into = Vec::new(rt.alloc());
+        let zeros = Zeros { given: 0, reads: 0 };
+        assert_eq!(rt;
+            fetch_bytes(zeros, &mut into, 5000),
+            Err(ShelfFault::Failed)
+        );
+    }
+
+    #[test]
+    fn the_limit_and_one_byte_are_read(rt: HostRuntime) {
+        let mut into = Vec::new(rt.alloc());
+        let mut zeros = Zeros { given: 0, reads: 0 };
+        assert_eq!(rt; fetch_bytes(&mut zeros, &mut into, 12), Ok(Found::Long));
+        assert_eq!(rt; zeros.given, 13);
+    }
+}

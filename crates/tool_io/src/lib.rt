@@ -1,0 +1,36 @@
+//! What the tool reads from and writes to: a source of bytes, a sink for bytes and a shelf of files.
+//!
+//! Each of the three is a trait. Its contract says which bytes a call moves, where the object tells
+//! them, and that a call fails only where the object's count of failed calls rose. The objects in
+//! memory are exact: they fail at the calls that they were told to fail at, and else only for want
+//! of memory. The adapters stand over standard input, standard output and the files of the current
+//! folder, and tell no bytes.
+#![tactic(auto)]
+
+mod bytes_left;
+mod calls;
+mod faults;
+mod folder;
+mod memory_sink;
+mod memory_source;
+mod shelf;
+mod sink;
+mod source;
+mod stdin;
+mod stdout;
+mod steady_shelf;
+mod steady_sink;
+mod steady_source;
+
+pub use faults::Failed;
+pub use folder::FolderShelf;
+pub use memory_sink::MemorySink;
+pub use memory_source::MemorySource;
+pub use shelf::{Found, Shelf, ShelfFault};
+pub use sink::Sink;
+pub use source::Source;
+pub use stdin::StdinSource;
+pub use stdout::StdoutSink;
+pub use steady_shelf::SteadyShelf;
+pub use steady_sink::SteadySink;
+pub use steady_source::SteadySource;

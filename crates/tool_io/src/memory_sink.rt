@@ -1,0 +1,99 @@
+ghost use Rattle.std.specs.Prelude.{◌≡◌, ◌<◌, [], length, IsTrue, IsErr, IfOk, is_ok};
+ghost use Rattle.std.specs.Io.{WritesAtMost};
+ghost use Rattle.std.specs.Io.KnownBytes.{WriteAppends};
+ghost use Rattle.tool_io.specs.Causes.{HasCause};
+
+use crate::calls::Calls;
+use crate::faults::Failed;
+use crate::sink::Sink;
+use std::alloc::Global;
+use std::marker::Model;
+
+/// A sink that keeps the bytes in memory, and fails at the calls that it was told to fail at and
+/// where memory for the bytes is refused.
+#[derive(Debug, Drop)]
+pub struct MemorySink {
+    gone: Vec<u8>,
+    most: usize,
+    calls: Calls,
+}
+
+impl Model for MemorySink {
+    ghost use Rattle.std.specs.Prelude.{◌<◌};
+    ghost use Rattle.tool_io.specs.MemorySink.{BytesGone};
+
+    ghost Value = { BytesGone };
+
+    ghost view = { λ s. record { gone = s.gone.items; most = s.most; calls = s.calls } };
+
+    ghost invariant = { λ s. 0 < s.most };
+}
+
+impl MemorySink {
+    ghost use Rattle.tool_io.specs.Calls.{no_calls};
+
+    /// A sink that takes at most `most` bytes a call, and fails at the calls whose numbers, from 1
+    /// on, are in `fails`.
+    pub fn new(alloc: Global, most: usize, fails: Vec<u64>) -> MemorySink
+        requires { 0 < most }
+        ensures { result ≡ record { gone = []; most = most; calls = no_calls fails.items } }
+    {
+        MemorySink {
+            gone: Vec::new(alloc),
+            most,
+            calls: Calls::new(fails),
+        }
+    }
+
+    /// The bytes that have gone.
+    pub fn gone(&self) -> &[u8]
+        ensures { result.now ≡ self.now.gone }
+    {
+        self.gone.as_slice()
+    }
+}
+
+impl Sink for MemorySink {
+    ghost use Rattle.std.specs.Prelude.{Some};
+    ghost use Rattle.tool_io.specs.Calls.{fails_next};
+    ghost use Rattle.tool_io.specs.MemorySink.{write_count, after_write};
+
+    ghost gone = { λ s. Some s.gone };
+
+    ghost faults = { λ s. s.calls.faults };
+
+    fn write(&mut self, piece: &[u8]) -> Result<usize, Failed>
+        ensures bound { WritesAtMost result piece.now }
+        ensures progress { IfOk result (λ n. 0 < length piece.now → 0 < n) }
+        ensures bytes { WriteAppends (Some self.old.gone) (Some self.new.gone) result piece.now }
+        ensures cause { HasCause self.old.calls.faults self.new.calls.faults result }
+
+        // The call fails where it is listed, and else moves as much as it may. It may also fail for
+        // want of memory, but not where there is nothing to keep.
+        ensures listed { IsTrue (fails_next self.old.calls) → IsErr result }
+        ensures empty { length piece.now ≡ 0 → IsErr result → IsTrue (fails_next self.old.calls) }
+        ensures count { IfOk result (λ n. n ≡ write_count self.old (length piece.now)) }
+        ensures after { self.new ≡ after_write self.old piece.now (is_ok result) }
+    {
+        if self.calls.begin() {
+            return Err(self.calls.fail());
+        }
+        let count = piece.len().min(self.most);
+        if self.gone.extend_from_slice(&piece[..count]).is_err() {
+            return Err(self.calls.fail());
+        }
+        Ok(count)
+    }
+}
+
+#[cfg(test)]
+mod tests {
+    use super::*;
+
+    #[test]
+    fn keeps_a_piece(rt: HostRuntime) {
+        let mut sink = MemorySink::new(rt.alloc(), 4, Vec::new(rt.alloc()));
+        assert_eq!(rt; sink.write(b"again"), Ok(4));
+        assert_eq!(rt; sink.gone(), b"agai".as_slice());
+    }
+}

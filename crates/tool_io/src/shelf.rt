@@ -1,0 +1,43 @@
+ghost use Rattle.std.specs.Prelude.{◌≡◌, ◌≢◌, ℕ, ◌≤◌, List, [], length, Option, IfSome, IfOk};
+ghost use Rattle.tool_io.specs.Causes.{Rose};
+ghost use Rattle.tool_io.specs.Fetched.{Fetched};
+
+/// How a fetch ended.
+#[derive(Clone, Copy, Debug, PartialEq, Eq)]
+pub enum Found {
+    /// The whole file was fetched.
+    Whole,
+    /// There is no file of this name.
+    Missing,
+    /// The file has more bytes than the limit.
+    Long,
+}
+
+/// Why a fetch did not end.
+#[derive(Clone, Copy, Debug, PartialEq, Eq)]
+pub enum ShelfFault {
+    /// The shelf failed.
+    Failed,
+    /// There is no memory for the bytes.
+    NoMemory,
+}
+
+/// Where files are, each under a name.
+pub trait Shelf {
+    /// The files by the bytes of their names, where the object tells them. Of equal names the
+    /// first counts.
+    ghost files: { Self → Option (List (List ℕ × List ℕ)) };
+
+    /// How many calls have failed. The count ends at the greatest `u64`.
+    ghost faults: { Self → ℕ };
+
+    /// Puts the file of this name into `into`, in place of what that holds, if the file has at
+    /// most `limit` bytes. After anything but `Found::Whole`, `into` is empty.
+    fn fetch(&mut self, name: &str, into: &mut Vec<u8>, limit: usize) -> Result<Found, ShelfFault>
+        ensures stays { files self.new ≡ files self.old }
+        ensures found { IfOk result (λ found. IfSome (files self.old) (λ files. Fetched files name.now limit found into.new.items)) }
+        ensures empty { result ≢ Ok Found.Whole → into.new.items ≡ [] }
+        ensures limit { length into.new.items ≤ limit }
+        ensures later { faults self.old ≤ faults self.new }
+        ensures failed { result ≡ Err ShelfFault.Failed → Rose (faults self.old) (faults self.new) };
+}

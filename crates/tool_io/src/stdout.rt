@@ -1,0 +1,131 @@
+ghost use Rattle.std.specs.Prelude.{◌≡◌, ◌<◌, ℕ, length, take, IfOk, OnErr, is_ok};
+ghost use Rattle.std.specs.Io.{WritesAtMost};
+ghost use Rattle.std.specs.Io.KnownBytes.{Appends};
+ghost use Rattle.tool_io.specs.Causes.{HasCause};
+ghost use Rattle.tool_io.specs.Counts.{faults_after};
+
+use crate::faults::{Failed, count_fault};
+use crate::sink::Sink;
+use std::io::Write;
+use std::marker::Model;
+
+/// A sink over a writer, such as standard output, which is flushed in each call. It tells no bytes.
+#[derive(Debug, Drop)]
+pub struct StdoutSink<W> {
+    writer: W,
+    faults: u64,
+}
+
+impl<W> Model for StdoutSink<W> {
+    ghost use Rattle.tool_io.specs.Adapter.{Adapter};
+
+    ghost Value = { Adapter W };
+
+    ghost view = { λ s. record { device = s.writer; faults = s.faults } };
+}
+
+impl<W> StdoutSink<W> {
+    /// A sink over this writer, no call on which has failed.
+    pub fn new(writer: W) -> StdoutSink<W>
+        ensures { result ≡ record { device = writer; faults = 0 } }
+    {
+        StdoutSink { writer, faults: 0 }
+    }
+}
+
+impl<W: Write> Sink for StdoutSink<W> {
+    ghost use Rattle.std.specs.Prelude.{None};
+
+    ghost gone = { λ _. None };
+
+    ghost faults = { λ s. s.faults };
+
+    fn write(&mut self, piece: &[u8]) -> Result<usize, Failed>
+        ensures bound { WritesAtMost result piece.now }
+        ensures progress { IfOk result (λ n. 0 < length piece.now → 0 < n) }
+        ensures cause { HasCause self.old.faults self.new.faults result }
+
+        // The bytes went to the writer, as far as it says so, and each failure is counted. Where a
+        // flush fails, the writer may have taken some of the piece.
+        ensures taken { IfOk result (λ n. Appends (W.contents self.old.device) (W.contents self.new.device) (take n piece.now)) }
+        ensures lost { OnErr result ((n : ℕ) × Appends (W.contents self.old.device) (W.contents self.new.device) (take n piece.now)) }
+        ensures counted { self.new.faults ≡ faults_after self.old.faults (is_ok result) }
+    {
+        let result = write_flushed(&mut self.writer, piece);
+        count_fault(&mut self.faults, &result);
+        result
+    }
+}
+
+/// Writes the first bytes of a piece and flushes them. A writer that takes nothing of a piece that
+/// is not empty has failed.
+fn write_flushed<W: Write>(writer: &mut W, piece: &[u8]) -> Result<usize, Failed>
+    ensures bound { WritesAtMost result piece.now }
+    ensures progress { IfOk result (λ n. 0 < length piece.now → 0 < n) }
+    ensures taken { IfOk result (λ n. Appends (W.contents writer.old) (W.contents writer.new) (take n piece.now)) }
+    ensures lost { OnErr result ((n : ℕ) × Appends (W.contents writer.old) (W.contents writer.new) (take n piece.now)) }
+{
+    let count = writer.write(piece).map_err(|_| Failed)?;
+    if count == 0 && !piece.is_empty() {
+        return Err(Failed);
+    }
+    writer.flush().map_err(|_| Failed)?;
+    Ok(count)
+}
+
+#[cfg(test)]
+mod tests {
+    use super::*;
+    use std::io;
+
+    /// A device that takes at most three bytes a call, none at its second write, and fails at its
+    /// second flush.
+    #[derive(Drop)]
+    struct Device {
+        taken: usize,
+        flushed: usize,
+        writes: u8,
+        flushes: u8,
+    }
+
+    impl Write for Device {
+        fn write(&mut self, buf: &[u8]) -> io::Result<usize> {
+            self.writes = self.writes.saturating_add(1);
+            let taken = if self.writes == 2 {
+                0
+            } else {
+                buf.len().min(3)
+            };
+            self.taken = self.taken.saturating_add(taken);
+            Ok(taken)
+        }
+
+        fn flush(&mut self) -> io::Result<()> {
+            self.flushes = self.flushes.saturating_add(1);
+            if self.flushes == 2 {
+                return Err(io::Error::from(io::ErrorKind::StorageFull));
+            }
+            self.flushed = self.taken;
+            Ok(())
+        }
+    }
+
+    #[test]
+    fn each_write_is_flushed_and_each_failure_counted(rt: HostRuntime) {
+        let mut sink = StdoutSink::new(Device {
+            taken: 0,
+            flushed: 0,
+            writes: 0,
+            flushes: 0,
+        });
+        let first = [
+            sink.write(b"settled"),
+            sink.write(b"tled"),
+            sink.write(b"tled"),
+        ];
+        assert_eq!(rt; first, [Ok(3), Err(Failed), Err(Failed)]);
+        assert_eq!(rt; (sink.faults, sink.writer.flushed), (2, 3));
+        assert_eq!(rt; sink.write(b"d"), Ok(1));
+        assert_eq!(rt; (sink.faults, sink.writer.flushed), (2, 7));
+    }
+}

@@ -1,0 +1,87 @@
+ghost use Rattle.std.specs.Prelude.{◌≡◌, ◌≢◌, ◌<◌, ◌≤◌, ◌↔◌, [], length, IfOk, IsSomeAnd, None};
+ghost use Rattle.tool_io.specs.Fetched.{Fetched, file_of};
+
+use crate::shelf::{Found, Shelf, ShelfFault};
+use std::marker::Model;
+
+/// A shelf of files in memory that never answers `ShelfFault::Failed`.
+#[derive(Debug, Drop)]
+pub struct SteadyShelf {
+    files: Vec<(String, Vec<u8>)>,
+}
+
+impl Model for SteadyShelf {
+    ghost use Rattle.std.specs.Prelude.{ℕ, List};
+    ghost use Rattle.tool_io.specs.Files.{named_files};
+
+    ghost Value = { List (List ℕ × List ℕ) };
+
+    ghost view = { λ s. named_files s.files.items };
+}
+
+impl SteadyShelf {
+    ghost use Rattle.tool_io.specs.Files.{named_files};
+
+    /// A shelf of these files. Of equal names the first counts.
+    pub fn new(files: Vec<(String, Vec<u8>)>) -> SteadyShelf
+        ensures { result ≡ named_files files.items }
+    {
+        SteadyShelf { files }
+    }
+}
+
+impl Shelf for SteadyShelf {
+    ghost use Rattle.std.specs.Prelude.{Some};
+
+    ghost files = { λ s. Some s };
+
+    ghost faults = { λ _. 0 };
+
+    fn fetch(&mut self, name: &str, into: &mut Vec<u8>, limit: usize) -> Result<Found, ShelfFault>
+        ensures stays { self.new ≡ self.old }
+        ensures found { IfOk result (λ found. Fetched self.old name.now limit found into.new.items) }
+        ensures empty { result ≢ Ok Found.Whole → into.new.items ≡ [] }
+        ensures limit { length into.new.items ≤ limit }
+        ensures failed { result ≢ Err ShelfFault.Failed }
+
+        // A file is missing exactly where it is not held, and long exactly where it is above the
+        // limit. Memory may be wanting for the bytes of a file that would be handed out.
+        ensures missing { (result ≡ Ok Found.Missing) ↔ (file_of self.old name.now ≡ None) }
+        ensures long { (result ≡ Ok Found.Long) ↔ IsSomeAnd (file_of self.old name.now) (λ file. limit < length file) }
+        ensures no_memory { result ≡ Err ShelfFault.NoMemory → IsSomeAnd (file_of self.old name.now) (λ file. (0 < length file) × (length file ≤ limit)) }
+    {
+        into.clear();
+        for (held, bytes) in &self.files {
+            if held.as_str() == name {
+                if bytes.len() > limit {
+                    return Ok(Found::Long);
+                }
+                if into.extend_from_slice(bytes.as_slice()).is_err() {
+                    return Err(ShelfFault::NoMemory);
+                }
+                return Ok(Found::Whole);
+            }
+        }
+        Ok(Found::Missing)
+    }
+}
+
+#[cfg(test)]
+mod tests {
+    use super::*;
+    use std::test::Fail;
+
+    #[test]
+    fn fetches_a_file(rt: HostRuntime) -> Result<(), Fail> {
+        let mut files = Vec::new(rt.alloc());
+        files.push((
+            String::from_str(rt.alloc(), "main")?,
+            b"layout".to_vec(rt.alloc())?,
+        ))?;
+        let mut into = Vec::new(rt.alloc());
+        let result = SteadyShelf::new(files).fetch("main", &mut into, 6);
+        assert_eq!(rt; result, Ok(Found::Whole));
+        assert_eq!(rt; into.as_slice(), b"layout".as_slice());
+        Ok(())
+    }
+}

@@ -1,0 +1,52 @@
+ghost use Rattle.std.specs.Prelude.{◌≡◌, ◌<◌, length, IfOk, min};
+ghost use Rattle.std.specs.Io.{WritesAtMost};
+
+use crate::faults::Failed;
+use crate::sink::Sink;
+use std::marker::Model;
+
+/// A sink that drops the bytes, and never fails. Clauses see it as the greatest number of bytes
+/// that one call takes.
+#[derive(Debug, Drop)]
+pub struct SteadySink {
+    most: usize,
+}
+
+impl Model for SteadySink {
+    ghost use Rattle.std.specs.Prelude.{ℕ, ◌<◌};
+
+    ghost Value = { ℕ };
+
+    ghost view = { λ s. s.most };
+
+    ghost invariant = { λ s. 0 < s.most };
+}
+
+impl SteadySink {
+    /// A sink that takes at most `most` bytes a call.
+    pub fn new(most: usize) -> SteadySink
+        requires { 0 < most }
+        ensures { result ≡ most }
+    {
+        SteadySink { most }
+    }
+}
+
+impl Sink for SteadySink {
+    ghost use Rattle.std.specs.Prelude.{None};
+
+    ghost gone = { λ _. None };
+
+    ghost faults = { λ _. 0 };
+
+    fn write(&mut self, piece: &[u8]) -> Result<usize, Failed>
+        ensures bound { WritesAtMost result piece.now }
+        ensures progress { IfOk result (λ n. 0 < length piece.now → 0 < n) }
+
+        // The call never fails, and takes as much as it may.
+        ensures count { result ≡ Ok (min (length piece.now) self.old) }
+        ensures stays { self.new ≡ self.old }
+    {
+        Ok(piece.len().min(self.most))
+    }
+}

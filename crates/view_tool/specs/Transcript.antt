@@ -1,0 +1,72 @@
+-- What the tool writes for a script: the texts of its lines, one after another, from the empty world.
+use Rattle.std.specs.Prelude.{ℕ, ◌+◌, Bool, true, false, nat_lt, if◌then◌else◌, length, List, [], ◌++◌, Result, Ok, Err, fold, take}
+use Rattle.view_model.specs.World.{World, empty_world}
+use Rattle.view_tool.specs.declared.command.Command.{Command}
+use Rattle.view_tool.specs.declared.fault.LineFault.{LineFault}
+use Rattle.view_tool.specs.declared.fault.LineFault.TheVariants as fault
+use Rattle.view_tool.specs.declared.refusal.Refusal.{Refusal}
+use Rattle.view_tool.specs.declared.refusal.Refusal.TheVariants as refusal
+use Rattle.view_tool.specs.Command.{command_of}
+use Rattle.view_tool.specs.Files.{Files}
+use Rattle.view_tool.specs.Lines.{Line, Text, LongLine, cut_of, is_passed_over, lines_of}
+use Rattle.view_tool.specs.Refusal.{number_of, name_of}
+use Rattle.view_tool.specs.Replies.{refusal_text}
+use Rattle.view_tool.specs.Step.{Reply, Done, Refused, step}
+use Rattle.view_tool.specs.Words.{words}
+
+abbrev pub reply_to_command : World → Result Command LineFault → Reply
+reply_to_command world (Ok command) = step world command
+reply_to_command world (Err fault.Syntax) = Refused refusal.Syntax
+reply_to_command world (Err fault.Range) = Refused refusal.Range
+
+-- what a line does: too long a line is refused whatever it begins with, and one that is passed over does nothing
+unfoldable pub reply_to_line : World → Line → Reply
+reply_to_line world LongLine = Refused refusal.LongLine
+reply_to_line world (Text bytes) = if is_passed_over bytes then Done world [] else reply_to_command world (command_of (words bytes))
+
+-- the line that tells of a refusal, by the number of the refused line
+abbrev pub refused_line : ℕ → Refusal → List ℕ
+refused_line line refusal = refusal_text line (number_of refusal) (name_of refusal)
+
+-- the lines so far: how many they are, the world they made, what was written for them, and whether one was refused
+pub record Progress : Type 0 where
+  pub lines : ℕ
+  pub world : World
+  pub text : List ℕ
+  pub refused : Bool
+
+abbrev pub at_start : Progress
+at_start = record { lines = 0; world = empty_world; text = []; refused = false }
+
+-- a refused line leaves the world as it was
+abbrev pub after_reply : Progress → Reply → Progress
+after_reply progress (Done world text) = record { lines = progress.lines + 1; world = world; text = progress.text ++ text; refused = progress.refused }
+after_reply progress (Refused refusal) =
+    record { lines = progress.lines + 1; world = progress.world; text = progress.text ++ refused_line (progress.lines + 1) refusal; refused = true }
+
+abbrev pub after_line : Progress → Line → Progress
+after_line progress line = after_reply progress (reply_to_line progress.world line)
+
+-- after these lines, from the start
+unfoldable pub after_lines : List Line → Progress
+after_lines lines = fold after_line at_start lines
+
+-- the transcript of a script, with these files at hand; no line reads a file yet
+abbrev pub transcript : List ℕ → Files → List ℕ
+transcript script files = (after_lines (lines_of script)).text
+
+-- whether a line of the script is refused
+abbrev pub has_refusal : List ℕ → Files → Bool
+has_refusal script files = (after_lines (lines_of script)).refused
+
+-- the most bytes that a script may have
+abbrev pub longest_script : ℕ
+longest_script = 16777216
+
+-- the lines of a script that are carried out: all, or where it is too long those whose line feed is among the first bytes
+unfoldable pub carried_lines : List ℕ → List Line
+carried_lines script = if nat_lt longest_script (length script) then (cut_of (take longest_script script)).lines else lines_of script
+
+-- the transcript of these lines of a script that is too long
+abbrev pub cut_transcript : List ℕ → Files → List ℕ
+cut_transcript script files = (after_lines (cut_of (take longest_script script)).lines).text
