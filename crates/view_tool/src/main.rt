@@ -17,6 +17,8 @@ mod replies;
 mod reply;
 mod run;
 mod script;
+#[cfg(test)]
+mod tests;
 mod tool;
 mod tree;
 mod words;
