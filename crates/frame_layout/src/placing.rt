@@ -38,7 +38,8 @@ fn rect_of(left: i32, top: i32, size: Size) -> Rect
 }
 
 fn left_edge(own: &Facts, room: i32, kid: &Facts, width: i32) -> i32
-    ensures value { result ≡ clamp_coordinate (low_edge (place_across kid.now.layout_gravity.across) room (padding_left own.now) (padding_right own.now) width (margin_left kid.now) (margin_right kid.now)) }
+    ensures value { result ≡ clamp_coordinate
+        (low_edge (place_across kid.now.layout_gravity.across) room (padding_left own.now) (padding_right own.now) width (margin_left kid.now) (margin_right kid.now)) }
     ensures edge { IsCoordinate result }
 {
     let before = own.padding_left();
@@ -60,7 +61,8 @@ fn left_edge(own: &Facts, room: i32, kid: &Facts, width: i32) -> i32
 }
 
 fn top_edge(own: &Facts, room: i32, kid: &Facts, height: i32) -> i32
-    ensures value { result ≡ clamp_coordinate (low_edge (place_down kid.now.layout_gravity.down) room own.now.padding.top own.now.padding.bottom height kid.now.margins.top kid.now.margins.bottom) }
+    ensures value { result ≡ clamp_coordinate
+        (low_edge (place_down kid.now.layout_gravity.down) room own.now.padding.top own.now.padding.bottom height kid.now.margins.top kid.now.margins.bottom) }
     ensures edge { IsCoordinate result }
 {
     let before = own.padding.top;

@@ -47,8 +47,13 @@ impl FramePlan {
     /// The specs of a child in this phase, or None where it is not measured in it. The size is the child's measured size
     /// at this moment; a frame layout has no use for it.
     pub fn ask(&self, kid: &Facts, _size: Size) -> Option<(Spec, Spec)>
-        ensures first { (own : FactsValue) (specs : Specs) (taken : List Measured) → InFirst self.now own specs taken → result ≡ Some (pair_of (first_specs own specs kid.now)) }
-        ensures second { (own : FactsValue) (specs : Specs) (taken : List Measured) → InSecond self.now own specs taken → result ≡ (if matches_parent kid.now then Some (pair_of (second_specs own specs (frame_size own specs taken) kid.now)) else None) }
+        ensures first { (own : FactsValue) (specs : Specs) (taken : List Measured)
+            → InFirst self.now own specs taken
+            → result ≡ Some (pair_of (first_specs own specs kid.now)) }
+        ensures second { (own : FactsValue) (specs : Specs) (taken : List Measured)
+            → InSecond self.now own specs taken
+            → result ≡
+            (if matches_parent kid.now then Some (pair_of (second_specs own specs (frame_size own specs taken) kid.now)) else None) }
     {
         match self.settled {
             None => Some(first_pair(&self.own, self.ws, self.hs, kid)),
@@ -64,8 +69,12 @@ impl FramePlan {
 
     /// Takes the size that a child has got; where `ask` answered None, the one that was handed to it.
     pub fn take(&mut self, kid: &Facts, size: Size)
-        ensures first { (own : FactsValue) (specs : Specs) (taken : List Measured) → InFirst self.old own specs taken → InFirst self.new own specs (taken ++ record { facts = kid.now; size = size } ∷ []) }
-        ensures second { (own : FactsValue) (specs : Specs) (taken : List Measured) → InSecond self.old own specs taken → InSecond self.new own specs taken }
+        ensures first { (own : FactsValue) (specs : Specs) (taken : List Measured)
+            → InFirst self.old own specs taken
+            → InFirst self.new own specs (taken ++ record { facts = kid.now; size = size } ∷ []) }
+        ensures second { (own : FactsValue) (specs : Specs) (taken : List Measured)
+            → InSecond self.old own specs taken
+            → InSecond self.new own specs taken }
     {
         if self.settled.is_some() {
             return;
@@ -79,9 +88,17 @@ impl FramePlan {
 
     /// Ends a phase: true where another follows.
     pub fn turn(&mut self) -> bool
-        ensures again { (own : FactsValue) (specs : Specs) (taken : List Measured) → InFirst self.old own specs taken → measures_again specs taken ≡ true → (result ≡ true) × InSecond self.new own specs taken }
-        ensures over { (own : FactsValue) (specs : Specs) (taken : List Measured) → InFirst self.old own specs taken → measures_again specs taken ≡ false → (result ≡ false) × InFirst self.new own specs taken }
-        ensures second { (own : FactsValue) (specs : Specs) (taken : List Measured) → InSecond self.old own specs taken → (result ≡ false) × InSecond self.new own specs taken }
+        ensures again { (own : FactsValue) (specs : Specs) (taken : List Measured)
+            → InFirst self.old own specs taken
+            → measures_again specs taken ≡ true
+            → (result ≡ true) × InSecond self.new own specs taken }
+        ensures over { (own : FactsValue) (specs : Specs) (taken : List Measured)
+            → InFirst self.old own specs taken
+            → measures_again specs taken ≡ false
+            → (result ≡ false) × InFirst self.new own specs taken }
+        ensures second { (own : FactsValue) (specs : Specs) (taken : List Measured)
+            → InSecond self.old own specs taken
+            → (result ≡ false) × InSecond self.new own specs taken }
     {
         if self.settled.is_some() || self.matching < 2 || (is_exact(self.ws) && is_exact(self.hs)) {
             return false;
@@ -92,8 +109,12 @@ impl FramePlan {
 
     /// The own size, once every child of the first phase is taken.
     pub fn finish(&self) -> Size
-        ensures first { (own : FactsValue) (specs : Specs) (taken : List Measured) → InFirst self.now own specs taken → result ≡ frame_size own specs taken }
-        ensures second { (own : FactsValue) (specs : Specs) (taken : List Measured) → InSecond self.now own specs taken → result ≡ frame_size own specs taken }
+        ensures first { (own : FactsValue) (specs : Specs) (taken : List Measured)
+            → InFirst self.now own specs taken
+            → result ≡ frame_size own specs taken }
+        ensures second { (own : FactsValue) (specs : Specs) (taken : List Measured)
+            → InSecond self.now own specs taken
+            → result ≡ frame_size own specs taken }
     {
         match self.settled {
             Some(size) => size,
@@ -103,7 +124,9 @@ impl FramePlan {
 
     /// The own size by the maxima so far.
     fn own_size(&self) -> Size
-        ensures { (own : FactsValue) (specs : Specs) (taken : List Measured) → InFirst self.now own specs taken → result ≡ frame_size own specs taken }
+        ensures { (own : FactsValue) (specs : Specs) (taken : List Measured)
+            → InFirst self.now own specs taken
+            → result ≡ frame_size own specs taken }
     {
         Size {
             w: own_side(

@@ -35,7 +35,8 @@ pub trait Shelf {
     /// most `limit` bytes. After anything but `Found::Whole`, `into` is empty.
     fn fetch(&mut self, name: &str, into: &mut Vec<u8>, limit: usize) -> Result<Found, ShelfFault>
         ensures stays { files self.new ≡ files self.old }
-        ensures found { IfOk result (λ found. IfSome (files self.old) (λ files. Fetched files name.now limit found into.new.items)) }
+        ensures found { IfOk result
+            (λ found. IfSome (files self.old) (λ files. Fetched files name.now limit found into.new.items)) }
         ensures empty { result ≢ Ok Found.Whole → into.new.items ≡ [] }
         ensures limit { length into.new.items ≤ limit }
         ensures later { faults self.old ≤ faults self.new }

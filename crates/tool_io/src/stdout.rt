@@ -47,8 +47,10 @@ impl<W: Write> Sink for StdoutSink<W> {
 
         // The bytes went to the writer, as far as it says so, and each failure is counted. Where a
         // flush fails, the writer may have taken some of the piece.
-        ensures taken { IfOk result (λ n. Appends (W.contents self.old.device) (W.contents self.new.device) (take n piece.now)) }
-        ensures lost { OnErr result ((n : ℕ) × Appends (W.contents self.old.device) (W.contents self.new.device) (take n piece.now)) }
+        ensures taken { IfOk result
+            (λ n. Appends (W.contents self.old.device) (W.contents self.new.device) (take n piece.now)) }
+        ensures lost { OnErr result
+            ((n : ℕ) × Appends (W.contents self.old.device) (W.contents self.new.device) (take n piece.now)) }
         ensures counted { self.new.faults ≡ faults_after self.old.faults (is_ok result) }
     {
         let result = write_flushed(&mut self.writer, piece);

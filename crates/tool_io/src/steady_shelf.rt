@@ -48,7 +48,8 @@ impl Shelf for SteadyShelf {
         // limit. Memory may be wanting for the bytes of a file that would be handed out.
         ensures missing { (result ≡ Ok Found.Missing) ↔ (file_of self.old name.now ≡ None) }
         ensures long { (result ≡ Ok Found.Long) ↔ IsSomeAnd (file_of self.old name.now) (λ file. limit < length file) }
-        ensures no_memory { result ≡ Err ShelfFault.NoMemory → IsSomeAnd (file_of self.old name.now) (λ file. (0 < length file) × (length file ≤ limit)) }
+        ensures no_memory { result ≡ Err ShelfFault.NoMemory
+            → IsSomeAnd (file_of self.old name.now) (λ file. (0 < length file) × (length file ≤ limit)) }
     {
         into.clear();
         for (held, bytes) in &self.files {

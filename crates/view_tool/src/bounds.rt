@@ -19,7 +19,8 @@ pub fn reply_bounds<K: Sink>(
     bounds: &[Option<Rect>],
     views: usize,
 ) -> Result<(), Failed>
-    ensures { Delivered (K.gone sink.old) (K.gone sink.new) (K.faults sink.old) (K.faults sink.new) result (bounds_of_views (laid_from 1 bounds.now) 1 views) }
+    ensures { Delivered (K.gone sink.old) (K.gone sink.new) (K.faults sink.old) (K.faults sink.new) result
+        (bounds_of_views (laid_from 1 bounds.now) 1 views) }
 {
     let mut reply = ReplyWriter::new();
     for k in 0..views {

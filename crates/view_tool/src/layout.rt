@@ -79,7 +79,11 @@ fn place_kids(
     plan: &FramePlan,
     room: Size,
 ) -> Result<(), AllocError>
-    ensures { (specs : Specs) (taken : List Measured) → InFirst start.now root.now.facts specs [] → Turned plan.now root.now.facts specs taken → OnOk result (bounds.new.items ≡ bounds.old.items ++ map (leaf_bounds root.now.facts specs taken room) root.now.kids.items) }
+    ensures { (specs : Specs) (taken : List Measured)
+        → InFirst start.now root.now.facts specs []
+        → Turned plan.now root.now.facts specs taken
+        → OnOk result
+        (bounds.new.items ≡ bounds.old.items ++ map (leaf_bounds root.now.facts specs taken room) root.now.kids.items) }
 {
     for kid in &root.kids {
         bounds.push(bounds_of(start, plan, &root.facts, room, kid))?;
@@ -95,7 +99,10 @@ fn bounds_of(
     room: Size,
     kid: &Leaf,
 ) -> Option<Rect>
-    ensures { (specs : Specs) (taken : List Measured) → InFirst start.now own.now specs [] → Turned plan.now own.now specs taken → result ≡ leaf_bounds own.now specs taken room kid.now }
+    ensures { (specs : Specs) (taken : List Measured)
+        → InFirst start.now own.now specs []
+        → Turned plan.now own.now specs taken
+        → result ≡ leaf_bounds own.now specs taken room kid.now }
 {
     if !kid.facts.is_shown() {
         return None;
@@ -106,7 +113,10 @@ fn bounds_of(
 
 /// The specs of a child's last measuring.
 fn final_specs(start: &FramePlan, plan: &FramePlan, kid: &Facts) -> Option<(Spec, Spec)>
-    ensures { (own : FactsValue) (specs : Specs) (taken : List Measured) → InFirst start.now own specs [] → Turned plan.now own specs taken → result ≡ Some (pair_of (final_in own specs taken kid.now)) }
+    ensures { (own : FactsValue) (specs : Specs) (taken : List Measured)
+        → InFirst start.now own specs []
+        → Turned plan.now own specs taken
+        → result ≡ Some (pair_of (final_in own specs taken kid.now)) }
 {
     match plan.ask(kid, NO_SIZE) {
         Some(pair) => Some(pair),
@@ -116,7 +126,8 @@ fn final_specs(start: &FramePlan, plan: &FramePlan, kid: &Facts) -> Option<(Spec
 
 /// The plan of a group that has taken all its children once, and has turned.
 fn turned_plan(own: &Facts, ws: Spec, hs: Spec, kids: &[Leaf]) -> FramePlan
-    ensures { let specs : Specs = record { across = ws; down = hs } in Turned result own.now specs (first_measured own.now specs (children_of (leaves 2 kids.now))) }
+    ensures { let specs : Specs = record { across = ws; down = hs } in Turned result own.now specs
+        (first_measured own.now specs (children_of (leaves 2 kids.now))) }
 {
     let mut plan = first_plan(own, ws, hs, kids);
     plan.turn();
@@ -125,7 +136,8 @@ fn turned_plan(own: &Facts, ws: Spec, hs: Spec, kids: &[Leaf]) -> FramePlan
 
 /// The plan of a group that has taken all its children once.
 fn first_plan(own: &Facts, ws: Spec, hs: Spec, kids: &[Leaf]) -> FramePlan
-    ensures { let specs : Specs = record { across = ws; down = hs } in InFirst result own.now specs (first_measured own.now specs (children_of (leaves 2 kids.now))) }
+    ensures { let specs : Specs = record { across = ws; down = hs } in InFirst result own.now specs
+        (first_measured own.now specs (children_of (leaves 2 kids.now))) }
 {
     let mut plan = FramePlan::start(own, ws, hs);
     for kid in kids {
@@ -136,7 +148,9 @@ fn first_plan(own: &Facts, ws: Spec, hs: Spec, kids: &[Leaf]) -> FramePlan
 
 /// Hands a child to the plan of its group, if it takes part in layout.
 fn hand_in(plan: &mut FramePlan, kid: &Leaf)
-    ensures { (own : FactsValue) (specs : Specs) (taken : List Measured) → InFirst plan.old own specs taken → InFirst plan.new own specs (with_leaf own specs taken kid.now) }
+    ensures { (own : FactsValue) (specs : Specs) (taken : List Measured)
+        → InFirst plan.old own specs taken
+        → InFirst plan.new own specs (with_leaf own specs taken kid.now) }
 {
     if !kid.facts.is_shown() {
         return;

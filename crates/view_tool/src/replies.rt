@@ -11,7 +11,8 @@ use tool_io::{Failed, Sink};
 
 /// The name of a view: `vN`.
 pub fn write_view_name<K: Sink>(reply: &mut ReplyWriter, sink: &mut K, number: u64)
-    ensures { Adds (K.gone sink.old) (K.faults sink.old) reply.old (K.gone sink.new) (K.faults sink.new) reply.new (view_name number) }
+    ensures { Adds (K.gone sink.old) (K.faults sink.old) reply.old (K.gone sink.new) (K.faults sink.new) reply.new
+        (view_name number) }
 {
     reply.text(sink, b"v");
     reply.number(sink, number);
@@ -19,7 +20,8 @@ pub fn write_view_name<K: Sink>(reply: &mut ReplyWriter, sink: &mut K, number: u
 
 /// The reply to a line that adds a view.
 pub fn write_added<K: Sink>(reply: &mut ReplyWriter, sink: &mut K, number: u64)
-    ensures { Adds (K.gone sink.old) (K.faults sink.old) reply.old (K.gone sink.new) (K.faults sink.new) reply.new (added_text number) }
+    ensures { Adds (K.gone sink.old) (K.faults sink.old) reply.old (K.gone sink.new) (K.faults sink.new) reply.new
+        (added_text number) }
 {
     write_view_name(reply, sink, number);
     reply.text(sink, b"\n");
@@ -28,7 +30,8 @@ pub fn write_added<K: Sink>(reply: &mut ReplyWriter, sink: &mut K, number: u64)
 /// A side behind a space.
 #[tactic(auto, unfolding(crate::specs::Replies::side_text))]
 fn write_side<K: Sink>(reply: &mut ReplyWriter, sink: &mut K, side: i32)
-    ensures { Adds (K.gone sink.old) (K.faults sink.old) reply.old (K.gone sink.new) (K.faults sink.new) reply.new (side_text side) }
+    ensures { Adds (K.gone sink.old) (K.faults sink.old) reply.old (K.gone sink.new) (K.faults sink.new) reply.new
+        (side_text side) }
 {
     reply.text(sink, b" ");
     reply.signed(sink, i64::from(side));
@@ -37,7 +40,8 @@ fn write_side<K: Sink>(reply: &mut ReplyWriter, sink: &mut K, side: i32)
 /// The sides of a rectangle, each behind a space.
 #[tactic(auto, unfolding(crate::specs::Replies::sides_text))]
 fn write_sides<K: Sink>(reply: &mut ReplyWriter, sink: &mut K, rect: Rect)
-    ensures { Adds (K.gone sink.old) (K.faults sink.old) reply.old (K.gone sink.new) (K.faults sink.new) reply.new (sides_text rect) }
+    ensures { Adds (K.gone sink.old) (K.faults sink.old) reply.old (K.gone sink.new) (K.faults sink.new) reply.new
+        (sides_text rect) }
 {
     write_side(reply, sink, rect.left);
     write_side(reply, sink, rect.top);
@@ -47,7 +51,8 @@ fn write_sides<K: Sink>(reply: &mut ReplyWriter, sink: &mut K, rect: Rect)
 
 /// Where a view is: its sides, or none where it is not laid out.
 fn write_place<K: Sink>(reply: &mut ReplyWriter, sink: &mut K, rect: Option<Rect>)
-    ensures { Adds (K.gone sink.old) (K.faults sink.old) reply.old (K.gone sink.new) (K.faults sink.new) reply.new (place_text rect) }
+    ensures { Adds (K.gone sink.old) (K.faults sink.old) reply.old (K.gone sink.new) (K.faults sink.new) reply.new
+        (place_text rect) }
 {
     match rect {
         None => reply.text(sink, b" none"),
@@ -58,7 +63,8 @@ fn write_place<K: Sink>(reply: &mut ReplyWriter, sink: &mut K, rect: Option<Rect
 /// The bounds of a view, in its parent's coordinates.
 #[tactic(auto, unfolding(crate::specs::Replies::bounds_line))]
 pub fn write_bounds<K: Sink>(reply: &mut ReplyWriter, sink: &mut K, number: u64, rect: Option<Rect>)
-    ensures { Adds (K.gone sink.old) (K.faults sink.old) reply.old (K.gone sink.new) (K.faults sink.new) reply.new (bounds_line number rect) }
+    ensures { Adds (K.gone sink.old) (K.faults sink.old) reply.old (K.gone sink.new) (K.faults sink.new) reply.new
+        (bounds_line number rect) }
 {
     write_view_name(reply, sink, number);
     write_place(reply, sink, rect);
@@ -67,7 +73,8 @@ pub fn write_bounds<K: Sink>(reply: &mut ReplyWriter, sink: &mut K, number: u64,
 
 /// The reply to a frame that has settled.
 pub fn write_settled<K: Sink>(reply: &mut ReplyWriter, sink: &mut K)
-    ensures { Adds (K.gone sink.old) (K.faults sink.old) reply.old (K.gone sink.new) (K.faults sink.new) reply.new settled_text }
+    ensures { Adds (K.gone sink.old) (K.faults sink.old) reply.old (K.gone sink.new) (K.faults sink.new) reply.new
+        settled_text }
 {
     reply.text(sink, b"settled 0\n");
 }
@@ -80,7 +87,8 @@ pub fn write_refusal<K: Sink>(
     code: u8,
     name: &[u8],
 )
-    ensures { Adds (K.gone sink.old) (K.faults sink.old) reply.old (K.gone sink.new) (K.faults sink.new) reply.new (refusal_text line code name.now) }
+    ensures { Adds (K.gone sink.old) (K.faults sink.old) reply.old (K.gone sink.new) (K.faults sink.new) reply.new
+        (refusal_text line code name.now) }
 {
     reply.text(sink, b"line ");
     reply.number(sink, line);
@@ -93,7 +101,8 @@ pub fn write_refusal<K: Sink>(
 
 /// Replies to a line that adds a view.
 pub fn reply_added<K: Sink>(sink: &mut K, number: u64) -> Result<(), Failed>
-    ensures { Delivered (K.gone sink.old) (K.gone sink.new) (K.faults sink.old) (K.faults sink.new) result (added_text number) }
+    ensures { Delivered (K.gone sink.old) (K.gone sink.new) (K.faults sink.old) (K.faults sink.new) result
+        (added_text number) }
 {
     let mut reply = ReplyWriter::new();
     write_added(&mut reply, sink, number);
@@ -102,7 +111,8 @@ pub fn reply_added<K: Sink>(sink: &mut K, number: u64) -> Result<(), Failed>
 
 /// Replies to a frame that has settled.
 pub fn reply_settled<K: Sink>(sink: &mut K) -> Result<(), Failed>
-    ensures { Delivered (K.gone sink.old) (K.gone sink.new) (K.faults sink.old) (K.faults sink.new) result settled_text }
+    ensures { Delivered (K.gone sink.old) (K.gone sink.new) (K.faults sink.old) (K.faults sink.new) result
+        settled_text }
 {
     let mut reply = ReplyWriter::new();
     write_settled(&mut reply, sink);
@@ -111,7 +121,8 @@ pub fn reply_settled<K: Sink>(sink: &mut K) -> Result<(), Failed>
 
 /// Replies to a line that is refused.
 pub fn reply_refusal<K: Sink>(sink: &mut K, line: u64, code: u8, name: &[u8]) -> Result<(), Failed>
-    ensures { Delivered (K.gone sink.old) (K.gone sink.new) (K.faults sink.old) (K.faults sink.new) result (refusal_text line code name.now) }
+    ensures { Delivered (K.gone sink.old) (K.gone sink.new) (K.faults sink.old) (K.faults sink.new) result
+        (refusal_text line code name.now) }
 {
     let mut reply = ReplyWriter::new();
     write_refusal(&mut reply, sink, line, code, name);

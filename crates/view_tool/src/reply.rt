@@ -49,7 +49,9 @@ impl Model for ReplyWriter {
 impl ReplyWriter {
     /// Nothing is held.
     pub fn new() -> ReplyWriter
-        ensures told { (first now : Option (List ℕ)) (calls : ℕ) (before : List ℕ) → Appends first now before → Told first now calls calls result before }
+        ensures told { (first now : Option (List ℕ)) (calls : ℕ) (before : List ℕ)
+            → Appends first now before
+            → Told first now calls calls result before }
         ensures value { result ≡ record { bytes = []; failed = false } }
     {
         ReplyWriter {
@@ -68,7 +70,9 @@ impl ReplyWriter {
 
     /// Writes what is held.
     fn flush<K: Sink>(&mut self, sink: &mut K)
-        ensures told { (first : Option (List ℕ)) (calls : ℕ) (text : List ℕ) → Told first (K.gone sink.old) calls (K.faults sink.old) self.old text → Told first (K.gone sink.new) calls (K.faults sink.new) self.new text }
+        ensures told { (first : Option (List ℕ)) (calls : ℕ) (text : List ℕ)
+            → Told first (K.gone sink.old) calls (K.faults sink.old) self.old text
+            → Told first (K.gone sink.new) calls (K.faults sink.new) self.new text }
         ensures empty { self.new.bytes ≡ [] }
     {
         let len = self.len;
@@ -87,7 +91,8 @@ impl ReplyWriter {
     /// Writes a piece where nothing is held.
     fn send<K: Sink>(&mut self, sink: &mut K, piece: &[u8])
         requires { self.old.bytes ≡ [] }
-        ensures { Adds (K.gone sink.old) (K.faults sink.old) self.old (K.gone sink.new) (K.faults sink.new) self.new piece.now }
+        ensures { Adds (K.gone sink.old) (K.faults sink.old) self.old (K.gone sink.new) (K.faults sink.new) self.new
+            piece.now }
     {
         if self.failed {
             return;
@@ -113,7 +118,8 @@ impl ReplyWriter {
 
     /// Appends a piece to the text.
     pub fn text<K: Sink>(&mut self, sink: &mut K, piece: &[u8])
-        ensures { Adds (K.gone sink.old) (K.faults sink.old) self.old (K.gone sink.new) (K.faults sink.new) self.new piece.now }
+        ensures { Adds (K.gone sink.old) (K.faults sink.old) self.old (K.gone sink.new) (K.faults sink.new) self.new
+            piece.now }
     {
         if piece.len() <= ROOM - self.len() {
             return self.push(piece);
@@ -127,7 +133,8 @@ impl ReplyWriter {
 
     /// Appends a number in digits.
     pub fn number<K: Sink>(&mut self, sink: &mut K, n: u64)
-        ensures { Adds (K.gone sink.old) (K.faults sink.old) self.old (K.gone sink.new) (K.faults sink.new) self.new (decimal n) }
+        ensures { Adds (K.gone sink.old) (K.faults sink.old) self.old (K.gone sink.new) (K.faults sink.new) self.new
+            (decimal n) }
     {
         let mut buffer = Buffer::new();
         self.text(sink, buffer.format(n).as_bytes());
@@ -135,7 +142,8 @@ impl ReplyWriter {
 
     /// Appends a number in digits, behind a minus sign where it is below 0.
     pub fn signed<K: Sink>(&mut self, sink: &mut K, n: i64)
-        ensures { Adds (K.gone sink.old) (K.faults sink.old) self.old (K.gone sink.new) (K.faults sink.new) self.new (signed_decimal n) }
+        ensures { Adds (K.gone sink.old) (K.faults sink.old) self.old (K.gone sink.new) (K.faults sink.new) self.new
+            (signed_decimal n) }
     {
         let mut buffer = Buffer::new();
         self.text(sink, buffer.format(n).as_bytes());
@@ -143,7 +151,9 @@ impl ReplyWriter {
 
     /// Writes what is held, and tells whether the whole text has gone.
     pub fn finish<K: Sink>(&mut self, sink: &mut K) -> Result<(), Failed>
-        ensures { (first : Option (List ℕ)) (calls : ℕ) (text : List ℕ) → Told first (K.gone sink.old) calls (K.faults sink.old) self.old text → Delivered first (K.gone sink.new) calls (K.faults sink.new) result text }
+        ensures { (first : Option (List ℕ)) (calls : ℕ) (text : List ℕ)
+            → Told first (K.gone sink.old) calls (K.faults sink.old) self.old text
+            → Delivered first (K.gone sink.new) calls (K.faults sink.new) result text }
     {
         self.flush(sink);
         if self.failed {

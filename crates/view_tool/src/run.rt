@@ -37,7 +37,9 @@ pub struct Run {
 
 impl Run {
     pub fn new() -> Run
-        ensures { (first : Option (List ℕ)) (now : Option (List ℕ)) → Appends first now [] → IsAt first now result at_start }
+        ensures { (first : Option (List ℕ)) (now : Option (List ℕ))
+            → Appends first now []
+            → IsAt first now result at_start }
     {
         Run {
             world: World::new(),
@@ -53,8 +55,15 @@ impl Run {
         line: Option<&[u8]>,
         sink: &mut K,
     ) -> Result<(), Stop>
-        ensures done { (first : Option (List ℕ)) (progress : Progress) → progress.lines < 2 ^ 63 → IsAt first (K.gone sink.old) self.old progress → OnOk result (IsAt first (K.gone sink.new) self.new (after_line progress (line_now line.entry))) }
-        ensures part { (first : Option (List ℕ)) (progress : Progress) → progress.lines < 2 ^ 63 → IsAt first (K.gone sink.old) self.old progress → result ≡ Err Stop.Sink → Part first (K.gone sink.new) (after_line progress (line_now line.entry)).text }
+        ensures done { (first : Option (List ℕ)) (progress : Progress)
+            → progress.lines < 2 ^ 63
+            → IsAt first (K.gone sink.old) self.old progress
+            → OnOk result (IsAt first (K.gone sink.new) self.new (after_line progress (line_now line.entry))) }
+        ensures part { (first : Option (List ℕ)) (progress : Progress)
+            → progress.lines < 2 ^ 63
+            → IsAt first (K.gone sink.old) self.old progress
+            → result ≡ Err Stop.Sink
+            → Part first (K.gone sink.new) (after_line progress (line_now line.entry)).text }
         ensures nothing { result ≡ Err Stop.NoMemory → K.gone sink.new ≡ K.gone sink.old }
         ensures later { K.faults sink.old ≤ K.faults sink.new }
         ensures rose { result ≡ Err Stop.Sink → Rose (K.faults sink.old) (K.faults sink.new) }
@@ -83,7 +92,9 @@ fn carry_out<K: Sink>(
     line: Option<&[u8]>,
     sink: &mut K,
 ) -> Result<(), StepFault>
-    ensures carried { CarriedOut (world_of world.old) (reply_to_line (world_of world.old) (line_now line.entry)) (world_of world.new) (record { gone = K.gone sink.old; faults = K.faults sink.old }) (record { gone = K.gone sink.new; faults = K.faults sink.new }) result }
+    ensures carried { CarriedOut (world_of world.old) (reply_to_line (world_of world.old) (line_now line.entry))
+        (world_of world.new) (record { gone = K.gone sink.old; faults = K.faults sink.old })
+        (record { gone = K.gone sink.new; faults = K.faults sink.new }) result }
     ensures later { K.faults sink.old ≤ K.faults sink.new }
 {
     let Some(line) = line else {
@@ -104,8 +115,10 @@ pub fn run_lines<K: Sink>(alloc: Global, script: &[u8], sink: &mut K) -> Result<
     requires { length script.now < 2 ^ 63 }
     ensures done { OnOk result (Appends (K.gone sink.old) (K.gone sink.new) (after_lines (lines_of script.now)).text) }
     ensures refused { IfOk result (λ refused. refused ≡ (after_lines (lines_of script.now)).refused) }
-    ensures part { result ≡ Err Stop.Sink → Part (K.gone sink.old) (K.gone sink.new) (after_lines (lines_of script.now)).text }
-    ensures no_memory { result ≡ Err Stop.NoMemory → WritesSome (lines_of script.now) (K.gone sink.old) (K.gone sink.new) }
+    ensures part { result ≡ Err Stop.Sink
+        → Part (K.gone sink.old) (K.gone sink.new) (after_lines (lines_of script.now)).text }
+    ensures no_memory { result ≡ Err Stop.NoMemory
+        → WritesSome (lines_of script.now) (K.gone sink.old) (K.gone sink.new) }
     ensures later { K.faults sink.old ≤ K.faults sink.new }
     ensures rose { result ≡ Err Stop.Sink → Rose (K.faults sink.old) (K.faults sink.new) }
 {

@@ -25,7 +25,9 @@ pub fn read_script<S: Source>(alloc: Global, source: &mut S) -> Result<Vec<u8>, 
     ensures script { IfOk result (λ script. Consumes (S.left source.old) (S.left source.new) script.items) }
     ensures bound { IfOk result (λ script. length script.items ≤ LONGEST_SCRIPT + 1) }
     ensures end { IfOk result (λ script. length script.items ≤ LONGEST_SCRIPT → IsAtEnd (S.left source.new)) }
-    ensures taken { (taken : List ℕ) × Consumes (S.left source.old) (S.left source.new) taken × (length taken ≤ LONGEST_SCRIPT + 1) }
+    ensures taken { (taken : List ℕ)
+        × Consumes (S.left source.old) (S.left source.new) taken
+        × (length taken ≤ LONGEST_SCRIPT + 1) }
     ensures later { S.faults source.old ≤ S.faults source.new }
     ensures rose { result ≡ Err Unread.Source → Rose (S.faults source.old) (S.faults source.new) }
 {

@@ -46,10 +46,17 @@ pub fn tool<S: Source, K: Sink, F: Shelf>(
     // For every script and every set of layout files, the bytes that are written are those of the plain world, which at
     // each settled frame measures and lays out its whole present tree anew; where memory was wanting or a handed-in
     // object failed, they are a front part of these.
-    ensures headline { (script : List ℕ) (files : Files) → IsRunOf (is_run words.now) (S.left source.old) (F.files shelf.old) script files → length script ≤ longest_script → Writes result (K.gone sink.old) (K.gone sink.new) (transcript script files) }
+    ensures headline { (script : List ℕ) (files : Files)
+        → IsRunOf (is_run words.now) (S.left source.old) (F.files shelf.old) script files
+        → length script ≤ longest_script
+        → Writes result (K.gone sink.old) (K.gone sink.new) (transcript script files) }
 
     // A run that ended by itself tells whether a line was refused.
-    ensures refused { (script : List ℕ) (files : Files) → IsRunOf (is_run words.now) (S.left source.old) (F.files shelf.old) script files → length script ≤ longest_script → Ended result → result ≡ (if has_refusal script files then 1 else 0) }
+    ensures refused { (script : List ℕ) (files : Files)
+        → IsRunOf (is_run words.now) (S.left source.old) (F.files shelf.old) script files
+        → length script ≤ longest_script
+        → Ended result
+        → result ≡ (if has_refusal script files then 1 else 0) }
     ensures read_to_end { Ended result → IsAtEnd (S.left source.new) }
 
     // Other words: nothing is read or written.
@@ -62,18 +69,36 @@ pub fn tool<S: Source, K: Sink, F: Shelf>(
     ensures sink_failed { result ≡ 4 → Rose (K.faults sink.old) (K.faults sink.new) }
 
     // No memory: exactly the texts of some lines, from the first on, have gone.
-    ensures no_memory { (script : List ℕ) (files : Files) → IsRunOf (is_run words.now) (S.left source.old) (F.files shelf.old) script files → result ≡ 5 → WritesSome (carried_lines script) (K.gone sink.old) (K.gone sink.new) }
+    ensures no_memory { (script : List ℕ) (files : Files)
+        → IsRunOf (is_run words.now) (S.left source.old) (F.files shelf.old) script files
+        → result ≡ 5
+        → WritesSome (carried_lines script) (K.gone sink.old) (K.gone sink.new) }
 
     // Too long a script: the lines whose line feed is among its first bytes are carried out.
-    ensures long { (script : List ℕ) (files : Files) → IsRunOf (is_run words.now) (S.left source.old) (F.files shelf.old) script files → longest_script < length script → (Ended result → ⊥) × Writes result (K.gone sink.old) (K.gone sink.new) (cut_transcript script files) × (result ≡ 7 → Appends (K.gone sink.old) (K.gone sink.new) (cut_transcript script files)) }
-    ensures long_only { (script : List ℕ) (files : Files) → IsRunOf (is_run words.now) (S.left source.old) (F.files shelf.old) script files → result ≡ 7 → longest_script < length script }
+    ensures long { (script : List ℕ) (files : Files)
+        → IsRunOf (is_run words.now) (S.left source.old) (F.files shelf.old) script files
+        → longest_script < length script
+        → (Ended result → ⊥)
+        × Writes result (K.gone sink.old) (K.gone sink.new) (cut_transcript script files)
+        × (result ≡ 7 → Appends (K.gone sink.old) (K.gone sink.new) (cut_transcript script files)) }
+    ensures long_only { (script : List ℕ) (files : Files)
+        → IsRunOf (is_run words.now) (S.left source.old) (F.files shelf.old) script files
+        → result ≡ 7
+        → longest_script < length script }
 
     // There is no other status, and where no object failed, only want of memory keeps a script from its end.
     ensures known { IsOneOf result (0 ∷ 1 ∷ 2 ∷ 3 ∷ 4 ∷ 5 ∷ 7 ∷ []) }
-    ensures complete { (script : List ℕ) (files : Files) → IsRunOf (is_run words.now) (S.left source.old) (F.files shelf.old) script files → length script ≤ longest_script → (Rose (S.faults source.old) (S.faults source.new) → ⊥) → (Rose (K.faults sink.old) (K.faults sink.new) → ⊥) → Ended result ⊎ (result ≡ 5) }
+    ensures complete { (script : List ℕ) (files : Files)
+        → IsRunOf (is_run words.now) (S.left source.old) (F.files shelf.old) script files
+        → length script ≤ longest_script
+        → (Rose (S.faults source.old) (S.faults source.new) → ⊥)
+        → (Rose (K.faults sink.old) (K.faults sink.new) → ⊥)
+        → Ended result ⊎ (result ≡ 5) }
 
     // What is taken of the source, and what stays.
-    ensures taken { (taken : List ℕ) × Consumes (S.left source.old) (S.left source.new) taken × (length taken ≤ longest_script + 1) }
+    ensures taken { (taken : List ℕ)
+        × Consumes (S.left source.old) (S.left source.new) taken
+        × (length taken ≤ longest_script + 1) }
     ensures source_later { S.faults source.old ≤ S.faults source.new }
     ensures sink_later { K.faults sink.old ≤ K.faults sink.new }
     ensures shelf_stays { shelf.new ≡ shelf.old }
@@ -87,13 +112,19 @@ pub fn tool<S: Source, K: Sink, F: Shelf>(
 
 /// Reads a script, and carries it out.
 fn run<S: Source, K: Sink>(alloc: Global, source: &mut S, sink: &mut K) -> u8
-    ensures runs { (script : List ℕ) → S.left source.old ≡ Some script → RunsLines (carried_lines script) (nat_lt longest_script (length script)) (record { gone = K.gone sink.old; faults = K.faults sink.old }) (record { gone = K.gone sink.new; faults = K.faults sink.new }) result }
+    ensures runs { (script : List ℕ)
+        → S.left source.old ≡ Some script
+        → RunsLines (carried_lines script) (nat_lt longest_script (length script))
+        (record { gone = K.gone sink.old; faults = K.faults sink.old })
+        (record { gone = K.gone sink.new; faults = K.faults sink.new }) result }
     ensures known { IsOneOf result (0 ∷ 1 ∷ 3 ∷ 4 ∷ 5 ∷ 7 ∷ []) }
     ensures read_to_end { Ended result → IsAtEnd (S.left source.new) }
     ensures source_failed { result ≡ 3 → Rose (S.faults source.old) (S.faults source.new) }
     ensures nothing_written { result ≡ 3 → sink.new ≡ sink.old }
     ensures sink_failed { result ≡ 4 → Rose (K.faults sink.old) (K.faults sink.new) }
-    ensures taken { (taken : List ℕ) × Consumes (S.left source.old) (S.left source.new) taken × (length taken ≤ longest_script + 1) }
+    ensures taken { (taken : List ℕ)
+        × Consumes (S.left source.old) (S.left source.new) taken
+        × (length taken ≤ longest_script + 1) }
     ensures source_later { S.faults source.old ≤ S.faults source.new }
     ensures sink_later { K.faults sink.old ≤ K.faults sink.new }
 {
@@ -106,7 +137,9 @@ fn run<S: Source, K: Sink>(alloc: Global, source: &mut S, sink: &mut K) -> u8
 
 /// Carries out what has been read of a script.
 fn run_script<K: Sink>(alloc: Global, script: &[u8], sink: &mut K) -> u8
-    ensures runs { RunsLines (carried_lines script.now) (nat_lt longest_script (length script.now)) (record { gone = K.gone sink.old; faults = K.faults sink.old }) (record { gone = K.gone sink.new; faults = K.faults sink.new }) result }
+    ensures runs { RunsLines (carried_lines script.now) (nat_lt longest_script (length script.now))
+        (record { gone = K.gone sink.old; faults = K.faults sink.old })
+        (record { gone = K.gone sink.new; faults = K.faults sink.new }) result }
     ensures known { IsOneOf result (0 ∷ 1 ∷ 4 ∷ 5 ∷ 7 ∷ []) }
     ensures sink_failed { result ≡ 4 → Rose (K.faults sink.old) (K.faults sink.new) }
     ensures later { K.faults sink.old ≤ K.faults sink.new }

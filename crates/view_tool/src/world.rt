@@ -65,7 +65,9 @@ impl World {
         command: Command,
         sink: &mut K,
     ) -> Result<(), StepFault>
-        ensures carried { CarriedOut (world_of self.old) (step (world_of self.old) command) (world_of self.new) (record { gone = K.gone sink.old; faults = K.faults sink.old }) (record { gone = K.gone sink.new; faults = K.faults sink.new }) result }
+        ensures carried { CarriedOut (world_of self.old) (step (world_of self.old) command) (world_of self.new)
+            (record { gone = K.gone sink.old; faults = K.faults sink.old })
+            (record { gone = K.gone sink.new; faults = K.faults sink.new }) result }
         ensures later { K.faults sink.old ≤ K.faults sink.new }
     {
         match command {
@@ -101,7 +103,8 @@ impl World {
 
     /// Makes a frame layout the root.
     fn add_root(&mut self, alloc: Global, width: i32, height: i32) -> Result<(), StepFault>
-        ensures { Changed (world_of self.old) (root_added (world_of self.old) (world_of self.old).tree width height) (world_of self.new) (λ _. added_text 1) result }
+        ensures { Changed (world_of self.old) (root_added (world_of self.old) (world_of self.old).tree width height)
+            (world_of self.new) (λ _. added_text 1) result }
     {
         if self.root.is_some() {
             return Err(StepFault::Refused(Refusal::HasRoot));
@@ -115,7 +118,9 @@ impl World {
 
     /// Makes a view the root's last child, and answers its number.
     fn add_child(&mut self, class: Class, width: i32, height: i32) -> Result<u64, StepFault>
-        ensures { Changed (world_of self.old) (child_added (world_of self.old) (world_of self.old).tree class width height) (world_of self.new) added_text result }
+        ensures { Changed (world_of self.old)
+            (child_added (world_of self.old) (world_of self.old).tree class width height)
+            (world_of self.new) added_text result }
     {
         let Some(mut root) = self.root.take() else {
             return Err(StepFault::Refused(Refusal::NoRoot));
@@ -130,7 +135,9 @@ impl World {
 
     /// Lays the whole tree out.
     fn frame(&mut self, alloc: Global) -> Result<(), StepFault>
-        ensures { Changed (world_of self.old) (framed (world_of self.old) (world_of self.old).window (world_of self.old).tree) (world_of self.new) (λ _. settled_text) result }
+        ensures { Changed (world_of self.old)
+            (framed (world_of self.old) (world_of self.old).window (world_of self.old).tree)
+            (world_of self.new) (λ _. settled_text) result }
     {
         let Some(window) = self.stage.window() else {
             return Err(StepFault::Refused(Refusal::NoWindow));
@@ -149,7 +156,10 @@ impl World {
 
     /// Writes the bounds of all views.
     fn bounds<K: Sink>(&self, sink: &mut K) -> Result<(), StepFault>
-        ensures carried { CarriedOut (world_of self.now) (bounds_told (world_of self.now) (world_of self.now).window (world_of self.now).tree (world_of self.now).stage) (world_of self.now) (record { gone = K.gone sink.old; faults = K.faults sink.old }) (record { gone = K.gone sink.new; faults = K.faults sink.new }) result }
+        ensures carried { CarriedOut (world_of self.now)
+            (bounds_told (world_of self.now) (world_of self.now).window (world_of self.now).tree (world_of self.now).stage)
+            (world_of self.now) (record { gone = K.gone sink.old; faults = K.faults sink.old })
+            (record { gone = K.gone sink.new; faults = K.faults sink.new }) result }
         ensures later { K.faults sink.old ≤ K.faults sink.new }
     {
         if self.stage.window().is_none() {
