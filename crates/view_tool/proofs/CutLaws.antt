@@ -1,11 +1,11 @@
 -- The lines whose line feed has come.
-use Rattle.std.proofs.Common.{◌≡◌, ℕ, zero, suc, ◌+◌, ◌-◌, ◌<◌, ◌≤◌, length, drop, take, get_or, List, [], ◌∷◌, ◌++◌, refl, ap, sym, subst, ◌∙◌, arith, append_assoc, length-take}
+use Rattle.std.proofs.Common.{◌≡◌, ℕ, ◌+◌, ◌-◌, ◌<◌, ◌≤◌, length, drop, take, get_or, List, [], ◌∷◌, ◌++◌, refl, ap, sym, ◌∙◌, arith, append_assoc, length-take}
 use Rattle.std.specs.Prelude.{Option, Some, None}
 use Rattle.std.specs.Io.KnownBytes.{Consumes}
 use Rattle.std.specs.List.{position_or_len}
 use Rattle.std.proofs.lemmas.Grind.{fold-append}
 use Rattle.std.proofs.lemmas.List.{append-nil, take_more}
-use Rattle.view_tool.specs.Lines.{Cut, Line, cut_of, cut_step, is_line_feed, last_of, lines_of}
+use Rattle.view_tool.specs.Lines.{Cut, cut_of, cut_step, is_line_feed, last_of, lines_of}
 use Rattle.view_tool.proofs.LineLaws.{cut-end, cut-none, lines_of-nil}
 
 ended_at : (bytes : List ℕ) (place : ℕ) → place < length bytes → get_or bytes place 0 ≡ 10 → (cut_of (take (place + 1) bytes)).rest ≡ []

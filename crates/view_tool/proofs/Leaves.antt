@@ -10,7 +10,7 @@ use Rattle.frame_layout.specs.FramePlan.{InFirst, InSecond}
 use Rattle.view_model.specs.declared.attributes.Facts.{Facts}
 use Rattle.view_model.specs.Facts.{is_shown}
 use Rattle.view_model.specs.FrameLayout.{first_specs, frame_size, measures_again}
-use Rattle.view_model.specs.Layout.{Child, children_of, first_measured, last_of}
+use Rattle.view_model.specs.Layout.{children_of, first_measured, last_of}
 use Rattle.view_model.specs.Measuring.{Specs, Measured, pair_of}
 use Rattle.view_tool.specs.declared.tree.Leaf.{Leaf}
 use Rattle.view_tool.specs.Bounds.{Turned, leaf_size, with_leaf}

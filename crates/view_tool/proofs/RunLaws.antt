@@ -1,12 +1,10 @@
 -- What lines come to, one after another.
-use Rattle.std.proofs.Common.{◌≡◌, ℕ, ◌+◌, ◌-◌, ◌<◌, ◌≤◌, suc, length, drop, take, List, [], ◌∷◌, ◌++◌, refl, ap, sym, subst, ◌∙◌, arith, append_assoc, length-append, length-drop}
-use Rattle.std.specs.Prelude.{Option, Some, None, fold}
+use Rattle.std.proofs.Common.{◌≡◌, ℕ, ◌+◌, ◌-◌, ◌≤◌, suc, length, drop, take, List, [], ◌∷◌, ◌++◌, refl, ap, sym, subst, ◌∙◌, arith, append_assoc}
+use Rattle.std.specs.Prelude.{Option, fold}
 use Rattle.std.proofs.lemmas.Grind.{fold-append}
 use Rattle.std.proofs.lemmas.List.{append-nil, drop_all, drop-drop}
-use Rattle.view_tool.specs.declared.run.Run.{Run}
 use Rattle.view_tool.specs.Lines.{Line, lines_of}
 use Rattle.view_tool.specs.Reply.{Part}
-use Rattle.view_tool.specs.Run.{IsAt}
 use Rattle.view_tool.specs.Step.{Reply, Done, Refused}
 use Rattle.view_tool.specs.Transcript.{Progress, after_line, after_lines, after_reply, at_start, refused_line, reply_to_line}
 use Rattle.view_tool.proofs.LineLaws.{lines_of-nil, slice_from}

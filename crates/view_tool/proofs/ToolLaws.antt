@@ -1,19 +1,18 @@
 -- How a run of lines, and of a script, ends.
-use Rattle.std.proofs.Common.{◌≡◌, ℕ, ◌+◌, ◌<◌, ◌≤◌, Bool, true, false, cond, length, take, List, [], ◌∷◌, ◌++◌, refl, ap, sym, subst, ◌∙◌, arith, length-append, append-nil}
-use Rattle.std.specs.Prelude.{Option, Some, None, Result, Ok, Err, OnOk, OnErr, IfOk, nat_lt, ◌⊎◌}
+use Rattle.std.proofs.Common.{◌≡◌, ℕ, ◌<◌, ◌≤◌, Bool, true, false, cond, length, take, List, [], ◌∷◌, ◌++◌, refl, ap, sym, subst, ◌∙◌, arith, length-append, append-nil}
+use Rattle.std.specs.Prelude.{Option, Some, None, Result, Ok, Err, OnOk, IfOk, nat_lt, ◌⊎◌}
 use Rattle.std.proofs.Common.{inl, inr}
 use Rattle.std.specs.Io.KnownBytes.{Appends, Consumes, IsAtEnd}
 use Rattle.std.proofs.lemmas.Bool.{lt-ltb, le-ltb, ltb-true, ltb-false}
 use Rattle.std.proofs.lemmas.List.{take-append-le}
-use Rattle.tool_io.specs.Causes.{Rose}
 use Rattle.view_tool.specs.declared.run.Stop.{Stop}
 use Rattle.view_tool.specs.declared.run.Stop.TheVariants.{Sink, NoMemory}
 use Rattle.view_tool.specs.Carried.{SinkState}
 use Rattle.view_tool.specs.Lines.{Line, cut_of, lines_of}
 use Rattle.view_tool.specs.Reply.{Part}
-use Rattle.view_tool.specs.Tool.{Ended, IsOneOf, RunsLines, Writes, WritesSome, status_of}
+use Rattle.view_tool.specs.Tool.{IsOneOf, RunsLines, WritesSome, status_of}
 use Rattle.view_tool.specs.Transcript.{after_lines, carried_lines, longest_script}
-use Rattle.view_tool.proofs.ReplyLaws.{Appends-nil, Part-whole}
+use Rattle.view_tool.proofs.ReplyLaws.{Appends-nil}
 use Rattle.view_tool.proofs.RunLaws.{after_lines-nil, Part-lines}
 
 -- no status is two

@@ -1,5 +1,5 @@
 -- The tree of a root and its children.
-use Rattle.std.proofs.Common.{◌≡◌, ℕ, ◌+◌, ◌<◌, ◌≤◌, suc, length, List, [], ◌∷◌, ◌++◌, refl, ap, sym, ◌∙◌, arith, length-append}
+use Rattle.std.proofs.Common.{◌≡◌, ℕ, ◌+◌, suc, length, List, [], ◌∷◌, ◌++◌, refl, ap, ◌∙◌, arith}
 use Rattle.view_model.specs.Forest.{Forest, Nothing, Branch, count_of, joined}
 use Rattle.view_model.specs.PlainTree.{View}
 use Rattle.view_tool.specs.declared.tree.Leaf.{Leaf}

@@ -1,18 +1,17 @@
 -- What a call of the tool is and how it ends.
-use Rattle.std.specs.Prelude.{◌≡◌, ◌≤◌, ◌<◌, ◌↔◌, ◌⊎◌, ℕ, Bool, true, false, if◌then◌else◌, List, [], ◌∷◌, ◌++◌, ◌==◌, length, Option, Some, Result, Ok, Err, codes, string_bytes}
+use Rattle.std.specs.Prelude.{◌≡◌, ◌⊎◌, ℕ, Bool, true, false, if◌then◌else◌, List, [], ◌∷◌, ◌++◌, ◌==◌, Option, Some, Result, Ok, Err, codes, string_bytes}
 use Rattle.std.specs.List.{list_any}
 use Rattle.std.specs.Io.KnownBytes.{Appends}
 use Rattle.std.specs.Str.{bytes_eq}
 use Rattle.std.specs.declared.alloc.Global.{Global}
 use Rattle.std.specs.declared.string.String.{String}
-use Rattle.tool_io.specs.Causes.{Rose}
 use Rattle.view_tool.specs.declared.run.Stop.{Stop}
 use Rattle.view_tool.specs.declared.run.Stop.TheVariants.{Sink, NoMemory}
 use Rattle.view_tool.specs.Carried.{SinkState}
 use Rattle.view_tool.specs.Files.{Files}
 use Rattle.view_tool.specs.Lines.{Line}
 use Rattle.view_tool.specs.Reply.{Part}
-use Rattle.view_tool.specs.Transcript.{after_lines, longest_script}
+use Rattle.view_tool.specs.Transcript.{after_lines}
 
 -- whether the words are `run` alone, which is the one form that they may have
 abbrev pub is_run : List (String Global) → Bool

@@ -1,14 +1,14 @@
-use Rattle.std.proofs.Common.{List, [], refl, sym, subst, ap, ◌∙◌}
+use Rattle.std.proofs.Common.{List, [], refl, sym, subst, ap}
 use Rattle.frame_layout.specs.FramePlan.{InFirst}
 use Rattle.geom_core.specs.declared.measuring.Spec.{Spec}
-use Rattle.view_model.specs.FrameLayout.{frame_size, measures_again}
+use Rattle.view_model.specs.FrameLayout.{measures_again}
 use Rattle.view_model.specs.Layout.{children_of, first_measured, root_specs}
 use Rattle.view_model.specs.Measuring.{Specs}
 use Rattle.view_tool.specs.declared.tree.Leaf.{Leaf}
 use Rattle.view_tool.specs.Bounds.{Turned}
 use Rattle.view_tool.specs.Tree.{leaves}
 use Rattle.view_tool.proofs.Leaves.{finished}
-use Rattle.view_tool.proofs.LeafLayout.{full_layout-gone, laid_from-pushed}
+use Rattle.view_tool.proofs.LeafLayout.{laid_from-pushed}
 use Rattle.view_tool.proofs.layout.layout.Goals as goal
 
 specs_of : Spec × Spec → Specs

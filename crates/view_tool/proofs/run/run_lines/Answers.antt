@@ -1,10 +1,10 @@
-use Rattle.std.proofs.Common.{◌≡◌, ℕ, ◌+◌, ◌<◌, ◌≤◌, ◌^◌, List, [], ◌∷◌, ◌++◌, length, drop, refl, ap, sym, subst, ◌∙◌, arith, length-append, length-drop, Err}
+use Rattle.std.proofs.Common.{◌≡◌, ℕ, ◌+◌, ◌<◌, ◌≤◌, ◌^◌, List, [], ◌∷◌, ◌++◌, length, drop, refl, sym, subst, arith, length-append, length-drop, Err}
 use Rattle.std.proofs.lemmas.Result.{err_from_is_err_and}
 use Rattle.view_tool.specs.declared.run.Stop.TheVariants.{Sink}
 use Rattle.view_tool.specs.Lines.{Line, line_now, lines_of}
 use Rattle.view_tool.specs.Reply.{Part}
 use Rattle.view_tool.specs.Run.{IsAt}
-use Rattle.view_tool.specs.Transcript.{Progress, after_line, after_lines}
+use Rattle.view_tool.specs.Transcript.{Progress, after_lines}
 use Rattle.view_tool.proofs.LineLaws.{slice_from}
 use Rattle.view_tool.proofs.ReplyLaws.{Appends-nil}
 use Rattle.view_tool.proofs.RunLaws.{after_lines-nil, after_lines-push, after_lines-lines, Part-lines, lines_of-next, lines_of-all}

@@ -1,4 +1,4 @@
-use Rattle.std.proofs.Common.{◌≡◌, ℕ, length, drop, List, subst, arith}
+use Rattle.std.proofs.Common.{◌≡◌, ℕ, length, drop, subst, arith}
 use Rattle.std.specs.List.{position_or_len}
 use Rattle.view_tool.specs.Lines.{is_line_feed}
 use Rattle.view_tool.proofs.CutLaws.{cut_of-rest, lines_of-complete, lines_of-no_line_feed}

@@ -1,4 +1,4 @@
-use Rattle.std.proofs.Common.{◌≡◌, ℕ, List, length, refl, sym, subst, inr, ◌∙◌, ap}
+use Rattle.std.proofs.Common.{ℕ, List, length, refl, subst, inr}
 use Rattle.std.specs.Prelude.{Bool, nat_lt}
 use Rattle.view_tool.specs.Carried.{SinkState}
 use Rattle.view_tool.specs.Lines.{Line}

@@ -1,10 +1,9 @@
-use Rattle.std.proofs.Common.{◌≡◌, ap, sym, subst, ◌∙◌}
+use Rattle.std.proofs.Common.{◌≡◌, sym, subst, ◌∙◌}
 use Rattle.std.proofs.lemmas.Int.{to_z-of_z}
 use Rattle.std.specs.Prelude.{Option, Some}
 use Rattle.view_model.specs.declared.attributes.Facts.{Facts}
 use Rattle.view_model.specs.Facts.{new_facts}
 use Rattle.view_tool.specs.declared.tree.Root.{Root}
-use Rattle.view_tool.specs.declared.world.World.{World}
 use Rattle.view_tool.specs.Carried.{Added, Changed}
 use Rattle.view_tool.specs.Replies.{added_text}
 use Rattle.view_tool.specs.Step.{child_added}
