@@ -1,0 +1,3 @@
+pub mod Prefixes
+pub mod Sending
+pub mod Items

@@ -1,0 +1,4 @@
+pub mod Prefix
+pub mod Hex
+pub mod Joined
+pub mod Held
