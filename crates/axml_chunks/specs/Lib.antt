@@ -1,0 +1,9 @@
+pub mod Faults
+pub mod Numbers
+pub mod Steps
+pub mod Chunks
+pub mod Strings
+pub mod Spelled
+pub mod Pool
+pub mod Short
+pub mod Gathering

@@ -1,0 +1,48 @@
+ghost use Rattle.std.specs.Prelude.{◌≡◌};
+
+use std::alloc::{AllocError, AllocFailed};
+
+/// What is wrong with a file: the number of a cause, and the offset from the file's start at which
+/// it shows.
+#[derive(Clone, Copy, Debug, PartialEq, Eq)]
+pub struct Fault {
+    pub cause: u8,
+    pub at: usize,
+}
+
+/// Why a file is not read.
+#[derive(Debug, Drop)]
+pub enum ReadFault {
+    Bad(Fault),
+    NoMemory,
+}
+
+impl From<Fault> for ReadFault {
+    ghost use Rattle.axml_chunks.specs.declared.fault.ReadFault.TheVariants.{Bad};
+
+    ghost from_gives = { λ f e. e ≡ Bad f };
+
+    fn from(fault: Fault) -> ReadFault {
+        ReadFault::Bad(fault)
+    }
+}
+
+impl From<AllocError> for ReadFault {
+    ghost use Rattle.axml_chunks.specs.declared.fault.ReadFault.TheVariants.{NoMemory};
+
+    ghost from_gives = { λ _ e. e ≡ NoMemory };
+
+    fn from(_error: AllocError) -> ReadFault {
+        ReadFault::NoMemory
+    }
+}
+
+impl<T: Drop> From<AllocFailed<T>> for ReadFault {
+    ghost use Rattle.axml_chunks.specs.declared.fault.ReadFault.TheVariants.{NoMemory};
+
+    ghost from_gives = { λ _ e. e ≡ NoMemory };
+
+    fn from(_error: AllocFailed<T>) -> ReadFault {
+        ReadFault::NoMemory
+    }
+}

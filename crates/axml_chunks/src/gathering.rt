@@ -1,0 +1,12 @@
+ghost use Rattle.std.specs.Prelude.{◌≤◌};
+ghost use Rattle.std.specs.List.{All};
+ghost use Rattle.axml_chunks.specs.Short.{IsShort};
+
+/// The strings of a pool so far, and the sum of their lengths in bytes of UTF-8.
+#[derive(Debug, Drop)]
+pub(crate) struct Gathering {
+    pub(crate) texts: Vec<String>,
+    pub(crate) sum: usize,
+    ghost room: { sum ≤ 4194304 },
+    ghost each: { All IsShort texts.items },
+}

@@ -1,0 +1,17 @@
+//! Chunks of Android's compiled XML, and the string pool, with the first fault of a broken one.
+#![tactic(auto)]
+
+pub mod causes;
+mod chunk;
+mod fault;
+mod gathering;
+mod header;
+mod pool;
+mod strings;
+
+pub use chunk::{Chunk, chunk_at, u16_at, u32_at};
+pub use fault::{Fault, ReadFault};
+pub use pool::Pool;
+
+#[cfg(test)]
+mod tests;

@@ -1,0 +1,185 @@
+ghost use Rattle.std.specs.Prelude.{◌≡◌, ◌+◌, ◌*◌, ◌^◌, ◌<◌, ◌≤◌, length, map, IfOk, IfSome, OnOk, Ok, slice_get};
+ghost use Rattle.std.specs.Option.{option_map};
+ghost use Rattle.std.specs.String.{string_bytes};
+ghost use Rattle.axml_chunks.specs.Chunks.{IsChunk};
+ghost use Rattle.axml_chunks.specs.Gathering.{gathering};
+ghost use Rattle.axml_chunks.specs.Pool.{StringPool, header_of, gathered, gathered_upto, one_more, pool_of, IsHeader, IsPool};
+ghost use Rattle.axml_chunks.specs.Steps.{Gives, Does};
+
+use crate::causes::{BAD_POOL, BAD_STRING, TOO_BIG};
+use crate::chunk::{Chunk, u32_at};
+use crate::fault::{Fault, ReadFault};
+use crate::gathering::Gathering;
+use crate::header::Header;
+use crate::strings::text_at;
+use std::alloc::Global;
+use std::marker::Model;
+
+/// The most strings that a pool may have.
+const MAX_STRINGS: usize = 65536;
+
+/// The most bytes in UTF-8 that the strings of a pool may have together.
+const MAX_TEXT: usize = 4194304;
+
+/// The strings of a file. Each was found to be a text when the pool was read, and is kept in
+/// UTF-8.
+#[derive(Debug, Drop)]
+pub struct Pool {
+    utf8: bool,
+    texts: Vec<String>,
+}
+
+impl Model for Pool {
+    ghost use Rattle.std.specs.Prelude.{map, ◌≤◌, length};
+    ghost use Rattle.std.specs.List.{All};
+    ghost use Rattle.std.specs.String.{string_bytes};
+    ghost use Rattle.axml_chunks.specs.Pool.{StringPool};
+    ghost use Rattle.axml_chunks.specs.Short.{IsShort};
+
+    ghost Value = { StringPool };
+
+    ghost view = { λ p. record { utf8 = p.utf8; texts = map string_bytes p.texts.items } };
+
+    ghost invariant = { λ p. (length p.texts.items ≤ 65536) × All IsShort p.texts.items };
+}
+
+impl Pool {
+    /// Reads the pool of a chunk that stands at a place of a file.
+    #[tactic(auto, unfolding(crate::specs::Pool::pool_in), using(crate::proofs::Pools::pool_found, crate::proofs::Pools::pool_again))]
+    pub fn read(alloc: Global, bytes: &[u8], at: usize, chunk: Chunk) -> Result<Pool, ReadFault>
+        requires { IsChunk at (length bytes.now) chunk }
+        ensures value { Gives (λ pool. pool) result (pool_of bytes.now at chunk) }
+        ensures found { IfOk result (λ pool. IsPool bytes.now at chunk pool) }
+        ensures only { (pool : StringPool) → IsPool bytes.now at chunk pool → Gives (λ pool. pool) result (Ok pool) }
+    {
+        let whole = &bytes[at..at + chunk.size];
+        let header = header_of(whole, at, chunk.head)?;
+        let all = gather(alloc, whole, at, chunk.head, header)?;
+        Ok(Pool {
+            utf8: header.utf8,
+            texts: all.texts,
+        })
+    }
+
+    /// String `k`, counted from 0.
+    pub fn text(&self, k: u32) -> Option<&str>
+        ensures value { option_map (λ s. s.now) result ≡ slice_get self.now.texts k }
+        ensures short { IfSome result (λ s. length s.now ≤ 4194304) }
+    {
+        match self.texts.get(k as usize) {
+            Some(text) => Some(text.as_str()),
+            None => None,
+        }
+    }
+
+    /// How many strings there are.
+    pub fn len(&self) -> u32
+        ensures value { result ≡ length self.now.texts }
+        ensures most { result ≤ 65536 }
+    {
+        self.texts.len() as u32
+    }
+
+    /// Whether the file has its strings in UTF-8, and not in UTF-16.
+    pub fn utf8(&self) -> bool
+        ensures { result ≡ self.now.utf8 }
+    {
+        self.utf8
+    }
+}
+
+/// The header of the pool in a chunk that stands at a place of the file.
+#[tactic(auto, unfolding(crate::specs::Pool::header_of))]
+fn header_of(chunk: &[u8], at: usize, head: usize) -> Result<Header, Fault>
+    requires { head ≤ length chunk.now }
+    ensures value { result ≡ header_of chunk.now at head }
+    ensures bounds { IfOk result (λ header. IsHeader (length chunk.now) head header) }
+{
+    let bad = Fault {
+        cause: BAD_POOL,
+        at,
+    };
+    if head < 28 {
+        return Err(bad);
+    }
+    let count = u32_at(chunk, 8) as usize;
+    let styles = u32_at(chunk, 12) as usize;
+    let first = u32_at(chunk, 20) as usize;
+    if chunk.len() < head + 4 * (count + styles) || chunk.len() < first {
+        return Err(bad);
+    }
+    if MAX_STRINGS < count {
+        return Err(Fault { cause: TOO_BIG, at });
+    }
+    let utf8 = u32_at(chunk, 16) / 0x100 % 2 == 1;
+    Ok(Header { utf8, count, first })
+}
+
+impl Gathering {
+    /// Adds a string, whose offset stands at a place of the file.
+    #[tactic(auto, unfolding(crate::specs::Pool::gathered), using(std::proofs::lemmas::Grind::common_steps))]
+    fn add(&mut self, entry: usize, text: Option<String>) -> Result<(), ReadFault>
+        ensures value { Does (gathering self.new) result (gathered (gathering self.old) entry (option_map string_bytes text)) }
+        ensures count { OnOk result (length self.new.texts.items ≡ length self.old.texts.items + 1) }
+    {
+        let Some(text) = text else {
+            return Err(ReadFault::Bad(Fault {
+                cause: BAD_STRING,
+                at: entry,
+            }));
+        };
+        if MAX_TEXT - self.sum < text.len() {
+            return Err(ReadFault::Bad(Fault {
+                cause: TOO_BIG,
+                at: entry,
+            }));
+        }
+        self.sum += text.len();
+        self.texts.push(text)?;
+        Ok(())
+    }
+}
+
+/// Adds string `k`.
+fn add_text(
+    alloc: Global,
+    so_far: &mut Gathering,
+    chunk: &[u8],
+    at: usize,
+    head: usize,
+    header: Header,
+    k: usize,
+) -> Result<(), ReadFault>
+    requires number { k < header.count }
+    requires header { IsHeader (length chunk.now) head header }
+    requires fits { at + length chunk.now < 2 ^ 63 }
+    ensures value { Does (gathering so_far.new) result (one_more chunk.now at head header (gathering so_far.old) k) }
+    ensures count { OnOk result (length so_far.new.texts.items ≡ length so_far.old.texts.items + 1) }
+{
+    let text = text_at(alloc, chunk, head, header, k)?;
+    so_far.add(at + head + 4 * k, text)
+}
+
+/// All strings.
+#[tactic(auto, using(crate::proofs::Runs::upto_none, crate::proofs::Runs::upto_more))]
+fn gather(
+    alloc: Global,
+    chunk: &[u8],
+    at: usize,
+    head: usize,
+    header: Header,
+) -> Result<Gathering, ReadFault>
+    requires header { IsHeader (length chunk.now) head header }
+    requires fits { at + length chunk.now < 2 ^ 63 }
+    ensures value { Gives gathering result (gathered_upto chunk.now at head header header.count) }
+    ensures count { IfOk result (λ g. length g.texts.items ≡ header.count) }
+{
+    let mut so_far = Gathering {
+        texts: Vec::with_capacity(alloc, header.count)?,
+        sum: 0,
+    };
+    for k in 0..header.count {
+        add_text(alloc, &mut so_far, chunk, at, head, header, k)?;
+    }
+    Ok(so_far)
+}
