@@ -1,0 +1,9 @@
+use Rattle.std.proofs.Common.{take}
+use Rattle.text_lines.specs.Held.{Sends}
+use Rattle.text_lines.specs.Joined.{texts_of}
+use Rattle.axml_reader.specs.Dump.{attr_line}
+use Rattle.axml_reader.proofs.dump.put_attr_lines.Given as goal
+
+abbrev pub invariant-loop-attr : goal.invariant-loop-attr
+invariant-loop-attr g l =
+    Sends (g.K.Sink.gone l.fn.sink) (g.K.Sink.gone l.sink) (g.K.Sink.faults l.fn.sink) (g.K.Sink.faults l.sink) l.fn.text l.text (texts_of attr_line (take l.attr-index l.attrs))

@@ -1,0 +1,9 @@
+use Rattle.std.proofs.Common.{take}
+use Rattle.text_lines.specs.Held.{Sends}
+use Rattle.text_lines.specs.Joined.{texts_of}
+use Rattle.axml_reader.specs.Dump.{escaped}
+use Rattle.axml_reader.proofs.dump.put_escaped_bytes.Given as goal
+
+abbrev pub invariant-loop-byte : goal.invariant-loop-byte
+invariant-loop-byte g l =
+    Sends (g.K.Sink.gone l.fn.sink) (g.K.Sink.gone l.sink) (g.K.Sink.faults l.fn.sink) (g.K.Sink.faults l.sink) l.fn.text l.text (texts_of escaped (take l.byte-index l.string))

@@ -1,0 +1,9 @@
+use Rattle.std.proofs.Common.{take}
+use Rattle.text_lines.specs.Held.{Sends}
+use Rattle.text_lines.specs.Joined.{texts_of}
+use Rattle.axml_reader.specs.Dump.{id_line}
+use Rattle.axml_reader.proofs.dump.put_id_lines.Given as goal
+
+abbrev pub invariant-loop-id : goal.invariant-loop-id
+invariant-loop-id g l =
+    Sends (g.K.Sink.gone l.fn.sink) (g.K.Sink.gone l.sink) (g.K.Sink.faults l.fn.sink) (g.K.Sink.faults l.sink) l.fn.text l.text (texts_of id_line (take l.id-index l.ids))

@@ -1,0 +1,10 @@
+pub mod Document
+pub mod Brackets
+pub mod Fields
+pub mod Parts
+pub mod Nodes
+pub mod Decoding
+pub mod View
+pub mod Relation
+pub mod Sound
+pub mod Dump

@@ -1,0 +1,18 @@
+//! Android's compiled XML: reading a layout file exactly, with the first fault of one that is
+//! broken, and printing what it holds.
+#![tactic(auto)]
+
+mod decode;
+mod doc;
+mod dump;
+mod fields;
+mod head;
+mod nodes;
+mod reading;
+
+pub use decode::read;
+pub use doc::{Attr, Doc, NO_STRING, Node};
+pub use dump::print;
+
+#[cfg(test)]
+mod tests;

@@ -1,0 +1,302 @@
+ghost use Rattle.std.specs.Prelude.{◌≡◌, ◌+◌, ◌-◌, ◌*◌, ◌^◌, ◌<◌, ◌≤◌, length, IfOk};
+ghost use Rattle.axml_chunks.specs.Chunks.{IsChunk};
+ghost use Rattle.axml_chunks.specs.Steps.{Does};
+ghost use Rattle.axml_reader.specs.Brackets.{is_closed_by};
+ghost use Rattle.axml_reader.specs.Fields.{same_text};
+ghost use Rattle.axml_reader.specs.Nodes.{IsStart, is_short, is_outside, pair_at, names_at, chars_at, start_at, pool_part, map_part, namespace_start_part, namespace_end_part, start_part, end_part, chars_part, part_at, joined};
+ghost use Rattle.axml_reader.specs.View.{reading};
+
+use crate::doc::Node;
+use crate::fields::{name_at, push_attrs, reference_at, same_text, string_count, words_at};
+use crate::head::StartHead;
+use crate::reading::Reading;
+use axml_chunks::causes::{BAD_CHUNK, SECOND_POOL, TOO_BIG, TWO_ROOTS, UNBALANCED};
+use axml_chunks::{Chunk, Fault, Pool, ReadFault, u16_at, u32_at};
+use std::alloc::Global;
+
+/// The most elements that a document may have.
+const MAX_ELEMENTS: u32 = 4096;
+
+/// The most attributes that an element may have.
+const MAX_ATTRS: usize = 256;
+
+/// Whether a node's header is too short, or its body shorter than its form.
+fn is_short(chunk: Chunk, form: usize) -> bool
+    requires { chunk.head ≤ chunk.size }
+    ensures { result ≡ is_short chunk form }
+{
+    chunk.head < 16 || chunk.size - chunk.head < form
+}
+
+/// The prefix and the address of a namespace.
+#[tactic(auto, unfolding(crate::specs::Nodes::pair_at))]
+fn pair_at(bytes: &[u8], at: usize, chunk: Chunk, count: u32) -> Result<(u32, u32), Fault>
+    requires { IsChunk at (length bytes.now) chunk }
+    ensures { result ≡ pair_at bytes.now at chunk count }
+{
+    if is_short(chunk, 8) {
+        return Err(Fault {
+            cause: BAD_CHUNK,
+            at,
+        });
+    }
+    let prefix = reference_at(bytes, count, at + chunk.head)?;
+    let uri = reference_at(bytes, count, at + chunk.head + 4)?;
+    Ok((prefix, uri))
+}
+
+/// The namespace and the name of an element that ends.
+#[tactic(auto, unfolding(crate::specs::Nodes::names_at))]
+fn names_at(bytes: &[u8], at: usize, chunk: Chunk, count: u32) -> Result<(u32, u32), Fault>
+    requires { IsChunk at (length bytes.now) chunk }
+    ensures value { result ≡ names_at bytes.now at chunk count }
+    ensures header { IfOk result (λ _. 16 ≤ chunk.head) }
+{
+    if is_short(chunk, 8) {
+        return Err(Fault {
+            cause: BAD_CHUNK,
+            at,
+        });
+    }
+    let ns = reference_at(bytes, count, at + chunk.head)?;
+    let name = name_at(bytes, count, at + chunk.head + 4)?;
+    Ok((ns, name))
+}
+
+/// The string of character data.
+#[tactic(auto, unfolding(crate::specs::Nodes::chars_at))]
+fn chars_at(bytes: &[u8], at: usize, chunk: Chunk, count: u32) -> Result<u32, Fault>
+    requires { IsChunk at (length bytes.now) chunk }
+    ensures value { result ≡ chars_at bytes.now at chunk count }
+    ensures body { IfOk result (λ _. chunk.head + 12 ≤ chunk.size) }
+{
+    if is_short(chunk, 12) {
+        return Err(Fault {
+            cause: BAD_CHUNK,
+            at,
+        });
+    }
+    reference_at(bytes, count, at + chunk.head)
+}
+
+/// Whether attributes leave a body: `first` is where the first begins, `step` how many bytes each
+/// has.
+fn is_outside(body: usize, first: usize, step: usize, count: usize) -> bool
+    requires first { first < 2 ^ 16 }
+    requires step { step < 2 ^ 16 }
+    requires count { count ≤ 256 }
+    ensures { result ≡ is_outside body first step count }
+{
+    count != 0 && (first < 20 || step < 20 || body < first + count * step)
+}
+
+/// An element that begins, without its attributes.
+#[tactic(auto, unfolding(crate::specs::Nodes::start_at))]
+fn start_at(
+    bytes: &[u8],
+    at: usize,
+    chunk: Chunk,
+    count: u32,
+    closed: bool,
+    starts: u32,
+) -> Result<StartHead, Fault>
+    requires { IsChunk at (length bytes.now) chunk }
+    ensures value { result ≡ start_at bytes.now at chunk count closed starts }
+    ensures bounds { IfOk result (λ head. IsStart (length bytes.now) starts chunk head) }
+{
+    let bad = Fault {
+        cause: BAD_CHUNK,
+        at,
+    };
+    if is_short(chunk, 20) {
+        return Err(bad);
+    }
+    if closed {
+        return Err(Fault {
+            cause: TWO_ROOTS,
+            at,
+        });
+    }
+    let body = at + chunk.head;
+    let attrs = u16_at(bytes, body + 12) as usize;
+    if starts >= MAX_ELEMENTS || MAX_ATTRS < attrs {
+        return Err(Fault { cause: TOO_BIG, at });
+    }
+    let ns = reference_at(bytes, count, body)?;
+    let name = name_at(bytes, count, body + 4)?;
+    let first = u16_at(bytes, body + 8) as usize;
+    let step = u16_at(bytes, body + 10) as usize;
+    if is_outside(chunk.size - chunk.head, first, step, attrs) {
+        return Err(bad);
+    }
+    Ok(StartHead {
+        ns,
+        name,
+        place: body + first,
+        step,
+        count: attrs,
+    })
+}
+
+/// Whether the innermost open element has the text of this name.
+fn is_closed_by(pool: &Option<Pool>, opened: &[u32], name: u32) -> bool
+    ensures { result ≡ is_closed_by (same_text pool.now) opened.now name }
+{
+    match opened.last() {
+        Some(innermost) => same_text(pool, name, *innermost),
+        None => false,
+    }
+}
+
+impl Reading {
+    /// Adds a string pool.
+    #[tactic(auto, unfolding(crate::specs::Nodes::pool_part))]
+    fn read_pool(
+        &mut self,
+        alloc: Global,
+        bytes: &[u8],
+        at: usize,
+        chunk: Chunk,
+    ) -> Result<(), ReadFault>
+        requires { IsChunk at (length bytes.now) chunk }
+        ensures { Does (reading self.new) result (joined (reading self.old) (pool_part bytes.now at chunk (reading self.old))) }
+    {
+        if self.pool.is_some() {
+            return Err(ReadFault::Bad(Fault {
+                cause: SECOND_POOL,
+                at,
+            }));
+        }
+        self.pool = Some(Pool::read(alloc, bytes, at, chunk)?);
+        Ok(())
+    }
+
+    /// Takes a resource map in the place of an earlier one.
+    #[tactic(auto, unfolding(crate::specs::Nodes::map_part))]
+    fn read_map(
+        &mut self,
+        alloc: Global,
+        bytes: &[u8],
+        at: usize,
+        chunk: Chunk,
+    ) -> Result<(), ReadFault>
+        requires { IsChunk at (length bytes.now) chunk }
+        ensures { Does (reading self.new) result (joined (reading self.old) (map_part bytes.now at chunk (reading self.old))) }
+    {
+        self.map = words_at(alloc, bytes, at + chunk.head, (chunk.size - chunk.head) / 4)?;
+        Ok(())
+    }
+
+    /// Adds the start of a namespace.
+    #[tactic(auto, unfolding(crate::specs::Nodes::namespace_start_part))]
+    fn read_namespace_start(
+        &mut self,
+        bytes: &[u8],
+        at: usize,
+        chunk: Chunk,
+    ) -> Result<(), ReadFault>
+        requires { IsChunk at (length bytes.now) chunk }
+        ensures { Does (reading self.new) result (joined (reading self.old) (namespace_start_part bytes.now at chunk (reading self.old))) }
+    {
+        let (prefix, uri) = pair_at(bytes, at, chunk, string_count(&self.pool))?;
+        self.nodes.push(Node::NsStart { prefix, uri })?;
+        Ok(())
+    }
+
+    /// Adds the end of a namespace.
+    #[tactic(auto, unfolding(crate::specs::Nodes::namespace_end_part))]
+    fn read_namespace_end(&mut self, bytes: &[u8], at: usize, chunk: Chunk) -> Result<(), ReadFault>
+        requires { IsChunk at (length bytes.now) chunk }
+        ensures { Does (reading self.new) result (joined (reading self.old) (namespace_end_part bytes.now at chunk (reading self.old))) }
+    {
+        let (prefix, uri) = pair_at(bytes, at, chunk, string_count(&self.pool))?;
+        self.nodes.push(Node::NsEnd { prefix, uri })?;
+        Ok(())
+    }
+
+    /// Adds an element that begins, with its attributes.
+    #[tactic(auto, unfolding(crate::specs::Nodes::start_part), using(crate::proofs::Attrs::attrs_behind))]
+    fn read_start(&mut self, bytes: &[u8], at: usize, chunk: Chunk) -> Result<(), ReadFault>
+        requires { IsChunk at (length bytes.now) chunk }
+        ensures { Does (reading self.new) result (joined (reading self.old) (start_part bytes.now at chunk (reading self.old))) }
+    {
+        let count = string_count(&self.pool);
+        let head = start_at(bytes, at, chunk, count, self.closed, self.starts)?;
+        let first = self.attrs.len() as u32;
+        self.starts += 1;
+        push_attrs(&mut self.attrs, bytes, count, head)?;
+        self.nodes.push(Node::Start {
+            line: u32_at(bytes, at + 8),
+            ns: head.ns,
+            name: head.name,
+            first,
+            count: head.count as u32,
+        })?;
+        self.opened.push(head.name)?;
+        Ok(())
+    }
+
+    /// Adds the end of the innermost open element.
+    #[tactic(auto, unfolding(crate::specs::Nodes::end_part))]
+    fn read_end(&mut self, bytes: &[u8], at: usize, chunk: Chunk) -> Result<(), ReadFault>
+        requires { IsChunk at (length bytes.now) chunk }
+        ensures { Does (reading self.new) result (joined (reading self.old) (end_part bytes.now at chunk (reading self.old))) }
+    {
+        let (ns, name) = names_at(bytes, at, chunk, string_count(&self.pool))?;
+        if !is_closed_by(&self.pool, &self.opened, name) {
+            return Err(ReadFault::Bad(Fault {
+                cause: UNBALANCED,
+                at,
+            }));
+        }
+        self.closed = self.opened.len() == 1;
+        self.opened.pop();
+        self.nodes.push(Node::End {
+            line: u32_at(bytes, at + 8),
+            ns,
+            name,
+        })?;
+        Ok(())
+    }
+
+    /// Adds character data.
+    #[tactic(auto, unfolding(crate::specs::Nodes::chars_part))]
+    fn read_chars(&mut self, bytes: &[u8], at: usize, chunk: Chunk) -> Result<(), ReadFault>
+        requires { IsChunk at (length bytes.now) chunk }
+        ensures { Does (reading self.new) result (joined (reading self.old) (chars_part bytes.now at chunk (reading self.old))) }
+    {
+        let text = chars_at(bytes, at, chunk, string_count(&self.pool))?;
+        let body = at + chunk.head;
+        self.nodes.push(Node::Chars {
+            line: u32_at(bytes, at + 8),
+            text,
+            kind: bytes[body + 7],
+            word: u32_at(bytes, body + 8),
+        })?;
+        Ok(())
+    }
+
+    /// Adds what a chunk is. A chunk of another kind is passed over.
+    #[tactic(auto, unfolding(crate::specs::Nodes::part_at))]
+    pub fn read_chunk(
+        &mut self,
+        alloc: Global,
+        bytes: &[u8],
+        at: usize,
+        chunk: Chunk,
+    ) -> Result<(), ReadFault>
+        requires { IsChunk at (length bytes.now) chunk }
+        ensures { Does (reading self.new) result (joined (reading self.old) (part_at bytes.now at chunk (reading self.old))) }
+    {
+        match chunk.kind {
+            0x001 => self.read_pool(alloc, bytes, at, chunk),
+            0x180 => self.read_map(alloc, bytes, at, chunk),
+            0x100 => self.read_namespace_start(bytes, at, chunk),
+            0x101 => self.read_namespace_end(bytes, at, chunk),
+            0x102 => self.read_start(bytes, at, chunk),
+            0x103 => self.read_end(bytes, at, chunk),
+            0x104 => self.read_chars(bytes, at, chunk),
+            _ => Ok(()),
+        }
+    }
+}
