@@ -5,5 +5,6 @@ pub mod Causes
 pub mod Counts
 pub mod Fetched
 pub mod Files
+pub mod MemoryShelf
 pub mod MemorySink
 pub mod MemorySource

@@ -11,6 +11,7 @@ mod bytes_left;
 mod calls;
 mod faults;
 mod folder;
+mod memory_shelf;
 mod memory_sink;
 mod memory_source;
 mod shelf;
@@ -24,6 +25,7 @@ mod steady_source;
 
 pub use faults::Failed;
 pub use folder::FolderShelf;
+pub use memory_shelf::MemoryShelf;
 pub use memory_sink::MemorySink;
 pub use memory_source::MemorySource;
 pub use shelf::{Found, Shelf, ShelfFault};

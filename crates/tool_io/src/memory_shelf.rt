@@ -1,0 +1,79 @@
+ghost use Rattle.std.specs.Prelude.{◌≡◌, ◌≢◌, ◌<◌, ◌≤◌, ◌↔◌, [], length, IfOk, IsFalse, IsTrue, IsSomeAnd, None};
+ghost use Rattle.tool_io.specs.Causes.{Rose};
+ghost use Rattle.tool_io.specs.Fetched.{Fetched, file_of};
+
+use crate::calls::Calls;
+use crate::shelf::{Found, Shelf, ShelfFault};
+use crate::steady_shelf::SteadyShelf;
+use std::marker::Model;
+
+/// A shelf of files in memory, which fails at the calls that it was told to fail at.
+#[derive(Debug, Drop)]
+pub struct MemoryShelf {
+    files: SteadyShelf,
+    calls: Calls,
+}
+
+impl Model for MemoryShelf {
+    ghost use Rattle.tool_io.specs.MemoryShelf.{ListedShelf};
+
+    ghost Value = { ListedShelf };
+
+    ghost view = { λ s. record { files = s.files; calls = s.calls } };
+}
+
+impl MemoryShelf {
+    ghost use Rattle.tool_io.specs.Calls.{no_calls};
+    ghost use Rattle.tool_io.specs.Files.{named_files};
+
+    /// A shelf of these files, which fails at the calls whose numbers, from 1 on, are in `fails`.
+    /// Of equal names the first counts.
+    pub fn new(files: Vec<(String, Vec<u8>)>, fails: Vec<u64>) -> MemoryShelf
+        ensures files { result.files ≡ named_files files.items }
+        ensures calls { result.calls ≡ no_calls fails.items }
+    {
+        MemoryShelf {
+            files: SteadyShelf::new(files),
+            calls: Calls::new(fails),
+        }
+    }
+}
+
+impl Shelf for MemoryShelf {
+    ghost use Rattle.std.specs.Prelude.{Some};
+    ghost use Rattle.tool_io.specs.Calls.{fails_next};
+    ghost use Rattle.tool_io.specs.MemoryShelf.{after_fetch};
+
+    ghost files = { λ s. Some s.files };
+
+    ghost faults = { λ s. s.calls.faults };
+
+    fn fetch(&mut self, name: &str, into: &mut Vec<u8>, limit: usize) -> Result<Found, ShelfFault>
+        ensures stays { self.new.files ≡ self.old.files }
+        ensures found { IfOk result (λ found. Fetched self.old.files name.now limit found into.new.items) }
+        ensures empty { result ≢ Ok Found.Whole → into.new.items ≡ [] }
+        ensures limit { length into.new.items ≤ limit }
+        ensures later { self.old.calls.faults ≤ self.new.calls.faults }
+        ensures failed { result ≡ Err ShelfFault.Failed → Rose self.old.calls.faults self.new.calls.faults }
+
+        // The call fails exactly where it is listed. Else a file is missing exactly where it is not
+        // held, and long exactly where it is above the limit; memory may be wanting for the bytes
+        // of a file that would be handed out.
+        ensures listed { (result ≡ Err ShelfFault.Failed) ↔ IsTrue (fails_next self.old.calls) }
+        ensures missing { (result ≡ Ok Found.Missing)
+            ↔ (IsFalse (fails_next self.old.calls) × (file_of self.old.files name.now ≡ None)) }
+        ensures long { (result ≡ Ok Found.Long)
+            ↔ (IsFalse (fails_next self.old.calls)
+            × IsSomeAnd (file_of self.old.files name.now) (λ file. limit < length file)) }
+        ensures no_memory { result ≡ Err ShelfFault.NoMemory
+            → IsSomeAnd (file_of self.old.files name.now) (λ file. (0 < length file) × (length file ≤ limit)) }
+        ensures after { self.new ≡ after_fetch self.old }
+    {
+        if self.calls.begin() {
+            into.clear();
+            self.calls.fail();
+            return Err(ShelfFault::Failed);
+        }
+        self.files.fetch(name, into, limit)
+    }
+}
