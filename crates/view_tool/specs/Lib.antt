@@ -1,6 +1,7 @@
 pub mod Bounds
 pub mod Carried
 pub mod Command
+pub mod Dump
 pub mod Files
 pub mod Lines
 pub mod Number
@@ -13,5 +14,6 @@ pub mod Told
 pub mod Tool
 pub mod Transcript
 pub mod Tree
+pub mod Usage
 pub mod Words
 pub mod WorldNow

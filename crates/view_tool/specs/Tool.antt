@@ -1,10 +1,7 @@
 -- What a call of the tool is and how it ends.
-use Rattle.std.specs.Prelude.{◌≡◌, ◌⊎◌, ℕ, Bool, true, false, if◌then◌else◌, List, [], ◌∷◌, ◌++◌, ◌==◌, Option, Some, Result, Ok, Err, codes, string_bytes}
+use Rattle.std.specs.Prelude.{◌≡◌, ◌⊎◌, ℕ, Bool, true, false, if◌then◌else◌, List, ◌++◌, ◌==◌, Option, Some, Result, Ok, Err}
 use Rattle.std.specs.List.{list_any}
 use Rattle.std.specs.Io.KnownBytes.{Appends}
-use Rattle.std.specs.Str.{bytes_eq}
-use Rattle.std.specs.declared.alloc.Global.{Global}
-use Rattle.std.specs.declared.string.String.{String}
 use Rattle.view_tool.specs.declared.run.Stop.{Stop}
 use Rattle.view_tool.specs.declared.run.Stop.TheVariants.{Sink, NoMemory}
 use Rattle.view_tool.specs.Carried.{SinkState}
@@ -12,21 +9,21 @@ use Rattle.view_tool.specs.Files.{Files}
 use Rattle.view_tool.specs.Lines.{Line}
 use Rattle.view_tool.specs.Reply.{Part}
 use Rattle.view_tool.specs.Transcript.{after_lines}
-
--- whether the words are `run` alone, which is the one form that they may have
-abbrev pub is_run : List (String Global) → Bool
-is_run [] = false
-is_run (word ∷ []) = bytes_eq (string_bytes word) (codes "run")
-is_run (word ∷ next ∷ words) = false
+use Rattle.view_tool.specs.Usage.{Usage, Run, Dump}
 
 -- a run of this script with these files: the words are those of a run, the source has these bytes left, and the shelf
 -- holds these files
-pub record IsRunOf (run : Bool) (left : Option (List ℕ)) (held : Option Files) (script : List ℕ) (files : Files) : Type 0 where
-  pub words : run ≡ true
+pub record IsRunOf (usage : Usage) (left : Option (List ℕ)) (held : Option Files) (script : List ℕ) (files : Files) : Type 0 where
+  pub words : usage ≡ Run
   pub source : left ≡ Some script
   pub shelf : held ≡ Some files
 
--- a run that ended by itself: every line was carried out, and none or some were refused
+-- the print of the file of this name, with these files
+pub record IsDumpOf (usage : Usage) (held : Option Files) (name : List ℕ) (files : Files) : Type 0 where
+  pub words : usage ≡ Dump name
+  pub shelf : held ≡ Some files
+
+-- a call that ended by itself: all was done, and nothing or something was refused
 abbrev pub Ended : ℕ → Type 0
 Ended status = (status ≡ 0) ⊎ (status ≡ 1)
 

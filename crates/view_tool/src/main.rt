@@ -1,14 +1,20 @@
-//! The program `view_tool`: it carries out scripts over a tree of Android views, line by line, and writes exact bounds.
+//! The program `view_tool`: it carries out scripts over a tree of Android views, line by line, and writes exact bounds;
+//! and it prints compiled layout files.
 //!
-//! `tool` is the whole program over handed-in objects; `main` hands it the real ones. On the way from the bytes of a
-//! script to the bytes of the answer: `script` reads, `lines` cuts, `words`, `number` and `command` read a line, `run`
-//! carries out line after line, `world` keeps what they have made, `layout` lays the tree out, `bounds` and `replies`
-//! write the texts, and `reply` gathers them for the sink.
+//! `tool` is the whole program over handed-in objects; `main` hands it the real ones, and `usage` tells what the words
+//! ask for. On the way from the bytes of a script to the bytes of the answer: `script` reads, `lines` cuts, `words`,
+//! `number` and `command` read a line, `run` carries out line after line, `world` keeps what they have made, `layout`
+//! lays the tree out, `bounds` and `replies` write the texts, and `reply` gathers them for the sink. `dump` prints a
+//! file, or has `file_replies` tell why it is refused.
 #![tactic(auto)]
 
 mod bounds;
 mod command;
+mod dump;
+#[cfg(test)]
+mod dump_tests;
 mod fault;
+mod file_replies;
 mod layout;
 mod lines;
 mod number;
@@ -17,17 +23,20 @@ mod replies;
 mod reply;
 mod run;
 mod script;
+mod status;
 #[cfg(test)]
 mod tests;
 mod tool;
 mod tree;
+mod usage;
 mod words;
 mod world;
 
+use status::{NO_MEMORY, USAGE};
 use std::env;
 use std::io::{self, ErrorKind};
 use std::process::ExitCode;
-use tool::{NO_MEMORY, USAGE, tool};
+use tool::tool;
 use tool_io::{FolderShelf, StdinSource, StdoutSink};
 use view_model::Work;
 
