@@ -1,6 +1,7 @@
 pub mod Answers
 pub mod Loop
 pub mod Attrs
+pub mod AlikeLaws
 pub mod Strings
 pub mod BracketLaws
 pub mod FieldLaws

@@ -1,4 +1,5 @@
 pub mod Document
+pub mod Alike
 pub mod Brackets
 pub mod Fields
 pub mod Parts

@@ -44,6 +44,7 @@ impl Reading {
     {
         Reading {
             pool: None,
+            alike: Vec::new(alloc),
             map: Vec::new(alloc),
             nodes: Vec::new(alloc),
             attrs: Vec::new(alloc),

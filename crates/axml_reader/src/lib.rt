@@ -2,6 +2,7 @@
 //! broken, and printing what it holds.
 #![tactic(auto)]
 
+mod alike;
 mod decode;
 mod doc;
 mod dump;

@@ -1,13 +1,15 @@
 ghost use Rattle.std.specs.Prelude.{◌≡◌, ◌+◌, ◌-◌, ◌*◌, ◌^◌, ◌<◌, ◌≤◌, length, IfOk};
 ghost use Rattle.axml_chunks.specs.Chunks.{IsChunk};
 ghost use Rattle.axml_chunks.specs.Steps.{Does};
+ghost use Rattle.axml_reader.specs.Alike.{AreAlike};
 ghost use Rattle.axml_reader.specs.Brackets.{is_closed_by};
 ghost use Rattle.axml_reader.specs.Fields.{same_text};
 ghost use Rattle.axml_reader.specs.Nodes.{IsStart, is_short, is_outside, pair_at, names_at, chars_at, start_at, pool_part, map_part, namespace_start_part, namespace_end_part, start_part, end_part, chars_part, part_at, joined};
 ghost use Rattle.axml_reader.specs.View.{reading};
 
+use crate::alike::{are_alike, none_alike};
 use crate::doc::Node;
-use crate::fields::{name_at, push_attrs, reference_at, same_text, string_count, words_at};
+use crate::fields::{name_at, push_attrs, reference_at, string_count, words_at};
 use crate::head::StartHead;
 use crate::reading::Reading;
 use axml_chunks::causes::{BAD_CHUNK, SECOND_POOL, TOO_BIG, TWO_ROOTS, UNBALANCED};
@@ -139,11 +141,13 @@ fn start_at(
 }
 
 /// Whether the innermost open element has the text of this name.
-fn is_closed_by(pool: &Option<Pool>, opened: &[u32], name: u32) -> bool
-    ensures { result ≡ is_closed_by (same_text pool.now) opened.now name }
+fn is_closed_by(pool: &Option<Pool>, alike: &mut [u32], opened: &[u32], name: u32) -> bool
+    requires { AreAlike pool.now alike.old }
+    ensures value { result ≡ is_closed_by (same_text pool.now) opened.now name }
+    ensures known { AreAlike pool.now alike.new }
 {
     match opened.last() {
-        Some(innermost) => same_text(pool, name, *innermost),
+        Some(innermost) => are_alike(pool, alike, name, *innermost),
         None => false,
     }
 }
@@ -167,7 +171,9 @@ impl Reading {
                 at,
             }));
         }
-        self.pool = Some(Pool::read(alloc, bytes, at, chunk)?);
+        let pool = Pool::read(alloc, bytes, at, chunk)?;
+        self.alike = none_alike(alloc, pool.len())?;
+        self.pool = Some(pool);
         Ok(())
     }
 
@@ -243,7 +249,7 @@ impl Reading {
         ensures { Does (reading self.new) result (joined (reading self.old) (end_part bytes.now at chunk (reading self.old))) }
     {
         let (ns, name) = names_at(bytes, at, chunk, string_count(&self.pool))?;
-        if !is_closed_by(&self.pool, &self.opened, name) {
+        if !is_closed_by(&self.pool, &mut self.alike, &self.opened, name) {
             return Err(ReadFault::Bad(Fault {
                 cause: UNBALANCED,
                 at,

@@ -1,4 +1,4 @@
-ghost use Rattle.std.specs.Prelude.{◌<◌};
+ghost use Rattle.std.specs.Prelude.{◌+◌, ◌<◌, ◌≤◌, length};
 
 use crate::{Doc, print, read};
 use axml_chunks::causes::{NO_ELEMENT, TRUNCATED, UNBALANCED};
@@ -68,9 +68,18 @@ const WIDE: [u8; 436] = [
     0x03, 0x00, 0x00, 0x00,
 ];
 
-/// What the file holds, behind the pool's line.
-const LINES: &str =
-    "s0 \"layout_width\"\ns1 \"layout_height\"\ns2 \"android\"\ns3 \"http://schemas.android.com/apk/res/android\"\ns4 \"View\"\ns5 \"style\"\nmap 010100f4\nmap 010100f5\nns s2 s3\nstart 2 - s4 3\nattr s3 s0 - 10 ffffffff\nattr s3 s1 - 05 00001001\nattr - s5 - 01 7f030000\nend 2 - s4\nendns s2 s3\n";
+/// What the file holds, behind the pool's line and before the attribute that is the height.
+const BEFORE_HEIGHT: &str =
+    "s0 \"layout_width\"\ns1 \"layout_height\"\ns2 \"android\"\ns3 \"http://schemas.android.com/apk/res/android\"\ns4 \"View\"\ns5 \"style\"\nmap 010100f4\nmap 010100f5\nns s2 s3\nstart 2 - s4 3\nattr s3 s0 - 10 ffffffff\n";
+
+/// The height.
+const HEIGHT: &str = "attr s3 s1 - 05 00001001\n";
+
+/// The height as a reference.
+const REFERENCE: &str = "attr s3 s1 - 01 7f050001\n";
+
+/// What the file holds behind the height.
+const BEHIND_HEIGHT: &str = "attr - s5 - 01 7f030000\nend 2 - s4\nendns s2 s3\n";
 
 fn fault_of(answer: Result<Doc, ReadFault>) -> Option<Fault> {
     match answer {
@@ -79,16 +88,31 @@ fn fault_of(answer: Result<Doc, ReadFault>) -> Option<Fault> {
     }
 }
 
-/// The text of a document whose pool's line is this, if that is how it is printed.
-fn is_printed(alloc: Global, bytes: &[u8], pool_line: &[u8], most: usize) -> Result<bool, ReadFault>
+/// Whether this is a document that is printed so, where its pool's line and its height's differ.
+fn is_printed(
+    alloc: Global,
+    bytes: &[u8],
+    pool_line: &str,
+    height: &str,
+    most: usize,
+) -> Result<bool, ReadFault>
     requires { 0 < most }
 {
     let doc = read(alloc, bytes)?;
     let mut sink = MemorySink::new(alloc, most, Vec::new(alloc));
     let ended = print(&doc, &mut sink).is_ok();
-    let mut wanted = Vec::from_slice(alloc, pool_line)?;
-    wanted.extend_from_slice(LINES.as_bytes())?;
+    let mut wanted = Vec::new(alloc);
+    for part in [pool_line, BEFORE_HEIGHT, height, BEHIND_HEIGHT] {
+        wanted.extend_from_slice(part.as_bytes())?;
+    }
     Ok(ended && sink.gone() == wanted.as_slice())
+}
+
+/// Puts a reference at the place of a value.
+fn refer(bytes: &mut [u8], at: usize)
+    requires { at + 8 ≤ length bytes.old }
+{
+    bytes[at..at + 8].copy_from_slice(&[0x08, 0x00, 0x00, 0x01, 0x01, 0x00, 0x05, 0x7f]);
 }
 
 /// The narrow file cut to a length, which stands in its header if `said`.
@@ -124,23 +148,20 @@ fn cut_fault(len: usize) -> Option<Fault> {
 #[test]
 fn prints_a_layout_file_in_both_encodings(rt: HostRuntime) -> Result<(), Fail> {
     let alloc = rt.alloc();
-    assert!(rt; is_printed(alloc, &NARROW, b"pool utf8 6\n", 4096)?);
-    assert!(rt; is_printed(alloc, &WIDE, b"pool utf16 6\n", 1)?);
+    assert!(rt; is_printed(alloc, &NARROW, "pool utf8 6\n", HEIGHT, 4096)?);
+    assert!(rt; is_printed(alloc, &WIDE, "pool utf16 6\n", HEIGHT, 1)?);
     Ok(())
 }
 
 #[test]
-fn reads_a_reference_in_place_of_a_height(rt: HostRuntime) -> Result<(), Fail> {
+fn prints_a_reference_in_place_of_a_height_in_both_encodings(rt: HostRuntime) -> Result<(), Fail> {
     let alloc = rt.alloc();
-    let mut bytes = NARROW;
-    bytes[275] = 0x01;
-    bytes[276] = 0x01;
-    bytes[277] = 0x00;
-    bytes[278] = 0x05;
-    bytes[279] = 0x7f;
-    let doc = read(alloc, &bytes)?;
-    let value = doc.attrs.get(1).map(|attr| (attr.kind, attr.word));
-    assert!(rt; value == Some((1, 0x7f05_0001)));
+    let mut narrow = NARROW;
+    refer(&mut narrow, 272);
+    assert!(rt; is_printed(alloc, &narrow, "pool utf8 6\n", REFERENCE, 4096)?);
+    let mut wide = WIDE;
+    refer(&mut wide, 360);
+    assert!(rt; is_printed(alloc, &wide, "pool utf16 6\n", REFERENCE, 1)?);
     Ok(())
 }
 
