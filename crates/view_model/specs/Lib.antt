@@ -1,8 +1,11 @@
+pub mod Changes
 pub mod Facts
 pub mod Forest
 pub mod FrameLayout
+pub mod Growth
 pub mod Geometry
 pub mod Layout
 pub mod Measuring
 pub mod PlainTree
+pub mod Refusals
 pub mod World

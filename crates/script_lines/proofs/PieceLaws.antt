@@ -1,0 +1,31 @@
+-- The lines of a script do not depend on where its pieces are cut.
+use Rattle.std.proofs.Common.{◌≡◌, ℕ, ap, sym, subst, ◌∙◌, List, [], ◌∷◌, ◌++◌, append_assoc, take}
+use Rattle.std.proofs.lemmas.List.{append-nil}
+use Rattle.script_lines.specs.Lines.{cut_of, last_of, lines_of}
+use Rattle.script_lines.specs.Held.{Held, Stands, lines_as}
+use Rattle.script_lines.specs.Pieces.{Taken, Finishes, Course, bytes_in, lines_in}
+use Rattle.script_lines.specs.declared.cutting.Ended.{Ended}
+
+-- after any course
+after_course : (first last : Held) (course : List Taken) (before : List ℕ) → Stands first before → Course first course last
+    → ((cut_of (before ++ bytes_in course)).lines ≡ (cut_of before).lines ++ lines_in course) × Stands last (before ++ bytes_in course)
+after_course first last [] before s c = (
+  ap (λ l. (cut_of l).lines) (append-nil before) ∙ sym (append-nil (cut_of before).lines),
+  record { begun = ap (λ (h : Held). h.begun) c ∙ s.begun ∙ sym (ap (λ l. take 1025 (cut_of l).rest) (append-nil before)) },
+)
+after_course first last (taken ∷ course) before s c =
+    let fed = c.0 before s in
+    let more = after_course taken.held last course (before ++ taken.bytes) fed.1 c.1 in
+    let same = append_assoc before taken.bytes (bytes_in course) in (
+      ap (λ l. (cut_of l).lines) (sym same) ∙ more.0 ∙ ap (λ l. l ++ lines_in course) fed.0
+          ∙ append_assoc (cut_of before).lines (lines_as taken.ended taken.held.line) (lines_in course),
+      subst (λ l. Stands last l) same more.1,
+    )
+
+-- However a script is cut into pieces, the lines told of are its lines.
+pub lines_in_pieces : (first last : Held) (course : List Taken) (ended : Ended) (line : List ℕ) → Stands first [] → Course first course last → Finishes last ended line
+    → lines_of (bytes_in course) ≡ lines_in course ++ lines_as ended line
+unfolding lines_of
+lines_in_pieces first last course ended line s c f =
+    let all = after_course first last course [] s c in
+    ap (λ l. l ++ last_of (cut_of (bytes_in course)).rest) all.0 ∙ ap (λ l. lines_in course ++ l) (f (bytes_in course) all.1)

@@ -1,0 +1,10 @@
+pub mod Changes
+pub mod Commands
+pub mod Dimensions
+pub mod Gravities
+pub mod Held
+pub mod Lines
+pub mod Names
+pub mod Numbers
+pub mod Pieces
+pub mod Words

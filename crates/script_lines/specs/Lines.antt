@@ -1,0 +1,57 @@
+-- The lines of a script.
+use Rattle.std.specs.Prelude.{ℕ, ◌-◌, ◌==◌, nat_lt, Bool, ◌&&◌, ◌||◌, List, [], ◌∷◌, ◌++◌, cond, length, take, fold, slice_index}
+use Rattle.std.specs.List.{list_all}
+
+-- a line as it was read
+pub data Line : Type 0 where
+  Text : (bytes : List ℕ) → Line
+  LongLine : Line
+
+-- the most bytes that a line may have before its line feed
+abbrev pub longest : ℕ
+longest = 1024
+
+abbrev pub is_line_feed : ℕ → Bool
+is_line_feed b = b == 10
+
+-- the bytes without one carriage return at their end
+unfoldable pub without_return : List ℕ → List ℕ
+without_return bytes = cond (nat_lt 0 (length bytes) && slice_index bytes (length bytes - 1) == 13) (take (length bytes - 1) bytes) bytes
+
+-- the line of the bytes before a line feed: a carriage return counts for its length, and then goes
+unfoldable pub line_of : List ℕ → Line
+line_of bytes = cond (nat_lt longest (length bytes)) LongLine (Text (without_return bytes))
+
+-- the line of bytes that no line feed ends: a carriage return stays
+unfoldable pub last_line : List ℕ → Line
+last_line bytes = cond (nat_lt longest (length bytes)) LongLine (Text bytes)
+
+-- the lines whose line feed has come, and what has come of the next line
+pub record Cut : Type 0 where
+  pub lines : List Line
+  pub rest : List ℕ
+
+abbrev pub cut_step : Cut → ℕ → Cut
+cut_step cut b =
+    cond (is_line_feed b)
+    (record { lines = cut.lines ++ line_of cut.rest ∷ []; rest = [] })
+    (record { lines = cut.lines; rest = cut.rest ++ b ∷ [] })
+
+abbrev pub cut_of : List ℕ → Cut
+cut_of bytes = fold cut_step (record { lines = []; rest = [] }) bytes
+
+-- a rest without a line feed is a line if it is not empty
+abbrev pub last_of : List ℕ → List Line
+last_of [] = []
+last_of (b ∷ bytes) = last_line (b ∷ bytes) ∷ []
+
+-- the lines of a script
+unfoldable pub lines_of : List ℕ → List Line
+lines_of script = (cut_of script).lines ++ last_of (cut_of script).rest
+
+abbrev pub is_space : ℕ → Bool
+is_space b = b == 32
+
+-- a line of spaces only, or none, and a line that begins with `#`
+abbrev pub is_passed_over : List ℕ → Bool
+is_passed_over line = list_all is_space line || (nat_lt 0 (length line) && slice_index line 0 == 35)

@@ -1,0 +1,189 @@
+//! What a line sets of a view.
+
+ghost use Rattle.std.specs.Prelude.{◌≡◌, pos, negsuc, ◌≤ℤ◌, IfOk};
+ghost use Rattle.script_lines.specs.Changes.{IsActInBounds, IsChangeInBounds, act_of, change_of, insets_of, margins_of, min_of, new_id_of, own_gravity_of, padding_of, sides_of, size_of, visibility_of, visible_of};
+ghost use Rattle.script_lines.specs.Numbers.{IsWithin};
+ghost use Rattle.script_lines.specs.Words.{words};
+
+use crate::dimension::extents;
+use crate::fault::LineFault;
+use crate::gravity::read_gravity;
+use crate::naming::id_word;
+use crate::number::{number, pair, within};
+use crate::words::{end, is, literal, word};
+use geom_core::{Insets, Size};
+use view_model::{Act, Change, Visibility};
+
+/// The sides of a view as words give them, the numbers not yet within their bounds.
+#[derive(Clone, Copy, Debug, PartialEq, Eq)]
+struct Sides {
+    left: i64,
+    top: i64,
+    right: i64,
+    bottom: i64,
+}
+
+/// The four sides that end a line.
+#[tactic(auto, unfolding(crate::specs::Changes::sides_of))]
+fn read_sides(bytes: &[u8]) -> Result<Sides, LineFault>
+    ensures { result ≡ sides_of (words bytes.now) }
+{
+    let (left, rest) = number(bytes)?;
+    let (top, rest) = number(rest)?;
+    let (right, rest) = number(rest)?;
+    let (bottom, rest) = number(rest)?;
+    end(rest)?;
+    Ok(Sides {
+        left,
+        top,
+        right,
+        bottom,
+    })
+}
+
+/// Sides within their bounds, each from `low` to 1048575.
+#[tactic(auto, unfolding(crate::specs::Changes::insets_of))]
+fn insets(low: i64, sides: Sides) -> Result<Insets, LineFault>
+    requires { negsuc 2147483646 ≤ℤ low }
+    ensures value { result ≡ insets_of low sides }
+    ensures left { IfOk result (λ r. IsWithin low (pos 1048575) r.left) }
+    ensures top { IfOk result (λ r. IsWithin low (pos 1048575) r.top) }
+    ensures right { IfOk result (λ r. IsWithin low (pos 1048575) r.right) }
+    ensures bottom { IfOk result (λ r. IsWithin low (pos 1048575) r.bottom) }
+{
+    let left = within(low, 1048575, sides.left)?;
+    let top = within(low, 1048575, sides.top)?;
+    let right = within(low, 1048575, sides.right)?;
+    let bottom = within(low, 1048575, sides.bottom)?;
+    Ok(Insets {
+        left,
+        top,
+        right,
+        bottom,
+    })
+}
+
+fn size(bytes: &[u8]) -> Result<Change, LineFault>
+    ensures value { result ≡ size_of (words bytes.now) }
+    ensures bounds { IfOk result IsChangeInBounds }
+{
+    let (width, height) = extents(bytes)?;
+    Ok(Change::Size { width, height })
+}
+
+fn min(bytes: &[u8]) -> Result<Change, LineFault>
+    ensures value { result ≡ min_of (words bytes.now) }
+    ensures bounds { IfOk result IsChangeInBounds }
+{
+    let (w, h) = pair(0, 16777215, bytes)?;
+    Ok(Change::Min(Size { w, h }))
+}
+
+fn margins(bytes: &[u8]) -> Result<Change, LineFault>
+    ensures value { result ≡ margins_of (words bytes.now) }
+    ensures bounds { IfOk result IsChangeInBounds }
+{
+    let insets = insets(-1048575, read_sides(bytes)?)?;
+    Ok(Change::Margins(insets))
+}
+
+fn padding(bytes: &[u8]) -> Result<Change, LineFault>
+    ensures value { result ≡ padding_of (words bytes.now) }
+    ensures bounds { IfOk result IsChangeInBounds }
+{
+    let insets = insets(0, read_sides(bytes)?)?;
+    Ok(Change::Padding(insets))
+}
+
+/// The gravity of a view in its parent.
+#[tactic(auto, unfolding(crate::specs::Changes::own_gravity_of))]
+fn own_gravity(bytes: &[u8]) -> Result<Change, LineFault>
+    ensures value { result ≡ own_gravity_of (words bytes.now) }
+    ensures bounds { IfOk result IsChangeInBounds }
+{
+    let rest = literal(b"self", bytes)?;
+    let (word, rest) = word(rest)?;
+    let gravity = read_gravity(word)?;
+    end(rest)?;
+    Ok(Change::Gravity {
+        kids: false,
+        gravity,
+    })
+}
+
+/// A change by the first word of its line and what stands behind the view.
+#[tactic(auto, unfolding(crate::specs::Changes::change_of))]
+fn read_change(head: &[u8], bytes: &[u8]) -> Result<Change, LineFault>
+    ensures value { result ≡ change_of head.now (words bytes.now) }
+    ensures bounds { IfOk result IsChangeInBounds }
+{
+    if is(head, b"size") {
+        return size(bytes);
+    }
+    if is(head, b"min") {
+        return min(bytes);
+    }
+    if is(head, b"margins") {
+        return margins(bytes);
+    }
+    if is(head, b"padding") {
+        return padding(bytes);
+    }
+    if is(head, b"gravity") {
+        return own_gravity(bytes);
+    }
+    Err(LineFault::Syntax)
+}
+
+#[tactic(auto, unfolding(crate::specs::Changes::visibility_of))]
+fn read_visibility(word: &[u8]) -> Result<Visibility, LineFault>
+    ensures { result ≡ visibility_of word.now }
+{
+    if is(word, b"visible") {
+        return Ok(Visibility::Visible);
+    }
+    if is(word, b"invisible") {
+        return Ok(Visibility::Invisible);
+    }
+    if is(word, b"gone") {
+        return Ok(Visibility::Gone);
+    }
+    Err(LineFault::Syntax)
+}
+
+#[tactic(auto, unfolding(crate::specs::Changes::visible_of))]
+fn visible(bytes: &[u8]) -> Result<Act, LineFault>
+    ensures value { result ≡ visible_of (words bytes.now) }
+    ensures bounds { IfOk result IsActInBounds }
+{
+    let (word, rest) = word(bytes)?;
+    let visibility = read_visibility(word)?;
+    end(rest)?;
+    Ok(Act::Visible(visibility))
+}
+
+#[tactic(auto, unfolding(crate::specs::Changes::new_id_of))]
+fn new_id(bytes: &[u8]) -> Result<Act, LineFault>
+    ensures value { result ≡ new_id_of (words bytes.now) }
+    ensures bounds { IfOk result IsActInBounds }
+{
+    let (id, rest) = id_word(bytes)?;
+    end(rest)?;
+    Ok(Act::Id(id))
+}
+
+/// What a line sets, by its first word and what stands behind the view.
+#[tactic(auto, unfolding(crate::specs::Changes::act_of))]
+pub fn read_act(head: &[u8], bytes: &[u8]) -> Result<Act, LineFault>
+    ensures value { result ≡ act_of head.now (words bytes.now) }
+    ensures bounds { IfOk result IsActInBounds }
+{
+    if is(head, b"visible") {
+        return visible(bytes);
+    }
+    if is(head, b"id") {
+        return new_id(bytes);
+    }
+    let change = read_change(head, bytes)?;
+    Ok(Act::Change(change))
+}

@@ -1,0 +1,23 @@
+//! The lines of a script, and the command that each line gives. Nothing here takes memory.
+//!
+//! `cutting` cuts bytes that come in pieces into lines. On the way from a line to its command: `words` parts it,
+//! `number`, `naming`, `dimension` and `gravity` read a word, `changes` reads what is set of a view, and `reading` reads
+//! the whole line.
+#![tactic(auto)]
+
+mod changes;
+mod commands;
+mod cutting;
+mod dimension;
+mod fault;
+mod gravity;
+mod naming;
+mod number;
+mod reading;
+mod words;
+
+pub use commands::Command;
+pub use cutting::{Ended, Lines, passes_over};
+pub use fault::LineFault;
+pub use naming::Name;
+pub use reading::line;

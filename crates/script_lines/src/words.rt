@@ -1,0 +1,93 @@
+//! The words of a line.
+
+ghost use Rattle.std.specs.Prelude.{◌≡◌, ◌≤◌, List, length, IfOk};
+ghost use Rattle.std.specs.List.{prefix_len};
+ghost use Rattle.std.specs.Str.{bytes_eq, is_utf8};
+ghost use Rattle.script_lines.specs.Lines.{is_space};
+ghost use Rattle.script_lines.specs.Words.{after_word, end_of, first_word, in_word, literal_in, map_ok, word_in, words};
+
+use crate::fault::LineFault;
+
+/// How many spaces stand at the front.
+fn spaces(bytes: &[u8]) -> usize
+    ensures count { result ≡ prefix_len is_space bytes.now }
+    ensures within { result ≤ length bytes.now }
+{
+    let mut at = 0;
+    while at < bytes.len() && bytes[at] == b' ' {
+        at += 1;
+    }
+    at
+}
+
+/// How long the word at the front is.
+fn word_len(bytes: &[u8]) -> usize
+    ensures count { result ≡ prefix_len in_word bytes.now }
+    ensures within { result ≤ length bytes.now }
+{
+    let mut at = 0;
+    while at < bytes.len() && bytes[at] != b' ' {
+        at += 1;
+    }
+    at
+}
+
+/// The first word, empty where there is none, and what stands behind it.
+#[tactic(auto, unfolding(crate::specs::Words::first_word, crate::specs::Words::after_word))]
+fn first(bytes: &[u8]) -> (&[u8], &[u8])
+    ensures word { result.0.now ≡ first_word bytes.now }
+    ensures rest { result.1.now ≡ after_word bytes.now }
+{
+    let line = &bytes[spaces(bytes)..];
+    let len = word_len(line);
+    (&line[..len], &line[len..])
+}
+
+/// The first word, and what stands behind it.
+#[tactic(auto, using(crate::proofs::WordLaws::words_none, crate::proofs::WordLaws::words_some))]
+pub fn word(bytes: &[u8]) -> Result<(&[u8], &[u8]), LineFault>
+    ensures { map_ok (λ r. (r.0.now, words r.1.now)) result ≡ word_in (words bytes.now) }
+{
+    let (word, rest) = first(bytes);
+    if word.is_empty() {
+        return Err(LineFault::Syntax);
+    }
+    Ok((word, rest))
+}
+
+/// Whether two words are equal.
+pub fn is(word: &[u8], name: &[u8]) -> bool
+    ensures { result ≡ bytes_eq word.now name.now }
+{
+    word == name
+}
+
+/// This word, and what stands behind it.
+pub fn literal<'a>(name: &[u8], bytes: &'a [u8]) -> Result<&'a [u8], LineFault>
+    ensures { map_ok (λ r. words r.now) result ≡ literal_in name.now (words bytes.now) }
+{
+    let (word, rest) = word(bytes)?;
+    if is(word, name) {
+        return Ok(rest);
+    }
+    Err(LineFault::Syntax)
+}
+
+/// No words are left.
+#[tactic(auto, using(crate::proofs::WordLaws::words_none, crate::proofs::WordLaws::words_some))]
+pub fn end(bytes: &[u8]) -> Result<(), LineFault>
+    ensures { result ≡ end_of (words bytes.now) }
+{
+    let (word, _) = first(bytes);
+    if word.is_empty() {
+        return Ok(());
+    }
+    Err(LineFault::Syntax)
+}
+
+/// Whether a line is valid UTF-8.
+pub fn is_text(line: &[u8]) -> bool
+    ensures { result ≡ is_utf8 line.now }
+{
+    std::str::from_utf8(line).is_ok()
+}
