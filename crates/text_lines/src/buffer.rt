@@ -1,4 +1,4 @@
-ghost use Rattle.std.specs.Prelude.{◌≡◌, ◌+◌, ◌≤◌, false, true, [], ◌++◌, length, OnOk, OnErr};
+ghost use Rattle.std.specs.Prelude.{◌≡◌, ◌+◌, ◌≤◌, false, true, [], ◌++◌, decimal, length, OnOk, OnErr};
 ghost use Rattle.std.specs.Fmt.{signed_decimal};
 ghost use Rattle.text_lines.specs.Held.{Held, Sends};
 ghost use Rattle.text_lines.specs.Hex.{hex_text};
@@ -98,6 +98,14 @@ impl TextBuffer {
     /// Sends a number in decimal, with `-` before one below 0.
     pub fn number<K: Sink>(&mut self, sink: &mut K, n: i64)
         ensures { Sends (K.gone sink.old) (K.gone sink.new) (K.faults sink.old) (K.faults sink.new) self.old self.new (signed_decimal n) }
+    {
+        let mut buffer = Buffer::new();
+        self.put(sink, buffer.format(n).as_bytes());
+    }
+
+    /// Sends a number that is not below 0 in decimal.
+    pub fn natural<K: Sink>(&mut self, sink: &mut K, n: u64)
+        ensures { Sends (K.gone sink.old) (K.gone sink.new) (K.faults sink.old) (K.faults sink.new) self.old self.new (decimal n) }
     {
         let mut buffer = Buffer::new();
         self.put(sink, buffer.format(n).as_bytes());

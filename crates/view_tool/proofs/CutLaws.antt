@@ -1,42 +1,100 @@
--- The lines whose line feed has come.
-use Rattle.std.proofs.Common.{◌≡◌, ℕ, ◌+◌, ◌-◌, ◌<◌, ◌≤◌, length, drop, take, get_or, List, [], ◌∷◌, ◌++◌, refl, ap, sym, ◌∙◌, arith, append_assoc, length-take}
-use Rattle.std.specs.Prelude.{Option, Some, None}
-use Rattle.std.specs.Io.KnownBytes.{Consumes}
-use Rattle.std.specs.List.{position_or_len}
+-- Lines of more bytes, and how many they are.
+use Rattle.std.proofs.Common.{◌≡◌, ℕ, ◌+◌, ◌-◌, ◌<◌, ◌≤◌, cond, length, take, drop, List, [], ◌∷◌, ◌++◌, ap, sym, ◌∙◌, arith, append_assoc, length-append, length-take, length-drop, inl, inr}
+use Rattle.std.specs.Prelude.{Bool, fold}
+use Rattle.std.proofs.lemmas.Bool.{cases_Bool, cases_lt, lt-ltb, le-ltb}
 use Rattle.std.proofs.lemmas.Grind.{fold-append}
-use Rattle.std.proofs.lemmas.List.{append-nil, take_more}
-use Rattle.view_tool.specs.Lines.{Cut, cut_of, cut_step, is_line_feed, last_of, lines_of}
-use Rattle.view_tool.proofs.LineLaws.{cut-end, cut-none, lines_of-nil}
+use Rattle.std.proofs.lemmas.List.{append-nil, take_all, take-append-drop}
+use Rattle.std.proofs.Math.Seq.{take-add, take-append-add}
+use Rattle.script_lines.specs.Lines.{Cut, Line, cut_of, cut_step, is_line_feed, last_of, line_of, lines_of}
+use Rattle.view_tool.specs.Transcript.{carried_lines, longest_script}
 
-ended_at : (bytes : List ℕ) (place : ℕ) → place < length bytes → get_or bytes place 0 ≡ 10 → (cut_of (take (place + 1) bytes)).rest ≡ []
-ended_at bytes place h e =
-    ap (λ (c : Cut). c.rest)
-    (ap cut_of (take_more bytes place 0 h ∙ ap (λ b. take place bytes ++ b ∷ []) e) ∙ fold-append cut_step (record { lines = []; rest = [] }) (take place bytes) (10 ∷ []))
+abbrev no_lines : Cut
+no_lines = record { lines = []; rest = [] }
 
--- bytes that end with a line feed leave no rest
-pub cut_of-rest : (bytes : List ℕ) (end : ℕ) → 0 < end → end ≤ length bytes → get_or bytes (end - 1) 0 ≡ 10 → (cut_of (take end bytes)).rest ≡ []
-cut_of-rest bytes end some within e =
-    ap (λ n. (cut_of (take n bytes)).rest) (let same : end ≡ end - 1 + 1 = omega arith in same) ∙ ended_at bytes (end - 1) (omega arith) e
+-- one byte only adds lines
+step_by : Cut → ℕ → Bool → Cut
+step_by cut b ends = cond ends (record { lines = cut.lines ++ line_of cut.rest ∷ []; rest = [] }) (record { lines = cut.lines; rest = cut.rest ++ b ∷ [] })
 
--- the lines of the bytes up to the last line feed
-pub lines_of-complete : (bytes : List ℕ) (end : ℕ) → (cut_of (take end bytes)).rest ≡ [] → position_or_len is_line_feed (drop end bytes) ≡ length (drop end bytes) → lines_of (take end bytes) ≡ (cut_of bytes).lines
+step_lines : (cut : Cut) (b : ℕ) → (more : List Line) × ((cut_step cut b).lines ≡ cut.lines ++ more) × (length more ≤ 1)
+unfolding step_by
+step_lines cut b = elim (cases_Bool (is_line_feed b)) [
+  | inl e ↦ (line_of cut.rest ∷ [], ap (λ (v : Bool). (step_by cut b v).lines) e, omega arith)
+  | inr e ↦ ([], ap (λ (v : Bool). (step_by cut b v).lines) e ∙ sym (append-nil cut.lines), omega arith)
+]
+
+-- more bytes only add lines, at most one a byte
+cut_lines : (cut : Cut) (bytes : List ℕ) → (more : List Line) × ((fold cut_step cut bytes).lines ≡ cut.lines ++ more) × (length more ≤ length bytes)
+cut_lines cut [] = ([], sym (append-nil cut.lines), omega arith)
+cut_lines cut (b ∷ bytes) =
+    let rest = cut_lines (cut_step cut b) bytes in
+    let one = step_lines cut b in (
+      one.0 ++ rest.0,
+      rest.1 ∙ ap (λ (l : List Line). l ++ rest.0) one.1 ∙ append_assoc cut.lines one.0 rest.0,
+      omega (arith, length-append one.0 rest.0, one.2, rest.2),
+    )
+
+pub cut_more : (before bytes : List ℕ) → (more : List Line) × ((cut_of (before ++ bytes)).lines ≡ (cut_of before).lines ++ more)
+cut_more before bytes =
+    let more = cut_lines (cut_of before) bytes in
+    (more.0, ap (λ (c : Cut). c.lines) (fold-append cut_step no_lines before bytes) ∙ more.1)
+
+pub cut_count : (bytes : List ℕ) → length (cut_of bytes).lines ≤ length bytes
+cut_count bytes = let all = cut_lines no_lines bytes in omega (arith, ap length all.1, all.2)
+
+-- what was taken of a piece, and then of its rest
+pub take_further : (n m : ℕ) (xs : List ℕ) → n ≤ length xs → take n xs ++ take m (take (length xs - n) (drop n xs)) ≡ take (n + m) xs
+take_further n m xs within =
+    ap (λ l. take n xs ++ take m l) (take_all (length xs - n) (drop n xs) (omega (arith, length-drop n xs))) ∙ sym (take-add n m xs)
+
+pub taken_more : (before piece : List ℕ) (at n : ℕ) → at ≤ length piece → (before ++ take at piece) ++ take n (take (length piece - at) (drop at piece)) ≡ before ++ take (at + n) piece
+taken_more before piece at n within =
+    append_assoc before (take at piece) (take n (take (length piece - at) (drop at piece))) ∙ ap (λ l. before ++ l) (take_further at n piece within)
+
+-- a piece that was taken in part, and the whole rest of it
+pub taken_all : (before piece : List ℕ) (at : ℕ) → at ≤ length piece → (before ++ take at piece) ++ take (length piece - at) (drop at piece) ≡ before ++ piece
+taken_all before piece at within =
+    append_assoc before (take at piece) (take (length piece - at) (drop at piece))
+    ∙ ap (λ l. before ++ (take at piece ++ l)) (take_all (length piece - at) (drop at piece) (omega (arith, length-drop at piece)))
+    ∙ ap (λ l. before ++ l) (take-append-drop at piece)
+
+pub taken_short : (before piece : List ℕ) (at most : ℕ) → length (before ++ piece) < most → length (before ++ take at piece) < most
+taken_short before piece at most short =
+    omega (arith, short, length-append before piece, length-append before (take at piece), length-take at piece)
+
+pub carried_short : (script : List ℕ) → length script ≤ longest_script → carried_lines script ≡ lines_of script
+unfolding carried_lines
+carried_short script short = ap (λ b. cond b (cut_of (take longest_script script)).lines (lines_of script)) (le-ltb longest_script (length script) short)
+
+pub carried_long : (script : List ℕ) → longest_script < length script → carried_lines script ≡ (cut_of (take longest_script script)).lines
+unfolding carried_lines
+carried_long script long = ap (λ b. cond b (cut_of (take longest_script script)).lines (lines_of script)) (lt-ltb longest_script (length script) long)
+
+lines_of-cut : (taken rest : List ℕ) → (more : List Line) × ((cut_of taken).lines ++ more ≡ lines_of (taken ++ rest))
 unfolding lines_of
-lines_of-complete bytes end e none =
-    ap (λ (rest : List ℕ). (cut_of (take end bytes)).lines ++ last_of rest) e
-    ∙ append-nil (cut_of (take end bytes)).lines
-    ∙ sym (ap (λ (c : Cut). c.lines) (cut-end bytes (drop end bytes) end refl e none))
+lines_of-cut taken rest =
+    let more = cut_more taken rest in (
+      more.0 ++ last_of (cut_of (taken ++ rest)).rest,
+      sym (append_assoc (cut_of taken).lines more.0 (last_of (cut_of (taken ++ rest)).rest))
+          ∙ ap (λ (l : List Line). l ++ last_of (cut_of (taken ++ rest)).rest) (sym more.1),
+    )
 
--- without a line feed there is none
-pub lines_of-no_line_feed : (bytes : List ℕ) → position_or_len is_line_feed bytes ≡ length bytes → lines_of [] ≡ (cut_of bytes).lines
-lines_of-no_line_feed bytes none = lines_of-nil ∙ sym (ap (λ (c : Cut). c.lines) (cut-none bytes none))
+cut_front : (taken rest : List ℕ) → length taken ≤ longest_script → (more : List Line) × ((cut_of taken).lines ++ more ≡ (cut_of (take longest_script (taken ++ rest))).lines)
+cut_front taken rest short =
+    let n = longest_script - length taken in
+    let split : longest_script ≡ length taken + n = omega (arith, short) in
+    let e : take longest_script (taken ++ rest) ≡ taken ++ take n rest = ap (λ m. take m (taken ++ rest)) split ∙ take-append-add taken rest n in
+    let more = cut_more taken (take n rest) in
+    (more.0, sym more.1 ∙ ap (λ (l : List ℕ). (cut_of l).lines) (sym e))
 
--- known bytes that lose some and then more
-pub Consumes-Consumes : (old mid new : Option (List ℕ)) (first then : List ℕ) → Consumes old mid first → Consumes mid new then → Consumes old new (first ++ then)
-Consumes-Consumes None mid new first then h k = tt
-Consumes-Consumes (Some a) None new first then h k = elim h [ ]
-Consumes-Consumes (Some a) (Some b) None first then h k = elim k [ ]
-Consumes-Consumes (Some a) (Some b) (Some c) first then h k = h ∙ ap (λ l. first ++ l) k ∙ sym (append_assoc first then c)
-
--- as many bytes as there are at least
-pub length-front : (n : ℕ) (bytes : List ℕ) → n < length bytes → n ≡ length (take n bytes)
-length-front n bytes h = omega (arith, length-take n bytes)
+-- the lines whose line feed is among the first bytes of a script are the first that are carried out
+pub carried_front : (script taken rest : List ℕ) → script ≡ taken ++ rest → length taken ≤ longest_script → (more : List Line) × ((cut_of taken).lines ++ more ≡ carried_lines script)
+carried_front script taken rest e short = elim (cases_lt longest_script (length script)) [
+  | inl long ↦ (
+      let more = cut_front taken rest short in
+      (more.0, more.1 ∙ ap (λ (l : List ℕ). (cut_of (take longest_script l)).lines) (sym e) ∙ sym (carried_long script long))
+      )
+  | inr all ↦ (
+      let more = lines_of-cut taken rest in
+      (more.0, more.1 ∙ ap lines_of (sym e) ∙ sym (carried_short script all))
+      )
+]

@@ -1,14 +1,6 @@
-pub mod BoundsLaws
-mod CommandExamples
 pub mod CutLaws
-pub mod LeafLayout
-pub mod Leaves
-mod LineExamples
-pub mod LineLaws
-mod ReplyExamples
-pub mod ReplyLaws
+pub mod DeliveredLaws
+mod RefusalExamples
 pub mod RunLaws
+pub mod ScriptLaws
 pub mod ToolLaws
-pub mod TreeLaws
-pub mod WordLaws
-pub mod WorldLaws

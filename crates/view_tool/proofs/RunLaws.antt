@@ -1,14 +1,29 @@
--- What lines come to, one after another.
-use Rattle.std.proofs.Common.{◌≡◌, ℕ, ◌+◌, ◌-◌, ◌≤◌, suc, length, drop, take, List, [], ◌∷◌, ◌++◌, refl, ap, sym, subst, ◌∙◌, arith, append_assoc}
-use Rattle.std.specs.Prelude.{Option, fold}
+-- What lines come to, one after another, and where a run stops in them.
+use Rattle.std.proofs.Common.{◌≡◌, ℕ, ◌+◌, ◌<◌, suc, length, take, drop, List, [], ◌∷◌, ◌++◌, refl, ap, sym, subst, ◌∙◌, arith, append_assoc, inl, inr}
+use Rattle.std.specs.Prelude.{◌⊎◌, Option, fold, Err}
+use Rattle.std.specs.Io.KnownBytes.{Appends}
 use Rattle.std.proofs.lemmas.Grind.{fold-append}
-use Rattle.std.proofs.lemmas.List.{append-nil, drop_all, drop-drop}
-use Rattle.view_tool.specs.Lines.{Line, lines_of}
-use Rattle.view_tool.specs.Reply.{Part}
-use Rattle.view_tool.specs.Step.{Reply, Done, Refused}
-use Rattle.view_tool.specs.Transcript.{Progress, after_line, after_lines, after_reply, at_start, refused_line, reply_to_line}
-use Rattle.view_tool.proofs.LineLaws.{lines_of-nil, slice_from}
-use Rattle.view_tool.proofs.ReplyLaws.{Part-more}
+use Rattle.std.proofs.lemmas.List.{append-nil, take-append-drop}
+use Rattle.script_lines.specs.Held.{Held, Stands}
+use Rattle.script_lines.specs.Lines.{Line, cut_of, last_of, lines_of}
+use Rattle.text_lines.specs.Prefix.{AppendsPrefix}
+use Rattle.text_lines.proofs.Prefixes.{prefix_of_first, prefix_of_second}
+use Rattle.view_tool.specs.declared.run.Course.{Course}
+use Rattle.view_tool.specs.declared.run.Stop.{Stop}
+use Rattle.view_tool.specs.declared.run.Stop.TheVariants as stop
+use Rattle.view_tool.specs.Refusals.{refused_line}
+use Rattle.view_tool.specs.Run.{IsAt, IsBehind, StopsIn}
+use Rattle.view_tool.specs.Transcript.{MayWant, Progress, after_line, after_lines, after_reply, at_start, reply_to_line}
+use Rattle.tool_io.specs.Causes.{Rose}
+use Rattle.view_model.specs.declared.refusal.Refusal.{Refusal}
+use Rattle.view_model.specs.Refusals.{Told, told}
+use Rattle.view_model.specs.World.{World}
+use Rattle.view_world.specs.declared.fault.StepFault.{StepFault}
+use Rattle.view_world.specs.declared.fault.StepFault.TheVariants as step
+use Rattle.view_world.specs.Carried.{CarriedOut, IsDone, SinkState}
+use Rattle.view_world.specs.Step.{Reply, Done, Refused}
+use Rattle.view_world.specs.WorldView.{world_of}
+use Rattle.view_tool.proofs.CutLaws.{cut_count, cut_more}
 
 pub after_lines-nil : after_lines [] ≡ at_start
 unfolding after_lines
@@ -34,6 +49,12 @@ pub after_lines-lines : (lines : List Line) → (after_lines lines).lines ≡ le
 unfolding after_lines
 after_lines-lines lines = counted_from at_start lines ∙ (let e : 0 + length lines ≡ length lines = omega arith in e)
 
+pub counted_short : (bytes : List ℕ) (most : ℕ) → length bytes < most → (after_lines (cut_of bytes).lines).lines < most
+counted_short bytes most short = omega (arith, short, after_lines-lines (cut_of bytes).lines, cut_count bytes)
+
+pub lines_short : (bytes : List ℕ) (most : ℕ) → length bytes < most → length (cut_of bytes).lines < most
+lines_short bytes most short = omega (arith, short, cut_count bytes)
+
 text_of_reply : (progress : Progress) (reply : Reply) → (more : List ℕ) × ((after_reply progress reply).text ≡ progress.text ++ more)
 text_of_reply progress (Done world text) = (text, refl)
 text_of_reply progress (Refused refusal) = (refused_line (progress.lines + 1) refusal, refl)
@@ -52,24 +73,100 @@ after_lines-text before after =
     let more = text_from (fold after_line at_start before) after in
     (more.0, ap (λ (p : Progress). p.text) (fold-append after_line at_start before after) ∙ more.1)
 
--- a part of the text of some lines is one of the text of all
-pub Part-lines : (first now : Option (List ℕ)) (before after lines : List Line) → before ++ after ≡ lines → Part first now (after_lines before).text → Part first now (after_lines lines).text
-Part-lines first now before after lines e part =
-    let more = after_lines-text before after in
-    subst (Part first now) (sym more.1 ∙ ap (λ (l : List Line). (after_lines l).text) e) (Part-more first now (after_lines before).text more.0 part)
+-- a front part of the text of some lines is one of the text of all
+pub prefix_lines : (first now : Option (List ℕ)) (lines more all : List Line) → lines ++ more ≡ all → AppendsPrefix first now (after_lines lines).text → AppendsPrefix first now (after_lines all).text
+prefix_lines first now lines more all e part =
+    let text = after_lines-text lines more in
+    subst (AppendsPrefix first now) (sym text.1 ∙ ap (λ (l : List Line). (after_lines l).text) e) (prefix_of_first first now (after_lines lines).text text.0 part)
 
--- the line behind those that were carried out, and the lines behind it
-pub lines_of-next : (script rest : List ℕ) (at used : ℕ) (before : List Line) (line : Line) → rest ≡ take (length script - at) (drop at script)
-    → before ++ lines_of (drop at script) ≡ lines_of script → lines_of rest ≡ line ∷ lines_of (drop used rest)
-    → (before ++ line ∷ []) ++ lines_of (drop (at + used) script) ≡ lines_of script
-lines_of-next script rest at used before line er eb el =
-    let e : rest ≡ drop at script = er ∙ slice_from script at in
-    append_assoc before (line ∷ []) (lines_of (drop (at + used) script))
-    ∙ ap (λ (l : List ℕ). before ++ line ∷ lines_of l) (sym (ap (drop used) e ∙ drop-drop used at script))
-    ∙ ap (λ (l : List Line). before ++ l) (sym el ∙ ap lines_of e)
-    ∙ eb
+-- a run that stopped in some lines stopped in these and more
+pub stops_further : (first now : Option (List ℕ)) (lines more all : List Line) (stop : Stop) → lines ++ more ≡ all → StopsIn first now lines stop → StopsIn first now all stop
+stops_further first now lines more all stop.Sink e stops = prefix_lines first now lines more all e stops
+stops_further first now lines more all stop.NoMemory e stops = record {
+  done = stops.done;
+  line = stops.line;
+  left = stops.left ++ more;
+  all = sym (append_assoc stops.done (stops.line ∷ stops.left) more) ∙ ap (λ (l : List Line). l ++ more) stops.all ∙ e;
+  wants = stops.wants;
+  gone = stops.gone;
+}
 
--- no byte is left
-pub lines_of-all : (script : List ℕ) (at : ℕ) (before : List Line) → length script ≤ at → before ++ lines_of (drop at script) ≡ lines_of script → before ≡ lines_of script
-lines_of-all script at before h e =
-    sym (append-nil before) ∙ ap (λ (l : List Line). before ++ l) (sym (ap lines_of (drop_all at script h) ∙ lines_of-nil)) ∙ e
+-- no memory was found for the line behind some lines
+pub stops_at : (first now : Option (List ℕ)) (lines : List Line) (line : Line) → MayWant line → Appends first now (after_lines lines).text → StopsIn first now (lines ++ line ∷ []) stop.NoMemory
+stops_at first now lines line wants gone = record { done = lines; line = line; left = []; all = refl; wants = wants; gone = gone }
+
+-- what a refused line leaves
+pub not_done : {X : Type 0} (fault : StepFault) (refusal : Refusal) → fault ≡ step.Refused refusal → IsDone (Err fault) ⊎ X → X
+not_done fault refusal e (inl done) = absurd (subst (λ (f : StepFault). IsDone (Err f)) e done)
+not_done fault refusal e (inr same) = same
+
+pub carried_refused : (reply : Reply) (new : World) (before after : SinkState) (fault : StepFault) (refusal : Refusal) → fault ≡ step.Refused refusal
+    → CarriedOut reply new before after (Err fault) → reply ≡ Refused (told refusal)
+carried_refused reply new before after fault refusal e carried = subst (λ (f : StepFault). CarriedOut reply new before after (Err f)) e carried
+
+-- what a line whose text could not be written has done
+pub carried_sink : (reply : Reply) (new : World) (before after : SinkState) (fault : StepFault) → fault ≡ step.Sink → CarriedOut reply new before after (Err fault)
+    → (text : List ℕ) × (reply ≡ Done new text) × AppendsPrefix before.gone after.gone text × Rose before.faults after.faults
+carried_sink reply new before after fault e carried = subst (λ (f : StepFault). CarriedOut reply new before after (Err f)) e carried
+
+-- a line was refused, and to tell of it failed
+pub refused_prefix : (first mid now : Option (List ℕ)) (course : Course) (lines : List Line) (line : Line) (number : ℕ) (refusal : Told) → IsAt first mid course (after_lines lines)
+    → reply_to_line (world_of course.world) line ≡ Refused refusal → number ≡ (after_lines lines).lines + 1 → AppendsPrefix mid now (refused_line number refusal)
+    → AppendsPrefix first now (after_lines (lines ++ line ∷ [])).text
+refused_prefix first mid now course lines line number refusal at refused counted part =
+    let so_far = after_lines lines in
+    subst (AppendsPrefix first now) (
+    sym (
+    ap (λ (p : Progress). p.text) (after_lines-push lines line)
+    ∙ ap (λ (r : Reply). (after_reply so_far r).text) (ap (λ (w : World). reply_to_line w line) (sym at.world) ∙ refused)
+    ∙ ap (λ (n : ℕ). so_far.text ++ refused_line n refusal) (sym counted)
+    )
+    )
+    (prefix_of_second first mid now so_far.text (refused_line number refusal) at.gone part)
+
+-- a line was carried out, and to write its text failed
+pub done_prefix : (first mid now : Option (List ℕ)) (course : Course) (lines : List Line) (line : Line) (world : World) (text : List ℕ) → IsAt first mid course (after_lines lines)
+    → reply_to_line (world_of course.world) line ≡ Done world text → AppendsPrefix mid now text → AppendsPrefix first now (after_lines (lines ++ line ∷ [])).text
+done_prefix first mid now course lines line world text at done part =
+    let so_far = after_lines lines in
+    subst (AppendsPrefix first now) (
+    sym (
+    ap (λ (p : Progress). p.text) (after_lines-push lines line)
+    ∙ ap (λ (r : Reply). (after_reply so_far r).text) (ap (λ (w : World). reply_to_line w line) (sym at.world) ∙ done)
+    )
+    )
+    (prefix_of_second first mid now so_far.text text at.gone part)
+
+-- a run that stopped in the line that a part of a piece ended stopped in the lines of the piece
+pub stops_in_piece : (first now : Option (List ℕ)) (before piece : List ℕ) (n : ℕ) (line : Line) (stop : Stop) → (cut_of (before ++ take n piece)).lines ≡ (cut_of before).lines ++ line ∷ []
+    → StopsIn first now ((cut_of before).lines ++ line ∷ []) stop → StopsIn first now (cut_of (before ++ piece)).lines stop
+stops_in_piece first now before piece n line stop e stops =
+    let more = cut_more (before ++ take n piece) (drop n piece) in
+    let all : (before ++ take n piece) ++ drop n piece ≡ before ++ piece = append_assoc before (take n piece) (drop n piece) ∙ ap (λ l. before ++ l) (take-append-drop n piece) in
+    stops_further first now ((cut_of before).lines ++ line ∷ []) more.0 (cut_of (before ++ piece)).lines stop
+    (ap (λ (l : List Line). l ++ more.0) (sym e) ∙ sym more.1 ∙ ap (λ (l : List ℕ). (cut_of l).lines) all) stops
+
+-- no line ended
+pub behind_same : (first now : Option (List ℕ)) (held : Held) (course : Course) (before bytes : List ℕ) → IsAt first now course (after_lines (cut_of before).lines) → Stands held bytes
+    → (cut_of bytes).lines ≡ (cut_of before).lines ++ [] → IsBehind first now (record { lines = held; course = course }) bytes
+behind_same first now held course before bytes at stands e = record {
+  held = stands;
+  course = subst (λ (l : List Line). IsAt first now course (after_lines l)) (sym (e ∙ append-nil (cut_of before).lines)) at;
+}
+
+-- one line ended, and was carried out
+pub behind_more : (first now : Option (List ℕ)) (held : Held) (course : Course) (before bytes : List ℕ) (line : Line) → IsAt first now course (after_line (after_lines (cut_of before).lines) line)
+    → Stands held bytes → (cut_of bytes).lines ≡ (cut_of before).lines ++ line ∷ [] → IsBehind first now (record { lines = held; course = course }) bytes
+behind_more first now held course before bytes line at stands e = record {
+  held = stands;
+  course = subst (IsAt first now course) (sym (ap after_lines e ∙ after_lines-push (cut_of before).lines line)) at;
+}
+
+-- the last line, where there is none, and where there is one
+pub last_none : (script : List ℕ) → last_of (cut_of script).rest ≡ [] → lines_of script ≡ (cut_of script).lines
+unfolding lines_of
+last_none script e = ap (λ l. (cut_of script).lines ++ l) e ∙ append-nil (cut_of script).lines
+
+pub last_one : (script : List ℕ) (line : Line) → last_of (cut_of script).rest ≡ line ∷ [] → lines_of script ≡ (cut_of script).lines ++ line ∷ []
+unfolding lines_of
+last_one script line e = ap (λ l. (cut_of script).lines ++ l) e

@@ -1,134 +1,75 @@
--- How a run of lines, and of a script, ends.
-use Rattle.std.proofs.Common.{◌≡◌, ℕ, ◌<◌, ◌≤◌, Bool, true, false, cond, length, take, List, [], ◌∷◌, ◌++◌, refl, ap, sym, subst, ◌∙◌, arith, length-append, append-nil}
-use Rattle.std.specs.Prelude.{Option, Some, None, Result, Ok, Err, OnOk, IfOk, nat_lt, ◌⊎◌}
-use Rattle.std.proofs.Common.{inl, inr}
-use Rattle.std.specs.Io.KnownBytes.{Appends, Consumes, IsAtEnd}
-use Rattle.std.proofs.lemmas.Bool.{lt-ltb, le-ltb, ltb-true, ltb-false}
-use Rattle.std.proofs.lemmas.List.{take-append-le}
-use Rattle.view_tool.specs.declared.run.Stop.{Stop}
-use Rattle.view_tool.specs.declared.run.Stop.TheVariants.{Sink, NoMemory}
-use Rattle.view_tool.specs.Carried.{SinkState}
-use Rattle.view_tool.specs.Lines.{Line, cut_of, lines_of}
-use Rattle.view_tool.specs.Reply.{Part}
-use Rattle.view_tool.specs.Tool.{IsOneOf, RunsLines, WritesSome, status_of}
+-- How a run ends with a status.
+use Rattle.std.proofs.Common.{◌≡◌, ℕ, ◌≤◌, cond, length, List, [], ◌∷◌, refl, ap, sym, subst, arith, inl, inr}
+use Rattle.std.specs.Prelude.{Bool, true, false, if◌then◌else◌, Option, Result, Ok, Err}
+use Rattle.std.specs.Io.KnownBytes.{Appends}
+use Rattle.std.proofs.lemmas.List.{append-nil}
+use Rattle.script_lines.specs.Lines.{Line, cut_of, lines_of}
+use Rattle.text_lines.specs.Prefix.{AppendsPrefix}
+use Rattle.view_tool.specs.declared.run.Stop.TheVariants as stop
+use Rattle.view_tool.specs.declared.script.End.{End}
+use Rattle.view_tool.specs.declared.script.End.TheVariants as end
+use Rattle.view_tool.specs.Run.{StopsBefore}
+use Rattle.view_tool.specs.Tool.{Ended, RunsTo, RunsWith, WritesTaken, status_of}
 use Rattle.view_tool.specs.Transcript.{after_lines, carried_lines, longest_script}
-use Rattle.view_tool.proofs.ReplyLaws.{Appends-nil}
-use Rattle.view_tool.proofs.RunLaws.{after_lines-nil, Part-lines}
+use Rattle.view_tool.proofs.CutLaws.{carried_front, carried_short}
+use Rattle.view_tool.proofs.RunLaws.{prefix_lines}
 
--- no status is two
-apart : {A : Type 0} (m n : ℕ) → (m ≡ n → ⊥) → m ≡ n → A
-apart m n different e = absurd (different e)
+whole_prefix : (old new : Option (List ℕ)) (text : List ℕ) → Appends old new text → AppendsPrefix old new text
+whole_prefix old new text gone = record { written = text; rest = []; whole = append-nil text; gone = gone }
 
--- the text of all lines has gone
-whole_part : (old new : Option (List ℕ)) (text : List ℕ) → Appends old new text → Part old new text
-whole_part old new text gone = record { written = text; left = []; gone = gone; whole = append-nil text }
+not_ended : (status : ℕ) → 2 ≤ status → Ended status → ⊥
+not_ended status big (inl e) = omega arith
+not_ended status big (inr e) = omega arith
 
--- the text of some of the lines has gone
-some_part : (lines : List Line) (old new : Option (List ℕ)) → WritesSome lines old new → Part old new (after_lines lines).text
-some_part lines old new some = Part-lines old new some.done some.left lines some.all (whole_part old new (after_lines some.done).text some.text)
-
-pub RunsLines-status : (lines : List Line) (long : Bool) (before after : SinkState) (outcome : Result Bool Stop)
-    → OnOk outcome (Appends before.gone after.gone (after_lines lines).text) → IfOk outcome (λ refused. refused ≡ (after_lines lines).refused)
-    → (outcome ≡ Err Sink → Part before.gone after.gone (after_lines lines).text) → (outcome ≡ Err NoMemory → WritesSome lines before.gone after.gone)
-    → RunsLines lines long before after (status_of long outcome)
-RunsLines-status lines true before after (Ok refused) whole told part some = record {
-  writes = record { whole = λ _. whole; part = whole_part before.gone after.gone (after_lines lines).text whole };
-  ended = λ e. elim e [ inl h ↦ absurd (omega arith) | inr h ↦ absurd (omega arith) ];
-  cut = λ _. (refl, whole);
-  no_memory = λ e. absurd (omega arith);
-}
-RunsLines-status lines false before after (Ok true) whole told part some = record {
-  writes = record { whole = λ _. whole; part = whole_part before.gone after.gone (after_lines lines).text whole };
-  ended = λ _. (refl, ap (λ b. cond b 1 0) told);
-  cut = λ e. absurd (omega arith);
-  no_memory = λ e. absurd (omega arith);
-}
-RunsLines-status lines false before after (Ok false) whole told part some = record {
-  writes = record { whole = λ _. whole; part = whole_part before.gone after.gone (after_lines lines).text whole };
-  ended = λ _. (refl, ap (λ b. cond b 1 0) told);
-  cut = λ e. absurd (omega arith);
-  no_memory = λ e. absurd (omega arith);
-}
-RunsLines-status lines long before after (Err Sink) whole told part some = record {
-  writes = record { whole = λ e. elim e [ inl h ↦ absurd (omega arith) | inr h ↦ absurd (omega arith) ]; part = part refl };
-  ended = λ e. elim e [ inl h ↦ absurd (omega arith) | inr h ↦ absurd (omega arith) ];
-  cut = λ e. absurd (omega arith);
-  no_memory = λ e. absurd (omega arith);
-}
-RunsLines-status lines long before after (Err NoMemory) whole told part some = record {
-  writes = record { whole = λ e. elim e [ inl h ↦ absurd (omega arith) | inr h ↦ absurd (omega arith) ]; part = some_part lines before.gone after.gone (some refl) };
-  ended = λ e. elim e [ inl h ↦ absurd (omega arith) | inr h ↦ absurd (omega arith) ];
-  cut = λ e. absurd (omega arith);
-  no_memory = λ _. some refl;
-}
-
-pub known_status : (long : Bool) (outcome : Result Bool Stop) → IsOneOf (status_of long outcome) (0 ∷ 1 ∷ 4 ∷ 5 ∷ 7 ∷ [])
-known_status true (Ok refused) = refl
-known_status false (Ok true) = refl
-known_status false (Ok false) = refl
-known_status long (Err Sink) = refl
-known_status long (Err NoMemory) = refl
-
-pub failed_status : (long : Bool) (outcome : Result Bool Stop) → status_of long outcome ≡ 4 → outcome ≡ Err Sink
-failed_status true (Ok refused) e = absurd (omega arith)
-failed_status false (Ok true) e = absurd (omega arith)
-failed_status false (Ok false) e = absurd (omega arith)
-failed_status long (Err Sink) e = refl
-failed_status long (Err NoMemory) e = absurd (omega arith)
-
--- a run that carried out no line and found no memory, or could not read its script
-pub RunsLines-none : (lines : List Line) (long : Bool) (state : SinkState) (status : ℕ) → (status ≡ 3) ⊎ (status ≡ 5) → RunsLines lines long state state status
-RunsLines-none lines long state status which =
-    let none : WritesSome lines state.gone state.gone = record {
-      done = [];
-      left = lines;
-      all = refl;
-      text = subst (Appends state.gone state.gone) (sym (ap (λ p. p.text) after_lines-nil)) (Appends-nil state.gone);
-    } in
-    let big : 2 ≤ status = elim which [ inl e ↦ omega arith | inr e ↦ omega arith ] in
-    let odd : status ≡ 7 → ⊥ = λ h. elim which [ inl e ↦ absurd (omega arith) | inr e ↦ absurd (omega arith) ] in
+-- a run that came to the end of its script
+ended_with : (script : List ℕ) (left first last : Option (List ℕ)) (status : ℕ) → status ≤ 1 → Ended status → length script ≤ longest_script
+    → Appends first last (after_lines (lines_of script)).text → status ≡ (if (after_lines (lines_of script)).refused then 1 else 0) → RunsWith script left first last status
+ended_with script left first last status small ended short gone told =
+    let text = subst (λ (l : List Line). Appends first last (after_lines l).text) (sym (carried_short script short)) gone in
     record {
-      writes = record { whole = λ e. elim e [ inl h ↦ absurd (omega arith) | inr h ↦ absurd (omega arith) ]; part = some_part lines state.gone state.gone none };
-      ended = λ e. elim e [ inl h ↦ absurd (omega arith) | inr h ↦ absurd (omega arith) ];
-      cut = λ e. absurd (odd e);
-      no_memory = λ _. none;
+      writes = record { whole = λ _. text; part = whole_prefix first last (after_lines (carried_lines script)).text text };
+      ended = λ _. (short, told);
+      taken = λ e. absurd (omega (arith, small, e));
+      no_memory = λ e. absurd (omega (arith, small, e));
+      long = λ e. absurd (omega (arith, small, e));
     }
 
-pub carried_lines-short : (script : List ℕ) → length script ≤ longest_script → carried_lines script ≡ lines_of script
-unfolding carried_lines
-carried_lines-short script h = ap (λ b. cond b (cut_of (take longest_script script)).lines (lines_of script)) (le-ltb longest_script (length script) h)
+taken_prefix : (script : List ℕ) (left first last : Option (List ℕ)) → WritesTaken script left first last → AppendsPrefix first last (after_lines (carried_lines script)).text
+taken_prefix script left first last t =
+    let more = carried_front script t.taken t.takes.rest t.takes.front t.within in
+    prefix_lines first last (cut_of t.taken).lines more.0 (carried_lines script) more.1 (whole_prefix first last (after_lines (cut_of t.taken).lines).text t.text)
 
-pub carried_lines-long : (script : List ℕ) → longest_script < length script → carried_lines script ≡ (cut_of (take longest_script script)).lines
-unfolding carried_lines
-carried_lines-long script h = ap (λ b. cond b (cut_of (take longest_script script)).lines (lines_of script)) (lt-ltb longest_script (length script) h)
+stopped_prefix : (lines : List Line) (first last : Option (List ℕ)) → StopsBefore first last lines → AppendsPrefix first last (after_lines lines).text
+stopped_prefix lines first last s = prefix_lines first last s.done (s.line ∷ s.left) lines s.all (whole_prefix first last (after_lines s.done).text s.gone)
 
-taken_all : (script taken rest : List ℕ) → script ≡ taken ++ rest → rest ≡ [] → taken ≡ script
-taken_all script taken rest e none = sym (e ∙ ap (λ l. taken ++ l) none ∙ append-nil taken)
-
-taken_front : (n : ℕ) (script taken rest : List ℕ) → script ≡ taken ++ rest → n < length taken → (n < length script) × (take n taken ≡ take n script)
-taken_front n script taken rest e h =
-    let l = ap length e in
-    let m = length-append taken rest in
-    (omega arith, sym (ap (take n) e ∙ take-append-le n taken rest (omega arith)))
-
-carried_by : (script taken rest : List ℕ) (long : Bool) → nat_lt longest_script (length taken) ≡ long → script ≡ taken ++ rest → (length taken ≤ longest_script → rest ≡ [])
-    → (carried_lines taken ≡ carried_lines script) × (nat_lt longest_script (length taken) ≡ nat_lt longest_script (length script))
-carried_by script taken rest false test e end =
-    let same = taken_all script taken rest e (end (ltb-false longest_script (length taken) test)) in
-    (ap carried_lines same, ap (λ l. nat_lt longest_script (length l)) same)
-carried_by script taken rest true test e end =
-    let long = ltb-true longest_script (length taken) test in
-    let front = taken_front longest_script script taken rest e long in (
-      carried_lines-long taken long ∙ ap (λ l. (cut_of l).lines) front.1 ∙ sym (carried_lines-long script front.0),
-      test ∙ sym (lt-ltb longest_script (length script) front.0),
-    )
-
--- what was read of a script is carried out as the whole script is
-pub carried_lines-read : (left now : Option (List ℕ)) (script taken : List ℕ) → left ≡ Some script → Consumes left now taken → (length taken ≤ longest_script → IsAtEnd now)
-    → (carried_lines taken ≡ carried_lines script) × (nat_lt longest_script (length taken) ≡ nat_lt longest_script (length script))
-carried_lines-read left now script taken told lost end = read now (subst (λ l. Consumes l now taken) told lost) end
-  where
-    read : (now : Option (List ℕ)) → Consumes (Some script) now taken → (length taken ≤ longest_script → IsAtEnd now)
-        → (carried_lines taken ≡ carried_lines script) × (nat_lt longest_script (length taken) ≡ nat_lt longest_script (length script))
-    read None lost end = absurd lost
-    read (Some rest) lost end = carried_by script taken rest (nat_lt longest_script (length taken)) refl lost end
+pub runs_with : (script : List ℕ) (left first last : Option (List ℕ)) (outcome : Result Bool End) → RunsTo script left first last outcome → RunsWith script left first last (status_of outcome)
+runs_with script left first last (Ok true) r = ended_with script left first last 1 (omega arith) (inr refl) r.0 r.1 (ap (λ b. cond b 1 0) r.2)
+runs_with script left first last (Ok false) r = ended_with script left first last 0 (omega arith) (inl refl) r.0 r.1 (ap (λ b. cond b 1 0) r.2)
+runs_with script left first last (Err end.Source) r = record {
+  writes = record { whole = λ e. absurd (not_ended 3 (omega arith) e); part = taken_prefix script left first last r };
+  ended = λ e. absurd (not_ended 3 (omega arith) e);
+  taken = λ _. r;
+  no_memory = λ e. absurd (omega arith);
+  long = λ e. absurd (omega arith);
+}
+runs_with script left first last (Err end.Long) r = record {
+  writes = record { whole = λ e. absurd (not_ended 7 (omega arith) e); part = whole_prefix first last (after_lines (carried_lines script)).text r.1 };
+  ended = λ e. absurd (not_ended 7 (omega arith) e);
+  taken = λ e. absurd (omega arith);
+  no_memory = λ e. absurd (omega arith);
+  long = λ _. r;
+}
+runs_with script left first last (Err (end.Stopped stop.Sink)) r = record {
+  writes = record { whole = λ e. absurd (not_ended 4 (omega arith) e); part = r };
+  ended = λ e. absurd (not_ended 4 (omega arith) e);
+  taken = λ e. absurd (omega arith);
+  no_memory = λ e. absurd (omega arith);
+  long = λ e. absurd (omega arith);
+}
+runs_with script left first last (Err (end.Stopped stop.NoMemory)) r = record {
+  writes = record { whole = λ e. absurd (not_ended 5 (omega arith) e); part = stopped_prefix (carried_lines script) first last r };
+  ended = λ e. absurd (not_ended 5 (omega arith) e);
+  taken = λ e. absurd (omega arith);
+  no_memory = λ _. r;
+  long = λ e. absurd (omega arith);
+}

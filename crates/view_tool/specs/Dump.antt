@@ -1,13 +1,14 @@
 -- What the tool writes of a file: the text of its document, or why it is refused.
-use Rattle.std.specs.Prelude.{◌≡◌, ℕ, ◌==◌, nat_lt, Bool, true, false, if◌then◌else◌, List, ◌++◌, length, Option, Some, None, Result, Ok, Err, codes, decimal}
+use Rattle.std.specs.Prelude.{◌≡◌, ℕ, ◌==◌, nat_lt, Bool, true, false, if◌then◌else◌, List, length, Option, Some, None, Result, Ok, Err, codes, decimal}
 use Rattle.axml_chunks.specs.declared.fault.Fault.{Fault}
 use Rattle.axml_reader.specs.Decoding.{decoded}
 use Rattle.axml_reader.specs.Document.{Document}
 use Rattle.axml_reader.specs.Dump.{dump_text}
 use Rattle.tool_io.specs.Fetched.{file_of}
-use Rattle.view_tool.specs.Carried.{SinkState}
 use Rattle.view_tool.specs.Files.{Files}
 use Rattle.view_tool.specs.Tool.{Ended, Writes}
+use Rattle.view_world.specs.Carried.{SinkState}
+use Rattle.text_lines.specs.Joined.{◌⧺◌}
 
 -- the most bytes that a layout file may have
 abbrev pub longest_file : ℕ
@@ -30,14 +31,14 @@ cause_name cause =
 
 -- a file that is refused, by a number and a name
 unfoldable pub refused_file_text : ℕ → List ℕ → List ℕ
-refused_file_text number name = codes "file: refused " ++ decimal number ++ codes " " ++ name
+refused_file_text number name = codes "file: refused " ⧺ decimal number ⧺ codes " " ⧺ name
 
 -- the place of a fault, from the file's start
 unfoldable pub place_of_fault : ℕ → List ℕ
-place_of_fault at = codes " at " ++ decimal at ++ codes "\n"
+place_of_fault at = codes " at " ⧺ decimal at ⧺ codes "\n"
 
 unfoldable pub fault_text : Fault → List ℕ
-fault_text fault = refused_file_text fault.cause (cause_name fault.cause) ++ place_of_fault fault.at
+fault_text fault = refused_file_text fault.cause (cause_name fault.cause) ⧺ place_of_fault fault.at
 
 abbrev pub missing_text : List ℕ
 missing_text = codes "file: refused 39 Missing\n"

@@ -1,13 +1,45 @@
 -- The run of a script in the code.
-use Rattle.std.specs.Prelude.{◌≡◌, ℕ, List, Option}
+use Rattle.std.specs.Prelude.{◌≡◌, ℕ, List, ◌∷◌, ◌++◌, Option}
 use Rattle.std.specs.Io.KnownBytes.{Appends}
+use Rattle.std.proofs.Common.{Bor}
+use Rattle.std.specs.Prelude.{Some, None}
+use Rattle.script_lines.specs.Held.{Stands}
+use Rattle.script_lines.specs.Lines.{Line, Text, LongLine, cut_of}
+use Rattle.text_lines.specs.Prefix.{AppendsPrefix}
+use Rattle.view_tool.specs.declared.run.Course.{Course}
 use Rattle.view_tool.specs.declared.run.Run.{Run}
-use Rattle.view_tool.specs.Transcript.{Progress}
-use Rattle.view_tool.specs.WorldNow.{world_of}
+use Rattle.view_tool.specs.declared.run.Stop.{Stop}
+use Rattle.view_tool.specs.declared.run.Stop.TheVariants as stop
+use Rattle.view_tool.specs.Transcript.{MayWant, Progress, after_lines}
+use Rattle.view_world.specs.WorldView.{world_of}
 
--- a run has come so far, and since the sink was in the first state its text has gone
-pub record IsAt (first now : Option (List ℕ)) (run : Run) (progress : Progress) : Type 0 where
-  pub lines : run.lines ≡ progress.lines
-  pub world : world_of run.world ≡ progress.world
-  pub refused : run.refused ≡ progress.refused
+-- a line as the code has it: none is too long
+abbrev pub line_now : Option (Bor (List ℕ)) → Line
+line_now None = LongLine
+line_now (Some line) = Text line.now
+
+-- a course has come so far, and since the sink was in the first state its text has gone
+pub record IsAt (first now : Option (List ℕ)) (course : Course) (progress : Progress) : Type 0 where
+  pub lines : course.lines ≡ progress.lines
+  pub world : world_of course.world ≡ progress.world
+  pub refused : course.refused ≡ progress.refused
   pub gone : Appends first now progress.text
+
+-- a run has carried out the lines whose line feed is among these bytes, and holds what came behind them
+pub record IsBehind (first now : Option (List ℕ)) (run : Run) (bytes : List ℕ) : Type 0 where
+  pub held : Stands run.lines bytes
+  pub course : IsAt first now run.course (after_lines (cut_of bytes).lines)
+
+-- the texts of the lines before one of these, which may want memory, have gone
+pub record StopsBefore (first now : Option (List ℕ)) (lines : List Line) : Type 0 where
+  pub done : List Line
+  pub line : Line
+  pub left : List Line
+  pub all : done ++ line ∷ left ≡ lines
+  pub wants : MayWant line
+  pub gone : Appends first now (after_lines done).text
+
+-- a run stopped in these lines: a write failed, and a front part of their texts has gone, or there was no memory
+abbrev pub StopsIn : Option (List ℕ) → Option (List ℕ) → List Line → Stop → Type 0
+StopsIn first now lines stop.Sink = AppendsPrefix first now (after_lines lines).text
+StopsIn first now lines stop.NoMemory = StopsBefore first now lines

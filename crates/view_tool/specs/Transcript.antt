@@ -1,32 +1,26 @@
 -- What the tool writes for a script: the texts of its lines, one after another, from the empty world.
 use Rattle.std.specs.Prelude.{ℕ, ◌+◌, Bool, true, false, nat_lt, if◌then◌else◌, length, List, [], ◌++◌, Result, Ok, Err, fold, take}
+use Rattle.script_lines.specs.declared.commands.Command.{Command}
+use Rattle.script_lines.specs.declared.fault.LineFault.{LineFault}
+use Rattle.script_lines.specs.declared.fault.LineFault.TheVariants as fault
+use Rattle.script_lines.specs.Commands.{command_of}
+use Rattle.script_lines.specs.Lines.{Line, Text, LongLine, cut_of, is_passed_over, lines_of}
+use Rattle.view_model.specs.Refusals.{plainly}
 use Rattle.view_model.specs.World.{World, empty_world}
-use Rattle.view_tool.specs.declared.command.Command.{Command}
-use Rattle.view_tool.specs.declared.fault.LineFault.{LineFault}
-use Rattle.view_tool.specs.declared.fault.LineFault.TheVariants as fault
-use Rattle.view_tool.specs.declared.refusal.Refusal.{Refusal}
-use Rattle.view_tool.specs.declared.refusal.Refusal.TheVariants as refusal
-use Rattle.view_tool.specs.Command.{command_of}
 use Rattle.view_tool.specs.Files.{Files}
-use Rattle.view_tool.specs.Lines.{Line, Text, LongLine, cut_of, is_passed_over, lines_of}
-use Rattle.view_tool.specs.Refusal.{number_of, name_of}
-use Rattle.view_tool.specs.Replies.{refusal_text}
-use Rattle.view_tool.specs.Step.{Reply, Done, Refused, step}
-use Rattle.view_tool.specs.Words.{words}
+use Rattle.view_tool.specs.Refusals.{refused_line}
+use Rattle.view_world.specs.Carried.{MayWantMemory}
+use Rattle.view_world.specs.Step.{Reply, Done, Refused, step}
 
 abbrev pub reply_to_command : World → Result Command LineFault → Reply
 reply_to_command world (Ok command) = step world command
-reply_to_command world (Err fault.Syntax) = Refused refusal.Syntax
-reply_to_command world (Err fault.Range) = Refused refusal.Range
+reply_to_command world (Err fault.Syntax) = Refused (plainly 31)
+reply_to_command world (Err fault.Range) = Refused (plainly 30)
 
 -- what a line does: too long a line is refused whatever it begins with, and one that is passed over does nothing
 unfoldable pub reply_to_line : World → Line → Reply
-reply_to_line world LongLine = Refused refusal.LongLine
-reply_to_line world (Text bytes) = if is_passed_over bytes then Done world [] else reply_to_command world (command_of (words bytes))
-
--- the line that tells of a refusal, by the number of the refused line
-abbrev pub refused_line : ℕ → Refusal → List ℕ
-refused_line line refusal = refusal_text line (number_of refusal) (name_of refusal)
+reply_to_line world LongLine = Refused (plainly 32)
+reply_to_line world (Text bytes) = if is_passed_over bytes then Done world [] else reply_to_command world (command_of bytes)
 
 -- the lines so far: how many they are, the world they made, what was written for them, and whether one was refused
 pub record Progress : Type 0 where
@@ -70,3 +64,13 @@ carried_lines script = if nat_lt longest_script (length script) then (cut_of (ta
 -- the transcript of these lines of a script that is too long
 abbrev pub cut_transcript : List ℕ → Files → List ℕ
 cut_transcript script files = (after_lines (cut_of (take longest_script script)).lines).text
+
+-- the command of a line may want memory
+abbrev pub CommandWants : Result Command LineFault → Type 0
+CommandWants (Ok command) = MayWantMemory command
+CommandWants (Err fault) = ⊥
+
+-- a line that may want memory
+abbrev pub MayWant : Line → Type 0
+MayWant LongLine = ⊥
+MayWant (Text bytes) = CommandWants (command_of bytes)

@@ -4,7 +4,6 @@ use Rattle.std.specs.List.{list_all}
 use Rattle.std.specs.Str.{bytes_eq}
 use Rattle.std.specs.declared.alloc.Global.{Global}
 use Rattle.std.specs.declared.string.String.{String}
-use Rattle.view_tool.specs.Number.{is_digit}
 use Rattle.view_tool.specs.declared.usage.Form.{Form}
 use Rattle.view_tool.specs.declared.usage.Form.TheVariants as form
 
@@ -13,6 +12,9 @@ pub data Usage : Type 0 where
   Run : Usage
   Dump : (name : List ℕ) → Usage
   Unknown : Usage
+
+abbrev pub is_digit : ℕ → Bool
+is_digit b = nat_le 48 b && nat_le b 57
 
 abbrev pub is_letter : ℕ → Bool
 is_letter b = (nat_le 65 b && nat_le b 90) || (nat_le 97 b && nat_le b 122)

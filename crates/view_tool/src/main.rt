@@ -2,35 +2,22 @@
 //! and it prints compiled layout files.
 //!
 //! `tool` is the whole program over handed-in objects; `main` hands it the real ones, and `usage` tells what the words
-//! ask for. On the way from the bytes of a script to the bytes of the answer: `script` reads, `lines` cuts, `words`,
-//! `number` and `command` read a line, `run` carries out line after line, `world` keeps what they have made, `layout`
-//! lays the tree out, `bounds` and `replies` write the texts, and `reply` gathers them for the sink. `dump` prints a
-//! file, or has `file_replies` tell why it is refused.
+//! ask for. `script` reads a source in pieces, `run` carries out each line of them as soon as it has ended, by a world, and
+//! `refusals` tells of refused lines. `dump` prints a file, or has `file_replies` tell why it is refused.
 #![tactic(auto)]
 
-mod bounds;
-mod command;
 mod dump;
 #[cfg(test)]
 mod dump_tests;
-mod fault;
 mod file_replies;
-mod layout;
-mod lines;
-mod number;
-mod refusal;
-mod replies;
-mod reply;
+mod refusals;
 mod run;
 mod script;
 mod status;
 #[cfg(test)]
 mod tests;
 mod tool;
-mod tree;
 mod usage;
-mod words;
-mod world;
 
 use status::{NO_MEMORY, USAGE};
 use std::env;

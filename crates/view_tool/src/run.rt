@@ -1,22 +1,26 @@
-ghost use Rattle.std.specs.Prelude.{◌≡◌, ℕ, ◌+◌, ◌<◌, ◌≤◌, ◌^◌, List, ◌∷◌, [], ◌++◌, Option, Ok, Err, OnOk, OnErr, IfOk, length, drop};
-ghost use Rattle.std.specs.Io.KnownBytes.{Appends};
-ghost use Rattle.tool_io.specs.Causes.{Rose};
-ghost use Rattle.view_tool.specs.Carried.{CarriedOut};
-ghost use Rattle.view_tool.specs.Lines.{Line, line_now, lines_of};
-ghost use Rattle.view_tool.specs.Reply.{Part};
-ghost use Rattle.view_tool.specs.Run.{IsAt};
-ghost use Rattle.view_tool.specs.Tool.{WritesSome};
-ghost use Rattle.view_tool.specs.Transcript.{Progress, after_line, after_lines, at_start, reply_to_line};
-ghost use Rattle.view_tool.specs.WorldNow.{world_of};
+//! A script that is carried out as its bytes come.
 
-use crate::command::read_command;
-use crate::fault::LineFault;
-use crate::lines::{next_line, passes_over};
-use crate::refusal::Refusal;
-use crate::replies::reply_refusal;
-use crate::world::{StepFault, World};
+ghost use Rattle.std.specs.Prelude.{◌≡◌, ◌≢◌, ◌⊎◌, ℕ, ◌+◌, ◌*◌, ◌<◌, ◌≤◌, ◌^◌, List, ◌∷◌, [], ◌++◌, Option, Err, OnOk, IfOk, IfErr, length, take};
+ghost use Rattle.tool_io.specs.Causes.{Rose};
+ghost use Rattle.script_lines.specs.Lines.{Line, cut_of, lines_of};
+ghost use Rattle.view_tool.specs.Run.{IsAt, IsBehind, StopsIn, line_now};
+ghost use Rattle.view_tool.specs.Transcript.{MayWant, Progress, after_line, after_lines, at_start, reply_to_line};
+ghost use Rattle.view_world.specs.Carried.{CarriedOut, IsDone};
+ghost use Rattle.view_world.specs.WorldView.{world_of};
+
+use crate::refusals::reply_refusal;
+use script_lines::{Ended, LineFault, Lines, line, passes_over};
 use std::alloc::Global;
-use tool_io::Sink;
+use tool_io::{Shelf, Sink};
+use view_model::{Refusal, Work};
+use view_world::{StepFault, World};
+
+/// The numbers of the refusals of a line that no world is asked about.
+const RANGE: u8 = 30;
+
+const SYNTAX: u8 = 31;
+
+const LONG_LINE: u8 = 32;
 
 /// What ends a run before its last line.
 #[derive(Clone, Copy, Debug, PartialEq, Eq)]
@@ -25,9 +29,9 @@ pub enum Stop {
     NoMemory,
 }
 
-/// A script that is being carried out, line by line.
-#[derive(Debug, Drop)]
-pub struct Run {
+/// How far a run has come, line by line.
+#[derive(Drop)]
+pub struct Course {
     world: World,
     /// How many lines were taken, those that are passed over too.
     lines: u64,
@@ -35,99 +39,213 @@ pub struct Run {
     refused: bool,
 }
 
-impl Run {
-    pub fn new() -> Run
-        ensures { (first : Option (List ℕ)) (now : Option (List ℕ))
-            → Appends first now []
-            → IsAt first now result at_start }
-    {
-        Run {
-            world: World::new(),
-            lines: 0,
-            refused: false,
-        }
-    }
-
+impl Course {
     /// Carries out the next line, and writes its text. None is a line that is too long.
-    pub fn line<K: Sink>(
+    fn line<K: Sink, F: Shelf>(
         &mut self,
         alloc: Global,
         line: Option<&[u8]>,
+        shelf: &mut F,
         sink: &mut K,
+        work: &mut Work,
     ) -> Result<(), Stop>
+        requires { self.old.world.views.next < 2 ^ 62 }
         ensures done { (first : Option (List ℕ)) (progress : Progress)
             → progress.lines < 2 ^ 63
             → IsAt first (K.gone sink.old) self.old progress
             → OnOk result (IsAt first (K.gone sink.new) self.new (after_line progress (line_now line.entry))) }
-        ensures part { (first : Option (List ℕ)) (progress : Progress)
-            → progress.lines < 2 ^ 63
-            → IsAt first (K.gone sink.old) self.old progress
-            → result ≡ Err Stop.Sink
-            → Part first (K.gone sink.new) (after_line progress (line_now line.entry)).text }
-        ensures nothing { result ≡ Err Stop.NoMemory → K.gone sink.new ≡ K.gone sink.old }
+        ensures stopped { (first : Option (List ℕ)) (lines : List Line)
+            → length lines < 2 ^ 63
+            → IsAt first (K.gone sink.old) self.old (after_lines lines)
+            → IfErr result (StopsIn first (K.gone sink.new) (lines ++ line_now line.entry ∷ [])) }
+        ensures numbers { self.new.world.views.next ≤ self.old.world.views.next + 4096 }
+        ensures shelf { shelf.new ≡ shelf.old }
+        ensures painted { work.new.painted ≡ work.old.painted }
         ensures later { K.faults sink.old ≤ K.faults sink.new }
         ensures rose { result ≡ Err Stop.Sink → Rose (K.faults sink.old) (K.faults sink.new) }
     {
         self.lines = self.lines.saturating_add(1);
-        match carry_out(&mut self.world, alloc, line, sink) {
+        match carry_out(&mut self.world, alloc, line, shelf, sink, work) {
             Ok(()) => Ok(()),
             Err(StepFault::Refused(refusal)) => {
                 self.refused = true;
-                match reply_refusal(sink, self.lines, refusal.number(), refusal.name()) {
+                match reply_refusal(sink, self.lines, &refusal) {
                     Ok(()) => Ok(()),
                     Err(_) => Err(Stop::Sink),
                 }
             }
             Err(StepFault::NoMemory) => Err(Stop::NoMemory),
             Err(StepFault::Sink) => Err(Stop::Sink),
+            // No line asks the shelf for a file.
+            Err(StepFault::Shelf) => unreachable!(),
         }
     }
 }
 
 /// Carries out a line, and writes its text; of one that is refused nothing is written. None is a line that is too long.
 #[tactic(auto, unfolding(crate::specs::Transcript::reply_to_line))]
-fn carry_out<K: Sink>(
+fn carry_out<K: Sink, F: Shelf>(
     world: &mut World,
     alloc: Global,
-    line: Option<&[u8]>,
+    bytes: Option<&[u8]>,
+    shelf: &mut F,
     sink: &mut K,
+    work: &mut Work,
 ) -> Result<(), StepFault>
-    ensures carried { CarriedOut (world_of world.old) (reply_to_line (world_of world.old) (line_now line.entry))
-        (world_of world.new) (record { gone = K.gone sink.old; faults = K.faults sink.old })
+    requires { world.old.views.next < 2 ^ 62 }
+    ensures carried { CarriedOut (reply_to_line (world_of world.old) (line_now bytes.entry)) (world_of world.new)
+        (record { gone = K.gone sink.old; faults = K.faults sink.old })
         (record { gone = K.gone sink.new; faults = K.faults sink.new }) result }
+    ensures unchanged { IsDone result ⊎ ((world.new ≡ world.old) × (sink.new ≡ sink.old)) }
+    ensures memory { result ≡ Err StepFault.NoMemory → MayWant (line_now bytes.entry) }
+    ensures numbers { world.new.views.next ≤ world.old.views.next + 4096 }
+    ensures shelf { shelf.new ≡ shelf.old }
+    ensures painted { work.new.painted ≡ work.old.painted }
     ensures later { K.faults sink.old ≤ K.faults sink.new }
 {
-    let Some(line) = line else {
-        return Err(StepFault::Refused(Refusal::LongLine));
+    let Some(bytes) = bytes else {
+        return Err(StepFault::Refused(Refusal::plain(LONG_LINE)));
     };
-    if passes_over(line) {
+    if passes_over(bytes) {
         return Ok(());
     }
-    match read_command(line) {
-        Ok(command) => world.carry_out(alloc, command, sink),
-        Err(LineFault::Syntax) => Err(StepFault::Refused(Refusal::Syntax)),
-        Err(LineFault::Range) => Err(StepFault::Refused(Refusal::Range)),
+    match line(bytes) {
+        Ok(command) => world.line(alloc, command, shelf, sink, work),
+        Err(LineFault::Syntax) => Err(StepFault::Refused(Refusal::plain(SYNTAX))),
+        Err(LineFault::Range) => Err(StepFault::Refused(Refusal::plain(RANGE))),
     }
 }
 
-/// Carries out all lines of a script, and answers whether one was refused.
-pub fn run_lines<K: Sink>(alloc: Global, script: &[u8], sink: &mut K) -> Result<bool, Stop>
-    requires { length script.now < 2 ^ 63 }
-    ensures done { OnOk result (Appends (K.gone sink.old) (K.gone sink.new) (after_lines (lines_of script.now)).text) }
-    ensures refused { IfOk result (λ refused. refused ≡ (after_lines (lines_of script.now)).refused) }
-    ensures part { result ≡ Err Stop.Sink
-        → Part (K.gone sink.old) (K.gone sink.new) (after_lines (lines_of script.now)).text }
-    ensures no_memory { result ≡ Err Stop.NoMemory
-        → WritesSome (lines_of script.now) (K.gone sink.old) (K.gone sink.new) }
-    ensures later { K.faults sink.old ≤ K.faults sink.new }
-    ensures rose { result ≡ Err Stop.Sink → Rose (K.faults sink.old) (K.faults sink.new) }
-{
-    let mut run = Run::new();
-    let mut at = 0;
-    while at < script.len() {
-        let (line, used) = next_line(&script[at..]);
-        run.line(alloc, line, sink)?;
-        at += used;
+/// A script that is being carried out: each line as soon as its line feed has come.
+#[derive(Drop)]
+pub struct Run {
+    lines: Lines,
+    course: Course,
+}
+
+impl Run {
+    pub fn new(alloc: Global) -> Run
+        ensures behind { (first : Option (List ℕ)) → IsBehind first first result [] }
+        ensures numbers { result.course.world.views.next ≡ 1 }
+    {
+        Run {
+            lines: Lines::new(),
+            course: Course {
+                world: World::new(alloc),
+                lines: 0,
+                refused: false,
+            },
+        }
     }
-    Ok(run.refused)
+
+    /// Whether a line was refused so far.
+    pub fn refused(&self) -> bool
+        ensures { result ≡ self.now.course.refused }
+    {
+        self.course.refused
+    }
+
+    /// Takes the bytes of a piece up to its first line feed, or all of them, and carries out the line that they end.
+    fn take<K: Sink, F: Shelf>(
+        &mut self,
+        alloc: Global,
+        piece: &[u8],
+        shelf: &mut F,
+        sink: &mut K,
+        work: &mut Work,
+    ) -> Result<usize, Stop>
+        requires { self.old.course.world.views.next < 2 ^ 62 }
+        ensures within { IfOk result (λ n. n ≤ length piece.now) }
+        ensures some { 0 < length piece.now → IfOk result (λ n. 0 < n) }
+        ensures done { (first : Option (List ℕ)) (before : List ℕ)
+            → length before < 2 ^ 63
+            → IsBehind first (K.gone sink.old) self.old before
+            → IfOk result (λ n. IsBehind first (K.gone sink.new) self.new (before ++ take n piece.now)) }
+        ensures stopped { (first : Option (List ℕ)) (before : List ℕ)
+            → length before < 2 ^ 63
+            → IsBehind first (K.gone sink.old) self.old before
+            → IfErr result (StopsIn first (K.gone sink.new) (cut_of (before ++ piece.now)).lines) }
+        ensures numbers { self.new.course.world.views.next ≤ self.old.course.world.views.next + 4096 }
+        ensures shelf { shelf.new ≡ shelf.old }
+        ensures painted { work.new.painted ≡ work.old.painted }
+        ensures later { K.faults sink.old ≤ K.faults sink.new }
+        ensures rose { result ≡ Err Stop.Sink → Rose (K.faults sink.old) (K.faults sink.new) }
+    {
+        let (used, ended) = self.lines.feed(piece);
+        match ended {
+            Ended::No => Ok(used),
+            Ended::Line => {
+                let line = Some(self.lines.bytes());
+                self.course.line(alloc, line, shelf, sink, work)?;
+                Ok(used)
+            }
+            Ended::Long => {
+                self.course.line(alloc, None, shelf, sink, work)?;
+                Ok(used)
+            }
+        }
+    }
+
+    /// Takes a piece of the script, and carries out each line that ends in it.
+    pub fn piece<K: Sink, F: Shelf>(
+        &mut self,
+        alloc: Global,
+        piece: &[u8],
+        shelf: &mut F,
+        sink: &mut K,
+        work: &mut Work,
+    ) -> Result<(), Stop>
+        requires { self.old.course.world.views.next + 4096 * length piece.now < 2 ^ 62 }
+        ensures done { (first : Option (List ℕ)) (before : List ℕ)
+            → length (before ++ piece.now) < 2 ^ 63
+            → IsBehind first (K.gone sink.old) self.old before
+            → OnOk result (IsBehind first (K.gone sink.new) self.new (before ++ piece.now)) }
+        ensures stopped { (first : Option (List ℕ)) (before : List ℕ)
+            → length (before ++ piece.now) < 2 ^ 63
+            → IsBehind first (K.gone sink.old) self.old before
+            → IfErr result (StopsIn first (K.gone sink.new) (cut_of (before ++ piece.now)).lines) }
+        ensures numbers { self.new.course.world.views.next ≤ self.old.course.world.views.next + 4096 * length piece.now }
+        ensures shelf { shelf.new ≡ shelf.old }
+        ensures painted { work.new.painted ≡ work.old.painted }
+        ensures later { K.faults sink.old ≤ K.faults sink.new }
+        ensures rose { result ≡ Err Stop.Sink → Rose (K.faults sink.old) (K.faults sink.new) }
+    {
+        let mut at = 0;
+        while at < piece.len() {
+            at += self.take(alloc, &piece[at..], shelf, sink, work)?;
+        }
+        Ok(())
+    }
+
+    /// Carries out the rest of the script, which no line feed ends.
+    pub fn finish<K: Sink, F: Shelf>(
+        &mut self,
+        alloc: Global,
+        shelf: &mut F,
+        sink: &mut K,
+        work: &mut Work,
+    ) -> Result<(), Stop>
+        requires { self.old.course.world.views.next < 2 ^ 62 }
+        ensures done { (first : Option (List ℕ)) (script : List ℕ)
+            → length script < 2 ^ 63
+            → IsBehind first (K.gone sink.old) self.old script
+            → OnOk result (IsAt first (K.gone sink.new) self.new.course (after_lines (lines_of script))) }
+        ensures stopped { (first : Option (List ℕ)) (script : List ℕ)
+            → length script < 2 ^ 63
+            → IsBehind first (K.gone sink.old) self.old script
+            → IfErr result (StopsIn first (K.gone sink.new) (lines_of script)) }
+        ensures shelf { shelf.new ≡ shelf.old }
+        ensures painted { work.new.painted ≡ work.old.painted }
+        ensures later { K.faults sink.old ≤ K.faults sink.new }
+        ensures rose { result ≡ Err Stop.Sink → Rose (K.faults sink.old) (K.faults sink.new) }
+    {
+        match self.lines.finish() {
+            Ended::No => Ok(()),
+            Ended::Line => {
+                let line = Some(self.lines.bytes());
+                self.course.line(alloc, line, shelf, sink, work)
+            }
+            Ended::Long => self.course.line(alloc, None, shelf, sink, work),
+        }
+    }
 }

@@ -1,78 +1,184 @@
-ghost use Rattle.std.specs.Prelude.{◌≡◌, ℕ, ◌+◌, ◌≤◌, List, Err, IfOk, length};
-ghost use Rattle.std.specs.Io.KnownBytes.{Consumes, IsAtEnd};
-ghost use Rattle.tool_io.specs.Causes.{Rose};
-ghost use Rattle.view_tool.specs.Lines.{cut_of, lines_of};
-ghost use Rattle.view_tool.specs.Transcript.{carried_lines};
+//! A source that is read in pieces while the script on it is carried out.
 
+ghost use Rattle.std.specs.Prelude.{◌≡◌, ℕ, ◌+◌, ◌*◌, ◌<◌, ◌≤◌, ◌^◌, List, [], ◌++◌, Option, Some, Ok, Err, IfOk, length, take};
+ghost use Rattle.std.specs.Io.KnownBytes.{Consumes, IsAtEnd};
+ghost use Rattle.script_lines.specs.Lines.{cut_of};
+ghost use Rattle.tool_io.specs.Causes.{Rose};
+ghost use Rattle.view_tool.specs.declared.run.Stop.{Stop as StopValue};
+ghost use Rattle.view_tool.specs.Run.{IsBehind, StopsIn};
+ghost use Rattle.view_tool.specs.Tool.{RunsTo};
+ghost use Rattle.view_tool.specs.Transcript.{after_lines};
+ghost use Rattle.std.specs.Io.KnownBytes.{Appends};
+
+use crate::run::{Run, Stop};
 use std::alloc::Global;
-use tool_io::Source;
+use tool_io::{Shelf, Sink, Source};
+use view_model::Work;
 
 /// The most bytes that a script may have.
-pub const LONGEST_SCRIPT: usize = 16777216;
+const LONGEST_SCRIPT: usize = 16777216;
 
 /// How many bytes are read at a time.
 const PIECE: usize = 4096;
 
-/// Why a script could not be read.
+/// What ends a run before the end of its script.
 #[derive(Clone, Copy, Debug, PartialEq, Eq)]
-pub enum Unread {
+pub enum End {
+    /// A read failed.
     Source,
-    NoMemory,
+    /// The script is too long.
+    Long,
+    Stopped(Stop),
 }
 
-/// Reads a source to its end, or to one byte more than a script may have.
-pub fn read_script<S: Source>(alloc: Global, source: &mut S) -> Result<Vec<u8>, Unread>
-    ensures script { IfOk result (λ script. Consumes (S.left source.old) (S.left source.new) script.items) }
-    ensures bound { IfOk result (λ script. length script.items ≤ LONGEST_SCRIPT + 1) }
-    ensures end { IfOk result (λ script. length script.items ≤ LONGEST_SCRIPT → IsAtEnd (S.left source.new)) }
+impl From<Stop> for End {
+    ghost use Rattle.view_tool.specs.declared.script.End.TheVariants.{Stopped};
+
+    ghost from_gives = { λ stop end. end ≡ Stopped stop };
+
+    fn from(stop: Stop) -> End {
+        End::Stopped(stop)
+    }
+}
+
+/// Reads the next piece of a source, of which `left` more bytes may come, and carries out each line that ends in it.
+/// Answers how many bytes came, and none only at the end.
+fn pull<S: Source, K: Sink, F: Shelf>(
+    run: &mut Run,
+    alloc: Global,
+    buffer: &mut [u8],
+    left: usize,
+    source: &mut S,
+    shelf: &mut F,
+    sink: &mut K,
+    work: &mut Work,
+) -> Result<usize, End>
+    requires some { 0 < length buffer.old }
+    requires most { length buffer.old ≤ left + 1 }
+    requires left { left ≤ 16777216 }
+    requires numbers { run.old.course.world.views.next + 4096 * left < 2 ^ 62 }
+    ensures within { IfOk result (λ n. n ≤ left) }
+    ensures end { result ≡ Ok 0 → IsAtEnd (S.left source.new) }
+    ensures done { (first : Option (List ℕ)) (before : List ℕ)
+        → length before + left ≡ 16777216
+        → IsBehind first (K.gone sink.old) run.old before
+        → IfOk result (λ n. (bytes : List ℕ)
+        × Consumes (S.left source.old) (S.left source.new) bytes
+        × (length bytes ≡ n)
+        × IsBehind first (K.gone sink.new) run.new (before ++ bytes)) }
+    ensures source { result ≡ Err End.Source
+        → Consumes (S.left source.old) (S.left source.new) [] × (sink.new ≡ sink.old) × Rose (S.faults source.old) (S.faults source.new) }
+    ensures long { (first : Option (List ℕ)) (before : List ℕ)
+        → length before + left ≡ 16777216
+        → IsBehind first (K.gone sink.old) run.old before
+        → result ≡ Err End.Long
+        → (bytes : List ℕ)
+        × Consumes (S.left source.old) (S.left source.new) bytes
+        × (length bytes ≡ left + 1)
+        × Appends first (K.gone sink.new) (after_lines (cut_of (before ++ take left bytes)).lines).text }
+    ensures stopped { (first : Option (List ℕ)) (before : List ℕ) (stop : StopValue)
+        → length before + left ≡ 16777216
+        → IsBehind first (K.gone sink.old) run.old before
+        → result ≡ Err (End.Stopped stop)
+        → (bytes : List ℕ)
+        × Consumes (S.left source.old) (S.left source.new) bytes
+        × (length bytes ≤ left + 1)
+        × StopsIn first (K.gone sink.new) (cut_of (before ++ take left bytes)).lines stop }
+    ensures taken { (bytes : List ℕ)
+        × Consumes (S.left source.old) (S.left source.new) bytes
+        × (length bytes ≤ left + 1)
+        × IfOk result (λ n. length bytes ≡ n) }
+    ensures numbers { IfOk result (λ n. run.new.course.world.views.next ≤ run.old.course.world.views.next + 4096 * n) }
+    ensures shelf { shelf.new ≡ shelf.old }
+    ensures painted { work.new.painted ≡ work.old.painted }
+    ensures source_later { S.faults source.old ≤ S.faults source.new }
+    ensures later { K.faults sink.old ≤ K.faults sink.new }
+    ensures rose { result ≡ Err (End.Stopped Stop.Sink) → Rose (K.faults sink.old) (K.faults sink.new) }
+{
+    match source.read(buffer) {
+        Err(_) => Err(End::Source),
+        Ok(n) => {
+            if n > left {
+                run.piece(alloc, &buffer[..left], shelf, sink, work)?;
+                return Err(End::Long);
+            }
+            run.piece(alloc, &buffer[..n], shelf, sink, work)?;
+            Ok(n)
+        }
+    }
+}
+
+/// Carries out the script on a source by a run that has not begun.
+fn carry_through<S: Source, K: Sink, F: Shelf>(
+    run: &mut Run,
+    alloc: Global,
+    source: &mut S,
+    shelf: &mut F,
+    sink: &mut K,
+    work: &mut Work,
+) -> Result<bool, End>
+    requires behind { (first : Option (List ℕ)) → IsBehind first first run.old [] }
+    requires numbers { run.old.course.world.views.next ≡ 1 }
+    ensures runs { (script : List ℕ)
+        → S.left source.old ≡ Some script
+        → RunsTo script (S.left source.new) (K.gone sink.old) (K.gone sink.new) result }
+    ensures end { IfOk result (λ _. IsAtEnd (S.left source.new)) }
     ensures taken { (taken : List ℕ)
         × Consumes (S.left source.old) (S.left source.new) taken
         × (length taken ≤ LONGEST_SCRIPT + 1) }
-    ensures later { S.faults source.old ≤ S.faults source.new }
-    ensures rose { result ≡ Err Unread.Source → Rose (S.faults source.old) (S.faults source.new) }
+    ensures source { result ≡ Err End.Source → Rose (S.faults source.old) (S.faults source.new) }
+    ensures rose { result ≡ Err (End.Stopped Stop.Sink) → Rose (K.faults sink.old) (K.faults sink.new) }
+    ensures shelf { shelf.new ≡ shelf.old }
+    ensures painted { work.new.painted ≡ work.old.painted }
+    ensures source_later { S.faults source.old ≤ S.faults source.new }
+    ensures sink_later { K.faults sink.old ≤ K.faults sink.new }
 {
-    let mut script: Vec<u8> = Vec::new(alloc);
-    let mut piece = [0u8; PIECE];
-    while script.len() <= LONGEST_SCRIPT {
-        let room = (LONGEST_SCRIPT + 1 - script.len()).min(PIECE);
-        match source.read(&mut piece[..room]) {
-            Err(_) => return Err(Unread::Source),
-            Ok(0) => return Ok(script),
-            Ok(n) => {
-                if script.extend_from_slice(&piece[..n]).is_err() {
-                    return Err(Unread::NoMemory);
-                }
-            }
+    let mut buffer = [0u8; PIECE];
+    let mut left = LONGEST_SCRIPT;
+    loop {
+        let room = (left + 1).min(PIECE);
+        let n = pull(
+            run,
+            alloc,
+            &mut buffer[..room],
+            left,
+            source,
+            shelf,
+            sink,
+            work,
+        )?;
+        if n == 0 {
+            break;
         }
+        left -= n;
     }
-    Ok(script)
+    run.finish(alloc, shelf, sink, work)?;
+    Ok(run.refused())
 }
 
-/// The bytes whose lines are carried out: a whole script, or the lines whose line feed is among the first bytes of one
-/// that is too long.
-#[tactic(auto, unfolding(crate::specs::Transcript::carried_lines))]
-pub fn carried_bytes(script: &[u8]) -> &[u8]
-    ensures lines { lines_of result.now ≡ carried_lines script.now }
-    ensures short { length result.now ≤ LONGEST_SCRIPT }
+/// Carries out the script on a source, reading on only where each line whose line feed has come was carried out. Answers
+/// whether a line was refused.
+pub fn run_source<S: Source, K: Sink, F: Shelf>(
+    alloc: Global,
+    source: &mut S,
+    shelf: &mut F,
+    sink: &mut K,
+    work: &mut Work,
+) -> Result<bool, End>
+    ensures runs { (script : List ℕ)
+        → S.left source.old ≡ Some script
+        → RunsTo script (S.left source.new) (K.gone sink.old) (K.gone sink.new) result }
+    ensures end { IfOk result (λ _. IsAtEnd (S.left source.new)) }
+    ensures taken { (taken : List ℕ)
+        × Consumes (S.left source.old) (S.left source.new) taken
+        × (length taken ≤ LONGEST_SCRIPT + 1) }
+    ensures source { result ≡ Err End.Source → Rose (S.faults source.old) (S.faults source.new) }
+    ensures rose { result ≡ Err (End.Stopped Stop.Sink) → Rose (K.faults sink.old) (K.faults sink.new) }
+    ensures shelf { shelf.new ≡ shelf.old }
+    ensures painted { work.new.painted ≡ work.old.painted }
+    ensures source_later { S.faults source.old ≤ S.faults source.new }
+    ensures sink_later { K.faults sink.old ≤ K.faults sink.new }
 {
-    if script.len() > LONGEST_SCRIPT {
-        complete_lines(&script[..LONGEST_SCRIPT])
-    } else {
-        script
-    }
-}
-
-/// The bytes up to the last line feed.
-fn complete_lines(bytes: &[u8]) -> &[u8]
-    ensures lines { lines_of result.now ≡ (cut_of bytes.now).lines }
-    ensures short { length result.now ≤ length bytes.now }
-{
-    let mut end = bytes.len();
-    while end > 0 {
-        if bytes[end - 1] == b'\n' {
-            return &bytes[..end];
-        }
-        end -= 1;
-    }
-    &[]
+    let mut run = Run::new(alloc);
+    carry_through(&mut run, alloc, source, shelf, sink, work)
 }

@@ -17,6 +17,25 @@ const WRAPPED: &[u8] =
     b"v1\nv2\nv3\nsettled 0\nv1 0 0 30 20\nv2 0 0 0 0\nv3 0 0 30 20\nv4\nsettled 0\n\
     v1 0 0 30 20\nv2 0 0 30 20\nv3 0 0 30 20\nv4 0 0 30 20\n";
 
+const HIDING: &[u8] =
+    b"window 100 100\nadd root FrameLayout match match\nadd v1 FrameLayout 50 50\n\
+    add v2 FrameLayout 0 0\nadd v3 View 10 10\nframe\nbounds v4\nvisible v2 gone\nbounds v4\n\
+    frame\nbounds v4\nsize v4 20 20\nvisible v2 visible\nframe\nbounds v3\nbounds v4\n";
+
+const HIDDEN: &[u8] =
+    b"v1\nv2\nv3\nv4\nsettled 0\nv4 0 0 10 10\nv4 none\nsettled 0\nv4 none\nsettled 0\n\
+    v3 0 0 0 0\nv4 0 0 20 20\n";
+
+const REFUSING: &[u8] =
+    b"frame\nwindow 10 10\nframe\nbogus\nwindow 0 5\nadd root View 1 1\nadd root View 1 1\n\
+    bounds v1\nadd v1 View 1 1\nframe\nbounds v9\nremove v1\nremove @1\n";
+
+const REFUSED_LINES: &[u8] =
+    b"line 1: refused 33 NoWindow\nline 3: refused 34 NoRoot\nline 4: refused 31 Syntax\n\
+    line 5: refused 30 Range\nv1\nline 7: refused 35 HasRoot\nline 8: refused 37 NoFrame\n\
+    line 9: refused 21 NotGroup\nsettled 0\nline 11: refused 28 NoView\n\
+    line 13: refused 34 NoRoot\n";
+
 /// The status of `run` over these objects.
 fn run(alloc: Global, source: &mut MemorySource, sink: &mut MemorySink) -> Result<u8, AllocError> {
     let mut words = Vec::new(alloc);
@@ -90,10 +109,46 @@ fn four_replies_are_written_in_four_calls(rt: HostRuntime) -> Result<(), Fail> {
     Ok(())
 }
 
+/// After three reads of 16 bytes the first two lines have ended.
 #[test]
-fn a_failed_second_read_carries_out_nothing(rt: HostRuntime) -> Result<(), Fail> {
-    let (status, gone) = run_failing(rt.alloc(), SIMPLE, &[2], &[])?;
-    assert_eq!(rt; (status, gone.len()), (3, 0));
+fn a_failed_read_leaves_the_lines_that_were_read(rt: HostRuntime) -> Result<(), Fail> {
+    let (status, gone) = run_failing(rt.alloc(), SIMPLE, &[4], &[])?;
+    assert_eq!(rt; (status, gone.as_slice()), (3, b"v1\n".as_slice()));
+    Ok(())
+}
+
+#[test]
+fn a_hidden_view_leaves_the_geometry_until_it_is_laid_out_again(
+    rt: HostRuntime,
+) -> Result<(), Fail> {
+    let (status, gone) = run_failing(rt.alloc(), HIDING, &[], &[])?;
+    assert_eq!(rt; (status, gone.as_slice()), (0, HIDDEN));
+    Ok(())
+}
+
+#[test]
+fn views_are_at_most_32_deep(rt: HostRuntime) -> Result<(), Fail> {
+    let alloc = rt.alloc();
+    let mut script = String::from_str(alloc, "window 9 9\nadd root FrameLayout match match\n")?;
+    for k in 1..32u32 {
+        let line = format!(in alloc; "add v{k} FrameLayout match match\n")?;
+        script.push_str(line.as_str())?;
+    }
+    script.push_str("add v32 View 1 1\n")?;
+    let (status, gone) = run_failing(alloc, script.as_bytes(), &[], &[])?;
+    assert_eq!(rt; status, 1);
+    assert_eq!(rt;
+        gone.as_slice()
+            .ends_with(b"v31\nv32\nline 34: refused 20 Depth\n"),
+        true
+    );
+    Ok(())
+}
+
+#[test]
+fn the_first_reason_in_order_is_told(rt: HostRuntime) -> Result<(), Fail> {
+    let (status, gone) = run_failing(rt.alloc(), REFUSING, &[], &[])?;
+    assert_eq!(rt; (status, gone.as_slice()), (1, REFUSED_LINES));
     Ok(())
 }
 

@@ -3,15 +3,14 @@ ghost use Rattle.std.specs.Io.KnownBytes.{Appends, Consumes, IsAtEnd};
 ghost use Rattle.tool_io.specs.Causes.{Rose};
 ghost use Rattle.view_tool.specs.Dump.{dump_page, refuses_file};
 ghost use Rattle.view_tool.specs.Files.{Files};
-ghost use Rattle.view_tool.specs.Lines.{Line, lines_of};
-ghost use Rattle.view_tool.specs.Reply.{Part};
-ghost use Rattle.view_tool.specs.Tool.{Ended, IsDumpOf, IsOneOf, IsRunOf, RunsLines, Writes, WritesSome, status_of};
-ghost use Rattle.view_tool.specs.Transcript.{after_lines, carried_lines, cut_transcript, has_refusal, longest_script, transcript};
+ghost use Rattle.view_tool.specs.Run.{StopsBefore};
+ghost use Rattle.view_tool.specs.Tool.{Ended, IsDumpOf, IsOneOf, IsRunOf, RunsWith, Writes, WritesTaken, status_of};
+ghost use Rattle.view_tool.specs.Transcript.{carried_lines, cut_transcript, has_refusal, longest_script, transcript};
 ghost use Rattle.view_tool.specs.Usage.{Run, Dump, Unknown, usage};
 
 use crate::dump::dump;
-use crate::run::{Stop, run_lines};
-use crate::script::{LONGEST_SCRIPT, Unread, carried_bytes, read_script};
+use crate::run::Stop;
+use crate::script::{End, run_source};
 use crate::status::{ACCEPTED, LONG_SCRIPT, NO_MEMORY, REFUSED, SINK_FAILED, SOURCE_FAILED, USAGE};
 use crate::usage::{Form, form_of};
 use std::alloc::Global;
@@ -58,17 +57,22 @@ pub fn tool<S: Source, K: Sink, F: Shelf>(
     ensures untouched { result ≡ 2
         → (source.new ≡ source.old) × (sink.new ≡ sink.old) × (shelf.new ≡ shelf.old) }
 
-    // A failed read: nothing was carried out. A failed write: some prefix has gone. A failed fetch: nothing was written.
+    // A failed read: exactly the lines whose line feed was taken were carried out. A failed write: some prefix has gone. A
+    // failed fetch: nothing was written.
     ensures source_failed { result ≡ 3 → Rose (S.faults source.old) (S.faults source.new) }
+    ensures lines_taken { (script : List ℕ) (files : Files)
+        → IsRunOf (usage words.now) (S.left source.old) (F.files shelf.old) script files
+        → result ≡ 3
+        → WritesTaken script (S.left source.new) (K.gone sink.old) (K.gone sink.new) }
     ensures sink_failed { result ≡ 4 → Rose (K.faults sink.old) (K.faults sink.new) }
     ensures shelf_failed { result ≡ 6 → Rose (F.faults shelf.old) (F.faults shelf.new) }
-    ensures nothing_written { (result ≡ 3) ⊎ (result ≡ 6) → sink.new ≡ sink.old }
+    ensures nothing_written { result ≡ 6 → sink.new ≡ sink.old }
 
-    // No memory: exactly the texts of some lines, from the first on, have gone; of a file, nothing.
+    // No memory: exactly the texts of the lines before one that may want memory have gone; of a file, nothing.
     ensures no_memory { (script : List ℕ) (files : Files)
         → IsRunOf (usage words.now) (S.left source.old) (F.files shelf.old) script files
         → result ≡ 5
-        → WritesSome (carried_lines script) (K.gone sink.old) (K.gone sink.new) }
+        → StopsBefore (K.gone sink.old) (K.gone sink.new) (carried_lines script) }
     ensures dump_no_memory { (name : List ℕ)
         → usage words.now ≡ Dump name
         → result ≡ 5
@@ -109,65 +113,55 @@ pub fn tool<S: Source, K: Sink, F: Shelf>(
         × (length taken ≤ longest_script + 1) }
     ensures files_stay { F.files shelf.new ≡ F.files shelf.old }
     ensures run_asks_no_shelf { usage words.now ≡ Run → shelf.new ≡ shelf.old }
-    ensures work_stays { work.new ≡ work.old }
+    ensures nothing_painted { work.new.painted ≡ work.old.painted }
+    ensures dump_works_not { (name : List ℕ) → usage words.now ≡ Dump name → work.new ≡ work.old }
     ensures source_later { S.faults source.old ≤ S.faults source.new }
     ensures sink_later { K.faults sink.old ≤ K.faults sink.new }
     ensures shelf_later { F.faults shelf.old ≤ F.faults shelf.new }
 {
     match form_of(words) {
-        Some(Form::Run) => run(alloc, source, sink),
+        Some(Form::Run) => run(alloc, shelf, source, sink, work),
         Some(Form::Dump(name)) => dump(alloc, name, shelf, sink),
         None => USAGE,
     }
 }
 
-/// Reads a script, and carries it out.
-fn run<S: Source, K: Sink>(alloc: Global, source: &mut S, sink: &mut K) -> u8
+/// Carries out the script on a source.
+fn run<S: Source, K: Sink, F: Shelf>(
+    alloc: Global,
+    shelf: &mut F,
+    source: &mut S,
+    sink: &mut K,
+    work: &mut Work,
+) -> u8
     ensures runs { (script : List ℕ)
         → S.left source.old ≡ Some script
-        → RunsLines (carried_lines script) (nat_lt longest_script (length script))
-        (record { gone = K.gone sink.old; faults = K.faults sink.old })
-        (record { gone = K.gone sink.new; faults = K.faults sink.new }) result }
+        → RunsWith script (S.left source.new) (K.gone sink.old) (K.gone sink.new) result }
     ensures known { IsOneOf result (0 ∷ 1 ∷ 3 ∷ 4 ∷ 5 ∷ 7 ∷ []) }
     ensures read_to_end { Ended result → IsAtEnd (S.left source.new) }
     ensures source_failed { result ≡ 3 → Rose (S.faults source.old) (S.faults source.new) }
-    ensures nothing_written { result ≡ 3 → sink.new ≡ sink.old }
     ensures sink_failed { result ≡ 4 → Rose (K.faults sink.old) (K.faults sink.new) }
     ensures taken { (taken : List ℕ)
         × Consumes (S.left source.old) (S.left source.new) taken
         × (length taken ≤ longest_script + 1) }
+    ensures shelf { shelf.new ≡ shelf.old }
+    ensures painted { work.new.painted ≡ work.old.painted }
     ensures source_later { S.faults source.old ≤ S.faults source.new }
     ensures sink_later { K.faults sink.old ≤ K.faults sink.new }
 {
-    match read_script(alloc, source) {
-        Ok(script) => run_script(alloc, script.as_slice(), sink),
-        Err(Unread::Source) => SOURCE_FAILED,
-        Err(Unread::NoMemory) => NO_MEMORY,
-    }
+    status(run_source(alloc, source, shelf, sink, work))
 }
 
-/// Carries out what has been read of a script.
-fn run_script<K: Sink>(alloc: Global, script: &[u8], sink: &mut K) -> u8
-    ensures runs { RunsLines (carried_lines script.now) (nat_lt longest_script (length script.now))
-        (record { gone = K.gone sink.old; faults = K.faults sink.old })
-        (record { gone = K.gone sink.new; faults = K.faults sink.new }) result }
-    ensures known { IsOneOf result (0 ∷ 1 ∷ 4 ∷ 5 ∷ 7 ∷ []) }
-    ensures sink_failed { result ≡ 4 → Rose (K.faults sink.old) (K.faults sink.new) }
-    ensures later { K.faults sink.old ≤ K.faults sink.new }
-{
-    let long = script.len() > LONGEST_SCRIPT;
-    status(long, run_lines(alloc, carried_bytes(script), sink))
-}
-
-/// The status of a run of lines.
-fn status(long: bool, outcome: Result<bool, Stop>) -> u8
-    ensures { result ≡ status_of long outcome }
+/// The status of a run.
+fn status(outcome: Result<bool, End>) -> u8
+    ensures { result ≡ status_of outcome }
 {
     match outcome {
-        Ok(_) if long => LONG_SCRIPT,
         Ok(true) => REFUSED,
         Ok(false) => ACCEPTED,
-        Err(Stop::Sink) => SINK_FAILED,
-        Err(Stop::NoMemory) => NO_MEMORY,
+        Err(End::Source) => SOURCE_FAILED,
+        Err(End::Long) => LONG_SCRIPT,
+        Err(End::Stopped(Stop::Sink)) => SINK_FAILED,
+        Err(End::Stopped(Stop::NoMemory)) => NO_MEMORY,
     }
 }

@@ -1,5 +1,7 @@
-use Rattle.view_tool.proofs.ReplyLaws.{told_new}
+use Rattle.view_tool.proofs.DeliveredLaws.{delivered}
 use Rattle.view_tool.proofs.file_replies.reply_fault.Goals as goal
 
 pub returns : goal.returns
-returns g c = c.finish.ensures _ _ _ (told_new c.new-reply.ensures.value c.write_fault.ensures)
+returns g c =
+    delivered c.finish.result _ _ _ _ _ _ c.new-reply.result _ c.finish.new.self _ c.new-reply.ensures c.put_fault.ensures c.finish.ensures.sends c.finish.ensures.empty
+    c.finish.ensures.whole c.finish.ensures.failed

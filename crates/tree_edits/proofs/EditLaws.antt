@@ -1,0 +1,152 @@
+-- What edits make of scenes.
+use Rattle.std.proofs.Common.{◌≡◌, ℕ, ℤ, Bool, List, [], Option, Some, None, Result, Ok, Err, refl, sym, ◌∙◌, ap, subst}
+use Rattle.std.specs.Option.{option_map}
+use Rattle.std.specs.Prelude.{if◌then◌else◌}
+use Rattle.std.specs.Result.{IsErrAnd}
+use Rattle.view_model.specs.declared.attributes.Facts.{Facts}
+use Rattle.view_model.specs.declared.changes.Act.{Act}
+use Rattle.view_model.specs.declared.kinds.Class.{Class}
+use Rattle.view_model.specs.Facts.{new_facts}
+use Rattle.view_model.specs.Forest.{Forest, Nothing}
+use Rattle.view_model.specs.Growth.{grown_at, refusal_at}
+use Rattle.view_model.specs.PlainTree.{View, pruned, single, view_in, with_text}
+use Rattle.view_model.specs.Refusals.{plainly}
+use Rattle.view_tree.specs.Attached.{Attached}
+use Rattle.view_tree.specs.declared.fault.AttachFault.{AttachFault}
+use Rattle.view_tree.specs.declared.fault.AttachFault.TheVariants as attach
+use Rattle.view_tree.specs.Faults.{RefusedFor}
+use Rattle.view_tree.specs.Hidden.{HidesGone, IsConsistent}
+use Rattle.view_tree.specs.Rows.{Row, alone, cut, from, put_view, times}
+use Rattle.view_tree.specs.Views.{Held, IsLive, IsTree, Views, class_of, held_of, laid_rows, number_of, plain_of}
+use Rattle.view_tree.proofs.GeometryLaws.{geometry-cut, geometry-with_child}
+use Rattle.view_tree.proofs.HiddenLaws.{hidden-cut, hidden-with_child}
+use Rattle.view_tree.proofs.PlainLaws.{number_there}
+use Rattle.tree_edits.specs.Applied.{Applied, IsAddable, fault_of}
+use Rattle.tree_edits.specs.declared.fault.EditFault.{EditFault}
+use Rattle.tree_edits.specs.declared.fault.EditFault.TheVariants as fault
+use Rattle.tree_edits.specs.Editing.{Add, Outcome, added, after_act, done, edited, new_view, removed, takes, has_text, written}
+use Rattle.tree_edits.specs.Scene.{Scene, scene_of}
+use Rattle.tree_edits.proofs.ActLaws.{same_scene, stays}
+
+-- a root is added only where there is none
+pub added_root : (views : Views) (parent : Option ℕ) → IsAddable views parent → parent ≡ None → views.tree ≡ Nothing
+added_root views None addable none = addable.0
+added_root views (Some parent) addable none = absurd (cc)
+
+-- a view was added
+new_view_is : (number : ℕ) (class : Class) (width height : ℤ) (facts : Facts) (text : List ℕ) → facts ≡ new_facts width height → text ≡ []
+    → (let view : View = record { number = number; class = class; facts = facts; text = text } in view) ≡ new_view number class width height
+new_view_is number class width height facts text facts_is text_is = rw (facts_is, text_is)
+
+pub attached_scene : (old new : Views) (parent : Option ℕ) (class : Class) (width height : ℤ) (facts : Facts) (text : List ℕ) (key number : ℕ) → IsAddable old parent
+    → refusal_at (plain_of old) (option_map (number_of old) parent) ≡ None
+    → facts ≡ new_facts width height
+    → text ≡ []
+    → Attached old parent (record { number = old.next; class = class; facts = facts; text = text }) key new
+    → number ≡ old.next
+    → edited (scene_of old) (Add (option_map (number_of old) parent) class width height) ≡ Ok (scene_of new, Some number)
+attached_scene old new parent class width height facts text key number addable free facts_is text_is attached number_is =
+    let view : View = record { number = old.next; class = class; facts = facts; text = text } in
+    let is : view ≡ new_view old.next class width height = new_view_is old.next class width height facts text facts_is text_is in
+    ap (added (scene_of old) (option_map (number_of old) parent) class width height) free
+    ∙ ap (λ (scene : Scene). Ok (scene, Some old.next))
+    (sym (same_scene _ _ _ _ _ _
+    (attached.plain ∙ ap (λ (v : View). grown_at (option_map (number_of old) parent) (single v) (plain_of old)) is)
+    attached.next
+    (ap (laid_rows (held_of new)) attached.tree
+    ∙ geometry-with_child old (held_of new) parent key view (added_root old parent addable) attached.unused
+    (ap (λ (h : Held). h.state.bounds) attached.held) attached.others)))
+    ∙ ap (λ (n : ℕ). Ok (scene_of new, Some n)) (sym number_is)
+
+pub attached_kept : (old new : Views) (parent : Option ℕ) (view : View) (key : ℕ) → IsConsistent old → Attached old parent view key new → IsConsistent new
+attached_kept old new parent view key kept attached = record {
+  hidden =
+      subst (λ (t : Forest Row). HidesGone (held_of new) t) (sym attached.tree)
+      (hidden-with_child old (held_of new) parent key view kept.hidden attached.unused (ap (λ (h : Held). h.state.bounds) attached.held) attached.others);
+}
+
+-- a view was not added
+pub not_attached : (old : Views) (after : Scene) (parent : Option ℕ) (class : Class) (width height : ℤ) (given : AttachFault) (answer : Result (Option ℕ) EditFault)
+    → RefusedFor {A = ℕ} (refusal_at (plain_of old) (option_map (number_of old) parent)) (Err given)
+    → IsErrAnd answer (λ fault. fault ≡ fault_of given)
+    → Applied (edited (scene_of old) (Add (option_map (number_of old) parent) class width height)) after answer
+not_attached old after parent class width height given (Ok number) refused is = absurd is
+not_attached old after parent class width height (attach.Refused refusal) (Err fault) refused is =
+    subst (λ (f : EditFault). Applied (edited (scene_of old) (Add (option_map (number_of old) parent) class width height)) after (Err f)) (sym is)
+    (ap (added (scene_of old) (option_map (number_of old) parent) class width height) refused)
+not_attached old after parent class width height attach.NoMemory (Err fault) refused is =
+    subst (λ (f : EditFault). Applied (edited (scene_of old) (Add (option_map (number_of old) parent) class width height)) after (Err f)) (sym is)
+    (_, _, ap (added (scene_of old) (option_map (number_of old) parent) class width height) refused)
+
+-- a view and all below it were taken away
+pub detached_scene : (old new : Views) (view : ℕ) → IsTree old → IsLive old view
+    → new.tree ≡ cut view old.tree
+    → plain_of new ≡ pruned (number_of old view) (plain_of old)
+    → new.next ≡ old.next
+    → ((key : ℕ) → times key (alone (from view old.tree)) ≡ 0 → held_of new key ≡ held_of old key)
+    → removed (scene_of old) (number_of old view) ≡ Ok (scene_of new, None)
+detached_scene old new view is live tree plain next others =
+    ap (λ (scene : Scene). Ok (scene, None))
+    (sym (same_scene _ _ _ _ _ _ plain next (ap (laid_rows (held_of new)) tree ∙ geometry-cut old (held_of new) view is live others)))
+
+pub detached_kept : (old new : Views) (view : ℕ) → IsTree old → IsConsistent old
+    → new.tree ≡ cut view old.tree
+    → ((key : ℕ) → times key (alone (from view old.tree)) ≡ 0 → held_of new key ≡ held_of old key)
+    → IsConsistent new
+detached_kept old new view is kept tree others = record {
+  hidden = subst (λ (t : Forest Row). HidesGone (held_of new) t) (sym tree) (hidden-cut old (held_of new) view is kept.hidden others);
+}
+
+-- an act is done or refused, by the class of its view
+pub done_by : (views : Views) (view : ℕ) (act : Act) (class : Class) (taken : Bool) → IsTree views → IsLive views view → class ≡ class_of views view
+    → taken ≡ takes class act
+    → done (scene_of views) (number_of views view) act (view_in (plain_of views) (number_of views view))
+    ≡ (if taken then Ok (after_act (scene_of views) (number_of views view) act, None) else Err (plainly 29))
+done_by views view act class taken is live class_is taken_is =
+    ap (done (scene_of views) (number_of views view) act) (number_there views view is live)
+    ∙ ap (λ (b : Bool). if b then Ok (after_act (scene_of views) (number_of views view) act, None) else Err (plainly 29))
+    (sym (taken_is ∙ ap (λ (k : Class). takes k act) class_is))
+
+-- a text is set or refused, by the class of its view
+pub written_by : (views : Views) (view : ℕ) (text : List ℕ) (class : Class) (has : Bool) → IsTree views → IsLive views view → class ≡ class_of views view
+    → has ≡ has_text class
+    → written (scene_of views) (number_of views view) text (view_in (plain_of views) (number_of views view))
+    ≡ (if has then Ok (record (scene_of views) { tree = with_text (number_of views view) text (plain_of views) }, None) else Err (plainly 29))
+written_by views view text class has is live class_is has_is =
+    ap (written (scene_of views) (number_of views view) text) (number_there views view is live)
+    ∙ ap (λ (b : Bool). if b then Ok (record (scene_of views) { tree = with_text (number_of views view) text (plain_of views) }, None) else Err (plainly 29))
+    (sym (has_is ∙ ap has_text class_is))
+
+-- an act that is done, but for want of memory
+pub not_named : (outcome : Outcome) (made after : Scene) (given : AttachFault) (answer : Result (Option ℕ) EditFault) → outcome ≡ Ok (made, None)
+    → RefusedFor {A = Unit {0}} None (Err given)
+    → IsErrAnd answer (λ fault. fault ≡ fault_of given)
+    → Applied outcome after answer
+not_named outcome made after given (Ok number) is refused fault_is = absurd fault_is
+not_named outcome made after (attach.Refused refusal) (Err fault) is refused fault_is = absurd (cc)
+not_named outcome made after attach.NoMemory (Err fault) is refused fault_is =
+    subst (λ (f : EditFault). Applied outcome after (Err f)) (sym fault_is) (made, None, is)
+
+-- what is done, but for want of memory
+pub no_memory : (outcome : Outcome) (made after : Scene) (answer : Result (Option ℕ) EditFault) → outcome ≡ Ok (made, None)
+    → IsErrAnd answer (λ given. given ≡ fault.NoMemory) → Applied outcome after answer
+no_memory outcome made after (Ok number) is fault_is = absurd fault_is
+no_memory outcome made after (Err fault) is fault_is = subst (λ (f : EditFault). Applied outcome after (Err f)) (sym fault_is) (made, None, is)
+
+-- a text was set
+pub record TextSet (old : Views) (view : ℕ) (text : List ℕ) (new : Views) : Type 0 where
+  pub scene : scene_of new ≡ record (scene_of old) { tree = with_text (number_of old view) text (plain_of old) }
+  pub kept : IsConsistent new
+
+pub text_set : (old new : Views) (view : ℕ) (text written : List ℕ) → IsTree old → IsLive old view → IsConsistent old → written ≡ text
+    → new.tree ≡ put_view view (λ (v : View). record v { text = written }) old.tree
+    → plain_of new ≡ with_text (number_of old view) written (plain_of old)
+    → new.next ≡ old.next
+    → ((key : ℕ) → held_of new key ≡ held_of old key)
+    → TextSet old view text new
+text_set old new view text written is live kept same tree plain next held =
+    let s = stays old new view (λ (v : View). record v { text = written }) is live kept (λ _. refl) (λ _. refl) tree held in
+    record {
+      scene = same_scene _ _ _ _ _ _ (plain ∙ ap (λ (t : List ℕ). with_text (number_of old view) t (plain_of old)) same) next s.geometry;
+      kept = record { hidden = s.hidden };
+    }

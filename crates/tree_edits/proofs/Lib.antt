@@ -1,0 +1,5 @@
+mod ActLaws
+mod EditLaws
+mod Examples
+mod FactLaws
+mod Walk

@@ -1,0 +1,33 @@
+use Rattle.std.proofs.Common.{◌≡◌, Err, None, Ok, ap, false, rules, sym, true, ◌∙◌}
+use Rattle.tree_edits.specs.Editing.{after_act, done}
+use Rattle.tree_edits.specs.Scene.{Scene, scene_of}
+use Rattle.view_model.specs.PlainTree.{view_in}
+use Rattle.view_tree.specs.Views.{number_of, plain_of}
+use Rattle.tree_edits.proofs.EditLaws.{done_by, not_named}
+use Rattle.tree_edits.proofs.applying.act_on.Goals as goal
+use Rattle.tree_edits.proofs.applying.act_on.Goals.{else-names_views, then-names_views+in_ok-set_names}
+
+pub returns-then-not-takes-clause-applied : goal.returns-then-not-takes-clause-applied
+returns-then-not-takes-clause-applied c =
+    let refused : c.takes.result ≡ false = search rules in
+    done_by c.args.tree.now c.args.view c.args.act c.class.result c.takes.result c.class.ensures.is_tree c.requires.live c.class.ensures.value c.takes.ensures
+    ∙ rw refused (sym (ap (λ t. Err t) c.plain.ensures))
+
+pub returns-in_err-set_names-clause-applied : goal.returns-in_err-set_names-clause-applied
+returns-in_err-set_names-clause-applied c =
+    let after = after_act (scene_of c.args.tree.now) (number_of c.args.tree.now c.args.view) c.args.act in
+    let taken : c.takes.result ≡ true = search rules in
+    let is : done (scene_of c.args.tree.now) (number_of c.args.tree.now c.args.view) c.args.act (view_in (plain_of c.args.tree.now) (number_of c.args.tree.now c.args.view)) ≡ Ok (after, None) =
+    done_by c.args.tree.now c.args.view c.args.act c.class.result c.takes.result c.class.ensures.is_tree c.requires.live c.class.ensures.value c.takes.ensures
+    ∙ rw taken in
+    not_named _ after (scene_of c.set_names.new.tree) c.in_err-set_names.field-0.0 c.from_residual.result is c.in_err-set_names.ensures.refused c.from_residual.ensures.1
+
+pub returns-clause-applied : goal.returns-clause-applied
+returns-clause-applied c =
+    let taken : c.takes.result ≡ true = search rules in
+    done_by c.args.tree.now c.args.view c.args.act c.class.result c.takes.result c.class.ensures.is_tree c.requires.live c.class.ensures.value c.takes.ensures
+    ∙ rw taken (
+    elim c.if-names_views.branch [
+      | then-names_views+in_ok-set_names w ↦ rw w.tree-is (ap (λ (scene : Scene). Ok (scene, None)) (sym w.in_ok-set_names.ensures.scene))
+      | else-names_views w ↦ rw w.tree-is (ap (λ (scene : Scene). Ok (scene, None)) (sym w.set_facts.ensures.scene))
+    ])

@@ -1,0 +1,23 @@
+use Rattle.std.proofs.Common.{◌≡◌}
+use Rattle.view_model.specs.Forest.{count_of}
+use Rattle.view_tree.specs.Rows.{alone, below, from, rest_from}
+use Rattle.view_tree.specs.Views.{held_of}
+use Rattle.tree_edits.proofs.Walk.{Walked}
+use Rattle.tree_edits.proofs.hiding.+hide.Given as goal
+
+-- the views from this one down
+abbrev pub decreases-hide : goal.decreases-hide
+decreases-hide l = count_of (alone (from l.view l.tree.now.tree))
+
+-- the views among the later siblings
+abbrev pub decreases-loop-next : goal.decreases-loop-next
+decreases-loop-next l = count_of (rest_from l.next l.tree.tree)
+
+abbrev pub invariant-loop-next : goal.invariant-loop-next
+invariant-loop-next l =
+    let tree = l.fn.tree.tree in
+    record {
+      same : l.tree.tree ≡ tree;
+      numbers : l.tree.next ≡ l.fn.tree.next;
+      walked : Walked tree (below (from l.view tree)) (held_of l.initial.tree) l.next (held_of l.tree);
+    }

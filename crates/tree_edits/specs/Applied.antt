@@ -1,0 +1,81 @@
+-- How an edit was applied to a tree of the code.
+use Rattle.std.specs.Prelude.{◌≡◌, ℕ, ◌^◌, ◌<◌, Bool, true, false, chars, length, Option, Some, None, Result, Ok, Err}
+use Rattle.std.specs.Option.{option_map}
+use Rattle.view_model.specs.declared.changes.Act.{Act}
+use Rattle.view_model.specs.declared.changes.Act.TheVariants as act
+use Rattle.view_model.specs.Forest.{Nothing}
+use Rattle.view_model.specs.Refusals.{told}
+use Rattle.view_tree.specs.declared.fault.AttachFault.{AttachFault}
+use Rattle.view_tree.specs.declared.fault.AttachFault.TheVariants as attach
+use Rattle.view_tree.specs.Views.{Views, IsLive, number_of}
+use Rattle.tree_edits.specs.declared.edits.Edit.{Edit}
+use Rattle.tree_edits.specs.declared.edits.Edit.TheVariants as edit
+use Rattle.tree_edits.specs.declared.fault.EditFault.{EditFault}
+use Rattle.tree_edits.specs.declared.fault.EditFault.TheVariants as fault
+use Rattle.tree_edits.specs.Editing.{NumberedEdit, Add, Remove, Do, Write, Outcome}
+use Rattle.tree_edits.specs.Scene.{Scene}
+
+-- an edit with the numbers of the views in place of their keys, and with the characters of its text
+abbrev pub numbered : Views → Edit → NumberedEdit
+numbered views (edit.Add parent class width height) = Add (option_map (number_of views) parent) class width height
+numbered views (edit.Remove view) = Remove (number_of views view)
+numbered views (edit.Act view act) = Do (number_of views view) act
+numbered views (edit.Text view text) = Write (number_of views view) (chars text.now)
+
+-- a root is added only where there is none
+abbrev pub IsAddable : Views → Option ℕ → Type 0
+IsAddable views None = (views.tree ≡ Nothing) × (views.next < 2 ^ 62)
+IsAddable views (Some parent) = IsLive views parent × (views.next < 2 ^ 62)
+
+-- the rule that an act sets is one of the 21
+abbrev pub IsVerb : Act → Type 0
+IsVerb (act.Rule verb value) = verb < 21
+IsVerb (act.Change change) = Unit {0}
+IsVerb (act.WeightSum sum) = Unit {0}
+IsVerb (act.Orient vertical) = Unit {0}
+IsVerb (act.Flag flag on) = Unit {0}
+IsVerb (act.Visible visibility) = Unit {0}
+IsVerb (act.Ink color) = Unit {0}
+IsVerb (act.Id id) = Unit {0}
+IsVerb (act.Answer answer) = Unit {0}
+IsVerb (act.Intercept actions) = Unit {0}
+IsVerb (act.Scroll offset) = Unit {0}
+
+-- the views of an edit are there, and its numbers are within their limits
+abbrev pub IsEdit : Views → Edit → Type 0
+IsEdit views (edit.Add parent class width height) = IsAddable views parent
+IsEdit views (edit.Remove view) = IsLive views view
+IsEdit views (edit.Act view act) = IsLive views view × IsVerb act
+IsEdit views (edit.Text view text) = IsLive views view × (length text.now < 2 ^ 31)
+
+-- whether an act sets by what name, or by which names of others, a view is found
+abbrev pub names_views : Act → Bool
+names_views (act.Rule verb value) = true
+names_views (act.Id id) = true
+names_views (act.Change change) = false
+names_views (act.WeightSum sum) = false
+names_views (act.Orient vertical) = false
+names_views (act.Flag flag on) = false
+names_views (act.Visible visibility) = false
+names_views (act.Ink color) = false
+names_views (act.Answer answer) = false
+names_views (act.Intercept actions) = false
+names_views (act.Scroll offset) = false
+
+-- an edit that may want memory: a new view, a text, an id or a rule
+abbrev pub MayWantMemory : Edit → Type 0
+MayWantMemory (edit.Add parent class width height) = Unit {0}
+MayWantMemory (edit.Remove view) = ⊥
+MayWantMemory (edit.Act view act) = names_views act ≡ true
+MayWantMemory (edit.Text view text) = Unit {0}
+
+-- The answer is the outcome: the scene and the number of the new view, or the refusal. Want of memory comes where there is none.
+abbrev pub Applied : Outcome → Scene → Result (Option ℕ) EditFault → Type 0
+Applied outcome after (Ok number) = outcome ≡ Ok (after, number)
+Applied outcome after (Err (fault.Refused refusal)) = outcome ≡ Err (told refusal)
+Applied outcome after (Err fault.NoMemory) = (scene : Scene) × (number : Option ℕ) × (outcome ≡ Ok (scene, number))
+
+-- the fault of an edit by which the tree did not take a view
+abbrev pub fault_of : AttachFault → EditFault
+fault_of (attach.Refused refusal) = fault.Refused refusal
+fault_of attach.NoMemory = fault.NoMemory

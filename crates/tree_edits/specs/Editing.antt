@@ -1,0 +1,126 @@
+-- What an edit makes of a scene, or why it is refused.
+use Rattle.std.specs.Prelude.{ℕ, ◌+◌, ℤ, Bool, true, false, if◌then◌else◌, List, [], Option, Some, None, Result, Ok, Err}
+use Rattle.view_model.specs.Changes.{acted}
+use Rattle.view_model.specs.declared.changes.Act.{Act}
+use Rattle.view_model.specs.declared.changes.Act.TheVariants as act
+use Rattle.view_model.specs.declared.changes.Change.{Change}
+use Rattle.view_model.specs.declared.changes.Change.TheVariants as change
+use Rattle.view_model.specs.declared.changes.Flag.{Flag}
+use Rattle.view_model.specs.declared.changes.Flag.TheVariants as flag
+use Rattle.view_model.specs.declared.kinds.Class.{Class}
+use Rattle.view_model.specs.declared.kinds.Class.TheVariants as class
+use Rattle.view_model.specs.declared.kinds.Visibility.{Visibility}
+use Rattle.view_model.specs.declared.kinds.Visibility.TheVariants.{Visible, Invisible, Gone}
+use Rattle.view_model.specs.Facts.{new_facts}
+use Rattle.view_model.specs.Geometry.{Laid, without}
+use Rattle.view_model.specs.Growth.{grown_at, is_group, refusal_at}
+use Rattle.view_model.specs.PlainTree.{View, numbers_of, part_of, pruned, single, view_in, with_facts, with_text}
+use Rattle.view_model.specs.Refusals.{Told, plainly}
+use Rattle.tree_edits.specs.Scene.{Scene}
+
+-- an edit that names views by their numbers
+pub data NumberedEdit : Type 0 where
+  Add : (parent : Option ℕ) (class : Class) (width height : ℤ) → NumberedEdit
+  Remove : (view : ℕ) → NumberedEdit
+  Do : (view : ℕ) (act : Act) → NumberedEdit
+  Write : (view : ℕ) (text : List ℕ) → NumberedEdit
+
+-- the scene after an edit, with the number of the view that it made, or why it is refused
+abbrev pub Outcome : Type 0
+Outcome = Result (Scene × Option ℕ) Told
+
+-- what no class that there is has: children in a row, a text, a child that moves
+abbrev pub takes_change : Change → Bool
+takes_change (change.Gravity kids gravity) = if kids then false else true
+takes_change (change.Size width height) = true
+takes_change (change.Min size) = true
+takes_change (change.Margins sides) = true
+takes_change (change.Padding sides) = true
+takes_change (change.Weight weight) = true
+takes_change (change.Background color) = true
+
+-- a view without children clips and splits nothing, and only a child that moves is told to fill
+abbrev pub takes_flag : Class → Flag → Bool
+takes_flag class flag.Clip = is_group class
+takes_flag class flag.Fill = false
+takes_flag class flag.Split = is_group class
+
+-- whether a view of this class has what an act sets
+abbrev pub takes : Class → Act → Bool
+takes class (act.Change change) = takes_change change
+takes class (act.WeightSum sum) = false
+takes class (act.Orient vertical) = false
+takes class (act.Flag flag on) = takes_flag class flag
+takes class (act.Visible visibility) = true
+takes class (act.Ink color) = false
+takes class (act.Id id) = true
+takes class (act.Rule verb value) = true
+takes class (act.Answer answer) = true
+takes class (act.Intercept actions) = is_group class
+takes class (act.Scroll offset) = false
+
+-- whether a view of this class has a text
+abbrev pub has_text : Class → Bool
+has_text class.View = false
+has_text class.FrameLayout = false
+
+-- whether a view takes no part in layout
+abbrev pub is_gone : Visibility → Bool
+is_gone Visible = false
+is_gone Invisible = false
+is_gone Gone = true
+
+-- whether an act takes a view, and all below it, out of the geometry at once
+abbrev pub hides : Act → Bool
+hides (act.Change change) = false
+hides (act.WeightSum sum) = false
+hides (act.Orient vertical) = false
+hides (act.Flag flag on) = false
+hides (act.Visible visibility) = is_gone visibility
+hides (act.Ink color) = false
+hides (act.Id id) = false
+hides (act.Rule verb value) = false
+hides (act.Answer answer) = false
+hides (act.Intercept actions) = false
+hides (act.Scroll offset) = false
+
+-- the geometry without a view and all below it
+abbrev pub hidden : ℕ → Scene → List Laid
+hidden number scene = without (numbers_of (part_of number scene.tree)) scene.geometry
+
+-- a new view: its facts are the default ones but for its dimensions, and its text is empty
+abbrev pub new_view : ℕ → Class → ℤ → ℤ → View
+new_view number class width height = record { number = number; class = class; facts = new_facts width height; text = [] }
+
+-- a view is added under the next number, unless there is a reason against it; it lies nowhere
+abbrev pub added : Scene → Option ℕ → Class → ℤ → ℤ → Option Told → Outcome
+added scene parent class width height (Some refusal) = Err refusal
+added scene parent class width height None =
+    Ok (record scene { tree = grown_at parent (single (new_view scene.next class width height)) scene.tree; next = scene.next + 1 }, Some scene.next)
+
+-- a view and all below it go, and lie nowhere
+abbrev pub removed : Scene → ℕ → Outcome
+removed scene number = Ok (record scene { tree = pruned number scene.tree; geometry = hidden number scene }, None)
+
+-- what an act makes of a scene
+abbrev pub after_act : Scene → ℕ → Act → Scene
+after_act scene number act =
+    record scene { tree = with_facts number (acted act) scene.tree; geometry = if hides act then hidden number scene else scene.geometry }
+
+-- an act on a view, by what is found under its number
+abbrev pub done : Scene → ℕ → Act → Option View → Outcome
+done scene number act None = Ok (scene, None)
+done scene number act (Some view) = if takes view.class act then Ok (after_act scene number act, None) else Err (plainly 29)
+
+-- a text of a view, by what is found under its number
+abbrev pub written : Scene → ℕ → List ℕ → Option View → Outcome
+written scene number text None = Ok (scene, None)
+written scene number text (Some view) =
+    if has_text view.class then Ok (record scene { tree = with_text number text scene.tree }, None) else Err (plainly 29)
+
+-- what an edit of views that are there makes of a scene
+abbrev pub edited : Scene → NumberedEdit → Outcome
+edited scene (Add parent class width height) = added scene parent class width height (refusal_at scene.tree parent)
+edited scene (Remove number) = removed scene number
+edited scene (Do number act) = done scene number act (view_in scene.tree number)
+edited scene (Write number text) = written scene number text (view_in scene.tree number)

@@ -1,0 +1,4 @@
+pub mod Applied
+pub mod Editing
+pub mod Hiding
+pub mod Scene

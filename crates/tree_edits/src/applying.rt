@@ -1,0 +1,113 @@
+ghost use Rattle.std.specs.Prelude.{◌≡◌, ◌<◌, ◌^◌, true, chars, length, Err, OnErr, None, Ok};
+ghost use Rattle.std.specs.Option.{option_map};
+ghost use Rattle.tree_edits.specs.Applied.{Applied, IsAddable, IsEdit, IsVerb, MayWantMemory, names_views, numbered};
+ghost use Rattle.tree_edits.specs.Editing.{Add, Do, Write, edited, removed};
+ghost use Rattle.tree_edits.specs.Scene.{scene_of};
+ghost use Rattle.view_tree.specs.Hidden.{IsConsistent};
+ghost use Rattle.view_tree.specs.Views.{IsLive, number_of};
+
+use crate::acting::{names_views, set_facts, set_names};
+use crate::classes::{has_text, takes};
+use crate::edits::Edit;
+use crate::fault::EditFault;
+use std::alloc::Global;
+use view_model::{Act, Class, Facts, Refusal, Text};
+use view_tree::{Key, ViewTree};
+
+/// The refusal of what a view's class does not have.
+const WRONG_CLASS: u8 = 29;
+
+/// Makes an edit, and answers the number of the view that it made.
+pub fn apply(alloc: Global, tree: &mut ViewTree, edit: Edit<'_>) -> Result<Option<u64>, EditFault>
+    requires consistent { IsConsistent tree.old }
+    requires edit { IsEdit tree.old edit }
+    ensures applied { Applied (edited (scene_of tree.old) (numbered tree.old edit.entry)) (scene_of tree.new) result }
+    ensures unchanged { OnErr result (tree.new ≡ tree.old) }
+    ensures memory { result ≡ Err EditFault.NoMemory → MayWantMemory edit.entry }
+    ensures consistent { IsConsistent tree.new }
+{
+    match edit {
+        Edit::Add {
+            parent,
+            class,
+            width,
+            height,
+        } => add(alloc, tree, parent, class, width, height),
+        Edit::Remove(view) => {
+            remove(tree, view);
+            Ok(None)
+        }
+        Edit::Act { view, act } => act_on(tree, view, act),
+        Edit::Text { view, text } => write(alloc, tree, view, text),
+    }
+}
+
+fn add(
+    alloc: Global,
+    tree: &mut ViewTree,
+    parent: Option<Key>,
+    class: Class,
+    width: i32,
+    height: i32,
+) -> Result<Option<u64>, EditFault>
+    requires consistent { IsConsistent tree.old }
+    requires addable { IsAddable tree.old parent }
+    ensures applied { Applied (edited (scene_of tree.old) (Add (option_map (number_of tree.old) parent) class width height)) (scene_of tree.new) result }
+    ensures unchanged { OnErr result (tree.new ≡ tree.old) }
+    ensures consistent { IsConsistent tree.new }
+{
+    let number = tree.next_number();
+    let facts = Facts::new(width, height);
+    tree.attach(parent, class, facts, Text::empty(alloc))?;
+    Ok(Some(number))
+}
+
+fn remove(tree: &mut ViewTree, view: Key)
+    requires consistent { IsConsistent tree.old }
+    requires live { IsLive tree.old view }
+    ensures scene { removed (scene_of tree.old) (number_of tree.old view) ≡ Ok (scene_of tree.new, None) }
+    ensures consistent { IsConsistent tree.new }
+{
+    tree.detach(view);
+}
+
+fn act_on(tree: &mut ViewTree, view: Key, act: Act) -> Result<Option<u64>, EditFault>
+    requires consistent { IsConsistent tree.old }
+    requires live { IsLive tree.old view }
+    requires verb { IsVerb act }
+    ensures applied { Applied (edited (scene_of tree.old) (Do (number_of tree.old view) act)) (scene_of tree.new) result }
+    ensures unchanged { OnErr result (tree.new ≡ tree.old) }
+    ensures memory { result ≡ Err EditFault.NoMemory → names_views act ≡ true }
+    ensures consistent { IsConsistent tree.new }
+{
+    if !takes(tree.class(view), act) {
+        return Err(EditFault::Refused(Refusal::plain(WRONG_CLASS)));
+    }
+    if names_views(act) {
+        set_names(tree, view, act)?;
+    } else {
+        set_facts(tree, view, act);
+    }
+    Ok(None)
+}
+
+fn write(
+    alloc: Global,
+    tree: &mut ViewTree,
+    view: Key,
+    text: &str,
+) -> Result<Option<u64>, EditFault>
+    requires consistent { IsConsistent tree.old }
+    requires live { IsLive tree.old view }
+    requires short { length text.now < 2 ^ 31 }
+    ensures applied { Applied (edited (scene_of tree.old) (Write (number_of tree.old view) (chars text.now))) (scene_of tree.new) result }
+    ensures unchanged { OnErr result (tree.new ≡ tree.old) }
+    ensures consistent { IsConsistent tree.new }
+{
+    if !has_text(tree.class(view)) {
+        return Err(EditFault::Refused(Refusal::plain(WRONG_CLASS)));
+    }
+    let text = Text::new(alloc, text)?;
+    tree.set_text(view, text);
+    Ok(None)
+}

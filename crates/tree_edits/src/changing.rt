@@ -1,0 +1,98 @@
+//! What an act makes of the facts of a view.
+ghost use Rattle.std.specs.Prelude.{◌≡◌, ◌<◌, slice_set};
+ghost use Rattle.tree_edits.specs.Applied.{IsVerb};
+ghost use Rattle.view_model.specs.Changes.{acted, changed, flagged};
+
+use view_model::{Act, Change, Facts, Flag, Gravity, Rules};
+
+/// The facts of a view after an act.
+pub fn acted(act: Act, facts: Facts) -> Facts
+    requires { IsVerb act }
+    ensures { result ≡ acted act facts }
+{
+    match act {
+        Act::Change(change) => changed(change, facts),
+        Act::WeightSum(weight_sum) => Facts {
+            weight_sum,
+            ..facts
+        },
+        Act::Orient { vertical } => Facts { vertical, ..facts },
+        Act::Flag { flag, on } => flagged(flag, on, facts),
+        Act::Visible(visibility) => Facts {
+            visibility,
+            ..facts
+        },
+        Act::Ink(ink) => Facts { ink, ..facts },
+        Act::Id(id) => Facts { id, ..facts },
+        Act::Rule { verb, value } => Facts {
+            rules: ruled(facts.rules, verb, value),
+            ..facts
+        },
+        Act::Answer(answer) => Facts { answer, ..facts },
+        Act::Intercept(intercept) => Facts { intercept, ..facts },
+        Act::Scroll(offset) => Facts { offset, ..facts },
+    }
+}
+
+fn changed(change: Change, facts: Facts) -> Facts
+    ensures { result ≡ changed change facts }
+{
+    match change {
+        Change::Size { width, height } => Facts {
+            width,
+            height,
+            ..facts
+        },
+        Change::Min(min) => Facts { min, ..facts },
+        Change::Margins(margins) => Facts {
+            margins,
+            margin_start: None,
+            margin_end: None,
+            ..facts
+        },
+        Change::Padding(padding) => Facts {
+            padding,
+            padding_start: None,
+            padding_end: None,
+            ..facts
+        },
+        Change::Weight(weight) => Facts { weight, ..facts },
+        Change::Gravity { kids, gravity } => placed(kids, gravity, facts),
+        Change::Background(background) => Facts {
+            background,
+            ..facts
+        },
+    }
+}
+
+fn placed(kids: bool, gravity: Gravity, facts: Facts) -> Facts
+    ensures { result ≡ changed (Change.Gravity kids gravity) facts }
+{
+    if kids {
+        Facts { gravity, ..facts }
+    } else {
+        Facts {
+            layout_gravity: gravity,
+            ..facts
+        }
+    }
+}
+
+fn flagged(flag: Flag, on: bool, facts: Facts) -> Facts
+    ensures { result ≡ flagged flag on facts }
+{
+    match flag {
+        Flag::Clip => Facts { clip: on, ..facts },
+        Flag::Fill => Facts { fill: on, ..facts },
+        Flag::Split => Facts { split: on, ..facts },
+    }
+}
+
+fn ruled(rules: Rules, verb: u8, value: u32) -> Rules
+    requires { verb < 21 }
+    ensures { result ≡ record { values = slice_set rules.values verb value } }
+{
+    let mut values = rules.values;
+    values[verb as usize] = value;
+    Rules { values }
+}

@@ -1,0 +1,60 @@
+//! What a view has by its class.
+ghost use Rattle.std.specs.Prelude.{◌≡◌};
+ghost use Rattle.tree_edits.specs.Editing.{has_text, takes, takes_change, takes_flag};
+ghost use Rattle.view_model.specs.Growth.{is_group};
+
+use view_model::{Act, Change, Class, Flag};
+
+/// Whether a view of this class has what an act sets.
+pub fn takes(class: Class, act: Act) -> bool
+    ensures { result ≡ takes class act }
+{
+    match act {
+        Act::Change(change) => takes_change(change),
+        Act::Flag { flag, on: _ } => takes_flag(class, flag),
+        Act::Intercept(_) => is_group(class),
+        Act::Visible(_) | Act::Id(_) | Act::Rule { .. } | Act::Answer(_) => true,
+        Act::WeightSum(_) | Act::Orient { .. } | Act::Ink(_) | Act::Scroll(_) => false,
+    }
+}
+
+/// Whether a view of this class has a text.
+pub fn has_text(class: Class) -> bool
+    ensures { result ≡ has_text class }
+{
+    match class {
+        Class::View | Class::FrameLayout => false,
+    }
+}
+
+fn takes_change(change: Change) -> bool
+    ensures { result ≡ takes_change change }
+{
+    match change {
+        Change::Gravity { kids, gravity: _ } => !kids,
+        Change::Size { .. }
+        | Change::Min(_)
+        | Change::Margins(_)
+        | Change::Padding(_)
+        | Change::Weight(_)
+        | Change::Background(_) => true,
+    }
+}
+
+fn takes_flag(class: Class, flag: Flag) -> bool
+    ensures { result ≡ takes_flag class flag }
+{
+    match flag {
+        Flag::Clip | Flag::Split => is_group(class),
+        Flag::Fill => false,
+    }
+}
+
+fn is_group(class: Class) -> bool
+    ensures { result ≡ is_group class }
+{
+    match class {
+        Class::View => false,
+        Class::FrameLayout => true,
+    }
+}

@@ -1,0 +1,17 @@
+//! Edits of a tree of views: what a line makes of the tree, or why it is refused.
+#![tactic(auto)]
+
+mod acting;
+mod applying;
+mod changing;
+mod classes;
+mod edits;
+mod fault;
+mod hiding;
+
+pub use applying::apply;
+pub use edits::Edit;
+pub use fault::EditFault;
+
+#[cfg(test)]
+mod tests;

@@ -1,5 +1,0 @@
-use Rattle.view_tool.proofs.ReplyLaws.{told_new}
-use Rattle.view_tool.proofs.replies.reply_added.Goals as goal
-
-pub returns : goal.returns
-returns g c = c.finish.ensures _ _ _ (told_new c.new-reply.ensures.value c.write_added.ensures)

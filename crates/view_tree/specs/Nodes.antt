@@ -1,0 +1,152 @@
+-- How the nodes of a tree stand for its views.
+use Rattle.std.specs.Prelude.{ℕ, zero, suc, ◌≡◌, ◌<◌, ◌≤◌, ◌==◌, nat_eq, map, Option, Some, None, if◌then◌else◌, option_map, ◌⊎◌}
+use Rattle.slab.specs.Slab.{Slab, get, slab_len}
+use Rattle.indexmap.specs.IndexMap.{get as get_key}
+use Rattle.view_model.specs.Forest.{Forest, Nothing, Branch, count_of}
+use Rattle.view_model.specs.PlainTree.{View}
+use Rattle.view_tree.specs.Rows.{Row, after, first_key, key_where, last_key, times, unscrolled_facts}
+use Rattle.view_tree.specs.Views.{Held, IsTree, Views}
+use Rattle.view_tree.specs.declared.node.Node.{Node}
+use Rattle.view_tree.specs.declared.tree.ViewTree.TheInside.{Inside}
+
+-- what a node says of the tree, and nothing of its state
+pub record Said : Type 0 where
+  pub view : View
+  pub parent : Option ℕ
+  pub first : Option ℕ
+  pub last : Option ℕ
+  pub previous : Option ℕ
+  pub next : Option ℕ
+
+-- a view as if it was not scrolled
+abbrev pub unscrolled : View → View
+unscrolled view = record view { facts = unscrolled_facts view.facts }
+
+-- the view of a node, as it stands in a row
+abbrev pub view_of_node : Node → View
+view_of_node node = unscrolled (record { number = node.number; class = node.class; facts = node.facts; text = node.text })
+
+abbrev pub said_of : Node → Said
+said_of node = record {
+  view = view_of_node node;
+  parent = node.parent;
+  first = node.first;
+  last = node.last;
+  previous = node.previous;
+  next = node.next;
+}
+
+abbrev pub said : Option Node → Option Said
+said None = None
+said (Some node) = Some (said_of node)
+
+abbrev pub said_at : Slab Node → ℕ → Option Said
+said_at nodes key = said (get nodes key)
+
+-- what is kept of a node's view beside the tree
+abbrev pub held_by : Node → Held
+held_by node = record { state = node.state; offset = node.facts.offset }
+
+abbrev pub held_in : Option Node → Option Held
+held_in None = None
+held_in (Some node) = Some (held_by node)
+
+-- a view that a node stands for, where its children and its later siblings are known
+abbrev pub planted : ℕ → Option Said → (Option ℕ → Forest Row) → Forest Row
+planted key None grow = Nothing
+planted key (Some node) grow = Branch (record { key = key; view = node.view }) (grow node.first) (grow node.next)
+
+-- the forest that begins at a node, as far as the fuel goes
+unfoldable pub forest : ℕ → (ℕ → Option Said) → Option ℕ → Forest Row
+forest zero at key = Nothing
+forest (suc fuel) at None = Nothing
+forest (suc fuel) at (Some key) = planted key (at key) (forest fuel at)
+
+-- what the node of a view says that has these around it
+abbrev pub said_for : Row → Option ℕ → Option ℕ → Forest Row → Forest Row → Said
+said_for row parent before kids siblings = record {
+  view = row.view;
+  parent = parent;
+  first = first_key kids;
+  last = last_key kids;
+  previous = before;
+  next = first_key siblings;
+}
+
+-- the nodes stand for a list of trees, under this parent and behind this sibling
+abbrev pub Stand : (ℕ → Option Said) → Option ℕ → Option ℕ → Forest Row → Type 0
+Stand at parent before Nothing = Unit {0}
+Stand at parent before (Branch row kids siblings) =
+    (at row.key ≡ Some (said_for row parent before kids siblings)) × Stand at (Some row.key) None kids × Stand at parent (Some row.key) siblings
+
+-- the parent of a node, or a sibling right beside it
+abbrev pub IsAround : Said → ℕ → Type 0
+IsAround node key = (node.parent ≡ Some key) ⊎ ((node.previous ≡ Some key) ⊎ (node.next ≡ Some key))
+
+-- what nodes say after a change of one of them, if any
+abbrev pub changed_at : (ℕ → Option Said) → Option ℕ → (Said → Said) → ℕ → Option Said
+changed_at at None change key = at key
+changed_at at (Some changed) change key = if key == changed then option_map change (at key) else at key
+
+-- what nodes say once there is one more
+abbrev pub with_node : (ℕ → Option Said) → ℕ → Said → ℕ → Option Said
+with_node at new node key = if key == new then Some node else at key
+
+-- what nodes say once one is gone
+abbrev pub without : (ℕ → Option Said) → ℕ → ℕ → Option Said
+without at gone key = if key == gone then None else at key
+
+-- the second where the first is none, and else the third
+abbrev pub instead : Option ℕ → Option ℕ → Option ℕ → Option ℕ
+instead None new old = new
+instead (Some key) new old = old
+
+-- the first key, or the second where there is none
+abbrev pub key_or : Option ℕ → ℕ → Option ℕ
+key_or None key = Some key
+key_or (Some first) key = Some first
+
+-- the last child that a node names, if there is such a node
+abbrev pub last_named : Option Said → Option ℕ
+last_named None = None
+last_named (Some node) = node.last
+
+abbrev pub last_child : (ℕ → Option Said) → Option ℕ → Option ℕ
+last_child at None = None
+last_child at (Some parent) = last_named (at parent)
+
+-- what nodes say once a view has come under this key, the last child of its parent, behind a sibling
+abbrev pub hung : (ℕ → Option Said) → Option ℕ → ℕ → View → Option ℕ → ℕ → Option Said
+hung at parent key view before =
+    changed_at (changed_at (with_node at key (record { view = unscrolled view; parent = parent; first = None; last = None; previous = before; next = None }))
+    before (λ node. record node { next = Some key }))
+    parent (λ node. record node { first = key_or node.first key; last = Some key })
+
+-- what nodes say once one that said this is taken out from among its siblings
+abbrev pub unhung : (ℕ → Option Said) → ℕ → Said → ℕ → Option Said
+unhung at key node =
+    changed_at (changed_at (changed_at (without at key)
+    node.previous (λ before. record before { next = node.next }))
+    node.next (λ behind. record behind { previous = node.previous }))
+    node.parent (λ above. record above { first = instead node.previous node.next above.first; last = instead node.next node.previous above.last })
+
+-- the nodes and the root stand for the whole tree
+pub record Stands (at : ℕ → Option Said) (root : Option ℕ) (next : ℕ) (tree : Forest Row) : Type 0 where
+  pub outer : first_key tree ≡ root
+  pub single : after tree ≡ Nothing
+  pub stand : Stand at None None tree
+  pub distinct : (key : ℕ) → times key tree ≤ 1
+  pub few : count_of tree < next
+
+abbrev pub tree_of : Inside → Forest Row
+tree_of inside = forest inside.next (said_at inside.nodes) inside.root
+
+abbrev pub value_of : Inside → Views
+value_of inside = record { tree = tree_of inside; held = map held_in inside.nodes.slots; next = inside.next }
+
+-- each view has a node, each node a view, and each number its key
+pub record IsSound (inside : Inside) : Type 0 where
+  pub stands : Stands (said_at inside.nodes) inside.root inside.next (tree_of inside)
+  pub kept : IsTree (value_of inside)
+  pub full : slab_len inside.nodes ≡ count_of (tree_of inside)
+  pub found : (number : ℕ) → get_key nat_eq inside.keys number ≡ key_where (λ view. view.number == number) (tree_of inside)

@@ -1,0 +1,135 @@
+//! How nodes come among their neighbours and leave them. A key that is `None` stands for a neighbour that is not there.
+ghost use Rattle.std.specs.Prelude.{◌≡◌, ◌≢◌, ◌+◌, ℕ, Some, None};
+ghost use Rattle.slab.specs.Slab.{get, slab_len, ContainsKey, HasRoomFor};
+ghost use Rattle.view_tree.specs.Nodes.{Said, IsAround, changed_at, held_in, hung, instead, key_or, last_child, said_at, unhung};
+ghost use Rattle.view_tree.specs.Views.{fresh};
+
+use crate::node::Node;
+use crate::state::fresh_state;
+use slab::Slab;
+use view_model::{Class, Facts, Text};
+
+fn set_next(nodes: &mut Slab<Node>, key: Option<usize>, next: Option<usize>)
+    requires { (k : ℕ) → key ≡ Some k → ContainsKey nodes.old k }
+    ensures said { (x : ℕ) → said_at nodes.new x ≡ changed_at (said_at nodes.old) key (λ node. record node { next = next }) x }
+    ensures held { (x : ℕ) → held_in (get nodes.new x) ≡ held_in (get nodes.old x) }
+    ensures len { slab_len nodes.new ≡ slab_len nodes.old }
+{
+    if let Some(key) = key {
+        let node = &mut nodes[key];
+        node.next = next;
+    }
+}
+
+fn set_previous(nodes: &mut Slab<Node>, key: Option<usize>, previous: Option<usize>)
+    requires { (k : ℕ) → key ≡ Some k → ContainsKey nodes.old k }
+    ensures said { (x : ℕ) → said_at nodes.new x ≡ changed_at (said_at nodes.old) key (λ node. record node { previous = previous }) x }
+    ensures held { (x : ℕ) → held_in (get nodes.new x) ≡ held_in (get nodes.old x) }
+    ensures len { slab_len nodes.new ≡ slab_len nodes.old }
+{
+    if let Some(key) = key {
+        let node = &mut nodes[key];
+        node.previous = previous;
+    }
+}
+
+// A child comes behind the others.
+fn set_last(nodes: &mut Slab<Node>, parent: Option<usize>, kid: usize)
+    requires { (k : ℕ) → parent ≡ Some k → ContainsKey nodes.old k }
+    ensures said { (x : ℕ) → said_at nodes.new x ≡ changed_at (said_at nodes.old) parent (λ node. record node { first = key_or node.first kid; last = Some kid }) x }
+    ensures held { (x : ℕ) → held_in (get nodes.new x) ≡ held_in (get nodes.old x) }
+    ensures len { slab_len nodes.new ≡ slab_len nodes.old }
+{
+    if let Some(parent) = parent {
+        let node = &mut nodes[parent];
+        if node.first.is_none() {
+            node.first = Some(kid);
+        }
+        node.last = Some(kid);
+    }
+}
+
+// The first and the last child of a node, once a child between these is gone.
+fn set_ends(
+    nodes: &mut Slab<Node>,
+    parent: Option<usize>,
+    previous: Option<usize>,
+    next: Option<usize>,
+)
+    requires { (k : ℕ) → parent ≡ Some k → ContainsKey nodes.old k }
+    ensures said { (x : ℕ) → said_at nodes.new x ≡ changed_at (said_at nodes.old) parent (λ node. record node { first = instead previous next node.first; last = instead next previous node.last }) x }
+    ensures held { (x : ℕ) → held_in (get nodes.new x) ≡ held_in (get nodes.old x) }
+    ensures len { slab_len nodes.new ≡ slab_len nodes.old }
+{
+    if let Some(parent) = parent {
+        let node = &mut nodes[parent];
+        if previous.is_none() {
+            node.first = next;
+        }
+        if next.is_none() {
+            node.last = previous;
+        }
+    }
+}
+
+fn last_of(nodes: &Slab<Node>, parent: Option<usize>) -> Option<usize>
+    requires { (k : ℕ) → parent ≡ Some k → ContainsKey nodes.now k }
+    ensures { result ≡ last_child (said_at nodes.now) parent }
+{
+    match parent {
+        None => None,
+        Some(parent) => nodes[parent].last,
+    }
+}
+
+/// Makes a node, the last child of its parent.
+pub fn hang(
+    nodes: &mut Slab<Node>,
+    parent: Option<usize>,
+    number: u64,
+    class: Class,
+    facts: Facts,
+    text: Text,
+) -> usize
+    requires room { HasRoomFor nodes.old 1 }
+    requires parent { (k : ℕ) → parent ≡ Some k → ContainsKey nodes.old k }
+    requires last { (k : ℕ) → last_child (said_at nodes.old) parent ≡ Some k → ContainsKey nodes.old k }
+    ensures unused { get nodes.old result ≡ None }
+    ensures said { (x : ℕ) → said_at nodes.new x ≡ hung (said_at nodes.old) parent result (record { number = number; class = class; facts = facts; text = text }) (last_child (said_at nodes.old) parent) x }
+    ensures held { held_in (get nodes.new result) ≡ Some (record { state = fresh; offset = facts.offset }) }
+    ensures others { (x : ℕ) → x ≢ result → held_in (get nodes.new x) ≡ held_in (get nodes.old x) }
+    ensures len { slab_len nodes.new ≡ slab_len nodes.old + 1 }
+{
+    let last = last_of(nodes, parent);
+    let key = nodes.insert_reserved(Node {
+        number,
+        class,
+        facts,
+        text,
+        parent,
+        first: None,
+        last: None,
+        previous: last,
+        next: None,
+        state: fresh_state(),
+    });
+    set_next(nodes, last, Some(key));
+    set_last(nodes, parent, key);
+    key
+}
+
+/// Takes a node out from among its neighbours.
+pub fn unhang(nodes: &mut Slab<Node>, key: usize) -> Node
+    requires there { ContainsKey nodes.old key }
+    requires around { (node : Said) (k : ℕ) → said_at nodes.old key ≡ Some node → IsAround node k → ContainsKey nodes.old k × (k ≢ key) }
+    ensures node { get nodes.old key ≡ Some result }
+    ensures said { (node : Said) → said_at nodes.old key ≡ Some node → (x : ℕ) → said_at nodes.new x ≡ unhung (said_at nodes.old) key node x }
+    ensures held { (x : ℕ) → x ≢ key → held_in (get nodes.new x) ≡ held_in (get nodes.old x) }
+    ensures len { slab_len nodes.new + 1 ≡ slab_len nodes.old }
+{
+    let node = nodes.remove(key);
+    set_next(nodes, node.previous, node.next);
+    set_previous(nodes, node.next, node.previous);
+    set_ends(nodes, node.parent, node.previous, node.next);
+    node
+}

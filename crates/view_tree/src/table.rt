@@ -1,0 +1,42 @@
+//! The keys of views by their numbers, and the memory that one more view takes.
+ghost use Rattle.std.specs.Prelude.{◌≡◌, ◌<◌, ℕ, Some, None, OnOk, if◌then◌else◌, nat_eq};
+ghost use Rattle.indexmap.specs.IndexMap.{get as key_of, spare};
+ghost use Rattle.slab.specs.Slab.{HasRoomFor};
+ghost use Rattle.view_tree.specs.Faults.{RefusedFor};
+
+use crate::fault::AttachFault;
+use crate::node::Node;
+use indexmap::IndexMap;
+use slab::Slab;
+
+/// Notes the key of a number, where there is room for it.
+pub fn note_key(keys: &mut IndexMap<u64, usize>, number: u64, key: usize)
+    requires { 0 < spare keys.old }
+    ensures { (n : ℕ) → key_of nat_eq keys.new n ≡ (if nat_eq number n then Some key else key_of nat_eq keys.old n) }
+{
+    match keys.insert(number, key) {
+        Ok(_) => (),
+        Err(_) => unreachable!(),
+    }
+}
+
+/// Takes a number and its key out.
+pub fn drop_key(keys: &mut IndexMap<u64, usize>, number: u64)
+    ensures { (n : ℕ) → key_of nat_eq keys.new n ≡ (if nat_eq number n then None else key_of nat_eq keys.old n) }
+{
+    keys.swap_remove(&number);
+}
+
+/// Takes the memory for one more view and its number.
+pub fn make_room(nodes: &mut Slab<Node>, keys: &mut IndexMap<u64, usize>) -> Result<(), AttachFault>
+    ensures refused { RefusedFor None result }
+    ensures nodes { nodes.new ≡ record nodes.old { capacity = nodes.new.capacity } }
+    ensures keys { keys.new.entries ≡ keys.old.entries }
+    ensures room { OnOk result (HasRoomFor nodes.new 1) }
+    ensures spare { OnOk result (0 < spare keys.new) }
+{
+    if nodes.reserve(1).is_err() || keys.reserve(1).is_err() {
+        return Err(AttachFault::NoMemory);
+    }
+    Ok(())
+}

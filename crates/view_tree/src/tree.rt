@@ -1,0 +1,83 @@
+ghost use Rattle.std.specs.Prelude.{◌≡◌, IfSome, ◌≤◌};
+ghost use Rattle.view_model.specs.Forest.{count_of};
+ghost use Rattle.view_tree.specs.Rows.{rest_from, first_key};
+ghost use Rattle.view_tree.specs.Views.{IsLive, IsTree, no_views};
+
+mod attach;
+mod detach;
+mod find;
+mod look_up;
+mod plain;
+mod setters;
+
+use crate::node::Node;
+use indexmap::IndexMap;
+use slab::Slab;
+use std::alloc::Global;
+use std::marker::Model;
+
+/// What a live view is found by without a search. Each call that takes one wants it to be live.
+pub type Key = usize;
+
+/// A tree of views.
+#[derive(Drop)]
+pub struct ViewTree {
+    nodes: Slab<Node>,
+    /// The key of each view by its number.
+    keys: IndexMap<u64, usize>,
+    root: Option<usize>,
+    next: u64,
+}
+
+impl Model for ViewTree {
+    ghost use Rattle.view_tree.specs.Codes.{views_code};
+    ghost use Rattle.view_tree.specs.Views.{Views};
+
+    ghost Value = { Views };
+
+    ghost coded = { views_code };
+
+    ghost use Rattle.view_tree.specs.Nodes.{value_of, IsSound};
+
+    ghost view = { value_of };
+
+    ghost invariant = { IsSound };
+}
+
+impl ViewTree {
+    /// A tree without a view. The first view has the number 1.
+    pub fn new(alloc: Global) -> ViewTree
+        ensures { result ≡ no_views }
+    {
+        ViewTree {
+            nodes: Slab::new(alloc),
+            keys: IndexMap::new(alloc),
+            root: None,
+            next: 1,
+        }
+    }
+
+    pub fn root(&self) -> Option<Key>
+        ensures key { result ≡ first_key self.now.tree }
+        ensures part { rest_from result self.now.tree ≡ self.now.tree }
+        ensures live { IfSome result (λ root. IsLive self.now root) }
+        ensures is_tree { IsTree self.now }
+    {
+        self.root
+    }
+
+    /// The number of the view that is made next.
+    pub fn next_number(&self) -> u64
+        ensures { result ≡ self.now.next }
+    {
+        self.next
+    }
+
+    /// How many views there are.
+    pub fn len(&self) -> usize
+        ensures value { result ≡ count_of self.now.tree }
+        ensures few { result ≤ 4096 }
+    {
+        self.nodes.len()
+    }
+}

@@ -1,0 +1,123 @@
+ghost use Rattle.std.specs.Prelude.{◌≡◌, ◌+◌, ◌^◌, ◌<◌, length, replicate, None, Some, IfOk, IfSome, OnErr};
+ghost use Rattle.std.specs.Option.{option_map};
+ghost use Rattle.view_model.specs.Forest.{Nothing};
+ghost use Rattle.view_model.specs.Growth.{growth_refusal, is_group, refusal_at};
+ghost use Rattle.view_model.specs.PlainTree.{View};
+ghost use Rattle.view_tree.specs.Attached.{Attached};
+ghost use Rattle.view_tree.specs.Faults.{RefusedFor};
+ghost use Rattle.view_tree.specs.Nodes.{instead};
+ghost use Rattle.view_tree.specs.Rows.{ancestors};
+ghost use Rattle.view_tree.specs.Views.{IsLive, number_of, plain_of};
+
+use super::{Key, ViewTree};
+use crate::fault::AttachFault;
+use crate::links::hang;
+use crate::table::{make_room, note_key};
+use view_model::{Class, Facts, Refusal, Text};
+
+/// The most views that a tree may have, and how deep the deepest may be.
+const MOST_VIEWS: usize = 4096;
+
+const MOST_DEPTH: usize = 32;
+
+/// The numbers of the refusals.
+const VIEWS: u8 = 19;
+
+const DEPTH: u8 = 20;
+
+const NOT_GROUP: u8 = 21;
+
+impl ViewTree {
+    /// Makes a view, the last child of its parent, or the root where there is none. It has the next number, no bounds,
+    /// and nothing below it.
+    pub fn attach(
+        &mut self,
+        parent: Option<Key>,
+        class: Class,
+        facts: Facts,
+        text: Text,
+    ) -> Result<Key, AttachFault>
+        requires live { IfSome parent (λ parent. IsLive self.old parent) }
+        requires root { parent ≡ None → self.old.tree ≡ Nothing }
+        requires unnamed { (facts.id ≡ 0) × (facts.rules.values ≡ replicate 21 0) }
+        requires numbers { self.old.next < 2 ^ 62 }
+        ensures attached { let view : View = record { number = self.old.next; class = class; facts = facts; text = text } in
+            IfOk result (λ key. Attached self.old parent view key self.new) }
+        ensures refused { RefusedFor (refusal_at (plain_of self.old) (option_map (number_of self.old) parent)) result }
+        ensures unchanged { OnErr result (self.new ≡ self.old) }
+    {
+        self.may_grow(parent)?;
+        make_room(&mut self.nodes, &mut self.keys)?;
+        let number = self.next;
+        let key = hang(&mut self.nodes, parent, number, class, facts, text);
+        note_key(&mut self.keys, number, key);
+        self.root = root_with(self.root, parent, key);
+        self.next = number + 1;
+        Ok(key)
+    }
+
+    // Whether a view may come below this one, or as the root.
+    fn may_grow(&self, parent: Option<Key>) -> Result<(), AttachFault>
+        requires { IfSome parent (λ parent. IsLive self.now parent) }
+        ensures { RefusedFor (refusal_at (plain_of self.now) (option_map (number_of self.now) parent)) result }
+    {
+        match parent {
+            None => Ok(()),
+            Some(parent) => {
+                let class = self.class(parent);
+                growth(class, self.depth(parent), self.len())
+            }
+        }
+    }
+
+    // How deep a view is: 1 for the root.
+    fn depth(&self, view: Key) -> usize
+        requires live { IsLive self.now view }
+        requires shallow { length (ancestors view self.now.tree) < 32 }
+        ensures { result ≡ length (ancestors view self.now.tree) + 1 }
+    {
+        let mut depth = 1;
+        let mut above = self.parent(view);
+        while let Some(key) = above {
+            depth += 1;
+            above = self.parent(key);
+        }
+        depth
+    }
+}
+
+// Whether a view of this class and depth may get a child, in a tree of so many views.
+#[tactic(auto, unfolding(view_model::specs::Growth::growth_refusal))]
+fn growth(class: Class, depth: usize, count: usize) -> Result<(), AttachFault>
+    ensures { RefusedFor (growth_refusal class depth count) result }
+{
+    if !takes_children(class) {
+        return Err(AttachFault::Refused(Refusal::plain(NOT_GROUP)));
+    }
+    if depth >= MOST_DEPTH {
+        return Err(AttachFault::Refused(Refusal::plain(DEPTH)));
+    }
+    if count >= MOST_VIEWS {
+        return Err(AttachFault::Refused(Refusal::plain(VIEWS)));
+    }
+    Ok(())
+}
+
+fn takes_children(class: Class) -> bool
+    ensures { result ≡ is_group class }
+{
+    match class {
+        Class::View => false,
+        Class::FrameLayout => true,
+    }
+}
+
+// The root once a view has come.
+fn root_with(root: Option<Key>, parent: Option<Key>, key: Key) -> Option<Key>
+    ensures { result ≡ instead parent (Some key) root }
+{
+    match parent {
+        None => Some(key),
+        Some(_) => root,
+    }
+}

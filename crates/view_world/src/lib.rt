@@ -1,0 +1,19 @@
+//! The world of a script: what its lines so far have made, and what each line does to it.
+#![tactic(auto)]
+
+mod bounds;
+mod fault;
+mod laying;
+mod naming;
+mod pass;
+mod refusals;
+mod replies;
+mod response;
+mod stage;
+mod world;
+
+pub use fault::StepFault;
+pub use world::World;
+
+#[cfg(test)]
+mod tests;
