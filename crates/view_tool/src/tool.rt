@@ -52,10 +52,10 @@ pub fn tool<S: Source, K: Sink, F: Shelf>(
         → result ≡ (if refuses_file files name then 1 else 0) }
     ensures dump_reads_no_script { (name : List ℕ) → usage words.now ≡ Dump name → source.new ≡ source.old }
 
-    // Other words: nothing is read or written.
+    // Other words: nothing is read, fetched, written or counted.
     ensures usage { (result ≡ 2) ↔ (usage words.now ≡ Unknown) }
     ensures untouched { result ≡ 2
-        → (source.new ≡ source.old) × (sink.new ≡ sink.old) × (shelf.new ≡ shelf.old) }
+        → (source.new ≡ source.old) × (sink.new ≡ sink.old) × (shelf.new ≡ shelf.old) × (work.new ≡ work.old) }
 
     // A failed read: exactly the lines whose line feed was taken were carried out. A failed write: some prefix has gone. A
     // failed fetch: nothing was written.
