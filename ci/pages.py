@@ -4,17 +4,18 @@ A block stands between two lines of three backticks, the first of which names it
 
     script, then answer      a script, and what `./vindaesk run` writes over it
     command, then answer     shell commands at the top of the repository, and what they write
-    hex, then answer         the bytes of a layout file, and what `dump` writes of it; what stands behind a # is a remark
-    dialogue                 the lines of a script, each with its replies behind an arrow, further replies on lines of
+    hex, then answer         the bytes of a layout file, and what `dump` writes of it; what follows a # is a remark
+    dialogue                 the lines of a script, each with its replies after an arrow, further replies on lines of
                              their own: what the script writes up to each line is what stands up to there
+    gate                     the call of the gate, which is what runs all this
 
 `answer N` says that the status is N, and of a dialogue `dialogue N`; without a number it is 0. Any other block, also
 one that is only indented, is a failed check.
 """
 import glob
 import os
-import re
 import tempfile
+from functools import partial
 
 from running import PROGRAM, TOP, difference, run
 
@@ -23,19 +24,19 @@ INDENTED = ("    ", "\t")
 
 
 def blocks(lines):
-    """The number of the line that begins each block, its words, and its lines; and each line that is indented alone."""
+    """The number of the first line of each block, its words, and its lines; of a block that is only indented, its first."""
     begun = None
+    before = ""
     for number, line in enumerate(lines, 1):
         if line.startswith("```"):
             if begun:
                 yield begun
-                begun = None
-            else:
-                begun = (number, line[3:].split(), [])
+            begun = None if begun else (number, line[3:].split(), [])
         elif begun:
             begun[2].append(line)
-        elif line.startswith(INDENTED) and not lines[number - 2].startswith(INDENTED):
+        elif line.startswith(INDENTED) and not before.startswith(INDENTED):
             yield number, ["indented"], [line]
+        before = line
     if begun:
         yield begun[0], ["unended"], []
 
@@ -59,7 +60,7 @@ def layout_file(lines, answer, status):
         return difference(answer, status, *run([PROGRAM, "dump", "file.xml"], b"", folder))
 
 
-def dialogue(lines, _, status):
+def dialogue(lines, status):
     given, replies = [], []
     for number, line in enumerate(lines):
         said, _, reply = (part.strip() for part in line.partition(ARROW))
@@ -78,23 +79,30 @@ def dialogue(lines, _, status):
 FORMS = {"script": script, "command": command, "hex": layout_file}
 
 
+def status_of(words):
+    """The status that the words of a block name."""
+    return int(words[1]) if len(words) > 1 else 0
+
+
 def checks_of(page):
     """The checks of a page: a name and a function that answers why it fails, or nothing."""
     with open(os.path.join(TOP, page), encoding="utf-8") as file:
-        found = list(blocks(file.read().splitlines()))
-    for place, (number, words, lines) in enumerate(found):
-        name = "%s:%d" % (page, number)
+        found = [*blocks(file.read().splitlines()), (0, ["end"], [])]
+    is_answered = False
+    for (number, words, lines), (_, next_words, next_lines) in zip(found, found[1:]):
         form = words[0] if words else "without a name"
-        after = found[place + 1] if place + 1 < len(found) else (0, [], [])
-        status = lambda words: int(words[1]) if len(words) == 2 and re.fullmatch("[0-9]+", words[1]) else 0
-        if form == "dialogue":
-            yield name, lambda lines=lines, words=words: dialogue(lines, b"", status(words))
-        elif form in FORMS and after[1][:1] == ["answer"]:
-            yield name, lambda form=form, lines=lines, after=after: FORMS[form](lines, text(after[2]), status(after[1]))
-        elif form != "answer" or not place or found[place - 1][1][:1] not in [[it] for it in FORMS]:
-            yield name, lambda form=form: "a block that is %s, or stands alone, cannot be run" % form
+        if is_answered:
+            is_answered = False
+        elif form == "dialogue":
+            yield page, number, partial(dialogue, lines, status_of(words))
+        elif form in FORMS and next_words[:1] == ["answer"]:
+            is_answered = True
+            yield page, number, partial(FORMS[form], lines, text(next_lines), status_of(next_words))
+        elif (form, lines) != ("gate", [".ci/run"]):
+            yield page, number, partial("a block '{}', as it stands here, has no form that can be run".format, form)
 
 
 def checks():
     for path in [os.path.join(TOP, "README.md"), *sorted(glob.glob(os.path.join(TOP, "docs", "*.md")))]:
-        yield from checks_of(os.path.relpath(path, TOP))
+        for page, number, check in checks_of(os.path.relpath(path, TOP)):
+            yield "%s:%d" % (page, number), check

@@ -1,0 +1,81 @@
+"""Layout files for the benchmark, each made for a size."""
+import struct
+
+NONE = 2**32 - 1
+
+
+def chunk(kind, header, body):
+    """A chunk of a layout file; `header` is what stands in its header behind the first eight bytes."""
+    return struct.pack("<HHI", kind, 8 + len(header), 8 + len(header) + len(body)) + header + body
+
+
+def pool(strings):
+    """A pool of ASCII strings, each shorter than 128 bytes."""
+    stored = [struct.pack("BB", len(text), len(text)) + text + b"\0" for text in strings]
+    offsets = []
+    at = 0
+    for text in stored:
+        offsets.append(at)
+        at += len(text)
+    offsets = struct.pack("<%dI" % len(offsets), *offsets)
+    header = struct.pack("<5I", len(strings), 0, 0x100, 28 + len(offsets), 0)
+    return chunk(0x0001, header, offsets + b"".join(stored) + b"\0" * (-at % 4))
+
+
+def equal_strings(count, length):
+    """A pool in UTF-16 of so many strings, which have one text that stands there once: three bytes in UTF-8 a unit."""
+    offsets = b"\0" * (4 * count)
+    text = struct.pack("<2H", 0x8000 + (length >> 16), length & 0xffff) + "\u4e00".encode("utf-16-le") * length + b"\0\0"
+    header = struct.pack("<5I", count, 0, 0, 28 + len(offsets), 0)
+    return chunk(0x0001, header, offsets + text + b"\0" * (-len(text) % 4))
+
+
+def begin(attributes, name=0):
+    """An element that begins, with as many attributes, named by string 0."""
+    body = struct.pack("<2I6H", NONE, name, 20, 20, attributes, 0, 0, 0)
+    attribute = struct.pack("<3IHBBI", NONE, 0, NONE, 8, 0, 0x10, 1)
+    return chunk(0x0102, struct.pack("<2I", 1, NONE), body + attribute * attributes)
+
+
+def end(name=0):
+    """An element that ends."""
+    return chunk(0x0103, struct.pack("<2I", 1, NONE), struct.pack("<2I", NONE, name))
+
+
+def layout_file(kib, strings, inner):
+    """A layout file of so many KiB: a pool, and one element around `inner`, with an unknown chunk that fills it up."""
+    parts = strings + begin(0) + inner
+    rest = kib * 1024 - 16 - len(parts) - len(end())
+    return chunk(0x0003, b"", parts + chunk(0x0200, b"", b"\0" * rest) + end())
+
+
+def many_strings(kib):
+    return layout_file(kib, pool([b"string number %06d" % k for k in range(37 * kib)]), b"")
+
+
+def many_chunks(kib):
+    return layout_file(kib, pool([b"View"]), chunk(0x0200, b"", b"") * (127 * kib))
+
+
+def many_elements(kib):
+    return layout_file(kib, pool([b"View"]), (begin(9) + end()) * (127 * kib // 32))
+
+
+def nested_elements(kib):
+    return layout_file(kib, pool([b"View"]), begin(9) * (127 * kib // 32) + end() * (127 * kib // 32))
+
+
+def equal_names(kib, count, length):
+    """Nested elements whose names are one text of so many units, each end with another string number than its start."""
+    pairs = [(k % count, (k + 1 + k // count % (count - 1)) % count) for k in range(4 * kib - 1)]
+    begins = b"".join(begin(0, first) for first, _ in pairs)
+    ends = b"".join(end(last) for _, last in reversed(pairs))
+    return layout_file(kib, equal_strings(count, length), begins + ends)
+
+
+def two_equal_names(kib):
+    return equal_names(kib, 2, 384 * kib)
+
+
+def many_equal_names(kib):
+    return equal_names(kib, 12, 112 * kib)

@@ -1,0 +1,117 @@
+"""Scripts for the benchmark, each made for a size."""
+
+
+def tree(views):
+    """A window and one frame layout; with the root there are so many views."""
+    return b"window 1000 1000\nadd root FrameLayout wrap wrap\n" + b"".join(
+        b"add v1 %s %d %d\n" % ((b"View", 1 + k % 900, 1 + k % 700) if k % 4 else (b"FrameLayout", 7, 9))
+        for k in range(views - 1)
+    )
+
+
+def matching(views):
+    """The same, with children that all match their parent: each is measured twice."""
+    return b"window 1000 1000\nadd root FrameLayout wrap wrap\n" + b"add v1 FrameLayout match match\n" * (views - 1)
+
+
+def frames(n):
+    return tree(4096) + b"frame\n" * n
+
+
+def matching_frames(n):
+    return matching(4096) + b"frame\n" * n
+
+
+def bounds(n):
+    return tree(4096) + b"frame\n" + b"bounds\n" * n
+
+
+def bounds_of(views):
+    return tree(views) + b"frame\n" + b"bounds\n" * 100
+
+
+def frames_of(views):
+    return tree(views) + b"frame\n" * 1000
+
+
+def nested(views):
+    """A window and so many views in frame layouts of up to 32 views each, which lie 31 deep one in another."""
+    names = [1]
+    lines = [b"window 1000 1000\nadd root FrameLayout wrap wrap\n"]
+    while len(names) < views:
+        k = len(names)
+        parent = k if k % 31 else 1
+        lines.append(b"add v%d FrameLayout wrap wrap\n" % parent)
+        names.append(k + 1)
+    return b"".join(lines)
+
+
+def edits(n):
+    """So many edits of 4096 views by their numbers, with a frame after each thousand."""
+    lines = [nested(4096)]
+    for k in range(n):
+        lines.append(b"min v%d %d %d\n" % (1 + k * 7919 % 4096, k % 90, k % 70))
+        if k % 1000 == 999:
+            lines.append(b"frame\n")
+    return b"".join(lines)
+
+
+def edits_by_id(n):
+    """The same by ids; the view of an id is the first in preorder that has it."""
+    lines = [nested(4096)] + [b"id v%d @%x\n" % (1 + k * 16, 1 + k) for k in range(256)]
+    for k in range(n):
+        lines.append(b"min @%x %d %d\n" % (1 + k * 7919 % 256, k % 90, k % 70))
+        if k % 1000 == 999:
+            lines.append(b"frame\n")
+    return b"".join(lines)
+
+
+def edits_by_own_id(views):
+    """So many views, each with an id of its own, and 100000 edits by these ids, in an order that jumps about."""
+    lines = [nested(views)] + [b"id v%d @%x\n" % (1 + k, 0x7f000000 + k) for k in range(views)]
+    lines += [b"min @%x %d %d\n" % (0x7f000000 + k * 7919 % views, k % 90, k % 70) for k in range(100000)]
+    return b"".join(lines)
+
+
+def frames_of_nested_groups(n):
+    """32 groups, one in another, with a second measuring in each but the last: each wraps, and two more children match."""
+    lines = [b"window 1000 1000\nadd root FrameLayout wrap wrap\n"]
+    for level in range(31):
+        group = 1 + 3 * level
+        lines.append(b"add v%d View match match\nadd v%d View match 9\nadd v%d FrameLayout wrap wrap\n" % (group, group, group))
+    return b"".join(lines) + b"frame\n" * n
+
+
+def short_edits(mib):
+    """So many MiB of short edits."""
+    line = b"min v1 1 1\n"
+    return b"window 9 9\nadd root View 1 1\n" + line * ((mib * 2**20 - 100) // len(line))
+
+
+def removed_and_made(n):
+    """Subtrees of 31 views that are made and removed again, so many times."""
+    made = b"".join(b"add @%x FrameLayout 1 1\nid v%%d @%x\n" % (k, k + 1) for k in range(1, 31))
+    lines = [b"window 9 9\nadd root FrameLayout match match\nid v1 @1\n"]
+    number = 2
+    for _ in range(n):
+        lines.append(made % tuple(range(number, number + 30)))
+        lines.append(b"remove @2\n")
+        number += 30
+    return b"".join(lines)
+
+
+def comments(mib):
+    line = b"#" + b" comment" * 7 + b" end.."
+    return (line + b"\n") * (mib * 2**20 // (len(line) + 1))
+
+
+def empty_lines(mib):
+    return b"\n" * (mib * 2**20)
+
+
+def one_line(mib):
+    return b"x" * (mib * 2**20)
+
+
+def refused(n):
+    return b"x\n" * n
