@@ -25,7 +25,8 @@ def pool(strings):
 def equal_strings(count, length):
     """A pool in UTF-16 of so many strings, which have one text that stands there once: three bytes in UTF-8 a unit."""
     offsets = b"\0" * (4 * count)
-    text = struct.pack("<2H", 0x8000 + (length >> 16), length & 0xffff) + "\u4e00".encode("utf-16-le") * length + b"\0\0"
+    units = "\u4e00".encode("utf-16-le") * length
+    text = struct.pack("<2H", 0x8000 + (length >> 16), length & 0xffff) + units + b"\0\0"
     header = struct.pack("<5I", count, 0, 0, 28 + len(offsets), 0)
     return chunk(0x0001, header, offsets + text + b"\0" * (-len(text) % 4))
 

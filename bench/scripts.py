@@ -74,11 +74,10 @@ def edits_by_own_id(views):
 
 
 def frames_of_nested_groups(n):
-    """32 groups, one in another, with a second measuring in each but the last: each wraps, and two more children match."""
+    """32 groups, one in another, with a second measuring in each but the last: it wraps, and two more children match."""
     lines = [b"window 1000 1000\nadd root FrameLayout wrap wrap\n"]
-    for level in range(31):
-        group = 1 + 3 * level
-        lines.append(b"add v%d View match match\nadd v%d View match 9\nadd v%d FrameLayout wrap wrap\n" % (group, group, group))
+    for group in range(1, 92, 3):
+        lines += [b"add v%d %s\n" % (group, child) for child in (b"View match match", b"View match 9", b"FrameLayout wrap wrap")]
     return b"".join(lines) + b"frame\n" * n
 
 

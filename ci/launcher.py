@@ -1,4 +1,5 @@
-"""Tries ./vindaesk itself: in a small repository with a stand-in for the toolchain, whose program does what it is told."""
+"""Tries ./vindaesk itself, in a small repository with a stand-in for the toolchain, whose program does what it is told.
+"""
 import contextlib
 import glob
 import os
@@ -22,8 +23,8 @@ case $1 in
 esac
 """
 SENTENCES = {3: "read", 4: "written", 5: "memory", 6: "file", 7: "16777216 bytes"}
-WRONG = [[], ["gen", "3"], ["Run"], ["run", "x"], ["dump"], ["dump", "../README.md"], ["dump", ".a"], ["dump", "a" * 65],
-         ["dump", "a", "b"], ["dump", "é"], ["dump", ""], ["--help", "x"], ["explain"], ["explain", "x"]]
+WRONG = [[], ["gen", "3"], ["Run"], ["run", "x"], ["dump"], ["dump", "../README.md"], ["dump", ".a"],
+         ["dump", "a" * 65], ["dump", "a", "b"], ["dump", "é"], ["dump", ""], ["--help", "x"], ["explain"], ["explain", "x"]]
 
 
 class Ended:
@@ -41,8 +42,8 @@ class Repository:
             os.makedirs(os.path.join(folder, name))
         shutil.copy(os.path.join(TOP, "vindaesk"), folder)
         shutil.copytree(os.path.join(TOP, "docs"), os.path.join(folder, "docs"))
-        for name, text in (("crates.txt", "low:\nview_tool: low\n"), ("HANDLES", ""), ("calls", ""), ("tools/rt", TOOLCHAIN),
-                           ("crates/low/src/lib.rt", ""), ("crates/view_tool/src/main.rt", "")):
+        for name, text in (("crates.txt", "low:\nview_tool: low\n"), ("HANDLES", ""), ("calls", ""),
+                           ("tools/rt", TOOLCHAIN), ("crates/low/src/lib.rt", ""), ("crates/view_tool/src/main.rt", "")):
             with open(os.path.join(folder, name), "w") as file:
                 file.write(text)
         os.chmod(os.path.join(folder, "tools/rt"), 0o755)
@@ -50,8 +51,8 @@ class Repository:
     def start(self, words, has_toolchain=True, **how):
         act = how.pop("act", "")
         kept = [it for it in os.environ["PATH"].split(":") if not os.path.exists(os.path.join(it, "rt"))]
-        own = {"PATH": ":".join([os.path.join(self.folder, "tools")] * has_toolchain + kept), "CALLS": self.calls, "ACT": act,
-               "TMPDIR": os.path.join(self.folder, "temporary"), "PROOF": how.pop("proof", "0")}
+        own = {"PATH": ":".join([os.path.join(self.folder, "tools")] * has_toolchain + kept), "CALLS": self.calls,
+               "ACT": act, "TMPDIR": os.path.join(self.folder, "temporary"), "PROOF": how.pop("proof", "0")}
         pipes = {"stdin": subprocess.PIPE, "stdout": subprocess.PIPE, "stderr": subprocess.PIPE, **how}
         return subprocess.Popen(["./vindaesk", *words], cwd=self.folder, env={**os.environ, **own}, **pipes)
 
@@ -113,7 +114,8 @@ def explains():
 def tells_version():
     with repository(is_built=False) as it:
         ended = it.call(["--version"])
-        return "" if re.fullmatch(rb"commit .+\nkit of the checks\n", ended.out) else "it tells '%s'" % ended.out.decode()
+        is_right = re.fullmatch(rb"commit .+\nkit of the checks\n", ended.out)
+        return "" if is_right else "it tells '%s'" % ended.out.decode()
 
 
 def lacks_toolchain():
@@ -131,7 +133,7 @@ def builds():
         ended = it.call(["run"], act="echo answer")
         if (ended.status, ended.out) != (0, b"answer\n"):
             return "status %d, and it writes '%s'" % (ended.status, ended.out.decode())
-        for part in ("about 10 minutes", "proving low, 0 of 2 crates done\n", "proving view_tool, 1 of 2 crates done\n"):
+        for part in ("about 10 minutes", "proving low, 0 of 2 crates done\n", "proving view_tool, 1 of 2 crates"):
             if part not in ended.said:
                 return "'%s' is not in '%s'" % (part, ended.said)
         it.call(["run"])
@@ -177,6 +179,12 @@ def passes_signals():
             started.communicate(timeout=SECONDS)
             if started.returncode != -name or time.monotonic() - begun > 30:
                 return "%s to the launcher: status %d" % (name.name, started.returncode)
+        started = it.start(["run"], act="echo here; exec sleep 60", start_new_session=True)
+        started.stdout.readline()
+        os.killpg(started.pid, signal.SIGINT)
+        started.communicate(timeout=SECONDS)
+        if started.returncode != -signal.SIGINT:
+            return "an interrupt to launcher and program at once: status %d" % started.returncode
         started = it.start(["run"], act="exec yes")
         started.stdout.readline()
         started.stdout.close()
@@ -188,7 +196,8 @@ def passes_streams():
         given = bytes(range(256)) * 1000
         if it.call(["run"], given, act="cat").out != given:
             return "what comes in is not what the program reads"
-        if it.call(["dump", "a.xml"], act='echo "$PWD $*"').out.decode() != "%s dump a.xml\n" % os.path.realpath(it.folder):
+        wanted = "%s dump a.xml\n" % os.path.realpath(it.folder)
+        if it.call(["dump", "a.xml"], act='echo "$PWD $*"').out.decode() != wanted:
             return "folder and words are not the caller's"
         closed = it.start(["run"], stdin=None, act="cat", preexec_fn=lambda: os.close(0))
         closed.communicate(timeout=SECONDS)
@@ -215,6 +224,12 @@ def on_terminal(it, words, typed, act):
 
 
 def talks_to_a_terminal():
+    try:
+        for end in pty.openpty():
+            os.close(end)
+    except OSError as error:
+        print("note: the launcher is not tried on a terminal, since none is to be had here: %s" % error)
+        return ""
     with repository(is_built=False) as it:
         out, shown = on_terminal(it, ["run"], b"frame\n\x04", "cat")
         if out != "frame\n":
@@ -226,6 +241,6 @@ def talks_to_a_terminal():
 
 
 def checks():
-    for check in (asks_for_help, example_of_help, explains, tells_version, lacks_toolchain, builds, proof_fails, passes_statuses,
-                  passes_signals, passes_streams, talks_to_a_terminal):
+    for check in (asks_for_help, example_of_help, explains, tells_version, lacks_toolchain, builds, proof_fails,
+                  passes_statuses, passes_signals, passes_streams, talks_to_a_terminal):
         yield "the launcher: " + check.__name__.replace("_", " "), check

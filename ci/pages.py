@@ -24,7 +24,7 @@ INDENTED = ("    ", "\t")
 
 
 def blocks(lines):
-    """The number of the first line of each block, its words, and its lines; of a block that is only indented, its first."""
+    """The number of each block's first line, its words, and its lines; of a block that is only indented, its first."""
     begun = None
     before = ""
     for number, line in enumerate(lines, 1):
