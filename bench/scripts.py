@@ -75,9 +75,10 @@ def edits_by_own_id(views):
 
 def frames_of_nested_groups(n):
     """32 groups, one in another, with a second measuring in each but the last: it wraps, and two more children match."""
+    children = [b"View match match", b"View match 9", b"FrameLayout wrap wrap"]
     lines = [b"window 1000 1000\nadd root FrameLayout wrap wrap\n"]
     for group in range(1, 92, 3):
-        lines += [b"add v%d %s\n" % (group, child) for child in (b"View match match", b"View match 9", b"FrameLayout wrap wrap")]
+        lines += [b"add v%d %s\n" % (group, child) for child in children]
     return b"".join(lines) + b"frame\n" * n
 
 

@@ -24,7 +24,8 @@ esac
 """
 SENTENCES = {3: "read", 4: "written", 5: "memory", 6: "file", 7: "16777216 bytes"}
 WRONG = [[], ["gen", "3"], ["Run"], ["run", "x"], ["dump"], ["dump", "../README.md"], ["dump", ".a"],
-         ["dump", "a" * 65], ["dump", "a", "b"], ["dump", "é"], ["dump", ""], ["--help", "x"], ["explain"], ["explain", "x"]]
+         ["dump", "a" * 65], ["dump", "a", "b"], ["dump", "é"], ["dump", ""], ["--help", "x"],
+         ["explain"], ["explain", "x"]]
 
 
 class Ended:
@@ -43,7 +44,8 @@ class Repository:
         shutil.copy(os.path.join(TOP, "vindaesk"), folder)
         shutil.copytree(os.path.join(TOP, "docs"), os.path.join(folder, "docs"))
         for name, text in (("crates.txt", "low:\nview_tool: low\n"), ("HANDLES", ""), ("calls", ""),
-                           ("tools/rt", TOOLCHAIN), ("crates/low/src/lib.rt", ""), ("crates/view_tool/src/main.rt", "")):
+                           ("tools/rt", TOOLCHAIN), ("crates/low/src/lib.rt", ""),
+                           ("crates/view_tool/src/main.rt", "")):
             with open(os.path.join(folder, name), "w") as file:
                 file.write(text)
         os.chmod(os.path.join(folder, "tools/rt"), 0o755)
