@@ -1,47 +1,48 @@
 -- What may be wrong with a file, each with the place where it shows.
 use Rattle.std.specs.Prelude.{ℕ}
+use Rattle.axml_chunks.specs.declared.cause.Cause.TheVariants as cause
 use Rattle.axml_chunks.specs.declared.fault.Fault.{Fault}
 
 -- fewer bytes are left than a part needs
 abbrev pub truncated : ℕ → Fault
-truncated place = record { cause = 1; at = place }
+truncated place = record { cause = cause.Truncated; at = place }
 
 -- a chunk whose numbers no chunk has
 abbrev pub bad_chunk : ℕ → Fault
-bad_chunk place = record { cause = 2; at = place }
+bad_chunk place = record { cause = cause.BadChunk; at = place }
 
 -- a string pool whose numbers no pool has
 abbrev pub bad_pool : ℕ → Fault
-bad_pool place = record { cause = 3; at = place }
+bad_pool place = record { cause = cause.BadPool; at = place }
 
 -- a string that is cut short or no text
 abbrev pub bad_string : ℕ → Fault
-bad_string place = record { cause = 4; at = place }
+bad_string place = record { cause = cause.BadString; at = place }
 
 -- the file is no XML document
 abbrev pub not_xml : ℕ → Fault
-not_xml place = record { cause = 5; at = place }
+not_xml place = record { cause = cause.NotXml; at = place }
 
 -- a string number that no string has
 abbrev pub bad_reference : ℕ → Fault
-bad_reference place = record { cause = 6; at = place }
+bad_reference place = record { cause = cause.BadReference; at = place }
 
 -- elements are not closed by their own ends
 abbrev pub unbalanced : ℕ → Fault
-unbalanced place = record { cause = 7; at = place }
+unbalanced place = record { cause = cause.Unbalanced; at = place }
 
 -- there is no element
 abbrev pub no_element : ℕ → Fault
-no_element place = record { cause = 8; at = place }
+no_element place = record { cause = cause.NoElement; at = place }
 
 -- an element begins behind the outermost one
 abbrev pub two_roots : ℕ → Fault
-two_roots place = record { cause = 9; at = place }
+two_roots place = record { cause = cause.TwoRoots; at = place }
 
 -- there is a string pool already
 abbrev pub second_pool : ℕ → Fault
-second_pool place = record { cause = 10; at = place }
+second_pool place = record { cause = cause.SecondPool; at = place }
 
 -- more of something than is taken
 abbrev pub too_big : ℕ → Fault
-too_big place = record { cause = 11; at = place }
+too_big place = record { cause = cause.TooBig; at = place }

@@ -2,7 +2,7 @@ ghost use Rattle.std.specs.Prelude.{◌≡◌, ◌+◌, ◌≤◌, length, IfOk,
 ghost use Rattle.axml_chunks.specs.Chunks.{IsChunk, IsChunkAt, chunk_of};
 ghost use Rattle.axml_chunks.specs.Numbers.{number16, number32};
 
-use crate::causes::{BAD_CHUNK, TRUNCATED};
+use crate::cause::Cause;
 use crate::fault::Fault;
 use byteorder::{ByteOrder, LittleEndian};
 
@@ -45,7 +45,7 @@ pub fn chunk_at(bytes: &[u8], at: usize, end: usize) -> Result<Chunk, Fault>
 {
     if end - at < 8 {
         return Err(Fault {
-            cause: TRUNCATED,
+            cause: Cause::Truncated,
             at,
         });
     }
@@ -54,13 +54,13 @@ pub fn chunk_at(bytes: &[u8], at: usize, end: usize) -> Result<Chunk, Fault>
     let size = u32_at(bytes, at + 4) as usize;
     if head < 8 || head % 4 != 0 || size % 4 != 0 || size < head {
         return Err(Fault {
-            cause: BAD_CHUNK,
+            cause: Cause::BadChunk,
             at,
         });
     }
     if end - at < size {
         return Err(Fault {
-            cause: TRUNCATED,
+            cause: Cause::Truncated,
             at,
         });
     }

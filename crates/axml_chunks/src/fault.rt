@@ -1,12 +1,12 @@
 ghost use Rattle.std.specs.Prelude.{◌≡◌};
 
+use crate::cause::Cause;
 use std::alloc::{AllocError, AllocFailed};
 
-/// What is wrong with a file: the number of a cause, and the offset from the file's start at which
-/// it shows.
+/// What is wrong with a file, and the offset from the file's start at which it shows.
 #[derive(Clone, Copy, Debug, PartialEq, Eq)]
 pub struct Fault {
-    pub cause: u8,
+    pub cause: Cause,
     pub at: usize,
 }
 

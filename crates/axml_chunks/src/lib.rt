@@ -1,7 +1,7 @@
 //! Chunks of Android's compiled XML, and the string pool, with the first fault of a broken one.
 #![tactic(auto)]
 
-pub mod causes;
+mod cause;
 mod chunk;
 mod fault;
 mod gathering;
@@ -9,6 +9,7 @@ mod header;
 mod pool;
 mod strings;
 
+pub use cause::Cause;
 pub use chunk::{Chunk, chunk_at, u16_at, u32_at};
 pub use fault::{Fault, ReadFault};
 pub use pool::Pool;

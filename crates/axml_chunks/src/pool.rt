@@ -6,7 +6,7 @@ ghost use Rattle.axml_chunks.specs.Gathering.{gathering};
 ghost use Rattle.axml_chunks.specs.Pool.{StringPool, header_of, gathered, gathered_upto, one_more, pool_of, IsHeader, IsPool};
 ghost use Rattle.axml_chunks.specs.Steps.{Gives, Does};
 
-use crate::causes::{BAD_POOL, BAD_STRING, TOO_BIG};
+use crate::cause::Cause;
 use crate::chunk::{Chunk, u32_at};
 use crate::fault::{Fault, ReadFault};
 use crate::gathering::Gathering;
@@ -96,7 +96,7 @@ fn header_of(chunk: &[u8], at: usize, head: usize) -> Result<Header, Fault>
     ensures bounds { IfOk result (λ header. IsHeader (length chunk.now) head header) }
 {
     let bad = Fault {
-        cause: BAD_POOL,
+        cause: Cause::BadPool,
         at,
     };
     if head < 28 {
@@ -109,7 +109,10 @@ fn header_of(chunk: &[u8], at: usize, head: usize) -> Result<Header, Fault>
         return Err(bad);
     }
     if MAX_STRINGS < count {
-        return Err(Fault { cause: TOO_BIG, at });
+        return Err(Fault {
+            cause: Cause::TooBig,
+            at,
+        });
     }
     let utf8 = u32_at(chunk, 16) / 0x100 % 2 == 1;
     Ok(Header { utf8, count, first })
@@ -124,13 +127,13 @@ impl Gathering {
     {
         let Some(text) = text else {
             return Err(ReadFault::Bad(Fault {
-                cause: BAD_STRING,
+                cause: Cause::BadString,
                 at: entry,
             }));
         };
         if MAX_TEXT - self.sum < text.len() {
             return Err(ReadFault::Bad(Fault {
-                cause: TOO_BIG,
+                cause: Cause::TooBig,
                 at: entry,
             }));
         }

@@ -1,4 +1,4 @@
-use crate::causes::{BAD_STRING, TOO_BIG};
+use crate::cause::Cause;
 use crate::{Fault, Pool, ReadFault, chunk_at};
 use std::alloc::{AllocError, Global};
 use std::test::Fail;
@@ -106,7 +106,7 @@ fn reads_a_pair_of_surrogates(rt: HostRuntime) -> Result<(), Fail> {
     assert!(rt;
         fault
             == Some(Fault {
-                cause: BAD_STRING,
+                cause: Cause::BadString,
                 at: 28
             })
     );
@@ -144,7 +144,7 @@ fn takes_65536_strings_and_refuses_one_more(rt: HostRuntime) -> Result<(), Fail>
     assert!(rt;
         fault
             == Some(Fault {
-                cause: TOO_BIG,
+                cause: Cause::TooBig,
                 at: 0
             })
     );

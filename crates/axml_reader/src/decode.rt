@@ -9,8 +9,7 @@ ghost use Rattle.axml_reader.specs.View.{document, reading};
 
 use crate::doc::Doc;
 use crate::reading::Reading;
-use axml_chunks::causes::{NO_ELEMENT, NOT_XML, TRUNCATED, UNBALANCED};
-use axml_chunks::{Chunk, Fault, ReadFault, chunk_at, u16_at};
+use axml_chunks::{Cause, Chunk, Fault, ReadFault, chunk_at, u16_at};
 use std::alloc::Global;
 
 /// The type of the chunk that holds the document.
@@ -24,13 +23,13 @@ fn document_chunk(bytes: &[u8]) -> Result<Chunk, Fault>
 {
     if bytes.len() < 8 {
         return Err(Fault {
-            cause: TRUNCATED,
+            cause: Cause::Truncated,
             at: 0,
         });
     }
     if u16_at(bytes, 0) != DOCUMENT {
         return Err(Fault {
-            cause: NOT_XML,
+            cause: Cause::NotXml,
             at: 0,
         });
     }
@@ -81,12 +80,12 @@ impl Reading {
     {
         if !self.opened.is_empty() {
             return Err(ReadFault::Bad(Fault {
-                cause: UNBALANCED,
+                cause: Cause::Unbalanced,
                 at: end,
             }));
         }
         let no_element = Fault {
-            cause: NO_ELEMENT,
+            cause: Cause::NoElement,
             at: end,
         };
         if !self.closed {

@@ -1,10 +1,10 @@
-ghost use Rattle.std.specs.Prelude.{◌≡◌, ◌+◌, ◌<◌, ◌≤◌, decimal, length, slice_index_or, [], true, OnOk, OnErr};
+//! The text of a document.
+
+ghost use Rattle.std.specs.Prelude.{◌≡◌, ◌+◌, ◌<◌, ◌≤◌, decimal, length, slice_index_or, [], true};
 ghost use Rattle.std.specs.List.{enumerate_from};
-ghost use Rattle.std.specs.Io.KnownBytes.{Appends};
-ghost use Rattle.tool_io.specs.Causes.{Rose};
+ghost use Rattle.text_lines.specs.Delivered.{Delivered};
 ghost use Rattle.text_lines.specs.Held.{Sends};
 ghost use Rattle.text_lines.specs.Joined.{texts_of};
-ghost use Rattle.text_lines.specs.Prefix.{AppendsPrefix};
 ghost use Rattle.axml_reader.specs.Dump.{encoding, string_mark, string_name, control_escape, name_field, number_field, hex_field, value_fields, escaped, pool_line, string_line, string_lines, id_line, namespace_line, attr_line, start_line, end_line, chars_line, node_lines, dump_text};
 ghost use Rattle.axml_reader.specs.Sound.{AreWithin, is_within};
 ghost use Rattle.axml_reader.specs.View.{document};
@@ -16,14 +16,14 @@ use tool_io::{Failed, Sink};
 
 /// Sends a number.
 fn put_number<K: Sink>(text: &mut TextBuffer, sink: &mut K, n: u32)
-    ensures { Sends (K.gone sink.old) (K.gone sink.new) (K.faults sink.old) (K.faults sink.new) text.old text.new (decimal n) }
+    ensures { Sends (K.state sink.old) (K.state sink.new) text.old text.new (decimal n) }
 {
     text.number(sink, n as i64);
 }
 
 /// Sends the name of string `k`.
 fn put_string_mark<K: Sink>(text: &mut TextBuffer, sink: &mut K, k: u32)
-    ensures { Sends (K.gone sink.old) (K.gone sink.new) (K.faults sink.old) (K.faults sink.new) text.old text.new (string_mark k) }
+    ensures { Sends (K.state sink.old) (K.state sink.new) text.old text.new (string_mark k) }
 {
     text.put(sink, b"s");
     put_number(text, sink, k);
@@ -32,7 +32,7 @@ fn put_string_mark<K: Sink>(text: &mut TextBuffer, sink: &mut K, k: u32)
 /// Sends a string number, `-` where it means none.
 #[tactic(auto, unfolding(crate::specs::Dump::string_name))]
 fn put_string_name<K: Sink>(text: &mut TextBuffer, sink: &mut K, n: u32)
-    ensures { Sends (K.gone sink.old) (K.gone sink.new) (K.faults sink.old) (K.faults sink.new) text.old text.new (string_name n) }
+    ensures { Sends (K.state sink.old) (K.state sink.new) text.old text.new (string_name n) }
 {
     if n == NO_STRING {
         text.put(sink, b"-");
@@ -43,7 +43,7 @@ fn put_string_name<K: Sink>(text: &mut TextBuffer, sink: &mut K, n: u32)
 
 /// Sends a string number behind a space.
 fn put_name_field<K: Sink>(text: &mut TextBuffer, sink: &mut K, n: u32)
-    ensures { Sends (K.gone sink.old) (K.gone sink.new) (K.faults sink.old) (K.faults sink.new) text.old text.new (name_field n) }
+    ensures { Sends (K.state sink.old) (K.state sink.new) text.old text.new (name_field n) }
 {
     text.put(sink, b" ");
     put_string_name(text, sink, n);
@@ -51,7 +51,7 @@ fn put_name_field<K: Sink>(text: &mut TextBuffer, sink: &mut K, n: u32)
 
 /// Sends a number behind a space.
 fn put_number_field<K: Sink>(text: &mut TextBuffer, sink: &mut K, n: u32)
-    ensures { Sends (K.gone sink.old) (K.gone sink.new) (K.faults sink.old) (K.faults sink.new) text.old text.new (number_field n) }
+    ensures { Sends (K.state sink.old) (K.state sink.new) text.old text.new (number_field n) }
 {
     text.put(sink, b" ");
     put_number(text, sink, n);
@@ -60,7 +60,7 @@ fn put_number_field<K: Sink>(text: &mut TextBuffer, sink: &mut K, n: u32)
 /// Sends hexadecimal digits behind a space.
 fn put_hex_field<K: Sink>(text: &mut TextBuffer, sink: &mut K, n: u32, digits: u8)
     requires { digits ≤ 8 }
-    ensures { Sends (K.gone sink.old) (K.gone sink.new) (K.faults sink.old) (K.faults sink.new) text.old text.new (hex_field n digits) }
+    ensures { Sends (K.state sink.old) (K.state sink.new) text.old text.new (hex_field n digits) }
 {
     text.put(sink, b" ");
     text.hex(sink, n, digits);
@@ -68,7 +68,7 @@ fn put_hex_field<K: Sink>(text: &mut TextBuffer, sink: &mut K, n: u32, digits: u
 
 /// Sends the type and the word of a value, and the line's end.
 fn put_value_fields<K: Sink>(text: &mut TextBuffer, sink: &mut K, kind: u8, word: u32)
-    ensures { Sends (K.gone sink.old) (K.gone sink.new) (K.faults sink.old) (K.faults sink.new) text.old text.new (value_fields kind word) }
+    ensures { Sends (K.state sink.old) (K.state sink.new) text.old text.new (value_fields kind word) }
 {
     put_hex_field(text, sink, kind as u32, 2);
     put_hex_field(text, sink, word, 8);
@@ -77,7 +77,7 @@ fn put_value_fields<K: Sink>(text: &mut TextBuffer, sink: &mut K, kind: u8, word
 
 /// Sends a byte below a space.
 fn put_control_escape<K: Sink>(text: &mut TextBuffer, sink: &mut K, byte: u8)
-    ensures { Sends (K.gone sink.old) (K.gone sink.new) (K.faults sink.old) (K.faults sink.new) text.old text.new (control_escape byte) }
+    ensures { Sends (K.state sink.old) (K.state sink.new) text.old text.new (control_escape byte) }
 {
     text.put(sink, b"\\x");
     text.hex(sink, byte as u32, 2);
@@ -86,7 +86,7 @@ fn put_control_escape<K: Sink>(text: &mut TextBuffer, sink: &mut K, byte: u8)
 /// Sends a byte of a string.
 #[tactic(auto, unfolding(crate::specs::Dump::escaped))]
 fn put_escaped<K: Sink>(text: &mut TextBuffer, sink: &mut K, byte: u8)
-    ensures { Sends (K.gone sink.old) (K.gone sink.new) (K.faults sink.old) (K.faults sink.new) text.old text.new (escaped byte) }
+    ensures { Sends (K.state sink.old) (K.state sink.new) text.old text.new (escaped byte) }
 {
     if byte == b'\\' {
         text.put(sink, b"\\\\");
@@ -103,7 +103,7 @@ fn put_escaped<K: Sink>(text: &mut TextBuffer, sink: &mut K, byte: u8)
 
 /// Sends the bytes of a string with their escapes.
 fn put_escaped_bytes<K: Sink>(text: &mut TextBuffer, sink: &mut K, string: &[u8])
-    ensures { Sends (K.gone sink.old) (K.gone sink.new) (K.faults sink.old) (K.faults sink.new) text.old text.new (texts_of escaped string.now) }
+    ensures { Sends (K.state sink.old) (K.state sink.new) text.old text.new (texts_of escaped string.now) }
 {
     for byte in string {
         put_escaped(text, sink, *byte);
@@ -112,7 +112,7 @@ fn put_escaped_bytes<K: Sink>(text: &mut TextBuffer, sink: &mut K, string: &[u8]
 
 /// Sends a string with its escapes.
 fn put_string<K: Sink>(text: &mut TextBuffer, sink: &mut K, string: &str)
-    ensures { Sends (K.gone sink.old) (K.gone sink.new) (K.faults sink.old) (K.faults sink.new) text.old text.new (texts_of escaped string.now) }
+    ensures { Sends (K.state sink.old) (K.state sink.new) text.old text.new (texts_of escaped string.now) }
 {
     put_escaped_bytes(text, sink, string.as_bytes());
 }
@@ -120,7 +120,7 @@ fn put_string<K: Sink>(text: &mut TextBuffer, sink: &mut K, string: &str)
 /// Sends the name of the encoding of a pool's strings.
 #[tactic(auto, unfolding(crate::specs::Dump::encoding))]
 fn put_encoding<K: Sink>(text: &mut TextBuffer, sink: &mut K, utf8: bool)
-    ensures { Sends (K.gone sink.old) (K.gone sink.new) (K.faults sink.old) (K.faults sink.new) text.old text.new (encoding utf8) }
+    ensures { Sends (K.state sink.old) (K.state sink.new) text.old text.new (encoding utf8) }
 {
     if utf8 {
         text.put(sink, b"utf8");
@@ -131,7 +131,7 @@ fn put_encoding<K: Sink>(text: &mut TextBuffer, sink: &mut K, utf8: bool)
 
 /// Sends the pool's line.
 fn put_pool_line<K: Sink>(text: &mut TextBuffer, sink: &mut K, utf8: bool, count: u32)
-    ensures { Sends (K.gone sink.old) (K.gone sink.new) (K.faults sink.old) (K.faults sink.new) text.old text.new (pool_line utf8 count) }
+    ensures { Sends (K.state sink.old) (K.state sink.new) text.old text.new (pool_line utf8 count) }
 {
     text.put(sink, b"pool ");
     put_encoding(text, sink, utf8);
@@ -141,7 +141,7 @@ fn put_pool_line<K: Sink>(text: &mut TextBuffer, sink: &mut K, utf8: bool, count
 
 /// Sends the line of string `k`.
 fn put_string_line<K: Sink>(text: &mut TextBuffer, sink: &mut K, k: u32, string: &str)
-    ensures { Sends (K.gone sink.old) (K.gone sink.new) (K.faults sink.old) (K.faults sink.new) text.old text.new (string_line (k, string.now)) }
+    ensures { Sends (K.state sink.old) (K.state sink.new) text.old text.new (string_line (k, string.now)) }
 {
     put_string_mark(text, sink, k);
     text.put(sink, b" \"");
@@ -159,7 +159,7 @@ fn string_of(pool: &Pool, k: u32) -> &str
 
 /// Sends the lines of all strings of a pool.
 fn put_each_string<K: Sink>(text: &mut TextBuffer, sink: &mut K, pool: &Pool)
-    ensures { Sends (K.gone sink.old) (K.gone sink.new) (K.faults sink.old) (K.faults sink.new) text.old text.new (texts_of string_line (enumerate_from 0 pool.now.texts)) }
+    ensures { Sends (K.state sink.old) (K.state sink.new) text.old text.new (texts_of string_line (enumerate_from 0 pool.now.texts)) }
 {
     for k in 0..pool.len() {
         put_string_line(text, sink, k, string_of(pool, k));
@@ -168,7 +168,7 @@ fn put_each_string<K: Sink>(text: &mut TextBuffer, sink: &mut K, pool: &Pool)
 
 /// Sends the pool's line and those of its strings.
 fn put_string_lines<K: Sink>(text: &mut TextBuffer, sink: &mut K, pool: &Pool)
-    ensures { Sends (K.gone sink.old) (K.gone sink.new) (K.faults sink.old) (K.faults sink.new) text.old text.new (string_lines pool.now) }
+    ensures { Sends (K.state sink.old) (K.state sink.new) text.old text.new (string_lines pool.now) }
 {
     put_pool_line(text, sink, pool.utf8(), pool.len());
     put_each_string(text, sink, pool);
@@ -176,7 +176,7 @@ fn put_string_lines<K: Sink>(text: &mut TextBuffer, sink: &mut K, pool: &Pool)
 
 /// Sends an id's line.
 fn put_id_line<K: Sink>(text: &mut TextBuffer, sink: &mut K, id: u32)
-    ensures { Sends (K.gone sink.old) (K.gone sink.new) (K.faults sink.old) (K.faults sink.new) text.old text.new (id_line id) }
+    ensures { Sends (K.state sink.old) (K.state sink.new) text.old text.new (id_line id) }
 {
     text.put(sink, b"map");
     put_hex_field(text, sink, id, 8);
@@ -185,7 +185,7 @@ fn put_id_line<K: Sink>(text: &mut TextBuffer, sink: &mut K, id: u32)
 
 /// Sends the lines of the resource map.
 fn put_id_lines<K: Sink>(text: &mut TextBuffer, sink: &mut K, ids: &[u32])
-    ensures { Sends (K.gone sink.old) (K.gone sink.new) (K.faults sink.old) (K.faults sink.new) text.old text.new (texts_of id_line ids.now) }
+    ensures { Sends (K.state sink.old) (K.state sink.new) text.old text.new (texts_of id_line ids.now) }
 {
     for id in ids {
         put_id_line(text, sink, *id);
@@ -201,7 +201,7 @@ fn put_namespace_line<K: Sink>(
     uri: u32,
 )
     requires { length word.now ≤ 8 }
-    ensures { Sends (K.gone sink.old) (K.gone sink.new) (K.faults sink.old) (K.faults sink.new) text.old text.new (namespace_line word.now prefix uri) }
+    ensures { Sends (K.state sink.old) (K.state sink.new) text.old text.new (namespace_line word.now prefix uri) }
 {
     text.put(sink, word);
     put_name_field(text, sink, prefix);
@@ -211,7 +211,7 @@ fn put_namespace_line<K: Sink>(
 
 /// Sends an attribute's line.
 fn put_attr_line<K: Sink>(text: &mut TextBuffer, sink: &mut K, attr: &Attr)
-    ensures { Sends (K.gone sink.old) (K.gone sink.new) (K.faults sink.old) (K.faults sink.new) text.old text.new (attr_line attr.now) }
+    ensures { Sends (K.state sink.old) (K.state sink.new) text.old text.new (attr_line attr.now) }
 {
     text.put(sink, b"attr");
     put_name_field(text, sink, attr.ns);
@@ -222,7 +222,7 @@ fn put_attr_line<K: Sink>(text: &mut TextBuffer, sink: &mut K, attr: &Attr)
 
 /// Sends the lines of attributes.
 fn put_attr_lines<K: Sink>(text: &mut TextBuffer, sink: &mut K, attrs: &[Attr])
-    ensures { Sends (K.gone sink.old) (K.gone sink.new) (K.faults sink.old) (K.faults sink.new) text.old text.new (texts_of attr_line attrs.now) }
+    ensures { Sends (K.state sink.old) (K.state sink.new) text.old text.new (texts_of attr_line attrs.now) }
 {
     for attr in attrs {
         put_attr_line(text, sink, attr);
@@ -238,7 +238,7 @@ fn put_start_line<K: Sink>(
     name: u32,
     count: u32,
 )
-    ensures { Sends (K.gone sink.old) (K.gone sink.new) (K.faults sink.old) (K.faults sink.new) text.old text.new (start_line line ns name count) }
+    ensures { Sends (K.state sink.old) (K.state sink.new) text.old text.new (start_line line ns name count) }
 {
     text.put(sink, b"start");
     put_number_field(text, sink, line);
@@ -250,7 +250,7 @@ fn put_start_line<K: Sink>(
 
 /// Sends the line of an element that ends.
 fn put_end_line<K: Sink>(text: &mut TextBuffer, sink: &mut K, line: u32, ns: u32, name: u32)
-    ensures { Sends (K.gone sink.old) (K.gone sink.new) (K.faults sink.old) (K.faults sink.new) text.old text.new (end_line line ns name) }
+    ensures { Sends (K.state sink.old) (K.state sink.new) text.old text.new (end_line line ns name) }
 {
     text.put(sink, b"end");
     put_number_field(text, sink, line);
@@ -268,7 +268,7 @@ fn put_chars_line<K: Sink>(
     kind: u8,
     word: u32,
 )
-    ensures { Sends (K.gone sink.old) (K.gone sink.new) (K.faults sink.old) (K.faults sink.new) text.old text.new (chars_line line string kind word) }
+    ensures { Sends (K.state sink.old) (K.state sink.new) text.old text.new (chars_line line string kind word) }
 {
     text.put(sink, b"text");
     put_number_field(text, sink, line);
@@ -280,7 +280,7 @@ fn put_chars_line<K: Sink>(
 #[tactic(auto, unfolding(crate::specs::Dump::node_lines))]
 fn put_node_lines<K: Sink>(text: &mut TextBuffer, sink: &mut K, attrs: &[Attr], node: &Node)
     requires { is_within (length attrs.now) node.now ≡ true }
-    ensures { Sends (K.gone sink.old) (K.gone sink.new) (K.faults sink.old) (K.faults sink.new) text.old text.new (node_lines attrs.now node.now) }
+    ensures { Sends (K.state sink.old) (K.state sink.new) text.old text.new (node_lines attrs.now node.now) }
 {
     match *node {
         Node::NsStart { prefix, uri } => put_namespace_line(text, sink, b"ns", prefix, uri),
@@ -309,7 +309,7 @@ fn put_node_lines<K: Sink>(text: &mut TextBuffer, sink: &mut K, attrs: &[Attr], 
 /// Sends the lines of all nodes.
 fn put_each_node<K: Sink>(text: &mut TextBuffer, sink: &mut K, attrs: &[Attr], nodes: &[Node])
     requires { AreWithin attrs.now nodes.now }
-    ensures { Sends (K.gone sink.old) (K.gone sink.new) (K.faults sink.old) (K.faults sink.new) text.old text.new (texts_of (node_lines attrs.now) nodes.now) }
+    ensures { Sends (K.state sink.old) (K.state sink.new) text.old text.new (texts_of (node_lines attrs.now) nodes.now) }
 {
     for node in nodes {
         put_node_lines(text, sink, attrs, node);
@@ -318,7 +318,7 @@ fn put_each_node<K: Sink>(text: &mut TextBuffer, sink: &mut K, attrs: &[Attr], n
 
 /// Sends the whole text of a document.
 fn put_document<K: Sink>(text: &mut TextBuffer, sink: &mut K, doc: &Doc)
-    ensures { Sends (K.gone sink.old) (K.gone sink.new) (K.faults sink.old) (K.faults sink.new) text.old text.new (dump_text (document doc.now)) }
+    ensures { Sends (K.state sink.old) (K.state sink.new) text.old text.new (dump_text (document doc.now)) }
 {
     put_string_lines(text, sink, &doc.pool);
     put_id_lines(text, sink, &doc.map);
@@ -327,12 +327,8 @@ fn put_document<K: Sink>(text: &mut TextBuffer, sink: &mut K, doc: &Doc)
 
 /// Writes what a document holds, a line for each string, id, node and attribute, in pieces of up
 /// to 4096 bytes.
-#[tactic(auto, using(text_lines::proofs::Sending::sends_whole, text_lines::proofs::Sending::sends_prefix))]
 pub fn print<K: Sink>(doc: &Doc, sink: &mut K) -> Result<(), Failed>
-    ensures whole { OnOk result (Appends (K.gone sink.old) (K.gone sink.new) (dump_text (document doc.now))) }
-    ensures prefix { OnErr result (AppendsPrefix (K.gone sink.old) (K.gone sink.new) (dump_text (document doc.now))) }
-    ensures later { K.faults sink.old ≤ K.faults sink.new }
-    ensures failed { OnErr result (Rose (K.faults sink.old) (K.faults sink.new)) }
+    ensures { Delivered (K.state sink.old) (K.state sink.new) result (dump_text (document doc.now)) }
 {
     let mut text = TextBuffer::new();
     put_document(&mut text, sink, doc);

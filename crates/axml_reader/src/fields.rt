@@ -4,8 +4,7 @@ ghost use Rattle.axml_reader.specs.Fields.{reference_at, name_at, word_at, attr_
 
 use crate::doc::{Attr, NO_STRING};
 use crate::head::StartHead;
-use axml_chunks::causes::BAD_REFERENCE;
-use axml_chunks::{Fault, Pool, ReadFault, u32_at};
+use axml_chunks::{Cause, Fault, Pool, ReadFault, u32_at};
 use std::alloc::{AllocError, Global};
 
 /// The type of a value that is a string.
@@ -46,7 +45,7 @@ pub fn reference_at(bytes: &[u8], count: u32, at: usize) -> Result<u32, Fault>
         Ok(number)
     } else {
         Err(Fault {
-            cause: BAD_REFERENCE,
+            cause: Cause::BadReference,
             at,
         })
     }
@@ -63,7 +62,7 @@ pub fn name_at(bytes: &[u8], count: u32, at: usize) -> Result<u32, Fault>
         Ok(number)
     } else {
         Err(Fault {
-            cause: BAD_REFERENCE,
+            cause: Cause::BadReference,
             at,
         })
     }

@@ -12,8 +12,7 @@ use crate::doc::Node;
 use crate::fields::{name_at, push_attrs, reference_at, string_count, words_at};
 use crate::head::StartHead;
 use crate::reading::Reading;
-use axml_chunks::causes::{BAD_CHUNK, SECOND_POOL, TOO_BIG, TWO_ROOTS, UNBALANCED};
-use axml_chunks::{Chunk, Fault, Pool, ReadFault, u16_at, u32_at};
+use axml_chunks::{Cause, Chunk, Fault, Pool, ReadFault, u16_at, u32_at};
 use std::alloc::Global;
 
 /// The most elements that a document may have.
@@ -38,7 +37,7 @@ fn pair_at(bytes: &[u8], at: usize, chunk: Chunk, count: u32) -> Result<(u32, u3
 {
     if is_short(chunk, 8) {
         return Err(Fault {
-            cause: BAD_CHUNK,
+            cause: Cause::BadChunk,
             at,
         });
     }
@@ -56,7 +55,7 @@ fn names_at(bytes: &[u8], at: usize, chunk: Chunk, count: u32) -> Result<(u32, u
 {
     if is_short(chunk, 8) {
         return Err(Fault {
-            cause: BAD_CHUNK,
+            cause: Cause::BadChunk,
             at,
         });
     }
@@ -74,7 +73,7 @@ fn chars_at(bytes: &[u8], at: usize, chunk: Chunk, count: u32) -> Result<u32, Fa
 {
     if is_short(chunk, 12) {
         return Err(Fault {
-            cause: BAD_CHUNK,
+            cause: Cause::BadChunk,
             at,
         });
     }
@@ -107,7 +106,7 @@ fn start_at(
     ensures bounds { IfOk result (λ head. IsStart (length bytes.now) starts chunk head) }
 {
     let bad = Fault {
-        cause: BAD_CHUNK,
+        cause: Cause::BadChunk,
         at,
     };
     if is_short(chunk, 20) {
@@ -115,14 +114,17 @@ fn start_at(
     }
     if closed {
         return Err(Fault {
-            cause: TWO_ROOTS,
+            cause: Cause::TwoRoots,
             at,
         });
     }
     let body = at + chunk.head;
     let attrs = u16_at(bytes, body + 12) as usize;
     if starts >= MAX_ELEMENTS || MAX_ATTRS < attrs {
-        return Err(Fault { cause: TOO_BIG, at });
+        return Err(Fault {
+            cause: Cause::TooBig,
+            at,
+        });
     }
     let ns = reference_at(bytes, count, body)?;
     let name = name_at(bytes, count, body + 4)?;
@@ -167,7 +169,7 @@ impl Reading {
     {
         if self.pool.is_some() {
             return Err(ReadFault::Bad(Fault {
-                cause: SECOND_POOL,
+                cause: Cause::SecondPool,
                 at,
             }));
         }
@@ -251,7 +253,7 @@ impl Reading {
         let (ns, name) = names_at(bytes, at, chunk, string_count(&self.pool))?;
         if !is_closed_by(&self.pool, &mut self.alike, &self.opened, name) {
             return Err(ReadFault::Bad(Fault {
-                cause: UNBALANCED,
+                cause: Cause::Unbalanced,
                 at,
             }));
         }

@@ -1,8 +1,7 @@
 ghost use Rattle.std.specs.Prelude.{◌+◌, ◌<◌, ◌≤◌, length};
 
 use crate::{Doc, print, read};
-use axml_chunks::causes::{NO_ELEMENT, TRUNCATED, UNBALANCED};
-use axml_chunks::{Fault, ReadFault};
+use axml_chunks::{Cause, Fault, ReadFault};
 use std::alloc::{AllocError, Global};
 use std::test::Fail;
 use tool_io::MemorySink;
@@ -129,18 +128,18 @@ fn cut(alloc: Global, len: usize, said: bool) -> Result<Option<Fault>, AllocErro
 /// The fault of the narrow file cut to a length that its header says.
 fn cut_fault(len: usize) -> Option<Fault> {
     let (cause, at) = match len {
-        8 => (NO_ELEMENT, 8),
-        9..=163 => (TRUNCATED, 8),
-        164 => (NO_ELEMENT, 164),
-        165..=179 => (TRUNCATED, 164),
-        180 => (NO_ELEMENT, 180),
-        181..=203 => (TRUNCATED, 180),
-        204 => (NO_ELEMENT, 204),
-        205..=299 => (TRUNCATED, 204),
-        300 => (UNBALANCED, 300),
-        301..=323 => (TRUNCATED, 300),
+        8 => (Cause::NoElement, 8),
+        9..=163 => (Cause::Truncated, 8),
+        164 => (Cause::NoElement, 164),
+        165..=179 => (Cause::Truncated, 164),
+        180 => (Cause::NoElement, 180),
+        181..=203 => (Cause::Truncated, 180),
+        204 => (Cause::NoElement, 204),
+        205..=299 => (Cause::Truncated, 204),
+        300 => (Cause::Unbalanced, 300),
+        301..=323 => (Cause::Truncated, 300),
         324 | 348 => return None,
-        _ => (TRUNCATED, 324),
+        _ => (Cause::Truncated, 324),
     };
     Some(Fault { cause, at })
 }
@@ -173,7 +172,7 @@ fn a_file_that_is_cut_short_is_truncated_at_its_start(rt: HostRuntime) -> Result
         assert!(rt;
             fault
                 == Some(Fault {
-                    cause: TRUNCATED,
+                    cause: Cause::Truncated,
                     at: 0
                 })
         );

@@ -1,2 +1,1 @@
-pub mod Saturated
-pub mod Taken
+pub mod PlanLaws

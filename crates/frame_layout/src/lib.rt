@@ -4,6 +4,7 @@
 //! as it likes and hands the size back; the plan keeps the maxima and the count that the rule needs, and no list.
 #![tactic(auto)]
 
+mod axis;
 mod placing;
 mod plan;
 

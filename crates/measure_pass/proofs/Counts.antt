@@ -1,148 +1,65 @@
--- Counts of measurings.
-use Rattle.std.proofs.Common.{◌≡◌, ℕ, ◌+◌, ◌<◌, min, Bool, true, false, List, [], ◌∷◌, arith, ap, ◌∙◌, refl}
-use Rattle.std.specs.Prelude.{if◌then◌else◌, map, sum_by, ◌&&◌}
-use Rattle.std.proofs.lemmas.List.Sums.{sum_by-cons}
-use Rattle.measure_pass.specs.Measured.{calls_under}
-use Rattle.measure_pass.specs.Phases.{first_calls, first_of, second_calls}
-use Rattle.measure_pass.proofs.Parts.{facts_in}
-use Rattle.view_model.specs.declared.attributes.Facts.{Facts}
-use Rattle.view_model.specs.declared.kinds.Class.TheVariants.{View, FrameLayout}
-use Rattle.view_model.specs.Facts.{is_shown, matches_parent}
-use Rattle.view_model.specs.Forest.{Forest, Nothing, Branch}
-use Rattle.view_model.specs.FrameLayout.{first_specs, frame_requests, frame_size, is_measured_again, measures_again, second_specs}
-use Rattle.view_model.specs.Layout.{Child, Requested, calls_by, child_by, children_of, first_measured, shown, unscrolled}
-use Rattle.view_model.specs.Measuring.{Measured, Specs}
-use Rattle.view_tree.specs.Rows.{Row, after, alone, below, from, head_view, times, views_of}
-use Rattle.view_tree.proofs.KeyLaws.{located}
+-- The costs of measuring: of nothing, of one part of a list behind another, and of one measuring behind another.
+use Rattle.std.proofs.Common.{◌≡◌, ◌≤◌, ℕ, ◌+◌, ◌-◌, ◌^◌, min, arith, ap, ◌∙◌, sym}
+use Rattle.measure_pass.specs.Measured.{Costs}
+use Rattle.measure_pass.proofs.Parts.{Agree}
+use Rattle.view_model.specs.Forest.{Forest}
+use Rattle.view_tree.specs.Rows.{Row, after, alone, times}
+use Rattle.view_tree.specs.Views.{Held}
 
--- a count that stays at `top`
-pub raised_stays : (count top : ℕ) → min count top ≡ min (count + 0) top
-raised_stays count top = omega arith
+stays : (count top : ℕ) → min count top ≡ min (count + 0) top
+stays count top = omega arith
 
-pub raised_by : (old new calls top : ℕ) → new ≡ min (old + calls) top → min new top ≡ min (old + calls) top
-raised_by old new calls top is = omega arith
+twice : (old mid new calls more top : ℕ) → min mid top ≡ min (old + calls) top → min new top ≡ min (mid + more) top
+    → min new top ≡ min (old + (calls + more)) top
+twice old mid new calls more top first second = omega arith
 
-pub raised_twice : (old mid new calls more top : ℕ) → min mid top ≡ min (old + calls) top → min new top ≡ min (mid + more) top → min new top ≡ min (old + (calls + more)) top
-raised_twice old mid new calls more top first second = omega arith
+own : (old new calls top : ℕ) → min new top ≡ min (old + calls) top → min (new + 1) top ≡ min (old + (1 + calls)) top
+own old new calls top kids = omega arith
 
-pub raised_on : (start old new one rest all top : ℕ) → min (old + (one + rest)) top ≡ min (start + all) top → min new top ≡ min (old + one) top
-    → min (new + rest) top ≡ min (start + all) top
-raised_on start old new one rest all top before step = omega arith
+stored : (old between calls count top : ℕ) → count ≡ min (between + 1) top → min (between + 1) top ≡ min (old + calls) top → min count top ≡ min (old + calls) top
+stored old between calls count top more kids = omega arith
 
-pub raised_end : (start new all top : ℕ) → min (new + 0) top ≡ min (start + all) top → min new top ≡ min (start + all) top
-raised_end start new all top before = omega arith
+known : (old calls new top : ℕ) → new ≡ min (old + calls) top → min new top ≡ min (old + calls) top
+known old calls new top is = omega arith
 
--- what is still to be counted of a view whose children were
-pub raised_own : (old new calls top : ℕ) → min new top ≡ min (old + calls) top → min (new + 1) top ≡ min (old + (1 + calls)) top
-raised_own old new calls top kids = omega arith
+exactly : (between count all top : ℕ) → count ≡ min (between + 1) top → min count top ≡ min all top → count ≡ min all top
+exactly between count all top more is = omega arith
 
-sum_by_if : {A : Type 0} (f : A → ℕ) (v : Bool) (x : A) (more : List A) → sum_by f (if v then x ∷ more else more) ≡ sum_by f (if v then x ∷ [] else []) + sum_by f more
-sum_by_if f true x more = let all = sum_by-cons f x more in let one = sum_by-cons f x [] in omega arith
-sum_by_if f false x more = omega arith
+-- nothing was measured
+pub costs_nothing : (list : Forest Row) (held : ℕ → Held) (count : ℕ) → Costs list held held count 0 count
+costs_nothing list held count = record { counted = stays count (2 ^ 64 - 1) }
 
--- a sum over the views of a list that take part in layout
-pub sum_by_parts : (f : Child → ℕ) (list : Forest Row)
-    → sum_by f (shown (children_of (views_of list))) ≡ sum_by f (shown (children_of (views_of (alone list)))) + sum_by f (shown (children_of (views_of (after list))))
-sum_by_parts f Nothing = refl
-sum_by_parts f (Branch row kids siblings) =
-    sum_by_if f (is_shown row.view.facts) (child_by (unscrolled row.view) (children_of (views_of kids))) (shown (children_of (views_of siblings)))
+-- a count that is known
+pub costs_by : (list : Forest Row) (before held : ℕ → Held) (old calls new : ℕ) → new ≡ min (old + calls) (2 ^ 64 - 1) → Costs list before held old calls new
+costs_by list before held old calls new is = record { counted = known old calls new (2 ^ 64 - 1) is }
 
-pub sum_by_gone : (f : Child → ℕ) (part : Forest Row) → is_shown (facts_in part) ≡ false → sum_by f (shown (children_of (views_of (alone part)))) ≡ 0
-sum_by_gone f Nothing gone = refl
-sum_by_gone f (Branch row kids siblings) gone = ap (λ b. sum_by f (if b then child_by (unscrolled row.view) (children_of (views_of kids)) ∷ [] else [])) gone
+-- as many calls, otherwise written
+pub costs_same : (list : Forest Row) (before held : ℕ → Held) (old calls all new : ℕ) → all ≡ calls → Costs list before held old calls new
+    → Costs list before held old all new
+costs_same list before held old calls all new is c = record { counted = c.counted ∙ ap (λ calls. min (old + calls) (2 ^ 64 - 1)) (sym is) }
 
-sum_by_one : {A : Type 0} (f : A → ℕ) (x : A) → sum_by f (x ∷ []) ≡ f x
-sum_by_one f x = let one = sum_by-cons f x [] in omega arith
+-- one measuring and then another
+pub costs_twice : (list : Forest Row) (a b c : ℕ → Held) (old mid new calls more : ℕ) → Costs list a b old calls mid → Costs list b c mid more new
+    → Costs list a c old (calls + more) new
+costs_twice list a b c old mid new calls more first second =
+    record { counted = twice old mid new calls more (2 ^ 64 - 1) first.counted second.counted }
 
--- a view that its group measures once
-pub first_calls_shown : (tree : Forest Row) (kid : ℕ) (own : Facts) (specs : Specs) → 0 < times kid tree → is_shown (facts_in (from kid tree)) ≡ true
-    → first_calls own specs (alone (from kid tree)) ≡ calls_under (from kid tree) (first_specs own specs (facts_in (from kid tree)))
-first_calls_shown tree kid own specs live here =
-    let x = located kid tree live in
-    let here : is_shown x.row.view.facts ≡ true = rw x.is at here in
-    let child : Child = child_by (unscrolled x.row.view) (children_of (views_of x.kids)) in
-    let calls : Child → ℕ = λ kid. kid.calls (first_specs own specs kid.facts) in
-    rw x.is (ap (λ b. sum_by calls (if b then child ∷ [] else [])) here ∙ sum_by_one calls child)
+-- the first tree of a list and then the others
+pub costs_parts : (list : Forest Row) (a b c : ℕ → Held) (old mid new calls more : ℕ) → ((key : ℕ) → times key list ≤ 1) → Agree a b (alone list) → Agree b c (after list)
+    → Costs (alone list) a b old calls mid → Costs (after list) b c mid more new → Costs list a c old (calls + more) new
+costs_parts list a b c old mid new calls more once one rest first second =
+    record { counted = twice old mid new calls more (2 ^ 64 - 1) first.counted second.counted }
 
--- a view that its group measures again
-pub second_calls_shown : (tree : Forest Row) (kid : ℕ) (own : Facts) (specs : Specs) (taken : List Measured) → 0 < times kid tree
-    → is_shown (facts_in (from kid tree)) ≡ true
-    → is_measured_again specs taken (facts_in (from kid tree)) ≡ true
-    → second_calls own specs taken (alone (from kid tree)) ≡ calls_under (from kid tree) (second_specs own specs (frame_size own specs taken) (facts_in (from kid tree)))
-second_calls_shown tree kid own specs taken live here again =
-    let x = located kid tree live in
-    let here : is_shown x.row.view.facts ≡ true = rw x.is at here in
-    let again : is_measured_again specs taken (facts_in (Branch x.row x.kids x.siblings)) ≡ true = rw x.is at again in
-    let child : Child = child_by (unscrolled x.row.view) (children_of (views_of x.kids)) in
-    let second : Child → ℕ = λ kid. kid.calls (second_specs own specs (frame_size own specs taken) kid.facts) in
-    let calls : Child → ℕ = λ kid. if is_measured_again specs taken kid.facts then second kid else 0 in
-    rw x.is (ap (λ b. sum_by calls (if b then child ∷ [] else [])) here ∙ sum_by_one calls child ∙ ap (λ b. if b then second child else 0) again)
+-- the children of a view and then the view itself, whose measuring is counted next
+pub costs_own : (list whole : Forest Row) (a b c : ℕ → Held) (old calls new : ℕ) → Costs list a b old calls new → Costs whole a c old (1 + calls) (new + 1)
+costs_own list whole a b c old calls new kids = record { counted = own old new calls (2 ^ 64 - 1) kids.counted }
 
--- a view that its group does not measure again
-pub second_calls_left : (part : Forest Row) (own : Facts) (specs : Specs) (taken : List Measured) → is_measured_again specs taken (facts_in part) ≡ false
-    → second_calls own specs taken (alone part) ≡ 0
-second_calls_left Nothing own specs taken left = refl
-second_calls_left (Branch row kids siblings) own specs taken left =
-    let child : Child = child_by (unscrolled row.view) (children_of (views_of kids)) in
-    let second : Child → ℕ = λ kid. kid.calls (second_specs own specs (frame_size own specs taken) kid.facts) in
-    let calls : Child → ℕ = λ kid. if is_measured_again specs taken kid.facts then second kid else 0 in
-    none (is_shown row.view.facts) calls child (ap (λ b. if b then second child else 0) left)
-  where
-    none : (v : Bool) (f : Child → ℕ) (x : Child) → f x ≡ 0 → sum_by f (if v then x ∷ [] else []) ≡ 0
-    none true f x is = sum_by_one f x ∙ is
-    none false f x is = refl
+-- once it is
+pub costs_stored : (list whole : Forest Row) (a b c : ℕ → Held) (old between calls count : ℕ) → count ≡ min (between + 1) (2 ^ 64 - 1)
+    → Costs list a b old calls (between + 1) → Costs whole a c old calls count
+costs_stored list whole a b c old between calls count more kids = record { counted = stored old between calls count (2 ^ 64 - 1) more kids.counted }
 
--- a frame layout measures itself, and its children once or twice
-calls_if : (calls : Specs → ℕ) (v : Bool) (first second : Specs)
-    → sum_by calls (if v then first ∷ second ∷ [] else first ∷ []) ≡ calls first + (if v then calls second else 0)
-calls_if calls true first second = let all = sum_by-cons calls first (second ∷ []) in let one = sum_by_one calls second in omega arith
-calls_if calls false first second = let one = sum_by_one calls first in omega arith
-
-requested_calls : (own : Facts) (specs : Specs) (taken : List Measured) (kids : List Child)
-    → sum_by (λ (kid : Requested). sum_by kid.child.calls kid.requests)
-    (map (λ (kid : Child). record { child = kid; requests = frame_requests own specs taken kid.facts }) kids)
-    ≡ sum_by (λ (kid : Child). kid.calls (first_specs own specs kid.facts)) kids
-    + sum_by (λ (kid : Child). if is_measured_again specs taken kid.facts then kid.calls (second_specs own specs (frame_size own specs taken) kid.facts) else 0) kids
-requested_calls own specs taken [] = refl
-requested_calls own specs taken (kid ∷ kids) =
-    let request : Child → Requested = λ kid. record { child = kid; requests = frame_requests own specs taken kid.facts } in
-    let once : Child → ℕ = λ kid. kid.calls (first_specs own specs kid.facts) in
-    let again : Child → ℕ = λ kid. if is_measured_again specs taken kid.facts then kid.calls (second_specs own specs (frame_size own specs taken) kid.facts) else 0 in
-    let all : Requested → ℕ = λ kid. sum_by kid.child.calls kid.requests in
-    added (sum_by all (request kid ∷ map request kids)) (sum_by once (kid ∷ kids)) (sum_by again (kid ∷ kids)) (all (request kid)) (once kid) (again kid)
-    (sum_by all (map request kids)) (sum_by once kids) (sum_by again kids)
-    (sum_by-cons all (request kid) (map request kids)) (sum_by-cons once kid kids) (sum_by-cons again kid kids)
-    (calls_if kid.calls (is_measured_again specs taken kid.facts) (first_specs own specs kid.facts) (second_specs own specs (frame_size own specs taken) kid.facts))
-    (requested_calls own specs taken kids)
-  where
-    added : (a f s a1 f1 s1 a2 f2 s2 : ℕ) → a ≡ a1 + a2 → f ≡ f1 + f2 → s ≡ s1 + s2 → a1 ≡ f1 + s1 → a2 ≡ f2 + s2 → a ≡ f + s
-    added a f s a1 f1 s1 a2 f2 s2 ea ef es e1 e2 = omega arith
-
-pub frame_calls : (tree : Forest Row) (view : ℕ) (specs : Specs) → 0 < times view tree → (head_view (from view tree)).class ≡ FrameLayout
-    → (let own = facts_in (from view tree) in
-    let kids = below (from view tree) in
-    calls_under (from view tree) specs ≡ 1 + (first_calls own specs kids + second_calls own specs (first_of own specs kids) kids))
-frame_calls tree view specs live is_frame =
-    let x = located view tree live in
-    let own = facts_in (Branch x.row x.kids x.siblings) in
-    let kids = children_of (views_of x.kids) in
-    let is_frame : x.row.view.class ≡ FrameLayout = rw x.is at is_frame in
-    rw x.is (ap (λ class. calls_by class own kids specs) is_frame ∙ ap (λ calls. 1 + calls) (requested_calls own specs (first_measured own specs kids) (shown kids)))
-
-pub second_calls_once : (own : Facts) (specs : Specs) (taken : List Measured) (list : Forest Row) → measures_again specs taken ≡ false
-    → second_calls own specs taken list ≡ 0
-second_calls_once own specs taken list once =
-    let kids = shown (children_of (views_of list)) in
-    ap (λ again. sum_by (λ (kid : Child). if again && matches_parent kid.facts then kid.calls (second_specs own specs (frame_size own specs taken) kid.facts) else 0)
-    kids) once ∙ nothing kids
-  where
-    nothing : (kids : List Child) → sum_by (λ (kid : Child). 0) kids ≡ 0
-    nothing [] = refl
-    nothing (kid ∷ kids) = let all = sum_by-cons (λ (kid : Child). 0) kid kids in let rest = nothing kids in omega arith
-
--- a view that is no group measures itself alone
-pub leaf_calls : (tree : Forest Row) (view : ℕ) (specs : Specs) → 0 < times view tree → (head_view (from view tree)).class ≡ View → calls_under (from view tree) specs ≡ 1
-leaf_calls tree view specs live is_view =
-    let x = located view tree live in
-    let is_view : x.row.view.class ≡ View = rw x.is at is_view in
-    rw x.is (ap (λ class. calls_by class (facts_in (Branch x.row x.kids x.siblings)) (children_of (views_of x.kids)) specs) is_view)
+-- what the count is by then
+pub costs_counted : (list : Forest Row) (a b : ℕ → Held) (old between calls count : ℕ) → count ≡ min (between + 1) (2 ^ 64 - 1) → Costs list a b old calls count
+    → count ≡ min (old + calls) (2 ^ 64 - 1)
+costs_counted list a b old between calls count more costs = exactly between count (old + calls) (2 ^ 64 - 1) more costs.counted

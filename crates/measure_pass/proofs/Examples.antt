@@ -2,8 +2,7 @@
 use Rattle.std.specs.Prelude.{◌≡◌, ℕ, ℤ, pos, negsuc, refl, [], ◌∷◌}
 use Rattle.geom_core.specs.declared.measuring.Mode.TheVariants.{Exactly, AtMost}
 use Rattle.geom_core.specs.Spec.{child_spec_of, default_size_of, remaining_of, resolve_of}
-use Rattle.measure_pass.specs.Measured.{calls_under, last_specs, size_under}
-use Rattle.measure_pass.specs.Phases.{finals_of}
+use Rattle.measure_pass.specs.Measured.{calls_under, finals_under, last_specs, size_under}
 use Rattle.view_model.specs.declared.attributes.Facts.{Facts}
 use Rattle.view_model.specs.declared.kinds.Class.{Class}
 use Rattle.view_model.specs.declared.kinds.Class.TheVariants as class
@@ -56,7 +55,7 @@ unfolding group frame leaf gone row at_most match wrap child_spec_of default_siz
 below_what_matches_all_is_measured_twice = refl
 
 -- those that match are given the size of the other, exactly
-finals_are_exact : finals_of group at_most ≡ exactly 30 20 ∷ exactly 30 20 ∷ exactly 30 20 ∷ []
+finals_are_exact : finals_under group at_most ≡ exactly 30 20 ∷ exactly 30 20 ∷ exactly 30 20 ∷ []
 unfolding group frame leaf gone row at_most exactly match wrap child_spec_of default_size_of remaining_of resolve_of second_spec
 finals_are_exact = refl
 

@@ -1,7 +1,12 @@
-pub mod Counts
 mod Examples
-pub mod Group
-pub mod Handed
+pub mod Counts
+pub mod FrameLaws
+pub mod Lawful
+pub mod Laws
+pub mod LeafLaws
+pub mod MeasureKid
 pub mod Own
 pub mod Parts
+pub mod Turns
 pub mod Walk
+pub mod Whole

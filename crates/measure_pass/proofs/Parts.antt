@@ -1,16 +1,18 @@
 -- What is said of a list of views: it depends on these views alone, and is said of the first one and of the others.
-use Rattle.std.proofs.Common.{◌≡◌, ℕ, ◌+◌, ◌<◌, Bool, true, false, List, [], ◌∷◌, ◌++◌, arith, ap, ◌∙◌, sym, refl}
-use Rattle.std.specs.Prelude.{if◌then◌else◌, map}
+use Rattle.std.proofs.Common.{◌≡◌, ℕ, ◌+◌, ◌<◌, ◌≤◌, List, [], ◌∷◌, ◌++◌, append_assoc, arith, ap, ◌∙◌, sym, refl, subst}
+use Rattle.std.specs.Prelude.{Option}
+use Rattle.std.proofs.lemmas.List.{append-nil}
+use Rattle.measure_pass.specs.Courses.{CanTurn, InCourse, MeasuredFor, phase_calls}
 use Rattle.measure_pass.specs.Measured.{IsSized, Sized, last_specs}
-use Rattle.measure_pass.specs.Phases.{IsUnder, specs_by}
 use Rattle.view_model.specs.declared.attributes.Facts.{Facts}
-use Rattle.view_model.specs.Facts.{is_shown}
-use Rattle.view_model.specs.Forest.{Forest, Nothing, Branch}
-use Rattle.view_model.specs.Layout.{Child, children_of, shown}
-use Rattle.view_model.specs.Measuring.{Specs}
-use Rattle.view_tree.specs.Rows.{Row, after, alone, head_view, times, unscrolled_facts, views_of}
+use Rattle.view_model.specs.Course.{Requested, after_phase, after_turn, last_of, size_in, sizes_of}
+use Rattle.view_model.specs.Facts.{unscrolled_facts}
+use Rattle.view_model.specs.Forest.{Forest, Nothing, Branch, count_of}
+use Rattle.view_model.specs.Measuring.{Measured, Rule, Specs}
+use Rattle.view_tree.specs.Rows.{Row, after, alone, below, from, head_view, times}
 use Rattle.view_tree.specs.Views.{Held, specs_of}
-use Rattle.view_tree.proofs.KeyLaws.{times_self}
+use Rattle.view_tree.proofs.Forests.{count-within}
+use Rattle.view_tree.proofs.KeyLaws.{located, times_self}
 
 -- the facts of the first view of a list, as layout sees them
 abbrev pub facts_in : Forest Row → Facts
@@ -24,13 +26,13 @@ Same old new list = (key : ℕ) → 0 < times key list → new key ≡ old key
 abbrev pub Agree : (ℕ → Held) → (ℕ → Held) → Forest Row → Type 0
 Agree old new list = (key : ℕ) → times key list ≡ 0 → new key ≡ old key
 
-same_self : (old new : ℕ → Held) (row : Row) (kids siblings : Forest Row) → Same old new (Branch row kids siblings) → new row.key ≡ old row.key
+pub same_self : (old new : ℕ → Held) (row : Row) (kids siblings : Forest Row) → Same old new (Branch row kids siblings) → new row.key ≡ old row.key
 same_self old new row kids siblings same = same row.key (times_self row kids siblings)
 
-same_kids : (old new : ℕ → Held) (row : Row) (kids siblings : Forest Row) → Same old new (Branch row kids siblings) → Same old new kids
+pub same_kids : (old new : ℕ → Held) (row : Row) (kids siblings : Forest Row) → Same old new (Branch row kids siblings) → Same old new kids
 same_kids old new row kids siblings same = λ key h. same key (omega arith)
 
-same_siblings : (old new : ℕ → Held) (row : Row) (kids siblings : Forest Row) → Same old new (Branch row kids siblings) → Same old new siblings
+pub same_siblings : (old new : ℕ → Held) (row : Row) (kids siblings : Forest Row) → Same old new (Branch row kids siblings) → Same old new siblings
 same_siblings old new row kids siblings same = λ key h. same key (omega arith)
 
 pub last_specs-along : (old new : ℕ → Held) (list : Forest Row) → Same old new list → last_specs new list ≡ last_specs old list
@@ -40,72 +42,97 @@ last_specs-along old new (Branch row kids siblings) same =
     let rest = last_specs-along old new siblings (same_siblings old new row kids siblings same) in
     rw (own, rest) refl
 
-pub IsSized-along : (old new : ℕ → Held) (row : Row) (kids : Forest Row) → new row.key ≡ old row.key → Same old new kids → IsSized old row kids → IsSized new row kids
-IsSized-along old new row kids own same h = record {
-  size = rw own h.size;
-  finals = rw (own, last_specs-along old new kids same) h.finals;
-}
+pub IsSized-along : (old new : ℕ → Held) (own : Held) (row : Row) (kids : Forest Row) → Same old new kids → IsSized old own row kids → IsSized new own row kids
+IsSized-along old new own row kids same h = record { size = h.size; finals = last_specs-along old new kids same ∙ h.finals; total = h.total }
 
 pub Sized-along : (old new : ℕ → Held) (list : Forest Row) → Same old new list → Sized old list → Sized new list
 Sized-along old new Nothing same h = tt
 Sized-along old new (Branch row kids siblings) same h =
-    let below = same_kids old new row kids siblings same in (
-      λ here. (IsSized-along old new row kids (same_self old new row kids siblings same) below (h.0 here).0, Sized-along old new kids below (h.0 here).1),
+    let below = same_kids old new row kids siblings same in
+    let e : old row.key ≡ new row.key = sym (same_self old new row kids siblings same) in (
+      λ here. (subst (λ (own : Held). IsSized new own row kids) e (IsSized-along old new (old row.key) row kids below (h.0 here).0), Sized-along old new kids below (h.0 here).1),
       Sized-along old new siblings (same_siblings old new row kids siblings same) h.1,
     )
 
-pub IsUnder-along : (old new : ℕ → Held) (rule : Facts → Specs) (list : Forest Row) → Same old new list → IsUnder old rule list → IsUnder new rule list
-IsUnder-along old new rule list same h = record { sized = Sized-along old new list same h.sized; specs = last_specs-along old new list same ∙ h.specs }
+MeasuredFor-along : (old new : ℕ → Held) (row : Row) (kids : Forest Row) (requests : List Specs) → new row.key ≡ old row.key → Same old new kids
+    → MeasuredFor old row kids requests → MeasuredFor new row kids requests
+MeasuredFor-along old new row kids [] own same h = tt
+MeasuredFor-along old new row kids (specs ∷ more) own same h =
+    subst (λ (own : Held). (specs_of own.state ≡ last_of specs more) × IsSized new own row kids × Sized new kids) (sym own)
+    (h.0, IsSized-along old new (old row.key) row kids same h.1, Sized-along old new kids same h.2)
+
+pub InCourse-along : (old new : ℕ → Held) (list : Forest Row) (kids : List Requested) → Same old new list → InCourse old list kids → InCourse new list kids
+InCourse-along old new Nothing [] same h = tt
+InCourse-along old new Nothing (kid ∷ more) same h = absurd h
+InCourse-along old new (Branch row below siblings) [] same h = absurd h
+InCourse-along old new (Branch row below siblings) (kid ∷ more) same h = (
+  h.0,
+  MeasuredFor-along old new row below kid.requests (same_self old new row below siblings same) (same_kids old new row below siblings same) h.1,
+  InCourse-along old new siblings more (same_siblings old new row below siblings same) h.2,
+)
 
 -- how often a key occurs
 pub times_parts : (key : ℕ) (list : Forest Row) → times key list ≡ times key (alone list) + times key (after list)
 times_parts key Nothing = omega arith
 times_parts key (Branch row kids siblings) = omega arith
 
-if_parts : {A : Type 0} (v : Bool) (x : A) (more : List A) → (if v then x ∷ more else more) ≡ (if v then x ∷ [] else []) ++ more
-if_parts true x more = refl
-if_parts false x more = refl
+-- the children of the first view of a list and of those behind it
+pub record Split (rule : Rule) (past : List (List Measured)) (held : ℕ → Held) (list : Forest Row) (kids : List Requested) : Type 0 where
+  pub first : List Requested
+  pub rest : List Requested
+  pub whole : kids ≡ first ++ rest
+  pub alone : InCourse held (alone list) first
+  pub behind : InCourse held (after list) rest
+  pub turn : CanTurn rule past first
+  pub turns : CanTurn rule past rest
 
-pub last_specs_parts : (held : ℕ → Held) (list : Forest Row) → last_specs held list ≡ last_specs held (alone list) ++ last_specs held (after list)
-last_specs_parts held Nothing = refl
-last_specs_parts held (Branch row kids siblings) = if_parts (is_shown row.view.facts) (specs_of (held row.key).state) (last_specs held siblings)
+pub split : (rule : Rule) (past : List (List Measured)) (held : ℕ → Held) (list : Forest Row) (kids : List Requested) → InCourse held list kids → CanTurn rule past kids
+    → Split rule past held list kids
+split rule past held Nothing [] h can = record { first = []; rest = []; whole = refl; alone = tt; behind = tt; turn = tt; turns = tt }
+split rule past held Nothing (kid ∷ more) h can = absurd h
+split rule past held (Branch row below siblings) [] h can = absurd h
+split rule past held (Branch row below siblings) (kid ∷ more) h can =
+    record { first = kid ∷ []; rest = more; whole = refl; alone = (h.0, h.1, tt); behind = h.2; turn = (can.0, tt); turns = can.1 }
 
-map_if_parts : {A B : Type 0} (f : A → B) (v : Bool) (x : A) (more : List A) → map f (if v then x ∷ more else more) ≡ map f (if v then x ∷ [] else []) ++ map f more
-map_if_parts f true x more = refl
-map_if_parts f false x more = refl
+pub InCourse-join : (held : ℕ → Held) (list : Forest Row) (first rest : List Requested) → InCourse held (alone list) first → InCourse held (after list) rest
+    → InCourse held list (first ++ rest)
+InCourse-join held Nothing [] rest one more = more
+InCourse-join held Nothing (kid ∷ kids) rest one more = absurd one
+InCourse-join held (Branch row below siblings) [] rest one more = absurd one
+InCourse-join held (Branch row below siblings) (kid ∷ []) rest one more = (one.0, one.1, more)
+InCourse-join held (Branch row below siblings) (kid ∷ other ∷ kids) rest one more = absurd one.2
 
--- a list that is made of the views that take part in layout
-pub map_shown_parts : {A : Type 0} (f : Child → A) (list : Forest Row)
-    → map f (shown (children_of (views_of list))) ≡ map f (shown (children_of (views_of (alone list)))) ++ map f (shown (children_of (views_of (after list))))
-map_shown_parts f Nothing = refl
-map_shown_parts f (Branch row kids siblings) = map_if_parts f (is_shown row.view.facts) _ (shown (children_of (views_of siblings)))
+-- a phase of children, one part behind the other
+pub after_phase-append : (ask : List Measured → Measured → Option Specs) (taken : List Measured) (first rest : List Requested)
+    → after_phase ask taken (first ++ rest) ≡ after_phase ask taken first ++ after_phase ask (taken ++ sizes_of (after_phase ask taken first)) rest
+after_phase-append ask taken [] rest = ap (λ taken. after_phase ask taken rest) (sym (append-nil taken))
+after_phase-append ask taken (kid ∷ kids) rest =
+    let next = after_turn ask taken kid in
+    ap (λ more. next ∷ more) (after_phase-append ask (taken ++ size_in next) kids rest
+    ∙ ap (λ taken'. after_phase ask (taken ++ size_in next) kids ++ after_phase ask taken' rest)
+    (append_assoc taken (size_in next) (sizes_of (after_phase ask (taken ++ size_in next) kids))))
 
-pub IsUnder-join : (held : ℕ → Held) (rule : Facts → Specs) (list : Forest Row) → IsUnder held rule (alone list) → IsUnder held rule (after list) → IsUnder held rule list
-IsUnder-join held rule Nothing first rest = first
-IsUnder-join held rule (Branch row kids siblings) first rest = record {
-  sized = (first.sized.0, rest.sized);
-  specs =
-      let list = Branch row kids siblings in
-      last_specs_parts held list ∙ ap (λ specs. specs ++ last_specs held siblings) first.specs
-      ∙ ap (λ specs. specs_by rule (alone list) ++ specs) rest.specs ∙ sym (map_shown_parts (λ (kid : Child). rule kid.facts) list);
-}
+pub sizes_of-append : (first rest : List Requested) → sizes_of (first ++ rest) ≡ sizes_of first ++ sizes_of rest
+sizes_of-append [] rest = refl
+sizes_of-append (kid ∷ kids) rest = ap (λ more. size_in kid ++ more) (sizes_of-append kids rest) ∙ sym (append_assoc (size_in kid) (sizes_of kids) (sizes_of rest))
 
-split_if : {A B : Type 0} (f : A → B) (v : Bool) (x : B) (xs : List B) (y : A) (ys : List A) → (if v then x ∷ xs else xs) ≡ map f (if v then y ∷ ys else ys)
-    → ((if v then x ∷ [] else []) ≡ map f (if v then y ∷ [] else [])) × (xs ≡ map f ys)
-split_if f true x xs y ys e = (cc, cc)
-split_if f false x xs y ys e = (refl, e)
+pub phase_calls-append : (ask : List Measured → Measured → Option Specs) (taken : List Measured) (first rest : List Requested)
+    → phase_calls ask taken (first ++ rest) ≡ phase_calls ask taken first + phase_calls ask (taken ++ sizes_of (after_phase ask taken first)) rest
+phase_calls-append ask taken [] rest = let same = ap (λ taken. phase_calls ask taken rest) (sym (append-nil taken)) in omega arith
+phase_calls-append ask taken (kid ∷ kids) rest =
+    let next = after_turn ask taken kid in
+    let more = phase_calls-append ask (taken ++ size_in next) kids rest in
+    let same = ap (λ taken. phase_calls ask taken rest) (append_assoc taken (size_in next) (sizes_of (after_phase ask (taken ++ size_in next) kids))) in
+    omega arith
 
-split_specs : (held : ℕ → Held) (rule : Facts → Specs) (row : Row) (kids siblings : Forest Row)
-    → last_specs held (Branch row kids siblings) ≡ specs_by rule (Branch row kids siblings)
-    → (last_specs held (Branch row kids Nothing) ≡ specs_by rule (Branch row kids Nothing)) × (last_specs held siblings ≡ specs_by rule siblings)
-split_specs held rule row kids siblings e =
-    split_if (λ (kid : Child). rule kid.facts) (is_shown row.view.facts) (specs_of (held row.key).state) (last_specs held siblings) _
-    (shown (children_of (views_of siblings))) e
+-- a view counts for at least one
+pub count_one : (tree : Forest Row) (kid : ℕ) → 0 < times kid tree → 0 < count_of (alone (from kid tree))
+count_one tree kid live = let x = located kid tree live in rw x.is (omega arith)
 
-pub IsUnder-alone : (held : ℕ → Held) (rule : Facts → Specs) (list : Forest Row) → IsUnder held rule list → IsUnder held rule (alone list)
-IsUnder-alone held rule Nothing h = h
-IsUnder-alone held rule (Branch row kids siblings) h = record { sized = (h.sized.0, tt); specs = (split_specs held rule row kids siblings h.specs).0 }
-
-pub IsUnder-after : (held : ℕ → Held) (rule : Facts → Specs) (list : Forest Row) → IsUnder held rule list → IsUnder held rule (after list)
-IsUnder-after held rule Nothing h = h
-IsUnder-after held rule (Branch row kids siblings) h = record { sized = h.sized.1; specs = (split_specs held rule row kids siblings h.specs).1 }
+-- below a view there are no more views than in its tree
+pub count_few : (view : ℕ) (tree : Forest Row) → 0 < times view tree → count_of tree ≤ 4096 → count_of (below (from view tree)) ≤ 4096
+count_few view tree live few =
+    let x = located view tree live in
+    let all = count-within x.within in
+    let some : count_of x.kids ≤ 4096 = omega arith in
+    rw x.is some

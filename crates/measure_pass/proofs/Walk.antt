@@ -1,16 +1,16 @@
 -- A walk over the children of a view, in which each is measured as the plan of the group asks for it.
-use Rattle.std.proofs.Common.{◌≡◌, ℕ, ◌+◌, ◌-◌, ◌^◌, ◌<◌, ◌≤◌, min, Option, Some, List, [], ◌++◌, append_assoc, arith, ap, ◌∙◌, sym, refl, subst}
+use Rattle.std.proofs.Common.{◌≡◌, ℕ, ◌+◌, ◌<◌, ◌≤◌, Bool, true, false, Option, Some, List, [], ◌∷◌, ◌++◌, length, append_assoc, arith, ap, ◌∙◌, sym, refl, subst, length-append}
 use Rattle.std.specs.Prelude.{if◌then◌else◌, IfSome}
 use Rattle.std.proofs.lemmas.List.{append-nil}
-use Rattle.frame_layout.specs.declared.plan.FramePlan.{FramePlan}
-use Rattle.frame_layout.specs.FramePlan.{InFirst, InSecond}
-use Rattle.measure_pass.specs.Phases.{FirstPhase, IsRaised, IsUnder, SecondPhase, final_in, first_calls, first_of, second_calls}
-use Rattle.measure_pass.proofs.Counts.{raised_end, raised_on, sum_by_parts}
-use Rattle.measure_pass.proofs.Parts.{Agree, IsUnder-after, IsUnder-along, IsUnder-join, Same, map_shown_parts, times_parts}
-use Rattle.view_model.specs.declared.attributes.Facts.{Facts}
-use Rattle.view_model.specs.Forest.{Forest, Nothing, count_of}
-use Rattle.view_model.specs.FrameLayout.{first_specs, frame_size, is_measured_again, second_specs}
-use Rattle.view_model.specs.Layout.{Child}
+use Rattle.measure_pass.specs.declared.plan.Plan.{Plan}
+use Rattle.measure_pass.specs.Courses.{AfterPhase, CanTurn, InCourse, phase_calls}
+use Rattle.measure_pass.specs.Measured.{Costs}
+use Rattle.measure_pass.specs.Plans.{Group, Stands, rule_in}
+use Rattle.measure_pass.proofs.Counts.{costs_nothing, costs_parts, costs_same}
+use Rattle.measure_pass.proofs.Parts.{Agree, InCourse-along, InCourse-join, Same, after_phase-append, phase_calls-append, sizes_of-append, split, times_parts}
+use Rattle.view_model.specs.Course.{Requested, after_phase, measured_of, sizes_of, size_in}
+use Rattle.view_model.specs.Facts.{is_shown}
+use Rattle.view_model.specs.Forest.{Forest, Nothing, Branch, count_of}
 use Rattle.view_model.specs.Measuring.{Measured, Specs}
 use Rattle.view_tree.specs.Rows.{Row, after, alone, from, rest_from, times}
 use Rattle.view_tree.specs.Views.{Held}
@@ -25,20 +25,19 @@ pub record Walked (tree kids : Forest Row) (start : ℕ → Held) (next : Option
   pub others : Agree start now kids
   pub still : Same start now (rest_from next tree)
 
--- the plan of a group in its first phase, where these children are left
-pub record Firsts (plan : FramePlan) (own : Facts) (specs : Specs) (kids rest : Forest Row) (now : ℕ → Held) (start count : ℕ) : Type 0 where
+-- the plan of a group in a phase, where these children are left
+pub record Phasing (plan : Plan) (group : Group) (past : List (List Measured)) (asked : List Requested) (kids rest : Forest Row) (begin now : ℕ → Held) (start count : ℕ) : Type 0 where
   pub taken : List Measured
-  pub plan_stands : InFirst plan own specs taken
-  pub ahead : taken ++ first_of own specs rest ≡ first_of own specs kids
-  pub done : (end : ℕ → Held) → Agree now end rest → IsUnder end (first_specs own specs) rest → IsUnder end (first_specs own specs) kids
-  pub counted : IsRaised start (first_calls own specs kids) (count + first_calls own specs rest)
-
--- the same in its second phase
-pub record Seconds (plan : FramePlan) (own : Facts) (specs : Specs) (taken : List Measured) (kids rest : Forest Row) (now : ℕ → Held) (start count : ℕ) : Type 0 where
-  pub plan_stands : InSecond plan own specs taken
-  pub before : IsUnder now (first_specs own specs) rest
-  pub done : (end : ℕ → Held) → Agree now end rest → IsUnder end (final_in own specs taken) rest → IsUnder end (final_in own specs taken) kids
-  pub counted : IsRaised start (second_calls own specs taken kids) (count + second_calls own specs taken rest)
+  pub ahead : List Requested
+  pub plan_stands : Stands plan group past taken
+  pub few : length taken + count_of rest ≤ 4096
+  pub before : InCourse now rest ahead
+  pub can : CanTurn (rule_in group) past ahead
+  pub sizes : taken ++ sizes_of (after_phase ((rule_in group).ask past) taken ahead) ≡ sizes_of (after_phase ((rule_in group).ask past) [] asked)
+  pub done : (end : ℕ → Held) → Agree now end rest → InCourse end rest (after_phase ((rule_in group).ask past) taken ahead)
+      → InCourse end kids (after_phase ((rule_in group).ask past) [] asked)
+  pub costs : (end : ℕ → Held) (last : ℕ) → Agree now end rest → Costs rest now end count (phase_calls ((rule_in group).ask past) taken ahead) last
+      → Costs kids begin end start (phase_calls ((rule_in group).ask past) [] asked) last
 
 -- a part with a first view, then that view alone, then the part behind it
 agree_on : (old mid end : ℕ → Held) (part : Forest Row) → Agree old mid (alone part) → Agree mid end (after part) → Agree old end part
@@ -81,61 +80,86 @@ walk_on tree kids start kid old mid next w others is live =
       still = rw is (λ key here. after_same old mid (from kid tree) once others key here ∙ w.still key (let p = times_parts key (from kid tree) in omega arith));
     }
 
-pub first_start : (plan : FramePlan) (own : Facts) (specs : Specs) (kids : Forest Row) (now : ℕ → Held) (count : ℕ) → InFirst plan own specs []
-    → Firsts plan own specs kids kids now count count
-first_start plan own specs kids now count stands = record { taken = []; plan_stands = stands; ahead = refl; done = λ end agree h. h; counted = refl }
+pub phase_start : (plan : Plan) (group : Group) (past : List (List Measured)) (asked : List Requested) (kids : Forest Row) (now : ℕ → Held) (count : ℕ)
+    → Stands plan group past [] → count_of kids ≤ 4096 → InCourse now kids asked → CanTurn (rule_in group) past asked
+    → Phasing plan group past asked kids kids now now count count
+phase_start plan group past asked kids now count stands few course can =
+    record { taken = []; ahead = asked; plan_stands = stands; few = omega arith; before = course; can = can; sizes = refl; done = λ end agree h. h; costs = λ end last agree h. h }
 
-pub first_on : (before plan : FramePlan) (own : Facts) (specs : Specs) (kids part : Forest Row) (old mid : ℕ → Held) (start count new : ℕ) → ((key : ℕ) → times key part ≤ 1)
-    → (f : Firsts before own specs kids part old start count) → Agree old mid (alone part) → FirstPhase plan own specs f.taken mid (alone part) count new
-    → Firsts plan own specs kids (after part) mid start new
-first_on before plan own specs kids part old mid start count new once f others phase =
-    let calls : Child → ℕ = λ kid. kid.calls (first_specs own specs kid.facts) in
-    record {
-      taken = f.taken ++ first_of own specs (alone part);
-      plan_stands = phase.plan_stands;
-      ahead = append_assoc f.taken (first_of own specs (alone part)) (first_of own specs (after part))
-          ∙ ap (λ measured. f.taken ++ measured) (sym (map_shown_parts
-          (λ (kid : Child). record { facts = kid.facts; size = kid.measure (first_specs own specs kid.facts) }) part)) ∙ f.ahead;
-      done = λ end agree h. f.done end (agree_on old mid end part others agree)
-          (IsUnder-join end (first_specs own specs) part (IsUnder-along mid end (first_specs own specs) (alone part) (alone_same mid end part once agree) phase.measured) h);
-      counted = raised_on start count new (first_calls own specs (alone part)) (first_calls own specs (after part)) (first_calls own specs kids) (2 ^ 64 - 1)
-          (ap (λ more. min (count + more) (2 ^ 64 - 1)) (sym (sum_by_parts calls part)) ∙ f.counted) phase.counted;
-    }
+count_parts : (list : Forest Row) → count_of list ≡ count_of (alone list) + count_of (after list)
+count_parts Nothing = omega arith
+count_parts (Branch row kids siblings) = omega arith
 
-pub second_start : (plan : FramePlan) (own : Facts) (specs : Specs) (taken : List Measured) (kids : Forest Row) (now : ℕ → Held) (count : ℕ)
-    → InSecond plan own specs taken → IsUnder now (first_specs own specs) kids → Seconds plan own specs taken kids kids now count count
-second_start plan own specs taken kids now count stands before = record { plan_stands = stands; before = before; done = λ end agree h. h; counted = refl }
+-- no more sizes than views
+size_in-few : (kid : Requested) → length (size_in kid) ≤ 1
+size_in-few kid = by_test (is_shown kid.child.facts) (measured_of kid)
+  where
+    by_test : (v : Bool) (m : Measured) → length (if v then m ∷ [] else []) ≤ 1
+    by_test true m = omega arith
+    by_test false m = omega arith
 
-pub second_on : (before plan : FramePlan) (own : Facts) (specs : Specs) (taken : List Measured) (kids part : Forest Row) (old mid : ℕ → Held) (start count new : ℕ)
+sizes_few : (now : ℕ → Held) (list : Forest Row) (kids : List Requested) → InCourse now list kids → length (sizes_of kids) ≤ count_of list
+sizes_few now Nothing [] h = omega arith
+sizes_few now Nothing (kid ∷ more) h = absurd h
+sizes_few now (Branch row below siblings) [] h = absurd h
+sizes_few now (Branch row below siblings) (kid ∷ more) h =
+    let rest = sizes_few now siblings more h.2 in
+    let one = size_in-few kid in
+    let both = length-append (size_in kid) (sizes_of more) in
+    omega arith
+
+pub phase_on : (before plan : Plan) (group : Group) (past : List (List Measured)) (asked : List Requested) (kids part : Forest Row) (begin old mid : ℕ → Held) (start count new : ℕ)
     → ((key : ℕ) → times key part ≤ 1)
-    → Seconds before own specs taken kids part old start count → Agree old mid (alone part) → SecondPhase plan own specs taken mid (alone part) count new
-    → Seconds plan own specs taken kids (after part) mid start new
-second_on before plan own specs taken kids part old mid start count new once s others phase =
-    let calls : Child → ℕ = λ kid. if is_measured_again specs taken kid.facts then kid.calls (second_specs own specs (frame_size own specs taken) kid.facts) else 0 in
+    → Phasing before group past asked kids part begin old start count → Agree old mid (alone part)
+    → ((taken : List Measured) (first : List Requested) → Stands before group past taken → length taken + count_of (alone part) ≤ 4096 → InCourse old (alone part) first
+    → CanTurn (rule_in group) past first → AfterPhase plan group past taken first old mid (alone part) count new)
+    → Phasing plan group past asked kids (after part) begin mid start new
+phase_on before plan group past asked kids part begin old mid start count new once f others turn =
+    let ask = (rule_in group).ask past in
+    let s = split (rule_in group) past old part f.ahead f.before f.can in
+    let parts = count_parts part in
+    let few = f.few in
+    let phase = turn f.taken s.first f.plan_stands (omega arith) s.alone s.turn in
+    let first = after_phase ask f.taken s.first in
+    let taken = f.taken ++ sizes_of first in
+    let rest = after_phase ask taken s.rest in
+    let apart : after_phase ask f.taken f.ahead ≡ first ++ rest = ap (λ all. after_phase ask f.taken all) s.whole ∙ after_phase-append ask f.taken s.first s.rest in
+    let fewer = sizes_few mid (alone part) first phase.course in
+    let longer = length-append f.taken (sizes_of first) in
+    let calls : phase_calls ask f.taken f.ahead ≡ phase_calls ask f.taken s.first + phase_calls ask taken s.rest =
+    ap (λ all. phase_calls ask f.taken all) s.whole ∙ phase_calls-append ask f.taken s.first s.rest in
     record {
+      taken = taken;
+      ahead = s.rest;
       plan_stands = phase.plan_stands;
-      before = IsUnder-along old mid (first_specs own specs) (after part) (after_same old mid part once others) (IsUnder-after old (first_specs own specs) part s.before);
-      done = λ end agree h. s.done end (agree_on old mid end part others agree)
-          (IsUnder-join end (final_in own specs taken) part (IsUnder-along mid end (final_in own specs taken) (alone part)
-          (alone_same mid end part once agree) phase.measured) h);
-      counted = raised_on start count new (second_calls own specs taken (alone part)) (second_calls own specs taken (after part)) (second_calls own specs taken kids)
-          (2 ^ 64 - 1)
-          (ap (λ more. min (count + more) (2 ^ 64 - 1)) (sym (sum_by_parts calls part)) ∙ s.counted) phase.counted;
+      few = omega arith;
+      before = InCourse-along old mid (after part) s.rest (after_same old mid part once others) s.behind;
+      can = s.turns;
+      sizes = append_assoc f.taken (sizes_of first) (sizes_of rest) ∙ ap (λ more. f.taken ++ more) (sym (sizes_of-append first rest) ∙ ap sizes_of (sym apart)) ∙ f.sizes;
+      done = λ end agree h. f.done end (agree_on old mid end part others agree)
+          (subst (λ all. InCourse end part all) (sym apart)
+          (InCourse-join end part first rest (InCourse-along mid end (alone part) first (alone_same mid end part once agree) phase.course) h));
+      costs = λ end last agree h. f.costs end last (agree_on old mid end part others agree)
+          (costs_same part old end count (phase_calls ask f.taken s.first + phase_calls ask taken s.rest) (phase_calls ask f.taken f.ahead) last calls
+          (costs_parts part old mid end count new last (phase_calls ask f.taken s.first) (phase_calls ask taken s.rest) once others agree phase.costs h));
     }
 
 -- no child is left
-pub first_end : (plan : FramePlan) (own : Facts) (specs : Specs) (kids : Forest Row) (now : ℕ → Held) (start count : ℕ)
-    → Firsts plan own specs kids Nothing now start count → FirstPhase plan own specs [] now kids start count
-first_end plan own specs kids now start count f = record {
-  plan_stands = subst (λ (measured : List Measured). InFirst plan own specs measured) (sym (append-nil f.taken) ∙ f.ahead) f.plan_stands;
-  measured = f.done now (λ key absent. refl) (record { sized = tt; specs = refl });
-  counted = raised_end start count (first_calls own specs kids) (2 ^ 64 - 1) f.counted;
-}
+pub phase_end : (plan : Plan) (group : Group) (past : List (List Measured)) (asked : List Requested) (kids : Forest Row) (begin now : ℕ → Held) (start count : ℕ)
+    → Phasing plan group past asked kids Nothing begin now start count → AfterPhase plan group past [] asked begin now kids start count
+phase_end plan group past asked kids begin now start count f = ended f.ahead f.before f.sizes f.done (f.costs now count (λ key absent. refl))
+  where
+    ask : List Measured → Measured → Option Specs
+    ask = (rule_in group).ask past
 
-pub second_end : (plan : FramePlan) (own : Facts) (specs : Specs) (taken : List Measured) (kids : Forest Row) (now : ℕ → Held) (start count : ℕ)
-    → Seconds plan own specs taken kids Nothing now start count → SecondPhase plan own specs taken now kids start count
-second_end plan own specs taken kids now start count s = record {
-  plan_stands = s.plan_stands;
-  measured = s.done now (λ key absent. refl) (record { sized = tt; specs = refl });
-  counted = raised_end start count (second_calls own specs taken kids) (2 ^ 64 - 1) s.counted;
-}
+    ended : (ahead : List Requested) → InCourse now Nothing ahead
+        → f.taken ++ sizes_of (after_phase ask f.taken ahead) ≡ sizes_of (after_phase ask [] asked)
+        → ((end : ℕ → Held) → Agree now end Nothing → InCourse end Nothing (after_phase ask f.taken ahead) → InCourse end kids (after_phase ask [] asked))
+        → (Costs Nothing now now count (phase_calls ask f.taken ahead) count → Costs kids begin now start (phase_calls ask [] asked) count)
+        → AfterPhase plan group past [] asked begin now kids start count
+    ended (kid ∷ more) none sizes done costs = absurd none
+    ended [] none sizes done costs = record {
+      plan_stands = subst (λ all. Stands plan group past all) (sym (append-nil f.taken) ∙ sizes) f.plan_stands;
+      course = done now (λ key absent. refl) tt;
+      costs = costs (costs_nothing Nothing now count);
+    }

@@ -1,9 +1,9 @@
 -- What a measuring leaves with the views of a tree.
-use Rattle.std.specs.Prelude.{◌≡◌, ℕ, pos, true, if◌then◌else◌, List, [], ◌∷◌}
+use Rattle.std.specs.Prelude.{◌≡◌, ℕ, ℤ, ◌+◌, ◌-◌, ◌^◌, min, pos, true, if◌then◌else◌, List, [], ◌∷◌}
 use Rattle.geom_core.specs.declared.geometry.Size.{Size}
 use Rattle.view_model.specs.Facts.{is_shown}
 use Rattle.view_model.specs.Forest.{Forest, Nothing, Branch}
-use Rattle.view_model.specs.Layout.{final_specs, measure_calls, measured_size}
+use Rattle.view_model.specs.Layout.{final_specs, measure_calls, measured_size, total_size}
 use Rattle.view_model.specs.Measuring.{Specs}
 use Rattle.view_tree.specs.Rows.{Row, alone, from, views_of}
 use Rattle.view_tree.specs.Views.{Held, Views, IsLive, held_of, specs_of, state_of}
@@ -13,7 +13,17 @@ abbrev pub size_under : Forest Row → Specs → Size
 size_under Nothing specs = record { w = pos 0; h = pos 0 }
 size_under (Branch row kids siblings) specs = measured_size row.view (views_of kids) specs
 
--- how many views are measured where the first view of a list is measured under these specs
+-- what its children take along its axis
+abbrev pub total_under : Forest Row → Specs → ℤ
+total_under Nothing specs = pos 0
+total_under (Branch row kids siblings) specs = total_size row.view (views_of kids) specs
+
+-- its final specs for them
+abbrev pub finals_under : Forest Row → Specs → List Specs
+finals_under Nothing specs = []
+finals_under (Branch row kids siblings) specs = final_specs row.view (views_of kids) specs
+
+-- how many views are measured where it is
 abbrev pub calls_under : Forest Row → Specs → ℕ
 calls_under Nothing specs = 0
 calls_under (Branch row kids siblings) specs = measure_calls row.view (views_of kids) specs
@@ -24,15 +34,18 @@ last_specs held Nothing = []
 last_specs held (Branch row kids siblings) =
     if is_shown row.view.facts then specs_of (held row.key).state ∷ last_specs held siblings else last_specs held siblings
 
--- a view has its size under the specs of its last measuring, and its children were last measured under its final specs for them
-pub record IsSized (held : ℕ → Held) (row : Row) (kids : Forest Row) : Type 0 where
-  pub size : (held row.key).state.measured ≡ measured_size row.view (views_of kids) (specs_of (held row.key).state)
-  pub finals : last_specs held kids ≡ final_specs row.view (views_of kids) (specs_of (held row.key).state)
+-- a view, with which this is kept, has its size under the specs of its last measuring, and its children were last measured
+-- under its final specs for them
+pub record IsSized (held : ℕ → Held) (own : Held) (row : Row) (kids : Forest Row) : Type 0 where
+  pub size : own.state.measured ≡ measured_size row.view (views_of kids) (specs_of own.state)
+  pub finals : last_specs held kids ≡ final_specs row.view (views_of kids) (specs_of own.state)
+  pub total : own.state.total ≡ total_size row.view (views_of kids) (specs_of own.state)
 
 -- so is each view of a list that takes part in layout
 abbrev pub Sized : (ℕ → Held) → Forest Row → Type 0
 Sized held Nothing = Unit {0}
-Sized held (Branch row kids siblings) = (is_shown row.view.facts ≡ true → IsSized held row kids × Sized held kids) × Sized held siblings
+Sized held (Branch row kids siblings) =
+    (is_shown row.view.facts ≡ true → IsSized held (held row.key) row kids × Sized held kids) × Sized held siblings
 
 -- what a view has to be so that it can be measured
 pub record IsReady (views : Views) (view : ℕ) : Type 0 where
@@ -45,6 +58,15 @@ pub record IsMeasured (views : Views) (view : ℕ) (specs : Specs) : Type 0 wher
   pub sized : Sized (held_of views) (alone (from view views.tree))
 
 -- a measuring leaves where views lie, and how far they have scrolled
-pub record KeepsPlaces (old new : Views) : Type 0 where
-  pub bounds : (key : ℕ) → (state_of new key).bounds ≡ (state_of old key).bounds
-  pub offsets : (key : ℕ) → (held_of new key).offset ≡ (held_of old key).offset
+pub record Keeps (old new : ℕ → Held) : Type 0 where
+  pub bounds : (key : ℕ) → (new key).state.bounds ≡ (old key).state.bounds
+  pub offsets : (key : ℕ) → (new key).offset ≡ (old key).offset
+
+-- what is kept with a view that was measured under these specs, once its children were
+abbrev pub done_with : Held → Specs → Size → ℤ → Held
+done_with own specs size total =
+    record own { state = record own.state { measured = size; ws = specs.across; hs = specs.down; total = total } }
+
+-- the measuring of the views of a list raises a count by so much; it stays at the greatest number once it is there
+pub record Costs (list : Forest Row) (before held : ℕ → Held) (old calls new : ℕ) : Type 0 where
+  pub counted : min new (2 ^ 64 - 1) ≡ min (old + calls) (2 ^ 64 - 1)

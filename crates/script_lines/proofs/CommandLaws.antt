@@ -9,15 +9,10 @@ use Rattle.script_lines.specs.Commands.{command_by, command_of, set_of}
 use Rattle.script_lines.specs.Lines.{is_passed_over, is_space}
 use Rattle.script_lines.specs.Names.{begins_with, hex_of, id_of, known, name_in, name_of}
 use Rattle.script_lines.specs.Numbers.{natural_of}
-use Rattle.script_lines.specs.Words.{after_word, first_word, in_word, map_ok, then, word_in, words}
+use Rattle.script_lines.specs.Words.{after_word, first_word, in_word, map_ok, ◌>>=◌, word_in, words}
 use Rattle.script_lines.specs.declared.fault.LineFault.{LineFault}
 use Rattle.script_lines.specs.declared.fault.LineFault.TheVariants.{Syntax}
 use Rattle.script_lines.proofs.WordLaws.{word_space, words_some}
-
--- a line that is not valid UTF-8
-pub not_text : (line : List ℕ) → is_utf8 line ≡ false → command_of line ≡ Err Syntax
-unfolding command_of
-not_text line e = rw e refl
 
 -- a line without words
 no_words : (line : List ℕ) → words line ≡ [] → command_of line ≡ Err Syntax
@@ -27,11 +22,11 @@ no_words line e = elim (cases_Bool (is_utf8 line)) [
   | inr f ↦ rw f refl
 ]
 
-and-left : (a b : Bool) → (a && b) ≡ true → a ≡ true
+pub and-left : (a b : Bool) → (a && b) ≡ true → a ≡ true
 and-left true b h = refl
 and-left false b h = absurd (cc)
 
-and-right : (a b : Bool) → (a && b) ≡ true → b ≡ true
+pub and-right : (a b : Bool) → (a && b) ≡ true → b ≡ true
 and-right true b h = h
 and-right false b h = absurd (cc)
 
@@ -70,11 +65,11 @@ name_of-only_syntax word = elim (cases_Bool (begins_with 118 word)) [
   ]
 ]
 
-then-only_syntax : {A B : Type 0} (r : Result A LineFault) (next : A → Result B LineFault) → OnlySyntax r → ((a : A) → next a ≡ Err Syntax) → then r next ≡ Err Syntax
+then-only_syntax : {A B : Type 0} (r : Result A LineFault) (next : A → Result B LineFault) → OnlySyntax r → ((a : A) → next a ≡ Err Syntax) → (r >>= next) ≡ Err Syntax
 then-only_syntax (Ok a) next h k = k a
 then-only_syntax (Err fault) next h k = ap Err h
 
-then-ok : {A B : Type 0} (r : Result A LineFault) (f : A → B) → OnlySyntax r → OnlySyntax (then r (λ a. Ok (f a)))
+then-ok : {A B : Type 0} (r : Result A LineFault) (f : A → B) → OnlySyntax r → OnlySyntax (r >>= λ a. Ok (f a))
 then-ok (Ok a) f h = tt
 then-ok (Err fault) f h = h
 
@@ -93,7 +88,7 @@ comment bs = elim (cases_Bool (is_utf8 (35 ∷ bs))) [
   | inl t ↦ rw t (
       let mark = first_word-mark bs in
       let some : 0 < length (first_word (35 ∷ bs)) = omega (arith, ap length mark) in
-      ap (λ ws. then (word_in ws) (λ head. command_by head.0 head.1)) (words_some (35 ∷ bs) some ∙ ap (λ w. w ∷ words (after_word (35 ∷ bs))) mark)
+      ap (λ ws. word_in ws >>= λ head. command_by head.0 head.1) (words_some (35 ∷ bs) some ∙ ap (λ w. w ∷ words (after_word (35 ∷ bs))) mark)
       ∙ command_by-mark _ _)
   | inr f ↦ rw f refl
 ]

@@ -97,6 +97,27 @@ fed_line-lines before piece now at line p h k l el =
 pub fed-stands : (before piece : List ℕ) (at : ℕ) → at ≡ position_or_len is_line_feed piece → at < length piece → [] ≡ held_of (cut_of (before ++ take (at + 1) piece)).rest
 fed-stands before piece at p h = ap (λ (c : Cut). held_of c.rest) (sym (cut-ended before piece at p h))
 
+-- nothing is held of the line that began
+pub none_held : (n : ℕ) (buffer old rest : List ℕ) → n ≡ 0 → take n buffer ≡ old → old ≡ held_of rest → [] ≡ held_of rest
+none_held n buffer old rest e eo h = ap (λ i. take i buffer) (sym e) ∙ eo ∙ h
+
+lent_now : (rest body : List ℕ) → [] ≡ held_of rest → held_of (held_of rest ++ body) ≡ held_of body
+lent_now rest body e = ap (λ l. held_of (l ++ body)) (sym e)
+
+-- a line that lies whole in the piece
+pub lent_long-lines : (before piece : List ℕ) (at : ℕ) → at ≡ position_or_len is_line_feed piece → at < length piece → [] ≡ held_of (cut_of before).rest → 1024 < at
+    → (cut_of (before ++ take (at + 1) piece)).lines ≡ (cut_of before).lines ++ LongLine ∷ []
+lent_long-lines before piece at p h e l =
+    fed_long-lines before piece (held_of (take at piece)) at p h (sym (lent_now (cut_of before).rest (take at piece) e)) (omega (arith, h, l, length-take at piece, length-take 1025 (take at piece)))
+
+pub lent_line-lines : (before piece : List ℕ) (at len : ℕ) → at ≡ position_or_len is_line_feed piece → at < length piece → [] ≡ held_of (cut_of before).rest → at ≤ 1024
+    → len ≤ length (take at piece) → take len (take at piece) ≡ without_return (take at piece)
+    → (cut_of (before ++ take (at + 1) piece)).lines ≡ (cut_of before).lines ++ Text (take len piece) ∷ []
+lent_line-lines before piece at len p h e l k el =
+    let short : length (take at piece) ≤ 1024 = omega (arith, h, l, length-take at piece) in
+    fed_line-lines before piece (take at piece) at (take len piece) p h
+    (sym (lent_now (cut_of before).rest (take at piece) e ∙ take_all 1025 (take at piece) (omega (arith, short)))) short (sym (take_take len at piece k) ∙ el)
+
 -- the last line, by what is held of it
 pub last_of-none : (rest : List ℕ) → length (held_of rest) ≡ 0 → last_of rest ≡ []
 last_of-none [] h = refl

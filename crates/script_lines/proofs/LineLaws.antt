@@ -1,12 +1,11 @@
 -- Bytes that are cut into lines.
-use Rattle.std.proofs.Common.{◌≡◌, ℕ, ◌+◌, ◌-◌, ◌≤◌, ◌<◌, true, false, refl, ap, sym, ◌∙◌, inl, inr, List, [], ◌∷◌, ◌++◌, length, take, drop, arith, append_assoc, length-append}
+use Rattle.std.proofs.Common.{◌≡◌, ℕ, ◌+◌, ◌≤◌, ◌<◌, true, false, refl, ap, sym, ◌∙◌, inl, inr, List, [], ◌∷◌, ◌++◌, length, take, arith, append_assoc, length-append}
 use Rattle.std.specs.List.{fold, position_or_len}
 use Rattle.std.specs.Prelude.{suc}
 use Rattle.std.proofs.lemmas.Bool.{cases_Bool}
-use Rattle.std.proofs.lemmas.List.{append-nil, take-append-drop}
+use Rattle.std.proofs.lemmas.List.{append-nil}
 use Rattle.std.proofs.lemmas.List.Sums.{fold-append}
-use Rattle.std.proofs.Math.Seq.{take-add}
-use Rattle.script_lines.specs.Lines.{Line, Cut, cut_of, cut_step, is_line_feed, last_line, last_of, line_of, lines_of}
+use Rattle.script_lines.specs.Lines.{Line, Cut, cut_of, cut_step, is_line_feed, last_line, last_of, line_of}
 
 step_feed : (cut : Cut) (b : ℕ) → is_line_feed b ≡ true → cut_step cut b ≡ record { lines = cut.lines ++ line_of cut.rest ∷ []; rest = [] }
 step_feed cut b e = rw e refl
@@ -40,27 +39,6 @@ cut-append a b =
 
 pub cut_lines-append : (a b : List ℕ) → (more : List Line) × ((cut_of (a ++ b)).lines ≡ (cut_of a).lines ++ more)
 cut_lines-append a b = ((cut_behind (cut_of a).rest b).lines, ap (λ c. c.lines) (cut-append a b))
-
-pub lines_of-append : (a b : List ℕ) → (more : List Line) × (lines_of (a ++ b) ≡ (cut_of a).lines ++ more)
-unfolding lines_of
-lines_of-append a b = (
-  (cut_behind (cut_of a).rest b).lines ++ last_of (cut_behind (cut_of a).rest b).rest,
-  ap (λ (c : Cut). c.lines ++ last_of c.rest) (cut-append a b) ∙ append_assoc (cut_of a).lines _ _,
-)
-
--- the same, for the front of a script
-pub cut_lines-take : (n : ℕ) (script : List ℕ) → (more : List Line) × (lines_of script ≡ (cut_of (take n script)).lines ++ more)
-cut_lines-take n script =
-    let p = lines_of-append (take n script) (drop n script) in
-    (p.0, ap lines_of (sym (take-append-drop n script)) ∙ p.1)
-
--- behind a line feed the cut begins anew
-pub cut-append_ended : (a b : List ℕ) → (cut_of a).rest ≡ [] → cut_of (a ++ b) ≡ record { lines = (cut_of a).lines ++ (cut_of b).lines; rest = (cut_of b).rest }
-cut-append_ended a b e = cut-append a b ∙ ap (λ (r : List ℕ). record { lines = (cut_of a).lines ++ (cut_behind r b).lines; rest = (cut_behind r b).rest }) e
-
-pub lines_of-append_ended : (a b : List ℕ) → (cut_of a).rest ≡ [] → lines_of (a ++ b) ≡ (cut_of a).lines ++ lines_of b
-unfolding lines_of
-lines_of-append_ended a b e = ap (λ (c : Cut). c.lines ++ last_of c.rest) (cut-append_ended a b e) ∙ append_assoc (cut_of a).lines (cut_of b).lines (last_of (cut_of b).rest)
 
 one_add : (n : ℕ) → 1 + n ≡ suc n
 one_add n = omega arith
@@ -108,12 +86,6 @@ pub last_of-some : (rest : List ℕ) → 0 < length rest → last_of rest ≡ la
 last_of-some [] h = absurd (omega (arith, h))
 last_of-some (b ∷ bs) h = refl
 
--- the lines up to a later place begin with those up to an earlier one
-pub cut_lines-take_le : (script : List ℕ) (i j : ℕ) → i ≤ j → (more : List Line) × ((cut_of (take j script)).lines ≡ (cut_of (take i script)).lines ++ more)
-cut_lines-take_le script i j h =
-    let p = cut_lines-append (take i script) (take (j - i) (drop i script)) in
-    (p.0, ap (λ n. (cut_of (take n script)).lines) (let q : j ≡ i + (j - i) = omega (arith, h) in q) ∙ ap (λ l. (cut_of l).lines) (take-add i (j - i) script) ∙ p.1)
-
 -- a script has no more lines than bytes
 counted : (cut : Cut) (bytes : List ℕ) → length (fold cut_step cut bytes).lines + length (fold cut_step cut bytes).rest ≤ length cut.lines + length cut.rest + length bytes
 counted cut [] = omega arith
@@ -125,13 +97,5 @@ counted cut (b ∷ bs) =
     ] in
     omega (arith, h, k)
 
-last_of-length : (rest : List ℕ) → length (last_of rest) ≤ length rest
-last_of-length [] = omega arith
-last_of-length (b ∷ bs) = omega arith
-
 pub cut_lines-length : (bytes : List ℕ) → length (cut_of bytes).lines ≤ length bytes
 cut_lines-length bytes = omega (arith, counted (record { lines = []; rest = [] }) bytes)
-
-pub lines_of-length : (bytes : List ℕ) → length (lines_of bytes) ≤ length bytes
-unfolding lines_of
-lines_of-length bytes = omega (arith, counted (record { lines = []; rest = [] }) bytes, last_of-length (cut_of bytes).rest, length-append (cut_of bytes).lines (last_of (cut_of bytes).rest))

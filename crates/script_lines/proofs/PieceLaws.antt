@@ -1,10 +1,9 @@
 -- The lines of a script do not depend on where its pieces are cut.
 use Rattle.std.proofs.Common.{◌≡◌, ℕ, ap, sym, subst, ◌∙◌, List, [], ◌∷◌, ◌++◌, append_assoc, take}
 use Rattle.std.proofs.lemmas.List.{append-nil}
-use Rattle.script_lines.specs.Lines.{cut_of, last_of, lines_of}
-use Rattle.script_lines.specs.Held.{Held, Stands, lines_as}
-use Rattle.script_lines.specs.Pieces.{Taken, Finishes, Course, bytes_in, lines_in}
-use Rattle.script_lines.specs.declared.cutting.Ended.{Ended}
+use Rattle.script_lines.specs.Lines.{Line, cut_of, last_of, lines_of}
+use Rattle.script_lines.specs.Held.{Held, Stands}
+use Rattle.script_lines.specs.Pieces.{Taken, Course, bytes_in, lines_in}
 
 -- after any course
 after_course : (first last : Held) (course : List Taken) (before : List ℕ) → Stands first before → Course first course last
@@ -18,14 +17,14 @@ after_course first last (taken ∷ course) before s c =
     let more = after_course taken.held last course (before ++ taken.bytes) fed.1 c.1 in
     let same = append_assoc before taken.bytes (bytes_in course) in (
       ap (λ l. (cut_of l).lines) (sym same) ∙ more.0 ∙ ap (λ l. l ++ lines_in course) fed.0
-          ∙ append_assoc (cut_of before).lines (lines_as taken.ended taken.held.line) (lines_in course),
+          ∙ append_assoc (cut_of before).lines (taken.lines) (lines_in course),
       subst (λ l. Stands last l) same more.1,
     )
 
--- However a script is cut into pieces, the lines told of are its lines.
-pub lines_in_pieces : (first last : Held) (course : List Taken) (ended : Ended) (line : List ℕ) → Stands first [] → Course first course last → Finishes last ended line
-    → lines_of (bytes_in course) ≡ lines_in course ++ lines_as ended line
+-- However a script is cut into pieces, its lines are those that were told of, and the last one.
+pub lines_in_pieces : (first last : Held) (course : List Taken) (rest : List Line) → Stands first [] → Course first course last → ((before : List ℕ) → Stands last before → last_of (cut_of before).rest ≡ rest)
+    → lines_of (bytes_in course) ≡ lines_in course ++ rest
 unfolding lines_of
-lines_in_pieces first last course ended line s c f =
+lines_in_pieces first last course rest s c f =
     let all = after_course first last course [] s c in
     ap (λ l. l ++ last_of (cut_of (bytes_in course)).rest) all.0 ∙ ap (λ l. lines_in course ++ l) (f (bytes_in course) all.1)

@@ -57,10 +57,7 @@ unfolding words
 begins [] = record { tail = []; split = refl; rest = refl }
 begins (b ∷ bs) = elim (cases_Bool (b == 32)) [ inl e ↦ begins_space b bs e | inr e ↦ begins_more b bs e (begins bs) ]
 
-filter_none : (w : List ℕ) (ws : List (List ℕ)) → length w ≡ 0 → filter is_word (w ∷ ws) ≡ filter is_word ws
-filter_none w ws h = let t : nat_lt 0 (length w) ≡ false = grind (arith, nat_tests) in rw t refl
-
-filter_some : (w : List ℕ) (ws : List (List ℕ)) → 0 < length w → filter is_word (w ∷ ws) ≡ w ∷ filter is_word ws
+pub filter_some : (w : List ℕ) (ws : List (List ℕ)) → 0 < length w → filter is_word (w ∷ ws) ≡ w ∷ filter is_word ws
 filter_some w ws h = let t : nat_lt 0 (length w) ≡ true = grind (arith, nat_tests) in rw t refl
 
 words_at : (s : List ℕ) → words s ≡ filter is_word (take (prefix_len in_word s) s ∷ (begins s).tail)

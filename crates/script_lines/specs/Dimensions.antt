@@ -1,8 +1,8 @@
 -- The dimensions of a view, as a line gives them.
-use Rattle.std.specs.Prelude.{ℕ, cond, ℤ, pos, negsuc, List, [], ◌∷◌, codes, Result, Ok, Err}
+use Rattle.std.specs.Prelude.{ℕ, if◌then◌else◌, ℤ, pos, negsuc, List, [], ◌∷◌, codes, Result, Ok, Err}
 use Rattle.std.specs.Str.{bytes_eq}
 use Rattle.script_lines.specs.Numbers.{IsWithin, integer_of, within_of}
-use Rattle.script_lines.specs.Words.{then, map_ok, end_of}
+use Rattle.script_lines.specs.Words.{◌>>=◌, map_ok, end_of}
 use Rattle.script_lines.specs.declared.dimension.Dimension.{Dimension}
 use Rattle.script_lines.specs.declared.dimension.Dimension.TheVariants.{Match, Wrap, Pixels}
 use Rattle.script_lines.specs.declared.fault.LineFault.{LineFault}
@@ -11,13 +11,13 @@ use Rattle.script_lines.specs.declared.fault.LineFault.TheVariants.{Syntax}
 -- `match`, `wrap` or a number
 unfoldable pub dimension_of : List ℕ → Result Dimension LineFault
 dimension_of word =
-    cond (bytes_eq word (codes "match")) (Ok Match) (
-    cond (bytes_eq word (codes "wrap")) (Ok Wrap) (
-    map_ok Pixels (integer_of word)))
+    if bytes_eq word (codes "match") then Ok Match else (
+    if bytes_eq word (codes "wrap") then Ok Wrap else
+    map_ok Pixels (integer_of word))
 
 abbrev pub dimension_in : List (List ℕ) → Result (Dimension × List (List ℕ)) LineFault
 dimension_in [] = Err Syntax
-dimension_in (word ∷ words) = then (dimension_of word) (λ dimension. Ok (dimension, words))
+dimension_in (word ∷ words) = dimension_of word >>= λ dimension. Ok (dimension, words)
 
 -- a dimension within its bounds, as facts keep it
 abbrev pub extent_of : Dimension → Result ℤ LineFault
@@ -27,12 +27,13 @@ extent_of (Pixels n) = within_of (pos 0) (pos 16777215) n
 
 -- `W H`, the dimensions of a view; both are read before their bounds are looked at
 unfoldable pub extents_of : List (List ℕ) → Result (ℤ × ℤ) LineFault
-extents_of words =
-    then (dimension_in words) (λ w.
-    then (dimension_in w.1) (λ h.
-    then (end_of h.1) (λ _.
-    then (extent_of w.0) (λ width.
-    then (extent_of h.0) (λ height. Ok (width, height))))))
+extents_of words = do
+  w ← dimension_in words
+  h ← dimension_in w.1
+  _ ← end_of h.1
+  width ← extent_of w.0
+  height ← extent_of h.0
+  Ok (width, height)
 
 -- a dimension as facts keep it: -1 is `match`, -2 is `wrap`
 abbrev pub IsExtent : ℤ → Type 0

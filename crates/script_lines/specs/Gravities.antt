@@ -1,5 +1,5 @@
 -- A gravity, as a line gives it.
-use Rattle.std.specs.Prelude.{ℕ, ◌==◌, Bool, true, false, ◌||◌, cond, List, fold, codes, Result, Ok, Err}
+use Rattle.std.specs.Prelude.{ℕ, ◌==◌, Bool, true, false, ◌||◌, if◌then◌else◌, List, fold, codes, Result, Ok, Err}
 use Rattle.std.specs.List.{slice_split}
 use Rattle.std.specs.Str.{bytes_eq}
 use Rattle.view_model.specs.Facts.{no_gravity}
@@ -8,29 +8,29 @@ use Rattle.view_model.specs.declared.placing.Across.TheVariants as across
 use Rattle.view_model.specs.declared.placing.Down.{Down}
 use Rattle.view_model.specs.declared.placing.Down.TheVariants as down
 use Rattle.view_model.specs.declared.placing.Gravity.{Gravity}
-use Rattle.script_lines.specs.Words.{then}
+use Rattle.script_lines.specs.Words.{◌>>=◌}
 use Rattle.script_lines.specs.declared.fault.LineFault.{LineFault}
 use Rattle.script_lines.specs.declared.fault.LineFault.TheVariants.{Syntax}
 
 -- the place from left to right that a word gives; unset where it gives none
 unfoldable pub across_of : List ℕ → Across
 across_of word =
-    cond (bytes_eq word (codes "left")) across.Left (
-    cond (bytes_eq word (codes "right")) across.Right (
-    cond (bytes_eq word (codes "start")) across.Start (
-    cond (bytes_eq word (codes "end")) across.End (
-    cond (bytes_eq word (codes "center_horizontal")) across.Center (
-    cond (bytes_eq word (codes "center")) across.Center (
-    across.Unset))))))
+    if bytes_eq word (codes "left") then across.Left else (
+    if bytes_eq word (codes "right") then across.Right else (
+    if bytes_eq word (codes "start") then across.Start else (
+    if bytes_eq word (codes "end") then across.End else (
+    if bytes_eq word (codes "center_horizontal") then across.Center else (
+    if bytes_eq word (codes "center") then across.Center else
+    across.Unset)))))
 
 -- the place from top to bottom that a word gives; unset where it gives none
 unfoldable pub down_of : List ℕ → Down
 down_of word =
-    cond (bytes_eq word (codes "top")) down.Top (
-    cond (bytes_eq word (codes "bottom")) down.Bottom (
-    cond (bytes_eq word (codes "center_vertical")) down.Center (
-    cond (bytes_eq word (codes "center")) down.Center (
-    down.Unset))))
+    if bytes_eq word (codes "top") then down.Top else (
+    if bytes_eq word (codes "bottom") then down.Bottom else (
+    if bytes_eq word (codes "center_vertical") then down.Center else (
+    if bytes_eq word (codes "center") then down.Center else
+    down.Unset)))
 
 abbrev pub is_set_across : Across → Bool
 is_set_across across.Unset = false
@@ -48,10 +48,10 @@ is_set_down down.Center = true
 
 -- what two words give for an axis: one of them at most
 unfoldable pub one_across : Across → Across → Result Across LineFault
-one_across old new = cond (is_set_across new) (cond (is_set_across old) (Err Syntax) (Ok new)) (Ok old)
+one_across old new = if is_set_across new then (if is_set_across old then Err Syntax else Ok new) else Ok old
 
 unfoldable pub one_down : Down → Down → Result Down LineFault
-one_down old new = cond (is_set_down new) (cond (is_set_down old) (Err Syntax) (Ok new)) (Ok old)
+one_down old new = if is_set_down new then (if is_set_down old then Err Syntax else Ok new) else Ok old
 
 -- a word that gives a place on either axis, or on both
 abbrev pub is_place : List ℕ → Bool
@@ -60,16 +60,16 @@ is_place word = is_set_across (across_of word) || is_set_down (down_of word)
 -- a gravity and one word more
 unfoldable pub with_word : Gravity → List ℕ → Result Gravity LineFault
 with_word gravity word =
-    cond (is_place word)
-    (then (one_across gravity.across (across_of word)) (λ across.
-    then (one_down gravity.down (down_of word)) (λ down. Ok (record { given = gravity.given; across = across; down = down }))))
-    (Err Syntax)
+    if is_place word then (
+    one_across gravity.across (across_of word) >>= λ across.
+    one_down gravity.down (down_of word) >>= λ down. Ok (record { given = gravity.given; across = across; down = down })) else
+    Err Syntax
 
 abbrev pub is_bar : ℕ → Bool
 is_bar b = b == 124
 
 abbrev pub word_step : Result Gravity LineFault → List ℕ → Result Gravity LineFault
-word_step gravity word = then gravity (λ gravity. with_word gravity word)
+word_step gravity word = gravity >>= λ gravity. with_word gravity word
 
 -- a gravity and the words that bars part
 unfoldable pub with_words : Gravity → List ℕ → Result Gravity LineFault
@@ -81,4 +81,4 @@ bare_gravity = record { given = true; across = across.Unset; down = down.Unset }
 
 -- `none`, which takes a gravity away, or words that bars part
 unfoldable pub gravity_of : List ℕ → Result Gravity LineFault
-gravity_of word = cond (bytes_eq word (codes "none")) (Ok no_gravity) (with_words bare_gravity word)
+gravity_of word = if bytes_eq word (codes "none") then Ok no_gravity else with_words bare_gravity word

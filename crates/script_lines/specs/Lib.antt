@@ -7,4 +7,5 @@ pub mod Lines
 pub mod Names
 pub mod Numbers
 pub mod Pieces
+pub mod Spelled
 pub mod Words

@@ -1,5 +1,5 @@
 -- The lines of a script.
-use Rattle.std.specs.Prelude.{ℕ, ◌-◌, ◌==◌, nat_lt, Bool, ◌&&◌, ◌||◌, List, [], ◌∷◌, ◌++◌, cond, length, take, fold, slice_index}
+use Rattle.std.specs.Prelude.{ℕ, ◌-◌, ◌==◌, nat_lt, Bool, ◌&&◌, ◌||◌, List, [], ◌∷◌, ◌++◌, if◌then◌else◌, length, take, fold, slice_index}
 use Rattle.std.specs.List.{list_all}
 
 -- a line as it was read
@@ -8,23 +8,23 @@ pub data Line : Type 0 where
   LongLine : Line
 
 -- the most bytes that a line may have before its line feed
-abbrev pub longest : ℕ
-longest = 1024
+abbrev pub max_line : ℕ
+max_line = 1024
 
 abbrev pub is_line_feed : ℕ → Bool
 is_line_feed b = b == 10
 
 -- the bytes without one carriage return at their end
 unfoldable pub without_return : List ℕ → List ℕ
-without_return bytes = cond (nat_lt 0 (length bytes) && slice_index bytes (length bytes - 1) == 13) (take (length bytes - 1) bytes) bytes
+without_return bytes = if nat_lt 0 (length bytes) && slice_index bytes (length bytes - 1) == 13 then take (length bytes - 1) bytes else bytes
 
 -- the line of the bytes before a line feed: a carriage return counts for its length, and then goes
 unfoldable pub line_of : List ℕ → Line
-line_of bytes = cond (nat_lt longest (length bytes)) LongLine (Text (without_return bytes))
+line_of bytes = if nat_lt max_line (length bytes) then LongLine else Text (without_return bytes)
 
 -- the line of bytes that no line feed ends: a carriage return stays
 unfoldable pub last_line : List ℕ → Line
-last_line bytes = cond (nat_lt longest (length bytes)) LongLine (Text bytes)
+last_line bytes = if nat_lt max_line (length bytes) then LongLine else Text bytes
 
 -- the lines whose line feed has come, and what has come of the next line
 pub record Cut : Type 0 where
@@ -33,9 +33,7 @@ pub record Cut : Type 0 where
 
 abbrev pub cut_step : Cut → ℕ → Cut
 cut_step cut b =
-    cond (is_line_feed b)
-    (record { lines = cut.lines ++ line_of cut.rest ∷ []; rest = [] })
-    (record { lines = cut.lines; rest = cut.rest ++ b ∷ [] })
+    if is_line_feed b then record { lines = cut.lines ++ line_of cut.rest ∷ []; rest = [] } else record { lines = cut.lines; rest = cut.rest ++ b ∷ [] }
 
 abbrev pub cut_of : List ℕ → Cut
 cut_of bytes = fold cut_step (record { lines = []; rest = [] }) bytes

@@ -1,5 +1,5 @@
 -- The words of a line, and how readings follow each other.
-use Rattle.std.specs.Prelude.{ℕ, nat_lt, Bool, not, List, [], ◌∷◌, cond, length, take, drop, filter, Result, Ok, Err}
+use Rattle.std.specs.Prelude.{ℕ, nat_lt, Bool, not, List, [], ◌∷◌, if◌then◌else◌, length, take, drop, filter, Result, Ok, Err}
 use Rattle.std.specs.List.{slice_split, prefix_len}
 use Rattle.std.specs.Str.{bytes_eq}
 use Rattle.script_lines.specs.Lines.{is_space}
@@ -28,9 +28,10 @@ unfoldable pub after_word : List ℕ → List ℕ
 after_word bytes = drop (prefix_len in_word (after_spaces bytes)) (after_spaces bytes)
 
 -- one reading and then another: the first fault counts
-abbrev pub then : {A B : Type 0} → Result A LineFault → (A → Result B LineFault) → Result B LineFault
-then (Ok a) next = next a
-then (Err fault) next = Err fault
+infixl 10 ◌>>=◌
+abbrev pub ◌>>=◌ : {A B : Type 0} → Result A LineFault → (A → Result B LineFault) → Result B LineFault
+(Ok a) >>= next = next a
+(Err fault) >>= next = Err fault
 
 abbrev pub map_ok : {A B : Type 0} → (A → B) → Result A LineFault → Result B LineFault
 map_ok f (Ok a) = Ok (f a)
@@ -44,7 +45,7 @@ word_in (word ∷ words) = Ok (word, words)
 -- this word as the first of the words, and the words behind it
 abbrev pub literal_in : List ℕ → List (List ℕ) → Result (List (List ℕ)) LineFault
 literal_in name [] = Err Syntax
-literal_in name (word ∷ words) = cond (bytes_eq word name) (Ok words) (Err Syntax)
+literal_in name (word ∷ words) = if bytes_eq word name then Ok words else Err Syntax
 
 -- no words
 abbrev pub end_of : List (List ℕ) → Result (Unit {0}) LineFault

@@ -1,3 +1,5 @@
+//! What a line asks for.
+
 use crate::naming::Name;
 use view_model::{Act, Class};
 

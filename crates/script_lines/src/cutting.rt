@@ -1,14 +1,16 @@
 //! Bytes that come in pieces, cut into lines.
 
-ghost use Rattle.std.specs.Prelude.{◌≡◌, ℕ, ◌+◌, ◌<◌, ◌≤◌, ◌↔◌, ◌⊎◌, List, [], ◌++◌, length, take, min};
+ghost use Rattle.std.specs.Prelude.{◌≡◌, ◌≢◌, ℕ, ◌+◌, ◌<◌, ◌≤◌, ◌↔◌, ◌⊎◌, List, [], ◌++◌, length, take, min};
 ghost use Rattle.std.specs.List.{list_all, position_or_len};
-ghost use Rattle.script_lines.specs.Lines.{cut_of, is_line_feed, is_passed_over, is_space, last_of, without_return};
-ghost use Rattle.script_lines.specs.Held.{Stands, lines_as};
+ghost use Rattle.script_lines.specs.Lines.{cut_of, is_line_feed, is_passed_over, is_space, last_of, lines_of, without_return};
+ghost use Rattle.script_lines.specs.Held.{Held, IsLent, Stands, lines_as, lines_at};
+ghost use Rattle.script_lines.specs.Pieces.{Course, Taken, bytes_in, lines_in};
 
+use crate::places::place_of;
 use std::marker::Model;
 
 /// The most bytes that a line may have before its line feed, a carriage return counted.
-const LONGEST: usize = 1024;
+const MAX_LINE: usize = 1024;
 
 /// Whether a line has ended, and how.
 #[derive(Clone, Copy, Debug, PartialEq, Eq)]
@@ -16,6 +18,18 @@ pub enum Ended {
     No,
     /// A line of at most 1024 bytes, a carriage return counted.
     Line,
+    /// A line that is too long. Its bytes are gone.
+    Long,
+}
+
+/// Whether a line has ended, and where it lies.
+#[derive(Clone, Copy, Debug, PartialEq, Eq)]
+pub enum LinePlace {
+    No,
+    /// A line that began in this piece: so many bytes at its front.
+    Piece(usize),
+    /// A line that began in an earlier piece; `bytes` has it.
+    Held,
     /// A line that is too long. Its bytes are gone.
     Long,
 }
@@ -55,6 +69,46 @@ impl Lines {
         }
     }
 
+    /// Takes the bytes of a piece up to its first line feed, or all of them, and tells how many those are, and where the line
+    /// lies that they end. A line that lies whole in the piece is not copied.
+    /// Whatever came `before`, in pieces however they were cut, the lines are those of all the bytes.
+    #[inline]
+    pub fn next_line(&mut self, piece: &[u8]) -> (usize, LinePlace)
+        ensures used { result.0 ≡ min (position_or_len is_line_feed piece.now + 1) (length piece.now) }
+        ensures within { result.0 ≤ length piece.now }
+        ensures some { 0 < length piece.now → 0 < result.0 }
+        ensures all { result.1 ≡ LinePlace.No → result.0 ≡ length piece.now }
+        ensures none { (result.1 ≡ LinePlace.No) ↔ (position_or_len is_line_feed piece.now ≡ length piece.now) }
+        ensures lines { (before : List ℕ) → Stands self.old before
+            → (cut_of (before ++ take result.0 piece.now)).lines ≡ (cut_of before).lines ++ lines_at result.1 piece.now self.new.line }
+        ensures lent { IsLent result.1 (length piece.now) }
+        ensures whole { self.old.begun ≡ [] → result.1 ≢ LinePlace.Held }
+        ensures line { (result.1 ≡ LinePlace.Held) ⊎ (self.new.line ≡ []) }
+        ensures begun { (result.1 ≡ LinePlace.No) ⊎ (self.new.begun ≡ []) }
+        ensures stands { (before : List ℕ) → Stands self.old before → Stands self.new (before ++ take result.0 piece.now) }
+    {
+        let end = line_end(piece);
+        self.line = 0;
+        if self.begun == 0 && end < piece.len() {
+            if end > MAX_LINE {
+                return (end + 1, LinePlace::Long);
+            }
+            let len = without_return_len(&piece[..end]);
+            return (end + 1, LinePlace::Piece(len));
+        }
+        let len = keep(&mut self.buffer, self.begun, &piece[..end]);
+        if end == piece.len() {
+            self.begun = len;
+            return (end, LinePlace::No);
+        }
+        self.begun = 0;
+        if len > MAX_LINE {
+            return (end + 1, LinePlace::Long);
+        }
+        self.line = without_return_len(&self.buffer[..len]);
+        (end + 1, LinePlace::Held)
+    }
+
     /// Takes the bytes of a piece up to its first line feed, or all of them, and tells how many those are.
     /// Whatever came `before`, in pieces however they were cut, the lines are those of all the bytes.
     pub fn feed(&mut self, piece: &[u8]) -> (usize, Ended)
@@ -68,24 +122,27 @@ impl Lines {
         ensures line { (result.1 ≡ Ended.Line) ⊎ (self.new.line ≡ []) }
         ensures stands { (before : List ℕ) → Stands self.old before → Stands self.new (before ++ take result.0 piece.now) }
     {
-        let end = line_end(piece);
-        let len = keep(&mut self.buffer, self.begun, &piece[..end]);
-        self.line = 0;
-        if end == piece.len() {
-            self.begun = len;
-            return (end, Ended::No);
+        let (used, place) = self.next_line(piece);
+        match place {
+            LinePlace::No => (used, Ended::No),
+            LinePlace::Piece(n) => {
+                self.buffer[..n].copy_from_slice(&piece[..n]);
+                self.line = n;
+                (used, Ended::Line)
+            }
+            LinePlace::Held => (used, Ended::Line),
+            LinePlace::Long => (used, Ended::Long),
         }
-        self.begun = 0;
-        if len > LONGEST {
-            return (end + 1, Ended::Long);
-        }
-        self.line = without_return_len(&self.buffer[..len]);
-        (end + 1, Ended::Line)
     }
 
     /// Ends the script: what has come of a line is its last one, unless nothing has. From then on another script may come.
+    /// After any `course` of pieces the lines of all their bytes are those that were told of, and this one.
     pub fn finish(&mut self) -> Ended
         ensures lines { (before : List ℕ) → Stands self.old before → last_of (cut_of before).rest ≡ lines_as result self.new.line }
+        ensures pieces { (first : Held) (course : List Taken)
+            → Stands first []
+            → Course first course self.old
+            → lines_of (bytes_in course) ≡ lines_in course ++ lines_as result self.new.line }
         ensures none { (result ≡ Ended.No) ↔ (self.old.begun ≡ []) }
         ensures line { (result ≡ Ended.Line) ⊎ (self.new.line ≡ []) }
         ensures anew { Stands self.new [] }
@@ -96,7 +153,7 @@ impl Lines {
         if len == 0 {
             return Ended::No;
         }
-        if len > LONGEST {
+        if len > MAX_LINE {
             return Ended::Long;
         }
         self.line = len;
@@ -104,7 +161,7 @@ impl Lines {
     }
 
     /// The line that has just ended, until more bytes are taken: without its line feed and a carriage return before that;
-    /// empty where none has, and where it is too long.
+    /// empty where none has, where it is too long, and where it lies in the piece.
     pub fn bytes(&self) -> &[u8]
         ensures line { result.now ≡ self.now.line }
         ensures short { length result.now ≤ 1024 }
@@ -113,16 +170,16 @@ impl Lines {
     }
 }
 
-/// The place of the first line feed, or the length where there is none.
+/// The place of the first line feed, or the length where there is none. A line feed that comes first needs no search.
+#[inline]
 fn line_end(bytes: &[u8]) -> usize
     ensures place { result ≡ position_or_len is_line_feed bytes.now }
     ensures within { result ≤ length bytes.now }
 {
-    let mut at = 0;
-    while at < bytes.len() && bytes[at] != b'\n' {
-        at += 1;
+    if !bytes.is_empty() && bytes[0] == b'\n' {
+        return 0;
     }
-    at
+    place_of(b'\n', bytes)
 }
 
 /// Puts bytes behind the first `len` of a buffer, as many as have room, and tells how many those are with the first ones.
@@ -156,6 +213,7 @@ fn all_spaces(bytes: &[u8]) -> bool
 }
 
 /// Whether a line is passed over: it has nothing but spaces, or begins with `#`.
+#[inline]
 pub fn passes_over(line: &[u8]) -> bool
     ensures { result ≡ is_passed_over line.now }
 {

@@ -1,10 +1,10 @@
 //! The gravity that a word gives.
 
-ghost use Rattle.std.specs.Prelude.{◌≡◌, ◌≤◌, length};
-ghost use Rattle.std.specs.List.{position_or_len};
-ghost use Rattle.script_lines.specs.Gravities.{across_of, down_of, gravity_of, is_bar, is_set_across, is_set_down, one_across, one_down, with_word, with_words};
+ghost use Rattle.std.specs.Prelude.{◌≡◌};
+ghost use Rattle.script_lines.specs.Gravities.{across_of, down_of, gravity_of, is_set_across, is_set_down, one_across, one_down, with_word, with_words};
 
 use crate::fault::LineFault;
+use crate::places::place_of;
 use crate::words::is;
 use view_model::{Across, Down, Gravity};
 
@@ -133,24 +133,12 @@ fn add_word(gravity: Gravity, word: &[u8]) -> Result<Gravity, LineFault>
     })
 }
 
-/// The place of the first bar, or the length where there is none.
-fn bar_place(bytes: &[u8]) -> usize
-    ensures place { result ≡ position_or_len is_bar bytes.now }
-    ensures within { result ≤ length bytes.now }
-{
-    let mut at = 0;
-    while at < bytes.len() && bytes[at] != b'|' {
-        at += 1;
-    }
-    at
-}
-
 /// A gravity and the words that bars part. Three words are too many, so it goes no deeper than that.
 #[tactic(auto, using(crate::proofs::BarLaws::words_end, crate::proofs::BarLaws::words_go, crate::proofs::BarLaws::words_stop))]
 fn add_words(gravity: Gravity, words: &[u8]) -> Result<Gravity, LineFault>
     ensures { result ≡ with_words gravity words.now }
 {
-    let len = bar_place(words);
+    let len = place_of(b'|', words);
     let more = add_word(gravity, &words[..len])?;
     if len == words.len() {
         return Ok(more);

@@ -13,11 +13,12 @@ mod fault;
 mod gravity;
 mod naming;
 mod number;
+mod places;
 mod reading;
 mod words;
 
 pub use commands::Command;
-pub use cutting::{Ended, Lines, passes_over};
+pub use cutting::{Ended, LinePlace, Lines, passes_over};
 pub use fault::LineFault;
 pub use naming::Name;
 pub use reading::line;

@@ -1,8 +1,9 @@
 //! How a line names a view.
 
 ghost use Rattle.std.specs.Prelude.{◌≡◌, ◌<◌, ◌≤◌, length};
+ghost use Rattle.std.specs.Char.{is_ascii_hexdigit};
 ghost use Rattle.std.specs.List.{list_all};
-ghost use Rattle.script_lines.specs.Names.{hex_digit_of, hex_of, hex_value, id_in, id_of, is_hex_digit, name_in, name_of, parent_in, parent_of};
+ghost use Rattle.script_lines.specs.Names.{hex_digit_of, hex_of, hex_value, id_in, id_of, name_in, name_of, parent_in, parent_of};
 ghost use Rattle.script_lines.specs.Words.{map_ok, words};
 
 use crate::fault::LineFault;
@@ -18,29 +19,18 @@ pub enum Name {
     Id(u32),
 }
 
-/// Whether a byte is a hexadecimal digit, in either case.
-fn is_hex(b: u8) -> bool
-    ensures { result ≡ is_hex_digit b }
-{
-    (b >= b'0' && b <= b'9') || (b >= b'a' && b <= b'f') || (b >= b'A' && b <= b'F')
-}
-
 /// What a hexadecimal digit stands for.
 #[tactic(auto, unfolding(crate::specs::Names::hex_digit_of))]
 fn hex_digit(b: u8) -> u8
     ensures value { result ≡ hex_digit_of b }
     ensures below { result < 16 }
 {
-    if b >= b'0' && b <= b'9' {
-        return b - b'0';
+    match b {
+        b'0'..=b'9' => b - b'0',
+        b'a'..=b'f' => b - b'a' + 10,
+        b'A'..=b'F' => b - b'A' + 10,
+        _ => 0,
     }
-    if b >= b'a' && b <= b'f' {
-        return b - b'a' + 10;
-    }
-    if b >= b'A' && b <= b'F' {
-        return b - b'A' + 10;
-    }
-    0
 }
 
 /// The number that hexadecimal digits write.
@@ -56,9 +46,9 @@ fn hex_value_of(digits: &[u8]) -> u32
 }
 
 fn all_hex(word: &[u8]) -> bool
-    ensures { result ≡ list_all is_hex_digit word.now }
+    ensures { result ≡ list_all is_ascii_hexdigit word.now }
 {
-    word.iter().all(|b| is_hex(*b))
+    word.iter().all(|b| b.is_ascii_hexdigit())
 }
 
 /// The number of one to eight hexadecimal digits.

@@ -1,8 +1,9 @@
 //! The numbers of a line.
 
 ghost use Rattle.std.specs.Prelude.{◌≡◌, ◌<◌, ◌≤◌, ◌^◌, pos, negsuc, ◌≤ℤ◌, length, IfSome, IfOk, IsTrue};
+ghost use Rattle.std.specs.Char.{is_ascii_digit};
 ghost use Rattle.std.specs.List.{list_all};
-ghost use Rattle.script_lines.specs.Numbers.{IsWithin, digits_value, integer_in, integer_of, is_digit, natural_of, pair_of, within_of};
+ghost use Rattle.script_lines.specs.Numbers.{IsWithin, digits_value, integer_in, integer_of, natural_of, pair_of, within_of};
 ghost use Rattle.script_lines.specs.Words.{map_ok, words};
 
 use crate::fault::LineFault;
@@ -11,7 +12,7 @@ use crate::words::{end, word};
 /// The number that one to ten digits write.
 fn digits_value_of(digits: &[u8]) -> u64
     requires short { length digits.now ≤ 10 }
-    requires digits { IsTrue (list_all is_digit digits.now) }
+    requires digits { IsTrue (list_all is_ascii_digit digits.now) }
     ensures value { result ≡ digits_value digits.now }
     ensures below { result < 10 ^ 10 }
 {
@@ -23,9 +24,9 @@ fn digits_value_of(digits: &[u8]) -> u64
 }
 
 fn all_digits(word: &[u8]) -> bool
-    ensures { result ≡ list_all is_digit word.now }
+    ensures { result ≡ list_all is_ascii_digit word.now }
 {
-    word.iter().all(|b| *b >= b'0' && *b <= b'9')
+    word.iter().all(|b| b.is_ascii_digit())
 }
 
 /// The number that a word of digits writes.

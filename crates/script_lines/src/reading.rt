@@ -1,8 +1,11 @@
 //! The command of a line.
 
-ghost use Rattle.std.specs.Prelude.{◌≡◌, IfOk};
+ghost use Rattle.std.specs.Prelude.{◌≡◌, true, Ok, Err, IfOk};
 ghost use Rattle.script_lines.specs.Commands.{IsInBounds, add_of, bounds_of, class_of, command_by, command_of, frame_of, remove_of, set_of, window_of};
+ghost use Rattle.script_lines.specs.Lines.{is_passed_over};
+ghost use Rattle.script_lines.specs.Spelled.{HasLine, spelled};
 ghost use Rattle.script_lines.specs.Words.{words};
+ghost use Rattle.script_lines.specs.declared.commands.Command.{Command as CommandValue};
 
 use crate::changes::read_act;
 use crate::commands::Command;
@@ -119,10 +122,9 @@ fn read_command(head: &[u8], bytes: &[u8]) -> Result<Command, LineFault>
     set(head, bytes)
 }
 
-/// The command of a line. A fault of the grammar counts before a number outside its bounds, wherever the two stand.
-/// A line that is passed over has no command.
+/// The command of a line.
 #[tactic(auto, unfolding(crate::specs::Commands::command_of))]
-pub fn line(bytes: &[u8]) -> Result<Command, LineFault>
+fn read_line(bytes: &[u8]) -> Result<Command, LineFault>
     ensures value { result ≡ command_of bytes.now }
     ensures bounds { IfOk result IsInBounds }
 {
@@ -131,4 +133,19 @@ pub fn line(bytes: &[u8]) -> Result<Command, LineFault>
     }
     let (head, rest) = word(bytes)?;
     read_command(head, rest)
+}
+
+/// The command of a line. A fault of the grammar counts before a number outside its bounds, wherever the two stand.
+/// A line that is passed over has no command. The text of a command is read as that command.
+pub fn line(bytes: &[u8]) -> Result<Command, LineFault>
+    ensures value { result ≡ command_of bytes.now }
+    ensures bounds { IfOk result IsInBounds }
+    ensures passed { is_passed_over bytes.now ≡ true → result ≡ Err LineFault.Syntax }
+    ensures spelled { (command : CommandValue)
+        → IsInBounds command
+        → HasLine command
+        → bytes.now ≡ spelled command
+        → result ≡ Ok command }
+{
+    read_line(bytes)
 }

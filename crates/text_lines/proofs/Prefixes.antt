@@ -1,9 +1,13 @@
 -- Bytes that go to a sink one after the other.
-use Rattle.std.proofs.Common.{◌≡◌, ℕ, List, [], ◌++◌, Option, None, Some, ap, sym, ◌∙◌, append_assoc, ◌+◌, ◌-◌, ◌≤◌, length, take, drop, arith, length-drop}
+use Rattle.std.proofs.Common.{◌≡◌, ℕ, List, [], ◌++◌, Option, None, Some, true, false, ap, sym, ◌∙◌, append_assoc, ◌+◌, ◌-◌, ◌≤◌, length, take, drop, arith, length-drop}
 use Rattle.std.proofs.lemmas.List.{take_all, take-append-drop, append-nil}
 use Rattle.std.proofs.Math.Seq.{take-add}
 use Rattle.std.specs.Io.KnownBytes.{Appends, Keeps}
+use Rattle.std.specs.Prelude.{Result, Ok, Err, IsErr}
+use Rattle.text_lines.specs.Delivered.{Delivered}
 use Rattle.text_lines.specs.Prefix.{AppendsPrefix}
+use Rattle.tool_io.specs.Counts.{raised}
+use Rattle.tool_io.specs.SinkState.{SinkState}
 
 pub appends_both : (old mid new : Option (List ℕ)) (xs ys : List ℕ) → Appends old mid xs → Appends mid new ys → Appends old new (xs ++ ys)
 appends_both None mid new xs ys first second = tt
@@ -34,9 +38,15 @@ prefix_of_second old mid new xs ys first p =
 pub prefix_of_take : (old new : Option (List ℕ)) (n : ℕ) (xs : List ℕ) → Appends old new (take n xs) → AppendsPrefix old new xs
 prefix_of_take old new n xs grew = record { written = take n xs; rest = drop n xs; whole = take-append-drop n xs; gone = grew }
 
--- nothing went after a prefix
-pub prefix_kept : (old mid new : Option (List ℕ)) (n : ℕ) (xs : List ℕ) → Appends old mid (take n xs) → Keeps mid new → AppendsPrefix old new xs
-prefix_kept old mid new n xs grew kept = prefix_of_take old new n xs (appends_kept old mid new (take n xs) grew kept)
+-- a write failed, after a front part had gone
+pub stopped : {E : Type 0} (old mid new : SinkState) (result : Result (Unit {0}) E) (n : ℕ) (piece : List ℕ) → IsErr result
+    → Appends old.gone mid.gone (take n piece) → mid.faults ≡ old.faults → Keeps mid.gone new.gone → new.faults ≡ raised mid.faults → Delivered old new result piece
+stopped old mid new (Ok _) n piece failed grew same kept count = absurd (let never : false ≡ true = failed in cc)
+stopped old mid new (Err _) n piece failed grew same kept count = record {
+  whole = tt;
+  prefix = prefix_of_take old.gone new.gone n piece (appends_kept old.gone mid.gone new.gone (take n piece) grew kept);
+  counted = count ∙ ap raised same;
+}
 
 pub take_further : (n m : ℕ) (xs : List ℕ) → n ≤ length xs → take n xs ++ take m (take (length xs - n) (drop n xs)) ≡ take (n + m) xs
 take_further n m xs within =

@@ -1,25 +1,30 @@
 -- Text on its way to a sink.
-use Rattle.std.specs.Prelude.{◌≡◌, ℕ, ◌≤◌, Bool, true, false, List, ◌++◌, Option}
-use Rattle.std.specs.Io.KnownBytes.{Appends, Keeps}
+use Rattle.std.specs.Prelude.{◌≡◌, ℕ, Bool, true, false, List, ◌++◌}
+use Rattle.std.specs.Io.KnownBytes.{Appends}
 use Rattle.text_lines.specs.Prefix.{AppendsPrefix}
-use Rattle.tool_io.specs.Causes.{Rose}
+use Rattle.tool_io.specs.Counts.{raised}
+use Rattle.tool_io.specs.SinkState.{SinkState}
 
 -- the bytes that have not gone yet, and whether a write has failed
 pub record Held : Type 0 where
   pub bytes : List ℕ
   pub failed : Bool
 
--- what was held and a text behind it have gone, but for what is held afterwards
-pub record Moves (old new : Option (List ℕ)) (before after text : List ℕ) : Type 0 where
+-- what was held and a text behind it have gone, but for what is held afterwards, and no call has failed
+pub record Moves (old new : SinkState) (before after text : List ℕ) : Type 0 where
   pub written : List ℕ
-  pub gone : Appends old new written
+  pub gone : Appends old.gone new.gone written
   pub whole : written ++ after ≡ before ++ text
+  pub count : new.faults ≡ old.faults
 
--- A text was sent, from one moment of a sink and a buffer to a later one. Either it went on its way
--- behind what was held, or a write failed and a prefix of both has gone, or one had failed before and nothing went.
-pub record Sends (old new : Option (List ℕ)) (count later_count : ℕ) (before after : Held) (text : List ℕ) : Type 0 where
+-- a prefix of a text has gone, and then one call has failed
+pub record Breaks (old new : SinkState) (text : List ℕ) : Type 0 where
+  pub prefix : AppendsPrefix old.gone new.gone text
+  pub count : new.faults ≡ raised old.faults
+
+-- A text was sent, from one moment of a sink and a buffer to a later one. Either it went on its way behind what was held,
+-- or a write failed and a prefix of both has gone, or one had failed before and nothing was asked of the sink.
+pub record Sends (old new : SinkState) (before after : Held) (text : List ℕ) : Type 0 where
   pub moves : after.failed ≡ false → (before.failed ≡ false) × Moves old new before.bytes after.bytes text
-  pub breaks : before.failed ≡ false → after.failed ≡ true → AppendsPrefix old new (before.bytes ++ text)
-  pub silent : before.failed ≡ true → Keeps old new
-  pub later : count ≤ later_count
-  pub rose : before.failed ≡ false → after.failed ≡ true → Rose count later_count
+  pub breaks : before.failed ≡ false → after.failed ≡ true → Breaks old new (before.bytes ++ text)
+  pub silent : before.failed ≡ true → new ≡ old

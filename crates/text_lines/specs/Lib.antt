@@ -2,3 +2,4 @@ pub mod Prefix
 pub mod Hex
 pub mod Joined
 pub mod Held
+pub mod Delivered

@@ -1,3 +1,5 @@
+//! A buffer that gathers text on its way to a sink.
+
 ghost use Rattle.std.specs.Prelude.{◌≡◌, ◌+◌, ◌≤◌, false, true, [], ◌++◌, decimal, length, OnOk, OnErr};
 ghost use Rattle.std.specs.Fmt.{signed_decimal};
 ghost use Rattle.text_lines.specs.Held.{Held, Sends};
@@ -10,6 +12,8 @@ use std::marker::Model;
 use tool_io::{Failed, Sink};
 
 /// Gathers text on its way to a sink into pieces of up to 4096 bytes.
+///
+/// A new buffer clears its room, so one that serves for many texts is restarted for each.
 ///
 /// Each call takes the sink, which has to be the same one each time. After a failed write nothing
 /// is written any more, and `finish` tells of it, so that no call before it answers an error.
@@ -43,9 +47,18 @@ impl TextBuffer {
         }
     }
 
+    /// Lets go of what is held, and of a failed write: the buffer is as a new one, and no byte of it
+    /// was cleared.
+    pub fn restart(&mut self)
+        ensures { self.new ≡ record { bytes = []; failed = false } }
+    {
+        self.len = 0;
+        self.failed = false;
+    }
+
     /// Writes what is held.
     fn flush<K: Sink>(&mut self, sink: &mut K)
-        ensures sends { Sends (K.gone sink.old) (K.gone sink.new) (K.faults sink.old) (K.faults sink.new) self.old self.new [] }
+        ensures sends { Sends (K.state sink.old) (K.state sink.new) self.old self.new [] }
         ensures empty { self.new.bytes ≡ [] }
     {
         let len = self.len;
@@ -77,7 +90,7 @@ impl TextBuffer {
     /// Writes what is held, unless there is room for so many bytes more.
     fn make_room<K: Sink>(&mut self, sink: &mut K, need: usize)
         requires { need ≤ 4096 }
-        ensures sends { Sends (K.gone sink.old) (K.gone sink.new) (K.faults sink.old) (K.faults sink.new) self.old self.new [] }
+        ensures sends { Sends (K.state sink.old) (K.state sink.new) self.old self.new [] }
         ensures room { length self.new.bytes + need ≤ 4096 }
     {
         if need <= 4096 - self.len() {
@@ -89,7 +102,7 @@ impl TextBuffer {
     /// Sends a piece.
     pub fn put<K: Sink>(&mut self, sink: &mut K, piece: &[u8])
         requires { length piece.now ≤ 4096 }
-        ensures { Sends (K.gone sink.old) (K.gone sink.new) (K.faults sink.old) (K.faults sink.new) self.old self.new piece.now }
+        ensures { Sends (K.state sink.old) (K.state sink.new) self.old self.new piece.now }
     {
         self.make_room(sink, piece.len());
         self.hold(piece);
@@ -97,7 +110,7 @@ impl TextBuffer {
 
     /// Sends a number in decimal, with `-` before one below 0.
     pub fn number<K: Sink>(&mut self, sink: &mut K, n: i64)
-        ensures { Sends (K.gone sink.old) (K.gone sink.new) (K.faults sink.old) (K.faults sink.new) self.old self.new (signed_decimal n) }
+        ensures { Sends (K.state sink.old) (K.state sink.new) self.old self.new (signed_decimal n) }
     {
         let mut buffer = Buffer::new();
         self.put(sink, buffer.format(n).as_bytes());
@@ -105,7 +118,7 @@ impl TextBuffer {
 
     /// Sends a number that is not below 0 in decimal.
     pub fn natural<K: Sink>(&mut self, sink: &mut K, n: u64)
-        ensures { Sends (K.gone sink.old) (K.gone sink.new) (K.faults sink.old) (K.faults sink.new) self.old self.new (decimal n) }
+        ensures { Sends (K.state sink.old) (K.state sink.new) self.old self.new (decimal n) }
     {
         let mut buffer = Buffer::new();
         self.put(sink, buffer.format(n).as_bytes());
@@ -115,7 +128,7 @@ impl TextBuffer {
     #[tactic(auto, unfolding(crate::specs::Hex::hex_text))]
     pub fn hex<K: Sink>(&mut self, sink: &mut K, n: u32, digits: u8)
         requires { digits ≤ 8 }
-        ensures { Sends (K.gone sink.old) (K.gone sink.new) (K.faults sink.old) (K.faults sink.new) self.old self.new (hex_text n digits) }
+        ensures { Sends (K.state sink.old) (K.state sink.new) self.old self.new (hex_text n digits) }
     {
         let text = hex_digits(n);
         self.put(sink, &text[8 - digits as usize..]);
@@ -123,7 +136,7 @@ impl TextBuffer {
 
     /// Writes what is held, and tells whether a write has failed since the buffer was made.
     pub fn finish<K: Sink>(&mut self, sink: &mut K) -> Result<(), Failed>
-        ensures sends { Sends (K.gone sink.old) (K.gone sink.new) (K.faults sink.old) (K.faults sink.new) self.old self.new [] }
+        ensures sends { Sends (K.state sink.old) (K.state sink.new) self.old self.new [] }
         ensures empty { self.new.bytes ≡ [] }
         ensures whole { OnOk result (self.new.failed ≡ false) }
         ensures failed { OnErr result (self.new.failed ≡ true) }

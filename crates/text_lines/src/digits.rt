@@ -1,3 +1,5 @@
+//! Hexadecimal digits.
+
 ghost use Rattle.std.specs.Prelude.{◌≡◌, ◌<◌};
 ghost use Rattle.std.specs.Char.{digit_char};
 ghost use Rattle.text_lines.specs.Hex.{eight_digits};

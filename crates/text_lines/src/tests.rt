@@ -1,3 +1,5 @@
+//! Text that goes to sinks in memory.
+
 use crate::{TextBuffer, hex, number, put};
 use std::alloc::Global;
 use std::test::Fail;
@@ -13,9 +15,7 @@ struct Measured {
 impl Sink for Measured {
     ghost use Rattle.std.specs.Prelude.{None};
 
-    ghost gone = { λ _. None };
-
-    ghost faults = { λ _. 0 };
+    ghost state = { λ _. record { gone = None; faults = 0 } };
 
     fn write(&mut self, piece: &[u8]) -> Result<usize, Failed> {
         self.writes = self.writes.saturating_add(1);

@@ -1,10 +1,15 @@
 -- Counts of calls, which end at the greatest u64.
-use Rattle.std.specs.Prelude.{ℕ, ◌+◌, ◌-◌, ◌^◌, min, Bool, if◌then◌else◌}
+use Rattle.std.specs.Prelude.{ℕ, ◌+◌, ◌≤◌, max, Bool, if◌then◌else◌}
+use Rattle.std.specs.Io.Iter.{u64_saturate}
 
 -- one more, as far as the count goes
-abbrev pub one_more : ℕ → ℕ
-one_more count = min (count + 1) (2 ^ 64 - 1)
+unfoldable pub raised : ℕ → ℕ
+raised count = max count (u64_saturate (count + 1))
 
 -- the count of failed calls after one more call, which succeeded or failed
 abbrev pub faults_after : ℕ → Bool → ℕ
-faults_after faults succeeded = if succeeded then faults else one_more faults
+faults_after faults succeeded = if succeeded then faults else raised faults
+
+-- a call has failed: a count rose, or stands at its end
+abbrev pub Rose : ℕ → ℕ → Type 0
+Rose before now = raised before ≤ now

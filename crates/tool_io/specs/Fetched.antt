@@ -1,8 +1,11 @@
 -- What a shelf of files answers to a fetch.
-use Rattle.std.specs.Prelude.{◌≡◌, ℕ, ◌≤◌, ◌<◌, length, List, [], ◌∷◌, Option, Some, None, if◌then◌else◌, IsSomeAnd}
+use Rattle.std.specs.Prelude.{◌≡◌, ℕ, ◌≤◌, ◌<◌, length, List, [], ◌∷◌, Option, Some, None, if◌then◌else◌, IsSomeAnd, Result, Ok, Err}
 use Rattle.std.specs.Str.{bytes_eq}
+use Rattle.tool_io.specs.Counts.{raised}
 use Rattle.tool_io.specs.declared.shelf.Found.{Found}
 use Rattle.tool_io.specs.declared.shelf.Found.TheVariants.{Whole, Missing, Long}
+use Rattle.tool_io.specs.declared.shelf.ShelfFault.{ShelfFault}
+use Rattle.tool_io.specs.declared.shelf.ShelfFault.TheVariants.{Failed, NoMemory}
 
 -- the file of this name: the first of equal names
 abbrev pub file_of : List (List ℕ × List ℕ) → List ℕ → Option (List ℕ)
@@ -14,3 +17,10 @@ abbrev pub Fetched : List (List ℕ × List ℕ) → List ℕ → ℕ → Found 
 Fetched files name limit Whole bytes = (file_of files name ≡ Some bytes) × (length bytes ≤ limit)
 Fetched files name limit Missing bytes = file_of files name ≡ None
 Fetched files name limit Long bytes = IsSomeAnd (file_of files name) (λ file. limit < length file)
+
+-- The count of failed calls around a fetch: one that ended left it, one that failed raised it by one. Want of memory may
+-- count as a failed call.
+abbrev pub CountsFetch : ℕ → ℕ → Result Found ShelfFault → Type 0
+CountsFetch before now (Ok found) = now ≡ before
+CountsFetch before now (Err Failed) = now ≡ raised before
+CountsFetch before now (Err NoMemory) = before ≤ now

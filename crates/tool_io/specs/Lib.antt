@@ -1,10 +1,10 @@
 pub mod Adapter
 pub mod BytesLeft
 pub mod Calls
-pub mod Causes
 pub mod Counts
 pub mod Fetched
 pub mod Files
 pub mod MemoryShelf
 pub mod MemorySink
 pub mod MemorySource
+pub mod SinkState

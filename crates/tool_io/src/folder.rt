@@ -1,7 +1,7 @@
 ghost use Rattle.std.specs.Prelude.{◌≡◌, ◌≢◌, ◌<◌, ◌≤◌, ◌↔◌, [], length, IfSome, is_ok};
 ghost use Rattle.std.specs.IoError.{error_kind};
-ghost use Rattle.tool_io.specs.Causes.{Rose};
 ghost use Rattle.tool_io.specs.Counts.{faults_after};
+ghost use Rattle.tool_io.specs.Fetched.{CountsFetch};
 
 use crate::faults::count_fault;
 use crate::shelf::{Found, Shelf, ShelfFault};
@@ -42,14 +42,14 @@ impl<R: Files> Shelf for FolderShelf<R> {
 
     ghost faults = { λ s. s.faults };
 
+    #[tactic(auto, using(crate::proofs::Counting::counts_each))]
     fn fetch(&mut self, name: &str, into: &mut Vec<u8>, limit: usize) -> Result<Found, ShelfFault>
         ensures empty { result ≢ Ok Found.Whole → into.new.items ≡ [] }
         ensures limit { length into.new.items ≤ limit }
-        ensures later { self.old.faults ≤ self.new.faults }
-        ensures failed { result ≡ Err ShelfFault.Failed → Rose self.old.faults self.new.faults }
+        ensures counted { CountsFetch self.old.faults self.new.faults result }
 
         // Each failure is counted, also one for want of memory.
-        ensures counted { self.new.faults ≡ faults_after self.old.faults (is_ok result) }
+        ensures each_failure { self.new.faults ≡ faults_after self.old.faults (is_ok result) }
     {
         let result = fetch_file(&self.files, name, into, limit);
         count_fault(&mut self.faults, &result);

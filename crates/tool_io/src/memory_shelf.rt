@@ -1,6 +1,5 @@
 ghost use Rattle.std.specs.Prelude.{◌≡◌, ◌≢◌, ◌<◌, ◌≤◌, ◌↔◌, [], length, IfOk, IsFalse, IsTrue, IsSomeAnd, None};
-ghost use Rattle.tool_io.specs.Causes.{Rose};
-ghost use Rattle.tool_io.specs.Fetched.{Fetched, file_of};
+ghost use Rattle.tool_io.specs.Fetched.{CountsFetch, Fetched, file_of};
 
 use crate::calls::Calls;
 use crate::shelf::{Found, Shelf, ShelfFault};
@@ -53,8 +52,7 @@ impl Shelf for MemoryShelf {
         ensures found { IfOk result (λ found. Fetched self.old.files name.now limit found into.new.items) }
         ensures empty { result ≢ Ok Found.Whole → into.new.items ≡ [] }
         ensures limit { length into.new.items ≤ limit }
-        ensures later { self.old.calls.faults ≤ self.new.calls.faults }
-        ensures failed { result ≡ Err ShelfFault.Failed → Rose self.old.calls.faults self.new.calls.faults }
+        ensures counted { CountsFetch self.old.calls.faults self.new.calls.faults result }
 
         // The call fails exactly where it is listed. Else a file is missing exactly where it is not
         // held, and long exactly where it is above the limit; memory may be wanting for the bytes

@@ -1,7 +1,7 @@
 ghost use Rattle.std.specs.Prelude.{◌≡◌, ◌<◌, [], length, IsTrue, IsErr, IfOk, is_ok};
 ghost use Rattle.std.specs.Io.{WritesAtMost};
 ghost use Rattle.std.specs.Io.KnownBytes.{WriteAppends};
-ghost use Rattle.tool_io.specs.Causes.{HasCause};
+ghost use Rattle.tool_io.specs.Counts.{faults_after};
 
 use crate::calls::Calls;
 use crate::faults::Failed;
@@ -58,15 +58,13 @@ impl Sink for MemorySink {
     ghost use Rattle.tool_io.specs.Calls.{fails_next};
     ghost use Rattle.tool_io.specs.MemorySink.{write_count, after_write};
 
-    ghost gone = { λ s. Some s.gone };
-
-    ghost faults = { λ s. s.calls.faults };
+    ghost state = { λ s. record { gone = Some s.gone; faults = s.calls.faults } };
 
     fn write(&mut self, piece: &[u8]) -> Result<usize, Failed>
         ensures bound { WritesAtMost result piece.now }
         ensures progress { IfOk result (λ n. 0 < length piece.now → 0 < n) }
         ensures bytes { WriteAppends (Some self.old.gone) (Some self.new.gone) result piece.now }
-        ensures cause { HasCause self.old.calls.faults self.new.calls.faults result }
+        ensures counted { self.new.calls.faults ≡ faults_after self.old.calls.faults (is_ok result) }
 
         // The call fails where it is listed, and else moves as much as it may. It may also fail for
         // want of memory, but not where there is nothing to keep.

@@ -1,7 +1,7 @@
-ghost use Rattle.std.specs.Prelude.{◌≡◌, ◌<◌, ◌↔◌, ◌++◌, length, take, drop, IsTrue, IsErr, IfOk, OnErr};
+ghost use Rattle.std.specs.Prelude.{◌≡◌, ◌<◌, ◌↔◌, ◌++◌, length, take, drop, IsTrue, IsErr, IfOk, OnErr, is_ok};
 ghost use Rattle.std.specs.Io.{ReadsAtMost};
 ghost use Rattle.std.specs.Io.KnownBytes.{ReadConsumes};
-ghost use Rattle.tool_io.specs.Causes.{HasCause};
+ghost use Rattle.tool_io.specs.Counts.{faults_after};
 
 use crate::bytes_left::BytesLeft;
 use crate::calls::Calls;
@@ -54,7 +54,7 @@ impl Source for MemorySource {
     fn read(&mut self, buf: &mut [u8]) -> Result<usize, Failed>
         ensures bound { ReadsAtMost result buf.new }
         ensures bytes { ReadConsumes (Some self.old.left.bytes) (Some self.new.left.bytes) result buf.new }
-        ensures cause { HasCause self.old.calls.faults self.new.calls.faults result }
+        ensures counted { self.new.calls.faults ≡ faults_after self.old.calls.faults (is_ok result) }
 
         // The call fails exactly where it is listed, and else moves as much as it may.
         ensures listed { IsErr result ↔ IsTrue (fails_next self.old.calls) }

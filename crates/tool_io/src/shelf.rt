@@ -1,6 +1,5 @@
 ghost use Rattle.std.specs.Prelude.{◌≡◌, ◌≢◌, ℕ, ◌≤◌, List, [], length, Option, IfSome, IfOk};
-ghost use Rattle.tool_io.specs.Causes.{Rose};
-ghost use Rattle.tool_io.specs.Fetched.{Fetched};
+ghost use Rattle.tool_io.specs.Fetched.{CountsFetch, Fetched};
 
 /// How a fetch ended.
 #[derive(Clone, Copy, Debug, PartialEq, Eq)]
@@ -39,6 +38,5 @@ pub trait Shelf {
             (λ found. IfSome (files self.old) (λ files. Fetched files name.now limit found into.new.items)) }
         ensures empty { result ≢ Ok Found.Whole → into.new.items ≡ [] }
         ensures limit { length into.new.items ≤ limit }
-        ensures later { faults self.old ≤ faults self.new }
-        ensures failed { result ≡ Err ShelfFault.Failed → Rose (faults self.old) (faults self.new) };
+        ensures counted { CountsFetch (faults self.old) (faults self.new) result };
 }

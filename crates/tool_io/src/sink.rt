@@ -1,23 +1,22 @@
-ghost use Rattle.std.specs.Prelude.{ℕ, ◌<◌, List, Option, length, IfOk};
+ghost use Rattle.std.specs.Prelude.{◌≡◌, ◌<◌, length, IfOk, is_ok};
 ghost use Rattle.std.specs.Io.{WritesAtMost};
 ghost use Rattle.std.specs.Io.KnownBytes.{WriteAppends};
-ghost use Rattle.tool_io.specs.Causes.{HasCause};
+ghost use Rattle.tool_io.specs.Counts.{faults_after};
+ghost use Rattle.tool_io.specs.SinkState.{SinkState};
 
 use crate::faults::Failed;
 
 /// Where bytes go.
 pub trait Sink {
-    /// The bytes that have gone, where the object tells them.
-    ghost gone: { Self → Option (List ℕ) };
-
-    /// How many calls have failed. The count ends at the greatest `u64`.
-    ghost faults: { Self → ℕ };
+    /// The bytes that have gone, where the object tells them, and how many calls have failed. The
+    /// count ends at the greatest `u64`.
+    ghost state: { Self → SinkState };
 
     /// Appends the first bytes of a piece, at least one of a piece that is not empty, and says how
     /// many. A call that fails appends nothing.
     fn write(&mut self, piece: &[u8]) -> Result<usize, Failed>
         ensures bound { WritesAtMost result piece.now }
         ensures progress { IfOk result (λ n. 0 < length piece.now → 0 < n) }
-        ensures bytes { WriteAppends (gone self.old) (gone self.new) result piece.now }
-        ensures cause { HasCause (faults self.old) (faults self.new) result };
+        ensures bytes { WriteAppends (state self.old).gone (state self.new).gone result piece.now }
+        ensures counted { (state self.new).faults ≡ faults_after (state self.old).faults (is_ok result) };
 }

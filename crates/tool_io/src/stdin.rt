@@ -1,7 +1,6 @@
 ghost use Rattle.std.specs.Prelude.{◌≡◌, is_ok};
 ghost use Rattle.std.specs.Io.{ReadsAtMost};
 ghost use Rattle.std.specs.Io.KnownBytes.{ReadConsumes};
-ghost use Rattle.tool_io.specs.Causes.{HasCause};
 ghost use Rattle.tool_io.specs.Counts.{faults_after};
 
 use crate::faults::{Failed, count_fault};
@@ -42,7 +41,6 @@ impl<R: Read> Source for StdinSource<R> {
 
     fn read(&mut self, buf: &mut [u8]) -> Result<usize, Failed>
         ensures bound { ReadsAtMost result buf.new }
-        ensures cause { HasCause self.old.faults self.new.faults result }
 
         // The bytes are those that the reader gave, and each failure is counted.
         ensures given { ReadConsumes (R.remaining self.old.device) (R.remaining self.new.device) result buf.new }

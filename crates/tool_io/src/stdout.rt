@@ -1,7 +1,6 @@
 ghost use Rattle.std.specs.Prelude.{◌≡◌, ◌<◌, ℕ, length, take, IfOk, OnErr, is_ok};
 ghost use Rattle.std.specs.Io.{WritesAtMost};
 ghost use Rattle.std.specs.Io.KnownBytes.{Appends};
-ghost use Rattle.tool_io.specs.Causes.{HasCause};
 ghost use Rattle.tool_io.specs.Counts.{faults_after};
 
 use crate::faults::{Failed, count_fault};
@@ -36,14 +35,11 @@ impl<W> StdoutSink<W> {
 impl<W: Write> Sink for StdoutSink<W> {
     ghost use Rattle.std.specs.Prelude.{None};
 
-    ghost gone = { λ _. None };
-
-    ghost faults = { λ s. s.faults };
+    ghost state = { λ s. record { gone = None; faults = s.faults } };
 
     fn write(&mut self, piece: &[u8]) -> Result<usize, Failed>
         ensures bound { WritesAtMost result piece.now }
         ensures progress { IfOk result (λ n. 0 < length piece.now → 0 < n) }
-        ensures cause { HasCause self.old.faults self.new.faults result }
 
         // The bytes went to the writer, as far as it says so, and each failure is counted. Where a
         // flush fails, the writer may have taken some of the piece.

@@ -35,9 +35,7 @@ impl SteadySink {
 impl Sink for SteadySink {
     ghost use Rattle.std.specs.Prelude.{None};
 
-    ghost gone = { λ _. None };
-
-    ghost faults = { λ _. 0 };
+    ghost state = { λ _. record { gone = None; faults = 0 } };
 
     fn write(&mut self, piece: &[u8]) -> Result<usize, Failed>
         ensures bound { WritesAtMost result piece.now }

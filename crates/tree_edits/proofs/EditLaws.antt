@@ -8,8 +8,8 @@ use Rattle.view_model.specs.declared.changes.Act.{Act}
 use Rattle.view_model.specs.declared.kinds.Class.{Class}
 use Rattle.view_model.specs.Facts.{new_facts}
 use Rattle.view_model.specs.Forest.{Forest, Nothing}
-use Rattle.view_model.specs.Growth.{grown_at, refusal_at}
-use Rattle.view_model.specs.PlainTree.{View, pruned, single, view_in, with_text}
+use Rattle.view_model.specs.Growth.{refusal_at}
+use Rattle.view_model.specs.PlainTree.{View, pruned, view_in, with_text}
 use Rattle.view_model.specs.Refusals.{plainly}
 use Rattle.view_tree.specs.Attached.{Attached}
 use Rattle.view_tree.specs.declared.fault.AttachFault.{AttachFault}
@@ -34,32 +34,34 @@ added_root views None addable none = addable.0
 added_root views (Some parent) addable none = absurd (cc)
 
 -- a view was added
-new_view_is : (number : ℕ) (class : Class) (width height : ℤ) (facts : Facts) (text : List ℕ) → facts ≡ new_facts width height → text ≡ []
-    → (let view : View = record { number = number; class = class; facts = facts; text = text } in view) ≡ new_view number class width height
-new_view_is number class width height facts text facts_is text_is = rw (facts_is, text_is)
-
-pub attached_scene : (old new : Views) (parent : Option ℕ) (class : Class) (width height : ℤ) (facts : Facts) (text : List ℕ) (key number : ℕ) → IsAddable old parent
-    → refusal_at (plain_of old) (option_map (number_of old) parent) ≡ None
+pub attached_new : (old new : Views) (parent : Option ℕ) (class : Class) (width height : ℤ) (facts : Facts) (text : List ℕ) (key : ℕ)
     → facts ≡ new_facts width height
     → text ≡ []
     → Attached old parent (record { number = old.next; class = class; facts = facts; text = text }) key new
+    → Attached old parent (new_view old.next class width height) key new
+attached_new old new parent class width height facts text key facts_is text_is attached =
+    let view : Facts → List ℕ → View = λ f t. record { number = old.next; class = class; facts = f; text = t } in
+    subst (λ (t : List ℕ). Attached old parent (view (new_facts width height) t) key new) text_is
+    (subst (λ (f : Facts). Attached old parent (view f text) key new) facts_is attached)
+
+pub attached_scene : (old new : Views) (parent : Option ℕ) (class : Class) (width height : ℤ) (key number : ℕ) → IsAddable old parent
+    → refusal_at (plain_of old) (option_map (number_of old) parent) ≡ None
+    → Attached old parent (new_view old.next class width height) key new
     → number ≡ old.next
     → edited (scene_of old) (Add (option_map (number_of old) parent) class width height) ≡ Ok (scene_of new, Some number)
-attached_scene old new parent class width height facts text key number addable free facts_is text_is attached number_is =
-    let view : View = record { number = old.next; class = class; facts = facts; text = text } in
-    let is : view ≡ new_view old.next class width height = new_view_is old.next class width height facts text facts_is text_is in
+attached_scene old new parent class width height key number addable free attached number_is =
     ap (added (scene_of old) (option_map (number_of old) parent) class width height) free
     ∙ ap (λ (scene : Scene). Ok (scene, Some old.next))
     (sym (same_scene _ _ _ _ _ _
-    (attached.plain ∙ ap (λ (v : View). grown_at (option_map (number_of old) parent) (single v) (plain_of old)) is)
+    attached.plain
     attached.next
     (ap (laid_rows (held_of new)) attached.tree
-    ∙ geometry-with_child old (held_of new) parent key view (added_root old parent addable) attached.unused
+    ∙ geometry-with_child old (held_of new) parent key (new_view old.next class width height) (added_root old parent addable) attached.unused
     (ap (λ (h : Held). h.state.bounds) attached.held) attached.others)))
     ∙ ap (λ (n : ℕ). Ok (scene_of new, Some n)) (sym number_is)
 
-pub attached_kept : (old new : Views) (parent : Option ℕ) (view : View) (key : ℕ) → IsConsistent old → Attached old parent view key new → IsConsistent new
-attached_kept old new parent view key kept attached = record {
+pub attached_kept : (old new : Views) (parent : Option ℕ) (view : View) (key : ℕ) → Attached old parent view key new → IsConsistent old → IsConsistent new
+attached_kept old new parent view key attached kept = record {
   hidden =
       subst (λ (t : Forest Row). HidesGone (held_of new) t) (sym attached.tree)
       (hidden-with_child old (held_of new) parent key view kept.hidden attached.unused (ap (λ (h : Held). h.state.bounds) attached.held) attached.others);
@@ -89,11 +91,11 @@ detached_scene old new view is live tree plain next others =
     ap (λ (scene : Scene). Ok (scene, None))
     (sym (same_scene _ _ _ _ _ _ plain next (ap (laid_rows (held_of new)) tree ∙ geometry-cut old (held_of new) view is live others)))
 
-pub detached_kept : (old new : Views) (view : ℕ) → IsTree old → IsConsistent old
+pub detached_kept : (old new : Views) (view : ℕ) → IsTree old
     → new.tree ≡ cut view old.tree
     → ((key : ℕ) → times key (alone (from view old.tree)) ≡ 0 → held_of new key ≡ held_of old key)
-    → IsConsistent new
-detached_kept old new view is kept tree others = record {
+    → IsConsistent old → IsConsistent new
+detached_kept old new view is tree others kept = record {
   hidden = subst (λ (t : Forest Row). HidesGone (held_of new) t) (sym tree) (hidden-cut old (held_of new) view is kept.hidden others);
 }
 
@@ -136,17 +138,17 @@ no_memory outcome made after (Err fault) is fault_is = subst (λ (f : EditFault)
 -- a text was set
 pub record TextSet (old : Views) (view : ℕ) (text : List ℕ) (new : Views) : Type 0 where
   pub scene : scene_of new ≡ record (scene_of old) { tree = with_text (number_of old view) text (plain_of old) }
-  pub kept : IsConsistent new
+  pub kept : IsConsistent old → IsConsistent new
 
-pub text_set : (old new : Views) (view : ℕ) (text written : List ℕ) → IsTree old → IsLive old view → IsConsistent old → written ≡ text
+pub text_set : (old new : Views) (view : ℕ) (text written : List ℕ) → IsTree old → IsLive old view → written ≡ text
     → new.tree ≡ put_view view (λ (v : View). record v { text = written }) old.tree
     → plain_of new ≡ with_text (number_of old view) written (plain_of old)
     → new.next ≡ old.next
     → ((key : ℕ) → held_of new key ≡ held_of old key)
     → TextSet old view text new
-text_set old new view text written is live kept same tree plain next held =
-    let s = stays old new view (λ (v : View). record v { text = written }) is live kept (λ _. refl) (λ _. refl) tree held in
+text_set old new view text written is live same tree plain next held =
+    let s = stays old new view (λ (v : View). record v { text = written }) is live (λ _. refl) (λ _. refl) tree held in
     record {
       scene = same_scene _ _ _ _ _ _ (plain ∙ ap (λ (t : List ℕ). with_text (number_of old view) t (plain_of old)) same) next s.geometry;
-      kept = record { hidden = s.hidden };
+      kept = s.kept;
     }

@@ -14,7 +14,10 @@ use Rattle.view_model.specs.Growth.{growth_refusal}
 use Rattle.view_model.specs.PlainTree.{View}
 use Rattle.view_model.specs.Refusals.{plainly}
 use Rattle.tree_edits.specs.Editing.{Add, Do, Remove, Write, edited, new_view}
+use Rattle.tree_edits.specs.Keeping.{held_acted}
 use Rattle.tree_edits.specs.Scene.{Scene}
+use Rattle.view_tree.specs.Rows.{Row}
+use Rattle.view_tree.specs.Views.{Views, held_of}
 
 frame : ℕ → View
 frame number = new_view number class.FrameLayout (pos 40) (pos 30)
@@ -109,3 +112,27 @@ frame_does_not_scroll = refl
 frame_has_no_text : edited start (Write 2 (65 ∷ [])) ≡ Err (plainly 29)
 unfolding start scene tree_with inner everywhere frame leaf laid
 frame_has_no_text = refl
+
+-- what is kept of a view 7 with a view 8 below it and a view 9 behind it: a scroll sets the offset of one view
+rows : Forest Row
+rows = let row : ℕ → Row = λ key. record { key = key; view = frame key } in Branch (row 7) (Branch (row 8) Nothing Nothing) (Branch (row 9) Nothing Nothing)
+
+kept : Views → Views
+kept views = record views { tree = rows }
+
+scrolled_alone : (views : Views) → held_acted (kept views) 7 (act.Scroll (pos 3)) 7 ≡ record (held_of views 7) { offset = pos 3 }
+unfolding kept rows frame
+scrolled_alone views = refl
+
+others_do_not_scroll : (views : Views) → held_acted (kept views) 7 (act.Scroll (pos 3)) 8 ≡ held_of views 8
+unfolding kept rows frame
+others_do_not_scroll views = refl
+
+-- a view that is gone takes the bounds of those below it away, and no others
+gone_takes_bounds : (views : Views) → (held_acted (kept views) 7 (act.Visible Gone) 8).state.bounds ≡ None
+unfolding kept rows frame
+gone_takes_bounds views = refl
+
+gone_leaves_siblings : (views : Views) → held_acted (kept views) 7 (act.Visible Gone) 9 ≡ held_of views 9
+unfolding kept rows frame
+gone_leaves_siblings views = refl

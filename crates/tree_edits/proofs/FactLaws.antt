@@ -1,5 +1,5 @@
 -- What acts leave of the facts of a view, and where two changes of facts are one.
-use Rattle.std.proofs.Common.{◌≡◌, ℕ, ◌≤◌, true, false, refl, sym, ◌∙◌, ap, arith, inl, inr}
+use Rattle.std.proofs.Common.{◌≡◌, ℕ, ℤ, pos, ◌≤◌, true, false, refl, sym, ◌∙◌, ap, arith, inl, inr}
 use Rattle.std.proofs.lemmas.Bool.{cases_Bool}
 use Rattle.std.specs.Prelude.{◌==◌}
 use Rattle.view_model.specs.Changes.{acted}
@@ -12,7 +12,7 @@ use Rattle.view_model.specs.declared.kinds.Visibility.TheVariants.{Visible, Invi
 use Rattle.view_model.specs.Facts.{is_shown}
 use Rattle.view_model.specs.Forest.{Forest, Nothing, Branch}
 use Rattle.view_model.specs.PlainTree.{with_facts}
-use Rattle.view_tree.specs.Rows.{Row, from, times}
+use Rattle.view_tree.specs.Rows.{Row, from, times, unscrolled_facts}
 use Rattle.view_tree.specs.Views.{Held, IsLive, IsTree, Views, facts_of, held_of, number_of, plain_of, plain_rows, scrolled}
 use Rattle.view_tree.proofs.KeyLaws.{Agree, absent, located, zero_or_more}
 use Rattle.view_tree.proofs.PlainLaws.{agree_live}
@@ -61,6 +61,42 @@ names_alone (act.Ink color) facts names = absurd (cc)
 names_alone (act.Answer answer) facts names = absurd (cc)
 names_alone (act.Intercept actions) facts names = absurd (cc)
 names_alone (act.Scroll offset) facts names = absurd (cc)
+
+-- what an act leaves of an offset is not seen in a row
+pub acted-offset : (act : Act) (facts : Facts) (offset : ℤ) → unscrolled_facts (acted act (record facts { offset = offset })) ≡ unscrolled_facts (acted act facts)
+acted-offset (act.Change (change.Size width height)) facts offset = refl
+acted-offset (act.Change (change.Min size)) facts offset = refl
+acted-offset (act.Change (change.Margins sides)) facts offset = refl
+acted-offset (act.Change (change.Padding sides)) facts offset = refl
+acted-offset (act.Change (change.Weight weight)) facts offset = refl
+acted-offset (act.Change (change.Gravity true gravity)) facts offset = refl
+acted-offset (act.Change (change.Gravity false gravity)) facts offset = refl
+acted-offset (act.Change (change.Background color)) facts offset = refl
+acted-offset (act.WeightSum sum) facts offset = refl
+acted-offset (act.Orient vertical) facts offset = refl
+acted-offset (act.Flag flag.Clip on) facts offset = refl
+acted-offset (act.Flag flag.Fill on) facts offset = refl
+acted-offset (act.Flag flag.Split on) facts offset = refl
+acted-offset (act.Visible visibility) facts offset = refl
+acted-offset (act.Ink color) facts offset = refl
+acted-offset (act.Id id) facts offset = refl
+acted-offset (act.Rule verb value) facts offset = refl
+acted-offset (act.Answer answer) facts offset = refl
+acted-offset (act.Intercept actions) facts offset = refl
+acted-offset (act.Scroll to) facts offset = refl
+
+-- an act that sets names leaves the offset
+pub names_offset : (act : Act) (facts : Facts) → names_views act ≡ true → (acted act facts).offset ≡ facts.offset
+names_offset act facts names = ap (λ (f : Facts). f.offset) (sym (names_alone act facts names))
+
+-- what it makes of a view in its row
+pub acted-named : (act : Act) (facts : Facts) (offset : ℤ) → names_views act ≡ true → facts.offset ≡ pos 0
+    → renamed (acted act (record facts { offset = offset })) facts ≡ unscrolled_facts (acted act facts)
+acted-named act facts offset names flat =
+    let other = acted act (record facts { offset = offset }) in
+    let same : unscrolled_facts other ≡ unscrolled_facts (acted act facts) = acted-offset act facts offset in
+    let alone : renamed other (record facts { offset = offset }) ≡ other = names_alone act (record facts { offset = offset }) names in
+    ap (λ (o : ℤ). record (renamed other facts) { offset = o }) flat ∙ ap unscrolled_facts alone ∙ same
 
 pub names_stay : (act : Act) → names_views act ≡ true → hides act ≡ false
 names_stay (act.Id id) names = refl

@@ -2,4 +2,5 @@ mod ActLaws
 mod EditLaws
 mod Examples
 mod FactLaws
+pub mod KeepLaws
 mod Walk

@@ -1,5 +1,5 @@
 -- What an edit makes of a scene, or why it is refused.
-use Rattle.std.specs.Prelude.{ℕ, ◌+◌, ℤ, Bool, true, false, if◌then◌else◌, List, [], Option, Some, None, Result, Ok, Err}
+use Rattle.std.specs.Prelude.{ℕ, ◌+◌, ℤ, Bool, true, false, if◌then◌else◌, List, [], Option, Some, None, Result, Ok, Err, not}
 use Rattle.view_model.specs.Changes.{acted}
 use Rattle.view_model.specs.declared.changes.Act.{Act}
 use Rattle.view_model.specs.declared.changes.Act.TheVariants as act
@@ -9,9 +9,7 @@ use Rattle.view_model.specs.declared.changes.Flag.{Flag}
 use Rattle.view_model.specs.declared.changes.Flag.TheVariants as flag
 use Rattle.view_model.specs.declared.kinds.Class.{Class}
 use Rattle.view_model.specs.declared.kinds.Class.TheVariants as class
-use Rattle.view_model.specs.declared.kinds.Visibility.{Visibility}
-use Rattle.view_model.specs.declared.kinds.Visibility.TheVariants.{Visible, Invisible, Gone}
-use Rattle.view_model.specs.Facts.{new_facts}
+use Rattle.view_model.specs.Facts.{new_facts, takes_part}
 use Rattle.view_model.specs.Geometry.{Laid, without}
 use Rattle.view_model.specs.Growth.{grown_at, is_group, refusal_at}
 use Rattle.view_model.specs.PlainTree.{View, numbers_of, part_of, pruned, single, view_in, with_facts, with_text}
@@ -64,19 +62,13 @@ abbrev pub has_text : Class → Bool
 has_text class.View = false
 has_text class.FrameLayout = false
 
--- whether a view takes no part in layout
-abbrev pub is_gone : Visibility → Bool
-is_gone Visible = false
-is_gone Invisible = false
-is_gone Gone = true
-
 -- whether an act takes a view, and all below it, out of the geometry at once
 abbrev pub hides : Act → Bool
 hides (act.Change change) = false
 hides (act.WeightSum sum) = false
 hides (act.Orient vertical) = false
 hides (act.Flag flag on) = false
-hides (act.Visible visibility) = is_gone visibility
+hides (act.Visible visibility) = not (takes_part visibility)
 hides (act.Ink color) = false
 hides (act.Id id) = false
 hides (act.Rule verb value) = false

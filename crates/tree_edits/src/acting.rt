@@ -1,15 +1,16 @@
 //! Acts on a view of a tree.
-ghost use Rattle.std.specs.Prelude.{◌≡◌, ℕ, true, false, None, OnErr, OnOk, if◌then◌else◌};
+ghost use Rattle.std.specs.Prelude.{◌≡◌, ℕ, true, false, None, OnErr, OnOk};
 ghost use Rattle.tree_edits.specs.Applied.{IsVerb, names_views};
 ghost use Rattle.tree_edits.specs.Editing.{after_act, hides};
-ghost use Rattle.tree_edits.specs.Hiding.{hidden_at};
+ghost use Rattle.tree_edits.specs.Hiding.{held_hiding};
+ghost use Rattle.tree_edits.specs.Keeping.{KeepsViews};
 ghost use Rattle.tree_edits.specs.Scene.{scene_of};
 ghost use Rattle.view_tree.specs.Faults.{RefusedFor};
 ghost use Rattle.view_tree.specs.Hidden.{IsConsistent};
-ghost use Rattle.view_tree.specs.Rows.{alone, from, times};
 ghost use Rattle.view_tree.specs.Views.{IsLive, SameTree, held_of, number_of};
 
 use crate::changing::acted;
+use crate::edits::Edit;
 use crate::hiding::hide;
 use view_model::{Act, Visibility};
 use view_tree::{AttachFault, Key, ViewTree};
@@ -23,14 +24,14 @@ pub fn names_views(act: Act) -> bool
 
 /// Sets the id or a rule of a view.
 pub fn set_names(tree: &mut ViewTree, view: Key, act: Act) -> Result<(), AttachFault>
-    requires consistent { IsConsistent tree.old }
     requires live { IsLive tree.old view }
     requires verb { IsVerb act }
     requires names { names_views act ≡ true }
     ensures scene { OnOk result (scene_of tree.new ≡ after_act (scene_of tree.old) (number_of tree.old view) act) }
+    ensures kept { OnOk result (KeepsViews tree.old tree.new (Edit.Act view act)) }
     ensures refused { RefusedFor None result }
     ensures unchanged { OnErr result (tree.new ≡ tree.old) }
-    ensures consistent { IsConsistent tree.new }
+    ensures consistent { IsConsistent tree.old → IsConsistent tree.new }
 {
     let facts = acted(act, *tree.facts(view));
     tree.set_rules(view, facts.id, facts.rules)
@@ -38,12 +39,12 @@ pub fn set_names(tree: &mut ViewTree, view: Key, act: Act) -> Result<(), AttachF
 
 /// Sets what else there is of a view. One that is gone from now on leaves the geometry at once, with all below it.
 pub fn set_facts(tree: &mut ViewTree, view: Key, act: Act)
-    requires consistent { IsConsistent tree.old }
     requires live { IsLive tree.old view }
     requires verb { IsVerb act }
     requires names { names_views act ≡ false }
     ensures scene { scene_of tree.new ≡ after_act (scene_of tree.old) (number_of tree.old view) act }
-    ensures consistent { IsConsistent tree.new }
+    ensures kept { KeepsViews tree.old tree.new (Edit.Act view act) }
+    ensures consistent { IsConsistent tree.old → IsConsistent tree.new }
 {
     let facts = acted(act, *tree.facts(view));
     hide_by(tree, view, act);
@@ -53,7 +54,7 @@ pub fn set_facts(tree: &mut ViewTree, view: Key, act: Act)
 fn hide_by(tree: &mut ViewTree, view: Key, act: Act)
     requires { IsLive tree.old view }
     ensures same { SameTree tree.old tree.new }
-    ensures held { (key : ℕ) → held_of tree.new key ≡ (if hides act then hidden_at (times key (alone (from view tree.old.tree))) (held_of tree.old key) else held_of tree.old key) }
+    ensures held { (key : ℕ) → held_of tree.new key ≡ held_hiding (hides act) tree.old view key }
 {
     if hides(act) {
         hide(tree, view);

@@ -1,11 +1,14 @@
 pub mod Changes
+pub mod Course
 pub mod Facts
 pub mod Forest
 pub mod FrameLayout
 pub mod Growth
 pub mod Geometry
 pub mod Layout
+pub mod Leaf
 pub mod Measuring
+pub mod Placing
 pub mod PlainTree
 pub mod Refusals
 pub mod World

@@ -3,10 +3,10 @@ use Rattle.std.proofs.Common.{◌≡◌, ℕ, ◌+◌, ◌-◌, ◌<◌, ◌≤�
 use Rattle.std.specs.Prelude.{Bool, fold}
 use Rattle.std.proofs.lemmas.Bool.{cases_Bool, cases_lt, lt-ltb, le-ltb}
 use Rattle.std.proofs.lemmas.Grind.{fold-append}
-use Rattle.std.proofs.lemmas.List.{append-nil, take_all, take-append-drop}
+use Rattle.std.proofs.lemmas.List.{append-nil, take_all}
 use Rattle.std.proofs.Math.Seq.{take-add, take-append-add}
 use Rattle.script_lines.specs.Lines.{Cut, Line, cut_of, cut_step, is_line_feed, last_of, line_of, lines_of}
-use Rattle.view_tool.specs.Transcript.{carried_lines, longest_script}
+use Rattle.view_tool.specs.Transcript.{carried_lines, max_script}
 
 abbrev no_lines : Cut
 no_lines = record { lines = []; rest = [] }
@@ -50,24 +50,17 @@ pub taken_more : (before piece : List ℕ) (at n : ℕ) → at ≤ length piece 
 taken_more before piece at n within =
     append_assoc before (take at piece) (take n (take (length piece - at) (drop at piece))) ∙ ap (λ l. before ++ l) (take_further at n piece within)
 
--- a piece that was taken in part, and the whole rest of it
-pub taken_all : (before piece : List ℕ) (at : ℕ) → at ≤ length piece → (before ++ take at piece) ++ take (length piece - at) (drop at piece) ≡ before ++ piece
-taken_all before piece at within =
-    append_assoc before (take at piece) (take (length piece - at) (drop at piece))
-    ∙ ap (λ l. before ++ (take at piece ++ l)) (take_all (length piece - at) (drop at piece) (omega (arith, length-drop at piece)))
-    ∙ ap (λ l. before ++ l) (take-append-drop at piece)
-
 pub taken_short : (before piece : List ℕ) (at most : ℕ) → length (before ++ piece) < most → length (before ++ take at piece) < most
 taken_short before piece at most short =
     omega (arith, short, length-append before piece, length-append before (take at piece), length-take at piece)
 
-pub carried_short : (script : List ℕ) → length script ≤ longest_script → carried_lines script ≡ lines_of script
+pub carried_short : (script : List ℕ) → length script ≤ max_script → carried_lines script ≡ lines_of script
 unfolding carried_lines
-carried_short script short = ap (λ b. cond b (cut_of (take longest_script script)).lines (lines_of script)) (le-ltb longest_script (length script) short)
+carried_short script short = ap (λ b. cond b (cut_of (take max_script script)).lines (lines_of script)) (le-ltb max_script (length script) short)
 
-pub carried_long : (script : List ℕ) → longest_script < length script → carried_lines script ≡ (cut_of (take longest_script script)).lines
+pub carried_long : (script : List ℕ) → max_script < length script → carried_lines script ≡ (cut_of (take max_script script)).lines
 unfolding carried_lines
-carried_long script long = ap (λ b. cond b (cut_of (take longest_script script)).lines (lines_of script)) (lt-ltb longest_script (length script) long)
+carried_long script long = ap (λ b. cond b (cut_of (take max_script script)).lines (lines_of script)) (lt-ltb max_script (length script) long)
 
 lines_of-cut : (taken rest : List ℕ) → (more : List Line) × ((cut_of taken).lines ++ more ≡ lines_of (taken ++ rest))
 unfolding lines_of
@@ -78,20 +71,20 @@ lines_of-cut taken rest =
           ∙ ap (λ (l : List Line). l ++ last_of (cut_of (taken ++ rest)).rest) (sym more.1),
     )
 
-cut_front : (taken rest : List ℕ) → length taken ≤ longest_script → (more : List Line) × ((cut_of taken).lines ++ more ≡ (cut_of (take longest_script (taken ++ rest))).lines)
+cut_front : (taken rest : List ℕ) → length taken ≤ max_script → (more : List Line) × ((cut_of taken).lines ++ more ≡ (cut_of (take max_script (taken ++ rest))).lines)
 cut_front taken rest short =
-    let n = longest_script - length taken in
-    let split : longest_script ≡ length taken + n = omega (arith, short) in
-    let e : take longest_script (taken ++ rest) ≡ taken ++ take n rest = ap (λ m. take m (taken ++ rest)) split ∙ take-append-add taken rest n in
+    let n = max_script - length taken in
+    let split : max_script ≡ length taken + n = omega (arith, short) in
+    let e : take max_script (taken ++ rest) ≡ taken ++ take n rest = ap (λ m. take m (taken ++ rest)) split ∙ take-append-add taken rest n in
     let more = cut_more taken (take n rest) in
     (more.0, sym more.1 ∙ ap (λ (l : List ℕ). (cut_of l).lines) (sym e))
 
 -- the lines whose line feed is among the first bytes of a script are the first that are carried out
-pub carried_front : (script taken rest : List ℕ) → script ≡ taken ++ rest → length taken ≤ longest_script → (more : List Line) × ((cut_of taken).lines ++ more ≡ carried_lines script)
-carried_front script taken rest e short = elim (cases_lt longest_script (length script)) [
+pub carried_front : (script taken rest : List ℕ) → script ≡ taken ++ rest → length taken ≤ max_script → (more : List Line) × ((cut_of taken).lines ++ more ≡ carried_lines script)
+carried_front script taken rest e short = elim (cases_lt max_script (length script)) [
   | inl long ↦ (
       let more = cut_front taken rest short in
-      (more.0, more.1 ∙ ap (λ (l : List ℕ). (cut_of (take longest_script l)).lines) (sym e) ∙ sym (carried_long script long))
+      (more.0, more.1 ∙ ap (λ (l : List ℕ). (cut_of (take max_script l)).lines) (sym e) ∙ sym (carried_long script long))
       )
   | inr all ↦ (
       let more = lines_of-cut taken rest in

@@ -1,6 +1,7 @@
 pub mod CutLaws
-pub mod DeliveredLaws
+pub mod NameLaws
 mod RefusalExamples
 pub mod RunLaws
 pub mod ScriptLaws
 pub mod ToolLaws
+pub mod WorkLaws

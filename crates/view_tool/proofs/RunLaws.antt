@@ -1,11 +1,11 @@
 -- What lines come to, one after another, and where a run stops in them.
-use Rattle.std.proofs.Common.{◌≡◌, ℕ, ◌+◌, ◌<◌, suc, length, take, drop, List, [], ◌∷◌, ◌++◌, refl, ap, sym, subst, ◌∙◌, arith, append_assoc, inl, inr}
+use Rattle.std.proofs.Common.{◌≡◌, ℕ, ◌+◌, ◌<◌, suc, true, length, take, drop, List, [], ◌∷◌, ◌++◌, refl, ap, sym, subst, ◌∙◌, arith, append_assoc, inl, inr}
 use Rattle.std.specs.Prelude.{◌⊎◌, Option, fold, Err}
 use Rattle.std.specs.Io.KnownBytes.{Appends}
 use Rattle.std.proofs.lemmas.Grind.{fold-append}
 use Rattle.std.proofs.lemmas.List.{append-nil, take-append-drop}
 use Rattle.script_lines.specs.Held.{Held, Stands}
-use Rattle.script_lines.specs.Lines.{Line, cut_of, last_of, lines_of}
+use Rattle.script_lines.specs.Lines.{Line, Text, LongLine, cut_of, last_of, lines_of}
 use Rattle.text_lines.specs.Prefix.{AppendsPrefix}
 use Rattle.text_lines.proofs.Prefixes.{prefix_of_first, prefix_of_second}
 use Rattle.view_tool.specs.declared.run.Course.{Course}
@@ -13,21 +13,18 @@ use Rattle.view_tool.specs.declared.run.Stop.{Stop}
 use Rattle.view_tool.specs.declared.run.Stop.TheVariants as stop
 use Rattle.view_tool.specs.Refusals.{refused_line}
 use Rattle.view_tool.specs.Run.{IsAt, IsBehind, StopsIn}
-use Rattle.view_tool.specs.Transcript.{MayWant, Progress, after_line, after_lines, after_reply, at_start, reply_to_line}
-use Rattle.tool_io.specs.Causes.{Rose}
+use Rattle.view_tool.specs.Transcript.{Progress, after_line, after_lines, after_reply, at_start, is_idle, reply_to_line}
+use Rattle.tool_io.specs.Counts.{raised}
+use Rattle.tool_io.specs.SinkState.{SinkState}
 use Rattle.view_model.specs.declared.refusal.Refusal.{Refusal}
 use Rattle.view_model.specs.Refusals.{Told, told}
 use Rattle.view_model.specs.World.{World}
 use Rattle.view_world.specs.declared.fault.StepFault.{StepFault}
 use Rattle.view_world.specs.declared.fault.StepFault.TheVariants as step
-use Rattle.view_world.specs.Carried.{CarriedOut, IsDone, SinkState}
+use Rattle.view_world.specs.Carried.{CarriedOut, IsDone}
 use Rattle.view_world.specs.Step.{Reply, Done, Refused}
 use Rattle.view_world.specs.WorldView.{world_of}
 use Rattle.view_tool.proofs.CutLaws.{cut_count, cut_more}
-
-pub after_lines-nil : after_lines [] ≡ at_start
-unfolding after_lines
-after_lines-nil = refl
 
 pub after_lines-push : (lines : List Line) (line : Line) → after_lines (lines ++ line ∷ []) ≡ after_line (after_lines lines) line
 unfolding after_lines
@@ -91,9 +88,17 @@ stops_further first now lines more all stop.NoMemory e stops = record {
   gone = stops.gone;
 }
 
--- no memory was found for the line behind some lines
-pub stops_at : (first now : Option (List ℕ)) (lines : List Line) (line : Line) → MayWant line → Appends first now (after_lines lines).text → StopsIn first now (lines ++ line ∷ []) stop.NoMemory
-stops_at first now lines line wants gone = record { done = lines; line = line; left = []; all = refl; wants = wants; gone = gone }
+-- a line that is passed over
+passed_reply : (world : World) (line : Line) → is_idle line ≡ true → reply_to_line world line ≡ Done world []
+unfolding reply_to_line
+passed_reply world LongLine e = absurd (cc)
+passed_reply world (Text bytes) e = rw e refl
+
+pub passed_line : (first now : Option (List ℕ)) (course : Course) (progress : Progress) (line : Line) (number : ℕ) → is_idle line ≡ true → number ≡ progress.lines + 1 → IsAt first now course progress
+    → IsAt first now (record course { lines = number }) (after_line progress line)
+passed_line first now course progress line number passed counted at =
+    let reply = passed_reply progress.world line passed in
+    rw reply (record { lines = counted; world = at.world; refused = at.refused; gone = subst (Appends first now) (sym (append-nil progress.text)) at.gone })
 
 -- what a refused line leaves
 pub not_done : {X : Type 0} (fault : StepFault) (refusal : Refusal) → fault ≡ step.Refused refusal → IsDone (Err fault) ⊎ X → X
@@ -106,7 +111,7 @@ carried_refused reply new before after fault refusal e carried = subst (λ (f : 
 
 -- what a line whose text could not be written has done
 pub carried_sink : (reply : Reply) (new : World) (before after : SinkState) (fault : StepFault) → fault ≡ step.Sink → CarriedOut reply new before after (Err fault)
-    → (text : List ℕ) × (reply ≡ Done new text) × AppendsPrefix before.gone after.gone text × Rose before.faults after.faults
+    → (text : List ℕ) × (reply ≡ Done new text) × AppendsPrefix before.gone after.gone text × (after.faults ≡ raised before.faults)
 carried_sink reply new before after fault e carried = subst (λ (f : StepFault). CarriedOut reply new before after (Err f)) e carried
 
 -- a line was refused, and to tell of it failed

@@ -1,17 +1,18 @@
 -- What was taken of a script, and how its run ends.
-use Rattle.std.proofs.Common.{◌≡◌, ℕ, ◌+◌, ◌<◌, ◌≤◌, length, take, drop, List, [], ◌++◌, refl, ap, sym, subst, ◌∙◌, arith, append_assoc, length-append, length-take}
+use Rattle.std.proofs.Common.{◌≡◌, ℕ, ◌+◌, ◌-◌, ◌<◌, ◌≤◌, length, take, drop, List, [], ◌++◌, refl, ap, sym, subst, ◌∙◌, arith, append_assoc, length-append, length-take}
 use Rattle.std.specs.Prelude.{Option, Some, None, Ok, Err}
 use Rattle.std.specs.Io.KnownBytes.{Appends, Consumes, IsAtEnd}
 use Rattle.std.proofs.lemmas.List.{append-nil, take-append-drop, take-append-le}
 use Rattle.std.proofs.Math.Seq.{take-append-add}
 use Rattle.script_lines.specs.Lines.{Line, cut_of, lines_of}
 use Rattle.view_tool.specs.declared.run.Course.{Course}
+use Rattle.view_tool.specs.declared.run.Run.{Run}
 use Rattle.view_tool.specs.declared.run.Stop.{Stop}
 use Rattle.view_tool.specs.declared.script.End.{End}
 use Rattle.view_tool.specs.declared.script.End.TheVariants as end
-use Rattle.view_tool.specs.Run.{IsAt, StopsIn}
-use Rattle.view_tool.specs.Tool.{RunsTo, WritesTaken}
-use Rattle.view_tool.specs.Transcript.{after_lines, carried_lines, longest_script}
+use Rattle.view_tool.specs.Run.{IsAt, IsBehind, StopsIn}
+use Rattle.view_tool.specs.Script.{Pulls, RunsTo, WritesTaken}
+use Rattle.view_tool.specs.Transcript.{after_lines, carried_lines, max_script}
 use Rattle.view_tool.proofs.CutLaws.{carried_front, carried_long, carried_short}
 use Rattle.view_tool.proofs.RunLaws.{stops_further}
 
@@ -36,77 +37,88 @@ taken_whole None script taken lost end = elim lost [ ]
 taken_whole (Some rest) script taken lost end = sym (lost ∙ ap (λ l. taken ++ l) end ∙ append-nil taken)
 
 -- the first bytes of a script that is too long, by what was taken
-take_front : (script taken bytes rest : List ℕ) (left : ℕ) → script ≡ (taken ++ bytes) ++ rest → length taken + left ≡ longest_script → left ≤ length bytes
-    → take longest_script script ≡ taken ++ take left bytes
+take_front : (script taken bytes rest : List ℕ) (left : ℕ) → script ≡ (taken ++ bytes) ++ rest → length taken + left ≡ max_script → left ≤ length bytes
+    → take max_script script ≡ taken ++ take left bytes
 take_front script taken bytes rest left e count enough =
-    ap (take longest_script) (e ∙ append_assoc taken bytes rest)
+    ap (take max_script) (e ∙ append_assoc taken bytes rest)
     ∙ ap (λ n. take n (taken ++ (bytes ++ rest))) (sym count)
     ∙ take-append-add taken (bytes ++ rest) left
     ∙ ap (λ l. taken ++ l) (take-append-le left bytes rest enough)
 
 -- a read failed
-pub ends_source : (first last new : Option (List ℕ)) (script taken : List ℕ) → Consumes (Some script) new taken → length taken ≤ longest_script → Appends first last (after_lines (cut_of taken).lines).text
+pub ends_source : (first last new : Option (List ℕ)) (script taken : List ℕ) → Consumes (Some script) new taken → length taken ≤ max_script → Appends first last (after_lines (cut_of taken).lines).text
     → WritesTaken script new first last
 ends_source first last new script taken lost within gone =
     let c = consumed new script taken lost in
     record { taken = taken; takes = record { rest = c.0; front = c.1; left = c.2 }; within = within; text = gone }
 
 -- one byte too many came
-pub ends_long : (first last new : Option (List ℕ)) (script taken bytes : List ℕ) (left : ℕ) → Consumes (Some script) new (taken ++ bytes) → length taken + left ≡ longest_script
+pub ends_long : (first last new : Option (List ℕ)) (script taken bytes : List ℕ) (left : ℕ) → Consumes (Some script) new (taken ++ bytes) → length taken + left ≡ max_script
     → length bytes ≡ left + 1 → Appends first last (after_lines (cut_of (taken ++ take left bytes)).lines).text → RunsTo script new first last (Err end.Long)
 ends_long first last new script taken bytes left lost count many gone =
     let c = consumed new script (taken ++ bytes) lost in
-    let long : longest_script < length script = omega (arith, ap length c.1, length-append (taken ++ bytes) c.0, length-append taken bytes, count, many) in
+    let long : max_script < length script = omega (arith, ap length c.1, length-append (taken ++ bytes) c.0, length-append taken bytes, count, many) in
     let front = take_front script taken bytes c.0 left c.1 count (omega (arith, many)) in
     (long, subst (λ (l : List Line). Appends first last (after_lines l).text) (sym (carried_long script long ∙ ap (λ (l : List ℕ). (cut_of l).lines) front)) gone)
 
 -- the run stopped in a line that ended
 pub ends_stopped : (first last new : Option (List ℕ)) (script taken bytes : List ℕ) (left : ℕ) (stop : Stop) → Consumes (Some script) new (taken ++ bytes)
-    → length taken + left ≡ longest_script → StopsIn first last (cut_of (taken ++ take left bytes)).lines stop → StopsIn first last (carried_lines script) stop
+    → length taken + left ≡ max_script → StopsIn first last (cut_of (taken ++ take left bytes)).lines stop → StopsIn first last (carried_lines script) stop
 ends_stopped first last new script taken bytes left stop lost count stops =
     let c = consumed new script (taken ++ bytes) lost in
     let split : script ≡ (taken ++ take left bytes) ++ (drop left bytes ++ c.0) =
     c.1 ∙ ap (λ l. (taken ++ l) ++ c.0) (sym (take-append-drop left bytes))
     ∙ ap (λ l. l ++ c.0) (sym (append_assoc taken (take left bytes) (drop left bytes)))
     ∙ append_assoc (taken ++ take left bytes) (drop left bytes) c.0 in
-    let short : length (taken ++ take left bytes) ≤ longest_script = omega (arith, length-append taken (take left bytes), length-take left bytes, count) in
+    let short : length (taken ++ take left bytes) ≤ max_script = omega (arith, length-append taken (take left bytes), length-take left bytes, count) in
     let more = carried_front script (taken ++ take left bytes) (drop left bytes ++ c.0) split short in
     stops_further first last (cut_of (taken ++ take left bytes)).lines more.0 (carried_lines script) stop more.1 stops
 
+-- what a run has taken of a source, of which so many bytes more may come
+pub record HasTaken (before after first now : Option (List ℕ)) (run : Run) (left : ℕ) : Type 0 where
+  pub bytes : List ℕ
+  pub consumed : Consumes before after bytes
+  pub count : length bytes + left ≡ max_script
+  pub behind : IsBehind first now run bytes
+
+-- and once one piece more was read and carried out
+pub taken_on : (before mid new first last now : Option (List ℕ)) (old run : Run) (left n : ℕ) (t : HasTaken before mid first last old left) → n ≤ left
+    → Pulls first t.bytes left mid new now run (Ok n) → HasTaken before new first now run (left - n)
+taken_on before mid new first last now old run left n t within p = record {
+  bytes = t.bytes ++ p.bytes;
+  consumed = Consumes-Consumes before mid new t.bytes p.bytes t.consumed p.consumed;
+  count = omega (arith, length-append t.bytes p.bytes, t.count, p.count, within);
+  behind = p.comes;
+}
+
 -- how a run ends that does not come to the end of its script
-pub ends_early : (first last old mid new : Option (List ℕ)) (script taken : List ℕ) (left : ℕ) (early : End) → old ≡ Some script → Consumes old mid taken
-    → length taken + left ≡ longest_script
-    → (early ≡ end.Source → Consumes mid new [] × Appends first last (after_lines (cut_of taken).lines).text)
-    → (early ≡ end.Long → (bytes : List ℕ) × Consumes mid new bytes × (length bytes ≡ left + 1) × Appends first last (after_lines (cut_of (taken ++ take left bytes)).lines).text)
-    → ((stop : Stop) → early ≡ end.Stopped stop → (bytes : List ℕ) × Consumes mid new bytes × (length bytes ≤ left + 1) × StopsIn first last (cut_of (taken ++ take left bytes)).lines stop)
-    → RunsTo script new first last (Err early)
-ends_early first last old mid new script taken left end.Source told lost count source long stopped =
-    let h = source refl in
-    let all = Consumes-Consumes (Some script) mid new taken [] (subst (λ l. Consumes l mid taken) told lost) h.0 in
-    ends_source first last new script taken (subst (Consumes (Some script) new) (append-nil taken) all) (omega (arith, count)) h.1
-ends_early first last old mid new script taken left end.Long told lost count source long stopped =
-    let h = long refl in
-    let all = Consumes-Consumes (Some script) mid new taken h.0 (subst (λ l. Consumes l mid taken) told lost) h.1 in
-    ends_long first last new script taken h.0 left all count h.2 h.3
-ends_early first last old mid new script taken left (end.Stopped stop) told lost count source long stopped =
-    let h = stopped stop refl in
-    let all = Consumes-Consumes (Some script) mid new taken h.0 (subst (λ l. Consumes l mid taken) told lost) h.1 in
-    ends_stopped first last new script taken h.0 left stop all count h.3
+pub ends_early : (first last old mid new : Option (List ℕ)) (run : Run) (script taken : List ℕ) (left : ℕ) (early : End) → old ≡ Some script → Consumes old mid taken
+    → length taken + left ≡ max_script → Pulls first taken left mid new last run (Err early) → RunsTo script new first last (Err early)
+ends_early first last old mid new run script taken left end.Source told lost count p =
+    let all = Consumes-Consumes (Some script) mid new taken p.bytes (subst (λ l. Consumes l mid taken) told lost) p.consumed in
+    let none : taken ++ p.bytes ≡ taken = ap (λ l. taken ++ l) p.comes.0 ∙ append-nil taken in
+    ends_source first last new script taken (subst (Consumes (Some script) new) none all) (omega (arith, count)) p.comes.1
+ends_early first last old mid new run script taken left end.Long told lost count p =
+    let all = Consumes-Consumes (Some script) mid new taken p.bytes (subst (λ l. Consumes l mid taken) told lost) p.consumed in
+    ends_long first last new script taken p.bytes left all count p.comes.0 p.comes.1
+ends_early first last old mid new run script taken left (end.Stopped stop) told lost count p =
+    let all = Consumes-Consumes (Some script) mid new taken p.bytes (subst (λ l. Consumes l mid taken) told lost) p.consumed in
+    ends_stopped first last new script taken p.bytes left stop all count p.comes
 
 -- the run came to the end of its script, and stopped in the last line
-pub ends_last : (first last old new : Option (List ℕ)) (script taken : List ℕ) (stop : Stop) → old ≡ Some script → Consumes old new taken → IsAtEnd new → length taken ≤ longest_script
+pub ends_last : (first last old new : Option (List ℕ)) (script taken : List ℕ) (stop : Stop) → old ≡ Some script → Consumes old new taken → IsAtEnd new → length taken ≤ max_script
     → StopsIn first last (lines_of taken) stop → StopsIn first last (carried_lines script) stop
 ends_last first last old new script taken stop told lost end short stops =
     let all = taken_whole new script taken (subst (λ l. Consumes l new taken) told lost) end in
-    let fits : length script ≤ longest_script = subst (λ (l : List ℕ). length l ≤ longest_script) all short in
+    let fits : length script ≤ max_script = subst (λ (l : List ℕ). length l ≤ max_script) all short in
     subst (λ (l : List Line). StopsIn first last l stop) (ap lines_of all ∙ sym (carried_short script fits)) stops
 
 -- the run came to the end of its script
-pub ends_well : (first last old new : Option (List ℕ)) (script taken : List ℕ) (course : Course) → old ≡ Some script → Consumes old new taken → IsAtEnd new → length taken ≤ longest_script
+pub ends_well : (first last old new : Option (List ℕ)) (script taken : List ℕ) (course : Course) → old ≡ Some script → Consumes old new taken → IsAtEnd new → length taken ≤ max_script
     → IsAt first last course (after_lines (lines_of taken)) → RunsTo script new first last (Ok course.refused)
 ends_well first last old new script taken course told lost end short at =
     let all = taken_whole new script taken (subst (λ l. Consumes l new taken) told lost) end in (
-      subst (λ (l : List ℕ). length l ≤ longest_script) all short,
+      subst (λ (l : List ℕ). length l ≤ max_script) all short,
       subst (λ (l : List ℕ). Appends first last (after_lines (lines_of l)).text) all at.gone,
       at.refused ∙ ap (λ (l : List ℕ). (after_lines (lines_of l)).refused) all,
     )

@@ -1,6 +1,6 @@
 -- How a run ends with a status.
 use Rattle.std.proofs.Common.{◌≡◌, ℕ, ◌≤◌, cond, length, List, [], ◌∷◌, refl, ap, sym, subst, arith, inl, inr}
-use Rattle.std.specs.Prelude.{Bool, true, false, if◌then◌else◌, Option, Result, Ok, Err}
+use Rattle.std.specs.Prelude.{Bool, true, false, ◌==◌, if◌then◌else◌, Option, Result, Ok, Err}
 use Rattle.std.specs.Io.KnownBytes.{Appends}
 use Rattle.std.proofs.lemmas.List.{append-nil}
 use Rattle.script_lines.specs.Lines.{Line, cut_of, lines_of}
@@ -9,8 +9,14 @@ use Rattle.view_tool.specs.declared.run.Stop.TheVariants as stop
 use Rattle.view_tool.specs.declared.script.End.{End}
 use Rattle.view_tool.specs.declared.script.End.TheVariants as end
 use Rattle.view_tool.specs.Run.{StopsBefore}
-use Rattle.view_tool.specs.Tool.{Ended, RunsTo, RunsWith, WritesTaken, status_of}
-use Rattle.view_tool.specs.Transcript.{after_lines, carried_lines, longest_script}
+use Rattle.view_tool.specs.Script.{RunsTo, WritesTaken, ends_counted, reads_counted}
+use Rattle.view_tool.specs.Tool.{Ended, RunsWith, status_of}
+use Rattle.tool_io.specs.Counts.{raised}
+use Rattle.tool_io.specs.Fetched.{CountsFetch}
+use Rattle.tool_io.specs.declared.shelf.ShelfFault.{ShelfFault}
+use Rattle.tool_io.specs.declared.shelf.ShelfFault.TheVariants as fault
+use Rattle.tool_io.proofs.Counting.{raised_later}
+use Rattle.view_tool.specs.Transcript.{after_lines, carried_lines, max_script}
 use Rattle.view_tool.proofs.CutLaws.{carried_front, carried_short}
 use Rattle.view_tool.proofs.RunLaws.{prefix_lines}
 
@@ -22,7 +28,7 @@ not_ended status big (inl e) = omega arith
 not_ended status big (inr e) = omega arith
 
 -- a run that came to the end of its script
-ended_with : (script : List ℕ) (left first last : Option (List ℕ)) (status : ℕ) → status ≤ 1 → Ended status → length script ≤ longest_script
+ended_with : (script : List ℕ) (left first last : Option (List ℕ)) (status : ℕ) → status ≤ 1 → Ended status → length script ≤ max_script
     → Appends first last (after_lines (lines_of script)).text → status ≡ (if (after_lines (lines_of script)).refused then 1 else 0) → RunsWith script left first last status
 ended_with script left first last status small ended short gone told =
     let text = subst (λ (l : List Line). Appends first last (after_lines l).text) (sym (carried_short script short)) gone in
@@ -73,3 +79,25 @@ runs_with script left first last (Err (end.Stopped stop.NoMemory)) r = record {
   no_memory = λ _. r;
   long = λ e. absurd (omega arith);
 }
+
+-- the counts of failed calls, by the status
+pub source_by_status : (outcome : Result Bool End) (faults : ℕ) → reads_counted outcome faults ≡ (if status_of outcome == 3 then raised faults else faults)
+source_by_status (Ok true) faults = refl
+source_by_status (Ok false) faults = refl
+source_by_status (Err end.Source) faults = refl
+source_by_status (Err end.Long) faults = refl
+source_by_status (Err (end.Stopped stop.Sink)) faults = refl
+source_by_status (Err (end.Stopped stop.NoMemory)) faults = refl
+
+pub sink_by_status : (outcome : Result Bool End) (faults : ℕ) → ends_counted outcome faults ≡ (if status_of outcome == 4 then raised faults else faults)
+sink_by_status (Ok true) faults = refl
+sink_by_status (Ok false) faults = refl
+sink_by_status (Err end.Source) faults = refl
+sink_by_status (Err end.Long) faults = refl
+sink_by_status (Err (end.Stopped stop.Sink)) faults = refl
+sink_by_status (Err (end.Stopped stop.NoMemory)) faults = refl
+
+-- a fetch that failed does not lower the count of failed calls
+pub failed_later : (before now : ℕ) (fault : ShelfFault) → CountsFetch before now (Err fault) → before ≤ now
+failed_later before now fault.Failed counted = omega (arith, counted, raised_later before)
+failed_later before now fault.NoMemory counted = counted

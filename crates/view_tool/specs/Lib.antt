@@ -1,8 +1,9 @@
-pub mod Delivered
 pub mod Dump
 pub mod Files
+pub mod Names
 pub mod Refusals
 pub mod Run
+pub mod Script
 pub mod Tool
 pub mod Transcript
 pub mod Usage

@@ -1,11 +1,11 @@
 -- The run of a script in the code.
-use Rattle.std.specs.Prelude.{◌≡◌, ℕ, List, ◌∷◌, ◌++◌, Option}
-use Rattle.std.specs.Io.KnownBytes.{Appends}
+use Rattle.std.specs.Prelude.{◌≡◌, ℕ, List, [], ◌∷◌, ◌++◌, Option, Some, None, Result, Ok, Err}
 use Rattle.std.proofs.Common.{Bor}
-use Rattle.std.specs.Prelude.{Some, None}
+use Rattle.std.specs.Io.KnownBytes.{Appends}
 use Rattle.script_lines.specs.Held.{Stands}
 use Rattle.script_lines.specs.Lines.{Line, Text, LongLine, cut_of}
 use Rattle.text_lines.specs.Prefix.{AppendsPrefix}
+use Rattle.tool_io.specs.Counts.{raised}
 use Rattle.view_tool.specs.declared.run.Course.{Course}
 use Rattle.view_tool.specs.declared.run.Run.{Run}
 use Rattle.view_tool.specs.declared.run.Stop.{Stop}
@@ -17,6 +17,11 @@ use Rattle.view_world.specs.WorldView.{world_of}
 abbrev pub line_now : Option (Bor (List ℕ)) → Line
 line_now None = LongLine
 line_now (Some line) = Text line.now
+
+-- the line that has ended, where one has
+abbrev pub lines_now : Option (Option (Bor (List ℕ))) → List Line
+lines_now None = []
+lines_now (Some line) = line_now line ∷ []
 
 -- a course has come so far, and since the sink was in the first state its text has gone
 pub record IsAt (first now : Option (List ℕ)) (course : Course) (progress : Progress) : Type 0 where
@@ -43,3 +48,13 @@ pub record StopsBefore (first now : Option (List ℕ)) (lines : List Line) : Typ
 abbrev pub StopsIn : Option (List ℕ) → Option (List ℕ) → List Line → Stop → Type 0
 StopsIn first now lines stop.Sink = AppendsPrefix first now (after_lines lines).text
 StopsIn first now lines stop.NoMemory = StopsBefore first now lines
+
+-- a sink's count of failed calls once a run stopped so: a failed write raises it by one
+abbrev pub stop_counted : Stop → ℕ → ℕ
+stop_counted stop.Sink faults = raised faults
+stop_counted stop.NoMemory faults = faults
+
+-- and once lines were carried out
+abbrev pub writes_counted : {A : Type 0} → Result A Stop → ℕ → ℕ
+writes_counted (Ok _) faults = faults
+writes_counted (Err stop) faults = stop_counted stop faults

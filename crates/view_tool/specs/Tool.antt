@@ -1,15 +1,16 @@
 -- What a call of the tool is and how it ends.
-use Rattle.std.specs.Prelude.{◌≡◌, ◌⊎◌, ℕ, ◌<◌, ◌≤◌, Bool, length, if◌then◌else◌, List, ◌++◌, ◌==◌, Option, Some, Result, Ok, Err, true}
+use Rattle.std.specs.Prelude.{◌≡◌, ◌⊎◌, ℕ, ◌<◌, ◌≤◌, Bool, true, ◌==◌, if◌then◌else◌, List, length, Option, Some, Result, Ok, Err}
 use Rattle.std.specs.List.{list_any}
 use Rattle.std.specs.Io.KnownBytes.{Appends}
-use Rattle.script_lines.specs.Lines.{cut_of, lines_of}
+use Rattle.script_lines.specs.Lines.{lines_of}
 use Rattle.text_lines.specs.Prefix.{AppendsPrefix}
 use Rattle.view_tool.specs.declared.run.Stop.TheVariants as stop
 use Rattle.view_tool.specs.declared.script.End.{End}
 use Rattle.view_tool.specs.declared.script.End.TheVariants as ends
 use Rattle.view_tool.specs.Files.{Files}
-use Rattle.view_tool.specs.Run.{StopsBefore, StopsIn}
-use Rattle.view_tool.specs.Transcript.{after_lines, carried_lines, longest_script}
+use Rattle.view_tool.specs.Run.{StopsBefore}
+use Rattle.view_tool.specs.Script.{WritesTaken}
+use Rattle.view_tool.specs.Transcript.{after_lines, carried_lines, max_script}
 use Rattle.view_tool.specs.Usage.{Usage, Run, Dump}
 
 -- a run of this script with these files: the words are those of a run, the source has these bytes left, and the shelf
@@ -40,37 +41,15 @@ status_of (Err (ends.Stopped stop.NoMemory)) = 5
 abbrev pub IsOneOf : ℕ → List ℕ → Type 0
 IsOneOf status statuses = list_any (λ s. s == status) statuses ≡ true
 
--- the bytes that were taken of a script are at its front, and the rest is left
-pub record Takes (script : List ℕ) (now : Option (List ℕ)) (taken : List ℕ) : Type 0 where
-  pub rest : List ℕ
-  pub front : script ≡ taken ++ rest
-  pub left : now ≡ Some rest
-
--- what was written is the transcript of the lines whose line feed was taken
-pub record WritesTaken (script : List ℕ) (left old new : Option (List ℕ)) : Type 0 where
-  pub taken : List ℕ
-  pub takes : Takes script left taken
-  pub within : length taken ≤ longest_script
-  pub text : Appends old new (after_lines (cut_of taken).lines).text
-
 -- what was written when a run ended with a status: the whole text where it ended by itself, and always a front part of it
 pub record Writes (status : ℕ) (old new : Option (List ℕ)) (text : List ℕ) : Type 0 where
   pub whole : Ended status → Appends old new text
   pub part : AppendsPrefix old new text
 
--- How the run of a script came to its end, where it has gone from the first state of the sink to the last, and this is left
--- of the script.
-abbrev pub RunsTo : List ℕ → Option (List ℕ) → Option (List ℕ) → Option (List ℕ) → Result Bool End → Type 0
-RunsTo script left first last (Ok refused) =
-    (length script ≤ longest_script) × Appends first last (after_lines (lines_of script)).text × (refused ≡ (after_lines (lines_of script)).refused)
-RunsTo script left first last (Err ends.Source) = WritesTaken script left first last
-RunsTo script left first last (Err ends.Long) = (longest_script < length script) × Appends first last (after_lines (carried_lines script)).text
-RunsTo script left first last (Err (ends.Stopped stop)) = StopsIn first last (carried_lines script) stop
-
 -- how a run of a script ended with a status
 pub record RunsWith (script : List ℕ) (left first last : Option (List ℕ)) (status : ℕ) : Type 0 where
   pub writes : Writes status first last (after_lines (carried_lines script)).text
-  pub ended : Ended status → (length script ≤ longest_script) × (status ≡ (if (after_lines (lines_of script)).refused then 1 else 0))
+  pub ended : Ended status → (length script ≤ max_script) × (status ≡ (if (after_lines (lines_of script)).refused then 1 else 0))
   pub taken : status ≡ 3 → WritesTaken script left first last
   pub no_memory : status ≡ 5 → StopsBefore first last (carried_lines script)
-  pub long : status ≡ 7 → (longest_script < length script) × Appends first last (after_lines (carried_lines script)).text
+  pub long : status ≡ 7 → (max_script < length script) × Appends first last (after_lines (carried_lines script)).text

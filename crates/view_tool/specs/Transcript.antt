@@ -17,6 +17,11 @@ reply_to_command world (Ok command) = step world command
 reply_to_command world (Err fault.Syntax) = Refused (plainly 31)
 reply_to_command world (Err fault.Range) = Refused (plainly 30)
 
+-- a line that is passed over
+abbrev pub is_idle : Line → Bool
+is_idle LongLine = false
+is_idle (Text bytes) = is_passed_over bytes
+
 -- what a line does: too long a line is refused whatever it begins with, and one that is passed over does nothing
 unfoldable pub reply_to_line : World → Line → Reply
 reply_to_line world LongLine = Refused (plainly 32)
@@ -54,16 +59,16 @@ abbrev pub has_refusal : List ℕ → Files → Bool
 has_refusal script files = (after_lines (lines_of script)).refused
 
 -- the most bytes that a script may have
-abbrev pub longest_script : ℕ
-longest_script = 16777216
+abbrev pub max_script : ℕ
+max_script = 16777216
 
 -- the lines of a script that are carried out: all, or where it is too long those whose line feed is among the first bytes
 unfoldable pub carried_lines : List ℕ → List Line
-carried_lines script = if nat_lt longest_script (length script) then (cut_of (take longest_script script)).lines else lines_of script
+carried_lines script = if nat_lt max_script (length script) then (cut_of (take max_script script)).lines else lines_of script
 
 -- the transcript of these lines of a script that is too long
 abbrev pub cut_transcript : List ℕ → Files → List ℕ
-cut_transcript script files = (after_lines (cut_of (take longest_script script)).lines).text
+cut_transcript script files = (after_lines (cut_of (take max_script script)).lines).text
 
 -- the command of a line may want memory
 abbrev pub CommandWants : Result Command LineFault → Type 0

@@ -7,9 +7,8 @@
 #![tactic(auto)]
 
 mod dump;
-#[cfg(test)]
-mod dump_tests;
 mod file_replies;
+mod names;
 mod refusals;
 mod run;
 mod script;

@@ -1,16 +1,17 @@
 //! A script that is carried out as its bytes come.
 
-ghost use Rattle.std.specs.Prelude.{◌≡◌, ◌≢◌, ◌⊎◌, ℕ, ◌+◌, ◌*◌, ◌<◌, ◌≤◌, ◌^◌, List, ◌∷◌, [], ◌++◌, Option, Err, OnOk, IfOk, IfErr, length, take};
-ghost use Rattle.tool_io.specs.Causes.{Rose};
+ghost use Rattle.std.specs.Prelude.{◌≡◌, ◌⊎◌, ℕ, ◌+◌, ◌-◌, ◌*◌, ◌<◌, ◌≤◌, ◌^◌, min, false, List, ◌∷◌, [], ◌++◌, Option, Err, OnOk, IfOk, IfErr, length, take};
+ghost use Rattle.script_lines.specs.Held.{IsLent, lines_at};
 ghost use Rattle.script_lines.specs.Lines.{Line, cut_of, lines_of};
-ghost use Rattle.view_tool.specs.Run.{IsAt, IsBehind, StopsIn, line_now};
-ghost use Rattle.view_tool.specs.Transcript.{MayWant, Progress, after_line, after_lines, at_start, reply_to_line};
+ghost use Rattle.view_tool.specs.Run.{IsAt, IsBehind, StopsIn, line_now, lines_now, writes_counted};
+ghost use Rattle.view_tool.specs.Transcript.{MayWant, Progress, after_line, after_lines, is_idle, reply_to_line};
 ghost use Rattle.view_world.specs.Carried.{CarriedOut, IsDone};
 ghost use Rattle.view_world.specs.WorldView.{world_of};
 
 use crate::refusals::reply_refusal;
-use script_lines::{Ended, LineFault, Lines, line, passes_over};
+use script_lines::{Ended, LineFault, LinePlace, Lines, line, passes_over};
 use std::alloc::Global;
+use text_lines::TextBuffer;
 use tool_io::{Shelf, Sink};
 use view_model::{Refusal, Work};
 use view_world::{StepFault, World};
@@ -37,10 +38,13 @@ pub struct Course {
     lines: u64,
     /// Whether a line was refused.
     refused: bool,
+    /// What gathers the texts that tell of refusals.
+    text: TextBuffer,
 }
 
 impl Course {
-    /// Carries out the next line, and writes its text. None is a line that is too long.
+    /// Takes the next line, which is carried out unless it is passed over. None is a line that is too long.
+    #[inline]
     fn line<K: Sink, F: Shelf>(
         &mut self,
         alloc: Global,
@@ -52,24 +56,57 @@ impl Course {
         requires { self.old.world.views.next < 2 ^ 62 }
         ensures done { (first : Option (List ℕ)) (progress : Progress)
             → progress.lines < 2 ^ 63
-            → IsAt first (K.gone sink.old) self.old progress
-            → OnOk result (IsAt first (K.gone sink.new) self.new (after_line progress (line_now line.entry))) }
+            → IsAt first (K.state sink.old).gone self.old progress
+            → OnOk result (IsAt first (K.state sink.new).gone self.new (after_line progress (line_now line.entry))) }
         ensures stopped { (first : Option (List ℕ)) (lines : List Line)
             → length lines < 2 ^ 63
-            → IsAt first (K.gone sink.old) self.old (after_lines lines)
-            → IfErr result (StopsIn first (K.gone sink.new) (lines ++ line_now line.entry ∷ [])) }
+            → IsAt first (K.state sink.old).gone self.old (after_lines lines)
+            → IfErr result (StopsIn first (K.state sink.new).gone (lines ++ line_now line.entry ∷ [])) }
         ensures numbers { self.new.world.views.next ≤ self.old.world.views.next + 4096 }
         ensures shelf { shelf.new ≡ shelf.old }
         ensures painted { work.new.painted ≡ work.old.painted }
-        ensures later { K.faults sink.old ≤ K.faults sink.new }
-        ensures rose { result ≡ Err Stop.Sink → Rose (K.faults sink.old) (K.faults sink.new) }
+        ensures measured { min work.old.measured (2 ^ 64 - 1) ≤ work.new.measured }
+        ensures counted { (K.state sink.new).faults ≡ writes_counted result (K.state sink.old).faults }
+    {
+        if is_passed(line) {
+            self.lines = self.lines.saturating_add(1);
+            return Ok(());
+        }
+        self.carry(alloc, line, shelf, sink, work)
+    }
+
+    /// Carries out the next line, and writes its text. None is a line that is too long.
+    #[inline(never)]
+    fn carry<K: Sink, F: Shelf>(
+        &mut self,
+        alloc: Global,
+        line: Option<&[u8]>,
+        shelf: &mut F,
+        sink: &mut K,
+        work: &mut Work,
+    ) -> Result<(), Stop>
+        requires numbered { self.old.world.views.next < 2 ^ 62 }
+        requires counts { is_idle (line_now line) ≡ false }
+        ensures done { (first : Option (List ℕ)) (progress : Progress)
+            → progress.lines < 2 ^ 63
+            → IsAt first (K.state sink.old).gone self.old progress
+            → OnOk result (IsAt first (K.state sink.new).gone self.new (after_line progress (line_now line.entry))) }
+        ensures stopped { (first : Option (List ℕ)) (lines : List Line)
+            → length lines < 2 ^ 63
+            → IsAt first (K.state sink.old).gone self.old (after_lines lines)
+            → IfErr result (StopsIn first (K.state sink.new).gone (lines ++ line_now line.entry ∷ [])) }
+        ensures numbers { self.new.world.views.next ≤ self.old.world.views.next + 4096 }
+        ensures shelf { shelf.new ≡ shelf.old }
+        ensures painted { work.new.painted ≡ work.old.painted }
+        ensures measured { min work.old.measured (2 ^ 64 - 1) ≤ work.new.measured }
+        ensures counted { (K.state sink.new).faults ≡ writes_counted result (K.state sink.old).faults }
     {
         self.lines = self.lines.saturating_add(1);
         match carry_out(&mut self.world, alloc, line, shelf, sink, work) {
             Ok(()) => Ok(()),
             Err(StepFault::Refused(refusal)) => {
                 self.refused = true;
-                match reply_refusal(sink, self.lines, &refusal) {
+                match reply_refusal(&mut self.text, sink, self.lines, &refusal) {
                     Ok(()) => Ok(()),
                     Err(_) => Err(Stop::Sink),
                 }
@@ -79,6 +116,17 @@ impl Course {
             // No line asks the shelf for a file.
             Err(StepFault::Shelf) => unreachable!(),
         }
+    }
+}
+
+/// Whether a line is passed over. None is a line that is too long.
+#[inline]
+fn is_passed(line: Option<&[u8]>) -> bool
+    ensures { result ≡ is_idle (line_now line.entry) }
+{
+    match line {
+        None => false,
+        Some(bytes) => passes_over(bytes),
     }
 }
 
@@ -92,27 +140,37 @@ fn carry_out<K: Sink, F: Shelf>(
     sink: &mut K,
     work: &mut Work,
 ) -> Result<(), StepFault>
-    requires { world.old.views.next < 2 ^ 62 }
-    ensures carried { CarriedOut (reply_to_line (world_of world.old) (line_now bytes.entry)) (world_of world.new)
-        (record { gone = K.gone sink.old; faults = K.faults sink.old })
-        (record { gone = K.gone sink.new; faults = K.faults sink.new }) result }
+    requires numbered { world.old.views.next < 2 ^ 62 }
+    requires counts { is_idle (line_now bytes) ≡ false }
+    ensures carried { CarriedOut (reply_to_line (world_of world.old) (line_now bytes.entry)) (world_of world.new) (K.state sink.old) (K.state sink.new) result }
     ensures unchanged { IsDone result ⊎ ((world.new ≡ world.old) × (sink.new ≡ sink.old)) }
     ensures memory { result ≡ Err StepFault.NoMemory → MayWant (line_now bytes.entry) }
     ensures numbers { world.new.views.next ≤ world.old.views.next + 4096 }
     ensures shelf { shelf.new ≡ shelf.old }
     ensures painted { work.new.painted ≡ work.old.painted }
-    ensures later { K.faults sink.old ≤ K.faults sink.new }
+    ensures measured { min work.old.measured (2 ^ 64 - 1) ≤ work.new.measured }
 {
     let Some(bytes) = bytes else {
         return Err(StepFault::Refused(Refusal::plain(LONG_LINE)));
     };
-    if passes_over(bytes) {
-        return Ok(());
-    }
     match line(bytes) {
         Ok(command) => world.line(alloc, command, shelf, sink, work),
         Err(LineFault::Syntax) => Err(StepFault::Refused(Refusal::plain(SYNTAX))),
         Err(LineFault::Range) => Err(StepFault::Refused(Refusal::plain(RANGE))),
+    }
+}
+
+/// The line that has ended, if one has: one in a piece, or the one that is held. None in it is a line that is too long.
+#[inline]
+fn ended_line<'a>(place: LinePlace, piece: &'a [u8], held: &'a [u8]) -> Option<Option<&'a [u8]>>
+    requires { IsLent place (length piece.now) }
+    ensures { lines_now result ≡ lines_at place piece.now held.now }
+{
+    match place {
+        LinePlace::No => None,
+        LinePlace::Piece(len) => Some(Some(&piece[..len])),
+        LinePlace::Held => Some(Some(held)),
+        LinePlace::Long => Some(None),
     }
 }
 
@@ -134,6 +192,7 @@ impl Run {
                 world: World::new(alloc),
                 lines: 0,
                 refused: false,
+                text: TextBuffer::new(),
             },
         }
     }
@@ -159,31 +218,24 @@ impl Run {
         ensures some { 0 < length piece.now → IfOk result (λ n. 0 < n) }
         ensures done { (first : Option (List ℕ)) (before : List ℕ)
             → length before < 2 ^ 63
-            → IsBehind first (K.gone sink.old) self.old before
-            → IfOk result (λ n. IsBehind first (K.gone sink.new) self.new (before ++ take n piece.now)) }
+            → IsBehind first (K.state sink.old).gone self.old before
+            → IfOk result (λ n. IsBehind first (K.state sink.new).gone self.new (before ++ take n piece.now)) }
         ensures stopped { (first : Option (List ℕ)) (before : List ℕ)
             → length before < 2 ^ 63
-            → IsBehind first (K.gone sink.old) self.old before
-            → IfErr result (StopsIn first (K.gone sink.new) (cut_of (before ++ piece.now)).lines) }
+            → IsBehind first (K.state sink.old).gone self.old before
+            → IfErr result (StopsIn first (K.state sink.new).gone (cut_of (before ++ piece.now)).lines) }
         ensures numbers { self.new.course.world.views.next ≤ self.old.course.world.views.next + 4096 }
         ensures shelf { shelf.new ≡ shelf.old }
         ensures painted { work.new.painted ≡ work.old.painted }
-        ensures later { K.faults sink.old ≤ K.faults sink.new }
-        ensures rose { result ≡ Err Stop.Sink → Rose (K.faults sink.old) (K.faults sink.new) }
+        ensures measured { min work.old.measured (2 ^ 64 - 1) ≤ work.new.measured }
+        ensures counted { (K.state sink.new).faults ≡ writes_counted result (K.state sink.old).faults }
     {
-        let (used, ended) = self.lines.feed(piece);
-        match ended {
-            Ended::No => Ok(used),
-            Ended::Line => {
-                let line = Some(self.lines.bytes());
-                self.course.line(alloc, line, shelf, sink, work)?;
-                Ok(used)
-            }
-            Ended::Long => {
-                self.course.line(alloc, None, shelf, sink, work)?;
-                Ok(used)
-            }
-        }
+        let (used, place) = self.lines.next_line(piece);
+        let Some(line) = ended_line(place, piece, self.lines.bytes()) else {
+            return Ok(used);
+        };
+        self.course.line(alloc, line, shelf, sink, work)?;
+        Ok(used)
     }
 
     /// Takes a piece of the script, and carries out each line that ends in it.
@@ -198,17 +250,17 @@ impl Run {
         requires { self.old.course.world.views.next + 4096 * length piece.now < 2 ^ 62 }
         ensures done { (first : Option (List ℕ)) (before : List ℕ)
             → length (before ++ piece.now) < 2 ^ 63
-            → IsBehind first (K.gone sink.old) self.old before
-            → OnOk result (IsBehind first (K.gone sink.new) self.new (before ++ piece.now)) }
+            → IsBehind first (K.state sink.old).gone self.old before
+            → OnOk result (IsBehind first (K.state sink.new).gone self.new (before ++ piece.now)) }
         ensures stopped { (first : Option (List ℕ)) (before : List ℕ)
             → length (before ++ piece.now) < 2 ^ 63
-            → IsBehind first (K.gone sink.old) self.old before
-            → IfErr result (StopsIn first (K.gone sink.new) (cut_of (before ++ piece.now)).lines) }
+            → IsBehind first (K.state sink.old).gone self.old before
+            → IfErr result (StopsIn first (K.state sink.new).gone (cut_of (before ++ piece.now)).lines) }
         ensures numbers { self.new.course.world.views.next ≤ self.old.course.world.views.next + 4096 * length piece.now }
         ensures shelf { shelf.new ≡ shelf.old }
         ensures painted { work.new.painted ≡ work.old.painted }
-        ensures later { K.faults sink.old ≤ K.faults sink.new }
-        ensures rose { result ≡ Err Stop.Sink → Rose (K.faults sink.old) (K.faults sink.new) }
+        ensures measured { min work.old.measured (2 ^ 64 - 1) ≤ work.new.measured }
+        ensures counted { (K.state sink.new).faults ≡ writes_counted result (K.state sink.old).faults }
     {
         let mut at = 0;
         while at < piece.len() {
@@ -228,16 +280,16 @@ impl Run {
         requires { self.old.course.world.views.next < 2 ^ 62 }
         ensures done { (first : Option (List ℕ)) (script : List ℕ)
             → length script < 2 ^ 63
-            → IsBehind first (K.gone sink.old) self.old script
-            → OnOk result (IsAt first (K.gone sink.new) self.new.course (after_lines (lines_of script))) }
+            → IsBehind first (K.state sink.old).gone self.old script
+            → OnOk result (IsAt first (K.state sink.new).gone self.new.course (after_lines (lines_of script))) }
         ensures stopped { (first : Option (List ℕ)) (script : List ℕ)
             → length script < 2 ^ 63
-            → IsBehind first (K.gone sink.old) self.old script
-            → IfErr result (StopsIn first (K.gone sink.new) (lines_of script)) }
+            → IsBehind first (K.state sink.old).gone self.old script
+            → IfErr result (StopsIn first (K.state sink.new).gone (lines_of script)) }
         ensures shelf { shelf.new ≡ shelf.old }
         ensures painted { work.new.painted ≡ work.old.painted }
-        ensures later { K.faults sink.old ≤ K.faults sink.new }
-        ensures rose { result ≡ Err Stop.Sink → Rose (K.faults sink.old) (K.faults sink.new) }
+        ensures measured { min work.old.measured (2 ^ 64 - 1) ≤ work.new.measured }
+        ensures counted { (K.state sink.new).faults ≡ writes_counted result (K.state sink.old).faults }
     {
         match self.lines.finish() {
             Ended::No => Ok(()),

@@ -1,3 +1,5 @@
+//! The statuses that the tool ends with.
+
 /// Every line was carried out, and none was refused; or the file was printed.
 pub const ACCEPTED: u8 = 0;
 

@@ -1,13 +1,17 @@
-//! Worked scripts through the whole tool, over objects in memory.
+//! The whole tool over objects in memory: worked scripts, layout files, and calls that fail.
+
+ghost use Rattle.std.specs.Prelude.{◌<◌};
 
 use crate::tool::tool;
 use std::alloc::{AllocError, Global};
 use std::test::Fail;
-use tool_io::{MemorySink, MemorySource, SteadyShelf};
+use tool_io::{MemoryShelf, MemorySink, MemorySource};
 use view_model::Work;
 
 const SIMPLE: &[u8] =
     b"window 100 50\nadd root FrameLayout match match\nadd v1 View 10 20\nframe\nbounds\n";
+
+const SIMPLE_BOUNDS: &[u8] = b"v1\nv2\nsettled 0\nv1 0 0 100 50\nv2 0 0 10 20\n";
 
 const WRAPPING: &[u8] =
     b"window 100 50\nadd root FrameLayout wrap wrap\nadd v1 FrameLayout match match\n\
@@ -36,130 +40,204 @@ const REFUSED_LINES: &[u8] =
     line 9: refused 21 NotGroup\nsettled 0\nline 11: refused 28 NoView\n\
     line 13: refused 34 NoRoot\n";
 
-/// The status of `run` over these objects.
-fn run(alloc: Global, source: &mut MemorySource, sink: &mut MemorySink) -> Result<u8, AllocError> {
-    let mut words = Vec::new(alloc);
-    words.push(String::from_str(alloc, "run")?)?;
+const DEEP: &[u8] = b"window 9 9\nadd root FrameLayout match match\n\
+    add v1 FrameLayout match match\n\
+    add v2 FrameLayout match match\n\
+    add v3 FrameLayout match match\n\
+    add v4 FrameLayout match match\n\
+    add v5 FrameLayout match match\n\
+    add v6 FrameLayout match match\n\
+    add v7 FrameLayout match match\n\
+    add v8 FrameLayout match match\n\
+    add v9 FrameLayout match match\n\
+    add v10 FrameLayout match match\n\
+    add v11 FrameLayout match match\n\
+    add v12 FrameLayout match match\n\
+    add v13 FrameLayout match match\n\
+    add v14 FrameLayout match match\n\
+    add v15 FrameLayout match match\n\
+    add v16 FrameLayout match match\n\
+    add v17 FrameLayout match match\n\
+    add v18 FrameLayout match match\n\
+    add v19 FrameLayout match match\n\
+    add v20 FrameLayout match match\n\
+    add v21 FrameLayout match match\n\
+    add v22 FrameLayout match match\n\
+    add v23 FrameLayout match match\n\
+    add v24 FrameLayout match match\n\
+    add v25 FrameLayout match match\n\
+    add v26 FrameLayout match match\n\
+    add v27 FrameLayout match match\n\
+    add v28 FrameLayout match match\n\
+    add v29 FrameLayout match match\n\
+    add v30 FrameLayout match match\n\
+    add v31 FrameLayout match match\n\
+    add v32 View 1 1\n";
+
+const DEEPEST: &[u8] = b"v1\nv2\nv3\nv4\nv5\nv6\nv7\nv8\nv9\nv10\nv11\nv12\nv13\nv14\nv15\nv16\n\
+    v17\nv18\nv19\nv20\nv21\nv22\nv23\nv24\nv25\nv26\nv27\nv28\nv29\nv30\nv31\nv32\n\
+    line 34: refused 20 Depth\n";
+
+/// A layout file: a View with a width, a height and a style.
+#[rattlefmt::skip]
+const FILE: [u8; 348] = [
+    0x03, 0x00, 0x08, 0x00, 0x5c, 0x01, 0x00, 0x00, 0x01, 0x00, 0x1c, 0x00, 0x9c, 0x00, 0x00, 0x00,
+    0x06, 0x00, 0x00, 0x00, 0x00, 0x00, 0x00, 0x00, 0x00, 0x01, 0x00, 0x00, 0x34, 0x00, 0x00, 0x00,
+    0x00, 0x00, 0x00, 0x00, 0x00, 0x00, 0x00, 0x00, 0x0f, 0x00, 0x00, 0x00, 0x1f, 0x00, 0x00, 0x00,
+    0x29, 0x00, 0x00, 0x00, 0x56, 0x00, 0x00, 0x00, 0x5d, 0x00, 0x00, 0x00, 0x0c, 0x0c, 0x6c, 0x61,
+    0x79, 0x6f, 0x75, 0x74, 0x5f, 0x77, 0x69, 0x64, 0x74, 0x68, 0x00, 0x0d, 0x0d, 0x6c, 0x61, 0x79,
+    0x6f, 0x75, 0x74, 0x5f, 0x68, 0x65, 0x69, 0x67, 0x68, 0x74, 0x00, 0x07, 0x07, 0x61, 0x6e, 0x64,
+    0x72, 0x6f, 0x69, 0x64, 0x00, 0x2a, 0x2a, 0x68, 0x74, 0x74, 0x70, 0x3a, 0x2f, 0x2f, 0x73, 0x63,
+    0x68, 0x65, 0x6d, 0x61, 0x73, 0x2e, 0x61, 0x6e, 0x64, 0x72, 0x6f, 0x69, 0x64, 0x2e, 0x63, 0x6f,
+    0x6d, 0x2f, 0x61, 0x70, 0x6b, 0x2f, 0x72, 0x65, 0x73, 0x2f, 0x61, 0x6e, 0x64, 0x72, 0x6f, 0x69,
+    0x64, 0x00, 0x04, 0x04, 0x56, 0x69, 0x65, 0x77, 0x00, 0x05, 0x05, 0x73, 0x74, 0x79, 0x6c, 0x65,
+    0x00, 0x00, 0x00, 0x00, 0x80, 0x01, 0x08, 0x00, 0x10, 0x00, 0x00, 0x00, 0xf4, 0x00, 0x01, 0x01,
+    0xf5, 0x00, 0x01, 0x01, 0x00, 0x01, 0x10, 0x00, 0x18, 0x00, 0x00, 0x00, 0x02, 0x00, 0x00, 0x00,
+    0xff, 0xff, 0xff, 0xff, 0x02, 0x00, 0x00, 0x00, 0x03, 0x00, 0x00, 0x00, 0x02, 0x01, 0x10, 0x00,
+    0x60, 0x00, 0x00, 0x00, 0x02, 0x00, 0x00, 0x00, 0xff, 0xff, 0xff, 0xff, 0xff, 0xff, 0xff, 0xff,
+    0x04, 0x00, 0x00, 0x00, 0x14, 0x00, 0x14, 0x00, 0x03, 0x00, 0x00, 0x00, 0x00, 0x00, 0x00, 0x00,
+    0x03, 0x00, 0x00, 0x00, 0x00, 0x00, 0x00, 0x00, 0xff, 0xff, 0xff, 0xff, 0x08, 0x00, 0x00, 0x10,
+    0xff, 0xff, 0xff, 0xff, 0x03, 0x00, 0x00, 0x00, 0x01, 0x00, 0x00, 0x00, 0xff, 0xff, 0xff, 0xff,
+    0x08, 0x00, 0x00, 0x05, 0x01, 0x10, 0x00, 0x00, 0xff, 0xff, 0xff, 0xff, 0x05, 0x00, 0x00, 0x00,
+    0xff, 0xff, 0xff, 0xff, 0x08, 0x00, 0x00, 0x01, 0x00, 0x00, 0x03, 0x7f, 0x03, 0x01, 0x10, 0x00,
+    0x18, 0x00, 0x00, 0x00, 0x02, 0x00, 0x00, 0x00, 0xff, 0xff, 0xff, 0xff, 0xff, 0xff, 0xff, 0xff,
+    0x04, 0x00, 0x00, 0x00, 0x01, 0x01, 0x10, 0x00, 0x18, 0x00, 0x00, 0x00, 0x02, 0x00, 0x00, 0x00,
+    0xff, 0xff, 0xff, 0xff, 0x02, 0x00, 0x00, 0x00, 0x03, 0x00, 0x00, 0x00,
+];
+
+const FILE_TEXT: &[u8] = b"pool utf8 6\ns0 \"layout_width\"\ns1 \"layout_height\"\ns2 \"android\"\n\
+    s3 \"http://schemas.android.com/apk/res/android\"\ns4 \"View\"\ns5 \"style\"\n\
+    map 010100f4\nmap 010100f5\nns s2 s3\nstart 2 - s4 3\nattr s3 s0 - 10 ffffffff\n\
+    attr s3 s1 - 05 00001001\nattr - s5 - 01 7f030000\nend 2 - s4\nendns s2 s3\n";
+
+/// A script, the numbers of the reads and of the writes that fail, and how its run ends. 16 bytes are read at a time.
+struct Run {
+    script: &'static [u8],
+    reads: &'static [u64],
+    writes: &'static [u64],
+    status: u8,
+    text: &'static [u8],
+}
+
+#[rattlefmt::skip]
+const RUNS: [Run; 10] = [
+    Run { script: b"", reads: &[], writes: &[], status: 0, text: b"" },
+    Run { script: SIMPLE, reads: &[], writes: &[], status: 0, text: SIMPLE_BOUNDS },
+    // The window stands after the first read, and the first view after three.
+    Run { script: SIMPLE, reads: &[2], writes: &[], status: 3, text: b"" },
+    Run { script: SIMPLE, reads: &[4], writes: &[], status: 3, text: b"v1\n" },
+    // Each reply is one write, before the next line is carried out.
+    Run { script: SIMPLE, reads: &[], writes: &[3], status: 4, text: b"v1\nv2\n" },
+    Run { script: SIMPLE, reads: &[], writes: &[4], status: 4, text: b"v1\nv2\nsettled 0\n" },
+    // Two children that match are measured again.
+    Run { script: WRAPPING, reads: &[], writes: &[], status: 0, text: WRAPPED },
+    // A hidden view stays in the geometry until it is laid out again.
+    Run { script: HIDING, reads: &[], writes: &[], status: 0, text: HIDDEN },
+    // The first reason in order is told.
+    Run { script: REFUSING, reads: &[], writes: &[], status: 1, text: REFUSED_LINES },
+    // Views are at most 32 deep.
+    Run { script: DEEP, reads: &[], writes: &[], status: 1, text: DEEPEST },
+];
+
+/// Words, a file that the shelf holds as `a.xml`, the numbers of the fetches that fail, and how the call ends.
+struct Dump {
+    words: &'static [&'static str],
+    file: &'static [u8],
+    fetches: &'static [u64],
+    status: u8,
+    text: &'static [u8],
+}
+
+#[rattlefmt::skip]
+const DUMPS: [Dump; 5] = [
+    Dump { words: &["dump", "a.xml"], file: &FILE, fetches: &[], status: 0, text: FILE_TEXT },
+    Dump { words: &["dump", "a.xml"], file: &FILE, fetches: &[1], status: 6, text: b"" },
+    Dump { words: &["dump", "a.xml"], file: b"\x03\x00\x08\x00\x5c\x01\x00", fetches: &[], status: 1, text: b"file: refused 1 Truncated at 0\n" },
+    Dump { words: &["dump", "b.xml"], file: &FILE, fetches: &[], status: 1, text: b"file: refused 39 Missing\n" },
+    Dump { words: &["dump"], file: &FILE, fetches: &[], status: 2, text: b"" },
+];
+
+/// The status of these words, and what was written.
+fn ended(
+    alloc: Global,
+    words: &[&str],
+    source: &mut MemorySource,
+    shelf: &mut MemoryShelf,
+    writes: &[u64],
+) -> Result<(u8, Vec<u8>), AllocError> {
+    let mut owned = Vec::new(alloc);
+    for word in words {
+        owned.push(String::from_str(alloc, word)?)?;
+    }
+    let mut sink = MemorySink::new(alloc, 4096, Vec::from_slice(alloc, writes)?);
     let mut work = Work {
         measured: 0,
         painted: 0,
     };
-    Ok(tool(
-        alloc,
-        words.as_slice(),
-        &mut SteadyShelf::new(Vec::new(alloc)),
-        source,
-        sink,
-        &mut work,
-    ))
-}
-
-/// The status of a script, and what was written for it, where the listed calls on the source and on the sink fail.
-fn run_failing(
-    alloc: Global,
-    script: &[u8],
-    reads: &[u64],
-    writes: &[u64],
-) -> Result<(u8, Vec<u8>), AllocError> {
-    let bytes = Vec::from_slice(alloc, script)?;
-    let mut source = MemorySource::new(bytes, 16, Vec::from_slice(alloc, reads)?);
-    let mut sink = MemorySink::new(alloc, 4096, Vec::from_slice(alloc, writes)?);
-    let status = run(alloc, &mut source, &mut sink)?;
+    let status = tool(alloc, owned.as_slice(), shelf, source, &mut sink, &mut work);
     Ok((status, Vec::from_slice(alloc, sink.gone())?))
 }
 
-/// The status of so many empty lines, and how many bytes were written for them.
-fn run_empty_lines(alloc: Global, lines: usize) -> Result<(u8, usize), AllocError> {
-    let script = vec![in alloc; b'\n'; lines]?;
-    let mut source = MemorySource::new(script, 4096, Vec::new(alloc));
-    let mut sink = MemorySink::new(alloc, 4096, Vec::new(alloc));
-    let status = run(alloc, &mut source, &mut sink)?;
-    Ok((status, sink.gone().len()))
+fn run_ended(
+    alloc: Global,
+    script: Vec<u8>,
+    most: usize,
+    reads: &[u64],
+    writes: &[u64],
+) -> Result<(u8, Vec<u8>), AllocError>
+    requires { 0 < most }
+{
+    let mut source = MemorySource::new(script, most, Vec::from_slice(alloc, reads)?);
+    let mut shelf = MemoryShelf::new(Vec::new(alloc), Vec::new(alloc));
+    ended(alloc, &["run"], &mut source, &mut shelf, writes)
+}
+
+fn dump_ended(
+    alloc: Global,
+    words: &[&str],
+    file: Vec<u8>,
+    fetches: &[u64],
+) -> Result<(u8, Vec<u8>), AllocError> {
+    let mut files = Vec::new(alloc);
+    files.push((String::from_str(alloc, "a.xml")?, file))?;
+    let mut shelf = MemoryShelf::new(files, Vec::from_slice(alloc, fetches)?);
+    let mut source = MemorySource::new(Vec::new(alloc), 1, Vec::new(alloc));
+    ended(alloc, words, &mut source, &mut shelf, &[])
 }
 
 #[test]
-fn an_empty_script_writes_nothing(rt: HostRuntime) -> Result<(), Fail> {
-    let (status, gone) = run_failing(rt.alloc(), b"", &[], &[])?;
+fn scripts_are_carried_out(rt: HostRuntime) -> Result<(), Fail> {
+    let alloc = rt.alloc();
+    for run in &RUNS {
+        let script = Vec::from_slice(alloc, run.script)?;
+        let (status, gone) = run_ended(alloc, script, 16, run.reads, run.writes)?;
+        assert_eq!(rt; (status, gone.as_slice()), (run.status, run.text));
+    }
+    Ok(())
+}
+
+#[test]
+fn files_are_printed_or_refused(rt: HostRuntime) -> Result<(), Fail> {
+    let alloc = rt.alloc();
+    for dump in &DUMPS {
+        let file = Vec::from_slice(alloc, dump.file)?;
+        let (status, gone) = dump_ended(alloc, dump.words, file, dump.fetches)?;
+        assert_eq!(rt; (status, gone.as_slice()), (dump.status, dump.text));
+    }
+    Ok(())
+}
+
+#[test]
+fn longer_scripts_and_files_are_refused(rt: HostRuntime) -> Result<(), Fail> {
+    let alloc = rt.alloc();
+    let (status, gone) = run_ended(alloc, vec![in alloc; b'\n'; 16777216]?, 4096, &[], &[])?;
     assert_eq!(rt; (status, gone.len()), (0, 0));
-    Ok(())
-}
-
-#[test]
-fn matching_children_are_measured_again_where_there_are_two(rt: HostRuntime) -> Result<(), Fail> {
-    let (status, gone) = run_failing(rt.alloc(), WRAPPING, &[], &[])?;
-    assert_eq!(rt; (status, gone.as_slice()), (0, WRAPPED));
-    Ok(())
-}
-
-#[test]
-fn a_failed_third_write_leaves_the_first_two_replies(rt: HostRuntime) -> Result<(), Fail> {
-    let (status, gone) = run_failing(rt.alloc(), SIMPLE, &[], &[3])?;
-    assert_eq!(rt; (status, gone.as_slice()), (4, b"v1\nv2\n".as_slice()));
-    Ok(())
-}
-
-/// Each reply is written before the next line is carried out.
-#[test]
-fn four_replies_are_written_in_four_calls(rt: HostRuntime) -> Result<(), Fail> {
-    let (status, gone) = run_failing(rt.alloc(), SIMPLE, &[], &[4])?;
+    let (status, gone) = run_ended(alloc, vec![in alloc; b'\n'; 16777217]?, 4096, &[], &[])?;
+    assert_eq!(rt; (status, gone.len()), (7, 0));
+    let (status, gone) = dump_ended(alloc, &["dump", "a.xml"], vec![in alloc; 0; 1048577]?, &[])?;
     assert_eq!(rt;
         (status, gone.as_slice()),
-        (4, b"v1\nv2\nsettled 0\n".as_slice())
+        (1, b"file: refused 40 LongFile\n".as_slice())
     );
-    Ok(())
-}
-
-/// After three reads of 16 bytes the first two lines have ended.
-#[test]
-fn a_failed_read_leaves_the_lines_that_were_read(rt: HostRuntime) -> Result<(), Fail> {
-    let (status, gone) = run_failing(rt.alloc(), SIMPLE, &[4], &[])?;
-    assert_eq!(rt; (status, gone.as_slice()), (3, b"v1\n".as_slice()));
-    Ok(())
-}
-
-#[test]
-fn a_hidden_view_leaves_the_geometry_until_it_is_laid_out_again(
-    rt: HostRuntime,
-) -> Result<(), Fail> {
-    let (status, gone) = run_failing(rt.alloc(), HIDING, &[], &[])?;
-    assert_eq!(rt; (status, gone.as_slice()), (0, HIDDEN));
-    Ok(())
-}
-
-#[test]
-fn views_are_at_most_32_deep(rt: HostRuntime) -> Result<(), Fail> {
-    let alloc = rt.alloc();
-    let mut script = String::from_str(alloc, "window 9 9\nadd root FrameLayout match match\n")?;
-    for k in 1..32u32 {
-        let line = format!(in alloc; "add v{k} FrameLayout match match\n")?;
-        script.push_str(line.as_str())?;
-    }
-    script.push_str("add v32 View 1 1\n")?;
-    let (status, gone) = run_failing(alloc, script.as_bytes(), &[], &[])?;
-    assert_eq!(rt; status, 1);
-    assert_eq!(rt;
-        gone.as_slice()
-            .ends_with(b"v31\nv32\nline 34: refused 20 Depth\n"),
-        true
-    );
-    Ok(())
-}
-
-#[test]
-fn the_first_reason_in_order_is_told(rt: HostRuntime) -> Result<(), Fail> {
-    let (status, gone) = run_failing(rt.alloc(), REFUSING, &[], &[])?;
-    assert_eq!(rt; (status, gone.as_slice()), (1, REFUSED_LINES));
-    Ok(())
-}
-
-#[test]
-fn the_longest_script_is_carried_out(rt: HostRuntime) -> Result<(), Fail> {
-    assert_eq!(rt; run_empty_lines(rt.alloc(), 16777216)?, (0, 0));
-    Ok(())
-}
-
-#[test]
-fn a_longer_script_is_not(rt: HostRuntime) -> Result<(), Fail> {
-    assert_eq!(rt; run_empty_lines(rt.alloc(), 16777217)?, (7, 0));
     Ok(())
 }

@@ -1,11 +1,14 @@
-ghost use Rattle.std.specs.Prelude.{◌≡◌, ◌≢◌, ℕ, ◌+◌, ◌<◌, ◌≤◌, ◌↔◌, ◌⊎◌, List, [], ◌∷◌, ◌++◌, Some, length, false, nat_lt, if◌then◌else◌};
+//! The whole tool.
+
+ghost use Rattle.std.specs.Prelude.{◌≡◌, ◌≢◌, ℕ, ◌+◌, ◌-◌, ◌^◌, ◌<◌, ◌≤◌, ◌↔◌, ◌⊎◌, ◌==◌, List, [], ◌∷◌, length, min, if◌then◌else◌};
 ghost use Rattle.std.specs.Io.KnownBytes.{Appends, Consumes, IsAtEnd};
-ghost use Rattle.tool_io.specs.Causes.{Rose};
+ghost use Rattle.tool_io.specs.Counts.{Rose, raised};
 ghost use Rattle.view_tool.specs.Dump.{dump_page, refuses_file};
 ghost use Rattle.view_tool.specs.Files.{Files};
 ghost use Rattle.view_tool.specs.Run.{StopsBefore};
-ghost use Rattle.view_tool.specs.Tool.{Ended, IsDumpOf, IsOneOf, IsRunOf, RunsWith, Writes, WritesTaken, status_of};
-ghost use Rattle.view_tool.specs.Transcript.{carried_lines, cut_transcript, has_refusal, longest_script, transcript};
+ghost use Rattle.view_tool.specs.Script.{WritesTaken};
+ghost use Rattle.view_tool.specs.Tool.{Ended, IsDumpOf, IsOneOf, IsRunOf, RunsWith, Writes, status_of};
+ghost use Rattle.view_tool.specs.Transcript.{carried_lines, cut_transcript, has_refusal, max_script, transcript};
 ghost use Rattle.view_tool.specs.Usage.{Run, Dump, Unknown, usage};
 
 use crate::dump::dump;
@@ -26,18 +29,22 @@ pub fn tool<S: Source, K: Sink, F: Shelf>(
     sink: &mut K,
     work: &mut Work,
 ) -> u8
-    // For every script and every set of layout files, the bytes that are written are those of the plain world, which at
-    // each settled frame measures and lays out its whole present tree anew; where memory was wanting or a handed-in
-    // object failed, they are a prefix of these.
+    // For every script and every set of layout files, the bytes that the tool writes are those of the plain world, which
+    // at each settled frame measures, lays out and paints its whole present tree anew and delivers each touch by the
+    // dispatch rules alone; where memory was wanting or a handed-in source, sink or shelf failed, they are a prefix of
+    // these.
+    //
+    // It covers the lines that there are: a tree of views is built, edited, measured and laid out, and bounds are told.
+    // There is no painting, there are no touches, and no line reads a layout file.
     ensures headline { (script : List ℕ) (files : Files)
         → IsRunOf (usage words.now) (S.left source.old) (F.files shelf.old) script files
-        → length script ≤ longest_script
-        → Writes result (K.gone sink.old) (K.gone sink.new) (transcript script files) }
+        → length script ≤ max_script
+        → Writes result (K.state sink.old).gone (K.state sink.new).gone (transcript script files) }
 
     // A run that ended by itself tells whether a line was refused.
     ensures refused { (script : List ℕ) (files : Files)
         → IsRunOf (usage words.now) (S.left source.old) (F.files shelf.old) script files
-        → length script ≤ longest_script
+        → length script ≤ max_script
         → Ended result
         → result ≡ (if has_refusal script files then 1 else 0) }
     ensures read_to_end { usage words.now ≡ Run → Ended result → IsAtEnd (S.left source.new) }
@@ -45,7 +52,7 @@ pub fn tool<S: Source, K: Sink, F: Shelf>(
     // The print of a file: the text of its document, or why it is refused.
     ensures dump { (name : List ℕ) (files : Files)
         → IsDumpOf (usage words.now) (F.files shelf.old) name files
-        → Writes result (K.gone sink.old) (K.gone sink.new) (dump_page files name) }
+        → Writes result (K.state sink.old).gone (K.state sink.new).gone (dump_page files name) }
     ensures dump_refused { (name : List ℕ) (files : Files)
         → IsDumpOf (usage words.now) (F.files shelf.old) name files
         → Ended result
@@ -59,20 +66,26 @@ pub fn tool<S: Source, K: Sink, F: Shelf>(
 
     // A failed read: exactly the lines whose line feed was taken were carried out. A failed write: some prefix has gone. A
     // failed fetch: nothing was written.
-    ensures source_failed { result ≡ 3 → Rose (S.faults source.old) (S.faults source.new) }
     ensures lines_taken { (script : List ℕ) (files : Files)
         → IsRunOf (usage words.now) (S.left source.old) (F.files shelf.old) script files
         → result ≡ 3
-        → WritesTaken script (S.left source.new) (K.gone sink.old) (K.gone sink.new) }
-    ensures sink_failed { result ≡ 4 → Rose (K.faults sink.old) (K.faults sink.new) }
-    ensures shelf_failed { result ≡ 6 → Rose (F.faults shelf.old) (F.faults shelf.new) }
+        → WritesTaken script (S.left source.new) (K.state sink.old).gone (K.state sink.new).gone }
     ensures nothing_written { result ≡ 6 → sink.new ≡ sink.old }
+
+    // The call that failed is the one that the status tells of, and after it nothing more is asked of that object: its
+    // count of failed calls is one higher, and each other count is as it was. Want of memory may count as a failed fetch.
+    ensures source_failed { S.faults source.new ≡ (if result == 3 then raised (S.faults source.old) else S.faults source.old) }
+    ensures sink_failed { (K.state sink.new).faults
+        ≡ (if result == 4 then raised (K.state sink.old).faults else (K.state sink.old).faults) }
+    ensures shelf_failed { result ≢ 5
+        → F.faults shelf.new ≡ (if result == 6 then raised (F.faults shelf.old) else F.faults shelf.old) }
+    ensures shelf_later { F.faults shelf.old ≤ F.faults shelf.new }
 
     // No memory: exactly the texts of the lines before one that may want memory have gone; of a file, nothing.
     ensures no_memory { (script : List ℕ) (files : Files)
         → IsRunOf (usage words.now) (S.left source.old) (F.files shelf.old) script files
         → result ≡ 5
-        → StopsBefore (K.gone sink.old) (K.gone sink.new) (carried_lines script) }
+        → StopsBefore (K.state sink.old).gone (K.state sink.new).gone (carried_lines script) }
     ensures dump_no_memory { (name : List ℕ)
         → usage words.now ≡ Dump name
         → result ≡ 5
@@ -81,14 +94,14 @@ pub fn tool<S: Source, K: Sink, F: Shelf>(
     // Too long a script: the lines whose line feed is among its first bytes are carried out.
     ensures long { (script : List ℕ) (files : Files)
         → IsRunOf (usage words.now) (S.left source.old) (F.files shelf.old) script files
-        → longest_script < length script
+        → max_script < length script
         → (Ended result → ⊥)
-        × Writes result (K.gone sink.old) (K.gone sink.new) (cut_transcript script files)
-        × (result ≡ 7 → Appends (K.gone sink.old) (K.gone sink.new) (cut_transcript script files)) }
+        × Writes result (K.state sink.old).gone (K.state sink.new).gone (cut_transcript script files)
+        × (result ≡ 7 → Appends (K.state sink.old).gone (K.state sink.new).gone (cut_transcript script files)) }
     ensures long_only { (script : List ℕ) (files : Files)
         → IsRunOf (usage words.now) (S.left source.old) (F.files shelf.old) script files
         → result ≡ 7
-        → longest_script < length script }
+        → max_script < length script }
 
     // There is no other status, and where no object failed, only want of memory keeps a call from its end.
     ensures run_statuses { usage words.now ≡ Run → IsOneOf result (0 ∷ 1 ∷ 3 ∷ 4 ∷ 5 ∷ 7 ∷ []) }
@@ -97,27 +110,25 @@ pub fn tool<S: Source, K: Sink, F: Shelf>(
         → IsOneOf result (0 ∷ 1 ∷ 4 ∷ 5 ∷ 6 ∷ []) }
     ensures complete { (script : List ℕ) (files : Files)
         → IsRunOf (usage words.now) (S.left source.old) (F.files shelf.old) script files
-        → length script ≤ longest_script
+        → length script ≤ max_script
         → (Rose (S.faults source.old) (S.faults source.new) → ⊥)
-        → (Rose (K.faults sink.old) (K.faults sink.new) → ⊥)
+        → (Rose (K.state sink.old).faults (K.state sink.new).faults → ⊥)
         → Ended result ⊎ (result ≡ 5) }
     ensures dump_complete { (name : List ℕ)
         → usage words.now ≡ Dump name
-        → (Rose (K.faults sink.old) (K.faults sink.new) → ⊥)
+        → (Rose (K.state sink.old).faults (K.state sink.new).faults → ⊥)
         → (Rose (F.faults shelf.old) (F.faults shelf.new) → ⊥)
         → Ended result ⊎ (result ≡ 5) }
 
     // What is taken of the source, and what stays.
     ensures taken { (taken : List ℕ)
         × Consumes (S.left source.old) (S.left source.new) taken
-        × (length taken ≤ longest_script + 1) }
+        × (length taken ≤ max_script + 1) }
     ensures files_stay { F.files shelf.new ≡ F.files shelf.old }
     ensures run_asks_no_shelf { usage words.now ≡ Run → shelf.new ≡ shelf.old }
     ensures nothing_painted { work.new.painted ≡ work.old.painted }
+    ensures measured_later { min work.old.measured (2 ^ 64 - 1) ≤ work.new.measured }
     ensures dump_works_not { (name : List ℕ) → usage words.now ≡ Dump name → work.new ≡ work.old }
-    ensures source_later { S.faults source.old ≤ S.faults source.new }
-    ensures sink_later { K.faults sink.old ≤ K.faults sink.new }
-    ensures shelf_later { F.faults shelf.old ≤ F.faults shelf.new }
 {
     match form_of(words) {
         Some(Form::Run) => run(alloc, shelf, source, sink, work),
@@ -136,18 +147,18 @@ fn run<S: Source, K: Sink, F: Shelf>(
 ) -> u8
     ensures runs { (script : List ℕ)
         → S.left source.old ≡ Some script
-        → RunsWith script (S.left source.new) (K.gone sink.old) (K.gone sink.new) result }
+        → RunsWith script (S.left source.new) (K.state sink.old).gone (K.state sink.new).gone result }
     ensures known { IsOneOf result (0 ∷ 1 ∷ 3 ∷ 4 ∷ 5 ∷ 7 ∷ []) }
     ensures read_to_end { Ended result → IsAtEnd (S.left source.new) }
-    ensures source_failed { result ≡ 3 → Rose (S.faults source.old) (S.faults source.new) }
-    ensures sink_failed { result ≡ 4 → Rose (K.faults sink.old) (K.faults sink.new) }
     ensures taken { (taken : List ℕ)
         × Consumes (S.left source.old) (S.left source.new) taken
-        × (length taken ≤ longest_script + 1) }
+        × (length taken ≤ max_script + 1) }
+    ensures source_failed { S.faults source.new ≡ (if result == 3 then raised (S.faults source.old) else S.faults source.old) }
+    ensures sink_failed { (K.state sink.new).faults
+        ≡ (if result == 4 then raised (K.state sink.old).faults else (K.state sink.old).faults) }
     ensures shelf { shelf.new ≡ shelf.old }
     ensures painted { work.new.painted ≡ work.old.painted }
-    ensures source_later { S.faults source.old ≤ S.faults source.new }
-    ensures sink_later { K.faults sink.old ≤ K.faults sink.new }
+    ensures measured { min work.old.measured (2 ^ 64 - 1) ≤ work.new.measured }
 {
     status(run_source(alloc, source, shelf, sink, work))
 }

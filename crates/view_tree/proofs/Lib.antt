@@ -12,6 +12,8 @@ pub mod Gone
 pub mod Growing
 pub mod Grown
 pub mod HiddenLaws
+pub mod HolderLaws
+pub mod IdLaws
 pub mod Hung
 pub mod KeptLaws
 pub mod KeyLaws

@@ -1,11 +1,13 @@
 -- How the nodes of a tree stand for its views.
-use Rattle.std.specs.Prelude.{ℕ, zero, suc, ◌≡◌, ◌<◌, ◌≤◌, ◌==◌, nat_eq, map, Option, Some, None, if◌then◌else◌, option_map, ◌⊎◌}
+use Rattle.std.specs.Prelude.{ℕ, zero, suc, ◌≡◌, ◌<◌, ◌≤◌, ◌==◌, ◌^◌, nat_eq, map, Bool, Option, Some, None, if◌then◌else◌, option_map, ◌⊎◌}
 use Rattle.slab.specs.Slab.{Slab, get, slab_len}
 use Rattle.indexmap.specs.IndexMap.{get as get_key}
 use Rattle.view_model.specs.Forest.{Forest, Nothing, Branch, count_of}
 use Rattle.view_model.specs.PlainTree.{View}
-use Rattle.view_tree.specs.Rows.{Row, after, first_key, key_where, last_key, times, unscrolled_facts}
+use Rattle.view_tree.specs.Holders.{holders}
+use Rattle.view_tree.specs.Rows.{Row, after, count_where, first_key, key_where, keys_where, last_key, times, unscrolled_facts}
 use Rattle.view_tree.specs.Views.{Held, IsTree, Views}
+use Rattle.view_tree.specs.declared.ids.Holders.{Holders}
 use Rattle.view_tree.specs.declared.node.Node.{Node}
 use Rattle.view_tree.specs.declared.tree.ViewTree.TheInside.{Inside}
 
@@ -144,9 +146,18 @@ tree_of inside = forest inside.next (said_at inside.nodes) inside.root
 abbrev pub value_of : Inside → Views
 value_of inside = record { tree = tree_of inside; held = map held_in inside.nodes.slots; next = inside.next }
 
--- each view has a node, each node a view, and each number its key
+abbrev pub has_id : ℕ → View → Bool
+has_id id view = view.facts.id == id
+
+-- what a table has for an id: nothing for 0, which names no view, nor for one that no view has
+abbrev pub holders_of : ℕ → Forest Row → Option Holders
+holders_of id tree = if id == 0 then None else holders (count_where (has_id id) tree) (keys_where (has_id id) tree)
+
+-- each view has a node, each node a view, each number its key, and each id its views
 pub record IsSound (inside : Inside) : Type 0 where
   pub stands : Stands (said_at inside.nodes) inside.root inside.next (tree_of inside)
   pub kept : IsTree (value_of inside)
   pub full : slab_len inside.nodes ≡ count_of (tree_of inside)
   pub found : (number : ℕ) → get_key nat_eq inside.keys number ≡ key_where (λ view. view.number == number) (tree_of inside)
+  pub named : (id : ℕ) → get_key nat_eq inside.ids id ≡ holders_of id (tree_of inside)
+  pub small : (key : ℕ) → 0 < times key (tree_of inside) → key < 2 ^ 64

@@ -2,7 +2,7 @@
 ghost use Rattle.std.specs.Prelude.{◌≡◌, ◌≢◌, ◌+◌, ℕ, Some, None};
 ghost use Rattle.slab.specs.Slab.{get, slab_len, ContainsKey, HasRoomFor};
 ghost use Rattle.view_tree.specs.Nodes.{Said, IsAround, changed_at, held_in, hung, instead, key_or, last_child, said_at, unhung};
-ghost use Rattle.view_tree.specs.Views.{fresh};
+ghost use Rattle.view_tree.specs.Views.{fresh_held};
 
 use crate::node::Node;
 use crate::state::fresh_state;
@@ -33,7 +33,7 @@ fn set_previous(nodes: &mut Slab<Node>, key: Option<usize>, previous: Option<usi
     }
 }
 
-// A child comes behind the others.
+/// A child comes behind the others.
 fn set_last(nodes: &mut Slab<Node>, parent: Option<usize>, kid: usize)
     requires { (k : ℕ) → parent ≡ Some k → ContainsKey nodes.old k }
     ensures said { (x : ℕ) → said_at nodes.new x ≡ changed_at (said_at nodes.old) parent (λ node. record node { first = key_or node.first kid; last = Some kid }) x }
@@ -49,7 +49,7 @@ fn set_last(nodes: &mut Slab<Node>, parent: Option<usize>, kid: usize)
     }
 }
 
-// The first and the last child of a node, once a child between these is gone.
+/// The first and the last child of a node, once a child between these is gone.
 fn set_ends(
     nodes: &mut Slab<Node>,
     parent: Option<usize>,
@@ -96,7 +96,7 @@ pub fn hang(
     requires last { (k : ℕ) → last_child (said_at nodes.old) parent ≡ Some k → ContainsKey nodes.old k }
     ensures unused { get nodes.old result ≡ None }
     ensures said { (x : ℕ) → said_at nodes.new x ≡ hung (said_at nodes.old) parent result (record { number = number; class = class; facts = facts; text = text }) (last_child (said_at nodes.old) parent) x }
-    ensures held { held_in (get nodes.new result) ≡ Some (record { state = fresh; offset = facts.offset }) }
+    ensures held { held_in (get nodes.new result) ≡ Some (fresh_held facts.offset) }
     ensures others { (x : ℕ) → x ≢ result → held_in (get nodes.new x) ≡ held_in (get nodes.old x) }
     ensures len { slab_len nodes.new ≡ slab_len nodes.old + 1 }
 {

@@ -1,10 +1,11 @@
-//! The keys of views by their numbers, and the memory that one more view takes.
-ghost use Rattle.std.specs.Prelude.{◌≡◌, ◌<◌, ℕ, Some, None, OnOk, if◌then◌else◌, nat_eq};
+//! The keys of views by their numbers, and the memory that more views take.
+ghost use Rattle.std.specs.Prelude.{◌≡◌, ◌<◌, ◌≤◌, ℕ, Some, None, OnOk, if◌then◌else◌, nat_eq};
 ghost use Rattle.indexmap.specs.IndexMap.{get as key_of, spare};
 ghost use Rattle.slab.specs.Slab.{HasRoomFor};
 ghost use Rattle.view_tree.specs.Faults.{RefusedFor};
 
 use crate::fault::AttachFault;
+use crate::ids::Holders;
 use crate::node::Node;
 use indexmap::IndexMap;
 use slab::Slab;
@@ -27,15 +28,25 @@ pub fn drop_key(keys: &mut IndexMap<u64, usize>, number: u64)
     keys.swap_remove(&number);
 }
 
-/// Takes the memory for one more view and its number.
-pub fn make_room(nodes: &mut Slab<Node>, keys: &mut IndexMap<u64, usize>) -> Result<(), AttachFault>
+/// Takes the memory for so many more views and their numbers, and for so many more ids.
+pub fn make_room(
+    nodes: &mut Slab<Node>,
+    keys: &mut IndexMap<u64, usize>,
+    ids: &mut IndexMap<u32, Holders>,
+    views: usize,
+    names: usize,
+) -> Result<(), AttachFault>
     ensures refused { RefusedFor None result }
     ensures nodes { nodes.new ≡ record nodes.old { capacity = nodes.new.capacity } }
     ensures keys { keys.new.entries ≡ keys.old.entries }
-    ensures room { OnOk result (HasRoomFor nodes.new 1) }
-    ensures spare { OnOk result (0 < spare keys.new) }
+    ensures ids { ids.new.entries ≡ ids.old.entries }
+    ensures room { OnOk result (HasRoomFor nodes.new views) }
+    ensures spare { OnOk result ((views ≤ spare keys.new) × (names ≤ spare ids.new)) }
 {
-    if nodes.reserve(1).is_err() || keys.reserve(1).is_err() {
+    if nodes.reserve(views).is_err()
+        || keys.reserve(views).is_err()
+        || ids.reserve(names).is_err()
+    {
         return Err(AttachFault::NoMemory);
     }
     Ok(())

@@ -1,3 +1,4 @@
+//! The tree of views.
 ghost use Rattle.std.specs.Prelude.{◌≡◌, IfSome, ◌≤◌};
 ghost use Rattle.view_model.specs.Forest.{count_of};
 ghost use Rattle.view_tree.specs.Rows.{rest_from, first_key};
@@ -10,6 +11,7 @@ mod look_up;
 mod plain;
 mod setters;
 
+use crate::ids::Holders;
 use crate::node::Node;
 use indexmap::IndexMap;
 use slab::Slab;
@@ -25,6 +27,8 @@ pub struct ViewTree {
     nodes: Slab<Node>,
     /// The key of each view by its number.
     keys: IndexMap<u64, usize>,
+    /// The views of each id that some view has.
+    ids: IndexMap<u32, Holders>,
     root: Option<usize>,
     next: u64,
 }
@@ -52,6 +56,7 @@ impl ViewTree {
         ViewTree {
             nodes: Slab::new(alloc),
             keys: IndexMap::new(alloc),
+            ids: IndexMap::new(alloc),
             root: None,
             next: 1,
         }

@@ -1,29 +1,29 @@
 -- A view that is laid, with all below it.
-use Rattle.std.proofs.Common.{◌≡◌, ◌≢◌, ℕ, ◌<◌, ◌≤◌, ℤ, Bool, true, false, List, [], ◌∷◌, ◌++◌, Some, refl, sym, ◌∙◌, ap, subst, arith}
+use Rattle.std.proofs.Common.{◌≡◌, ◌≢◌, ℕ, ◌<◌, ◌≤◌, ℤ, Bool, true, false, List, [], ◌∷◌, ◌++◌, None, Some, refl, sym, ◌∙◌, ap, subst, arith}
 use Rattle.std.proofs.lemmas.Bool.{eq-eqb}
 use Rattle.std.proofs.lemmas.List.{append-nil}
 use Rattle.geom_core.specs.Limits.{IsSide}
 use Rattle.geom_core.specs.declared.geometry.Rect.{Rect}
 use Rattle.geom_core.specs.declared.geometry.Size.{Size}
-use Rattle.geom_core.proofs.Sides.{default_size_of-is_side, resolve_of-is_side}
 use Rattle.measure_pass.specs.Measured.{Sized}
-use Rattle.view_model.specs.declared.attributes.Facts.{Facts}
-use Rattle.view_model.specs.declared.kinds.Class.{Class}
-use Rattle.view_model.specs.declared.kinds.Class.TheVariants.{View, FrameLayout}
-use Rattle.view_model.specs.Facts.{is_shown}
+use Rattle.measure_pass.proofs.Laws.{lawful_of}
+use Rattle.measure_pass.proofs.Parts.{Agree, Same}
+use Rattle.view_model.specs.Facts.{is_shown, unscrolled_facts}
 use Rattle.view_model.specs.Forest.{Forest, Nothing, Branch}
-use Rattle.view_model.specs.FrameLayout.{frame_place}
 use Rattle.view_model.specs.Geometry.{Laid, extent_of}
-use Rattle.view_model.specs.Layout.{Child, laid_views, measured_by, measured_size}
-use Rattle.view_model.specs.Measuring.{Specs}
+use Rattle.view_model.specs.Layout.{Spot, laid_views, measured_size, place_in, total_size, unscrolled}
+use Rattle.view_model.specs.Measuring.{Measured, Specs}
 use Rattle.view_tree.specs.Hidden.{HidesGone}
 use Rattle.view_tree.specs.Rows.{Row, alone, below, from, head_view, times, views_of}
 use Rattle.view_tree.specs.Views.{Held, laid_rows, specs_of}
 use Rattle.view_tree.proofs.Forests.{times_from}
+use Rattle.view_tree.proofs.GeometryLaws.{laid_nowhere}
 use Rattle.view_tree.proofs.KeyLaws.{located}
-use Rattle.view_world.specs.Laying.{CanBeLaid, IsLaid, frame_kids, layout_of}
-use Rattle.view_world.proofs.LaidKids.{frame_kids-unscrolled, laid_frame, laid_leaf, laid_nowhere}
-use Rattle.view_world.proofs.LaidParts.{SameIn, SameOutside, CanBeLaid-along, frame_kids-along}
+use Rattle.view_world.specs.declared.laying.placer.Placer.{Placer}
+use Rattle.view_world.specs.Laying.{CanBeLaid, IsLaid, group_kids, kid_under, last_sizes, layout_of, spot_of}
+use Rattle.view_world.specs.Placing.{LaidKids, PlacesAs}
+use Rattle.view_world.proofs.LaidKids.{laid_group}
+use Rattle.view_world.proofs.LaidParts.{CanBeLaid-along, group_kids-along}
 
 -- one view got bounds, and nothing else changed
 pub record Wrote (old new : ℕ → Held) (view : ℕ) (rect : Rect) : Type 0 where
@@ -50,37 +50,41 @@ never_both t f = absurd (let e : true ≡ false = sym t ∙ f in cc)
 
 -- what the writing of a view's bounds leaves below it
 same_below : (row : Row) (kids siblings : Forest Row) (view : ℕ) (rect : Rect) (old new : ℕ → Held) → row.key ≡ view
-    → times row.key (Branch row kids siblings) ≤ 1 → Wrote old new view rect → SameIn old new kids
+    → times row.key (Branch row kids siblings) ≤ 1 → Wrote old new view rect → Same old new kids
 same_below row kids siblings view rect old new is once wrote key live =
     wrote.others key (apart row kids view key is (not_below row kids siblings once) live)
 
--- a view that has no children
-leaf_laid : (row : Row) (kids : Forest Row) (view : ℕ) (rect : Rect) (old new : ℕ → Held) → row.key ≡ view
-    → row.view.class ≡ View → is_shown row.view.facts ≡ true → kids ≡ Nothing → Wrote old new view rect
-    → IsLaid new (Branch row kids Nothing) (laid_views row.view (views_of kids) (specs_of (old view).state) rect)
-leaf_laid row kids view rect old new is class shown none wrote =
-    let bounds : (new row.key).state.bounds ≡ Some rect = ap (λ (k : ℕ). (new k).state.bounds) is ∙ ap (λ (h : Held). h.state.bounds) wrote.at in
-    rw none (record {
-      lies = rw bounds (sym (laid_leaf row (specs_of (old view).state) rect class shown));
-      hidden = (λ gone. never_both shown gone, tt, tt);
-    })
+-- the group that a view is which got bounds, by what is kept of it
+spot_is : (row : Row) (kids siblings : Forest Row) (view : ℕ) (rect : Rect) (old mid : ℕ → Held) → row.key ≡ view → is_shown row.view.facts ≡ true
+    → Sized old (Branch row kids Nothing) → Wrote old mid view rect
+    → (let specs = specs_of (old row.key).state in
+    spot_of (Branch row kids siblings) (mid view) (extent_of rect)
+    ≡ record { view = unscrolled row.view; specs = specs; room = extent_of rect; total = total_size row.view (views_of kids) specs })
+spot_is row kids siblings view rect old mid is shown sized wrote =
+    let room = extent_of rect in
+    ap (λ (own : Held). spot_of (Branch row kids siblings) own room) wrote.at
+    ∙ ap (λ (key : ℕ). spot_of (Branch row kids siblings) (old key) room) (sym is)
+    ∙ ap (λ (total : ℤ). let spot : Spot = record { view = unscrolled row.view; specs = specs_of (old row.key).state; room = room; total = total } in spot)
+    (sized.0 shown).0.total
 
--- a frame layout whose children were laid
-frame_laid : (row : Row) (kids siblings : Forest Row) (view : ℕ) (rect : Rect) (offset : ℤ) (old mid new : ℕ → Held) → row.key ≡ view
-    → times row.key (Branch row kids siblings) ≤ 1 → row.view.class ≡ FrameLayout → is_shown row.view.facts ≡ true
+-- a view whose children were laid
+group_laid : (row : Row) (kids siblings : Forest Row) (view : ℕ) (rect : Rect) (old mid new : ℕ → Held) → row.key ≡ view
+    → times row.key (Branch row kids siblings) ≤ 1 → is_shown row.view.facts ≡ true
     → CanBeLaid old (Branch row kids Nothing) → Wrote old mid view rect
-    → IsLaid new kids (frame_kids (record row.view.facts { offset = offset }) (extent_of rect) mid kids) → SameOutside mid new kids
+    → IsLaid new kids (group_kids (spot_of (Branch row kids siblings) (mid view) (extent_of rect)) [] mid kids) → Agree mid new kids
     → IsLaid new (Branch row kids Nothing) (laid_views row.view (views_of kids) (specs_of (old view).state) rect)
-frame_laid row kids siblings view rect offset old mid new is once class shown ready wrote laid others =
+group_laid row kids siblings view rect old mid new is once shown ready wrote laid others =
     let own : new row.key ≡ mid row.key = others row.key (not_below row kids siblings once) in
     let bounds : (new row.key).state.bounds ≡ Some rect =
     ap (λ (h : Held). h.state.bounds) own ∙ ap (λ (k : ℕ). (mid k).state.bounds) is ∙ ap (λ (h : Held). h.state.bounds) wrote.at in
-    let facts = row.view.facts in
     let entry : Laid = record { number = row.view.number; rect = rect } in
-    let children : laid_rows new kids ++ [] ≡ frame_kids facts (extent_of rect) old kids =
-    append-nil (laid_rows new kids) ∙ laid.lies ∙ frame_kids-unscrolled facts offset (extent_of rect) mid kids
-    ∙ frame_kids-along facts (extent_of rect) old mid kids (same_below row kids siblings view rect old mid is once wrote) in
-    let whole = laid_frame old row kids (specs_of (old row.key).state) rect class shown (ready.sized.0 shown).0.finals in
+    let spot = spot_of (Branch row kids siblings) (mid view) (extent_of rect) in
+    let specs = specs_of (old row.key).state in
+    let children : laid_rows new kids ++ [] ≡ group_kids spot [] old kids =
+    append-nil (laid_rows new kids) ∙ laid.lies
+    ∙ group_kids-along spot [] old mid kids (same_below row kids siblings view rect old mid is once wrote) in
+    let whole =
+    laid_group old row kids specs rect spot shown (ready.sized.0 shown).0.finals (spot_is row kids siblings view rect old mid is shown ready.sized wrote) in
     record {
       lies = rw bounds (ap (λ (list : List Laid). entry ∷ list) children ∙ sym whole
           ∙ ap (λ (k : ℕ). laid_views row.view (views_of kids) (specs_of (old k).state) rect) is);
@@ -88,28 +92,18 @@ frame_laid row kids siblings view rect offset old mid new is once class shown re
     }
 
 -- the same of the view of a key
-pub leaf_at : (tree : Forest Row) (view : ℕ) (rect : Rect) (old new : ℕ → Held) → 0 < times view tree → below (from view tree) ≡ Nothing
-    → View ≡ (head_view (from view tree)).class → is_shown (head_view (from view tree)).facts ≡ true → Wrote old new view rect
-    → IsLaid new (alone (from view tree)) (layout_of (from view tree) (specs_of (old view).state) rect)
-leaf_at tree view rect old new live none class shown wrote =
-    let f = located view tree live in
-    let class : View ≡ f.row.view.class = rw f.is at class in
-    let shown : is_shown f.row.view.facts ≡ true = rw f.is at shown in
-    let none : f.kids ≡ Nothing = rw f.is at none in
-    rw f.is (leaf_laid f.row f.kids view rect old new f.key_is (sym class) shown none wrote)
-
-pub frame_at : (tree : Forest Row) (view : ℕ) (rect : Rect) (offset : ℤ) (old mid new : ℕ → Held) → 0 < times view tree → ((key : ℕ) → times key tree ≤ 1)
-    → FrameLayout ≡ (head_view (from view tree)).class → is_shown (head_view (from view tree)).facts ≡ true
+pub group_at : (tree : Forest Row) (view : ℕ) (rect : Rect) (old mid new : ℕ → Held) → 0 < times view tree → ((key : ℕ) → times key tree ≤ 1)
+    → is_shown (head_view (from view tree)).facts ≡ true
     → CanBeLaid old (alone (from view tree)) → Wrote old mid view rect
-    → IsLaid new (below (from view tree)) (frame_kids (record (head_view (from view tree)).facts { offset = offset }) (extent_of rect) mid (below (from view tree)))
-    → SameOutside mid new (below (from view tree))
+    → IsLaid new (below (from view tree)) (group_kids (spot_of (from view tree) (mid view) (extent_of rect)) [] mid (below (from view tree)))
+    → Agree mid new (below (from view tree))
     → IsLaid new (alone (from view tree)) (layout_of (from view tree) (specs_of (old view).state) rect)
-frame_at tree view rect offset old mid new live keys class shown ready wrote laid others =
+group_at tree view rect old mid new live keys shown ready wrote laid others =
     let f = located view tree live in
     let once : times f.row.key (Branch f.row f.kids f.siblings) ≤ 1 =
     rw f.is at (let a = times_from view f.row.key tree live in let b = keys f.row.key in let c : times f.row.key (from view tree) ≤ 1 = omega arith in c) in
     rw f.is
-    (frame_laid f.row f.kids f.siblings view rect offset old mid new f.key_is once (sym (rw f.is at class)) (rw f.is at shown) (rw f.is at ready) wrote (rw f.is at laid) (rw f.is at others))
+    (group_laid f.row f.kids f.siblings view rect old mid new f.key_is once (rw f.is at shown) (rw f.is at ready) wrote (rw f.is at laid) (rw f.is at others))
 
 -- the children of a view that got bounds can be laid
 pub below_ready : (tree : Forest Row) (view : ℕ) (rect : Rect) (old mid : ℕ → Held) → 0 < times view tree → ((key : ℕ) → times key tree ≤ 1)
@@ -124,20 +118,11 @@ below_ready tree view rect old mid live keys shown ready wrote =
 
 -- what is kept of all views outside
 pub outside_at : (tree : Forest Row) (view : ℕ) (rect : Rect) (old mid new : ℕ → Held) → 0 < times view tree → Wrote old mid view rect
-    → SameOutside mid new (below (from view tree)) → SameOutside old new (alone (from view tree))
+    → Agree mid new (below (from view tree)) → Agree old new (alone (from view tree))
 outside_at tree view rect old mid new live wrote others =
     let f = located view tree live in
-    let others : SameOutside mid new f.kids = rw f.is at others in
+    let others : Agree mid new f.kids = rw f.is at others in
     rw f.is (λ key none. others key (omega arith) ∙ wrote.others key (outside f.row f.kids view key f.key_is none))
-
--- the sides that the rule of a class answers
-side_across : (class : Class) (facts : Facts) (kids : List Child) (specs : Specs) → IsSide (measured_by class facts kids specs).w
-side_across View facts kids specs = default_size_of-is_side _ _
-side_across FrameLayout facts kids specs = resolve_of-is_side _ _
-
-side_down : (class : Class) (facts : Facts) (kids : List Child) (specs : Specs) → IsSide (measured_by class facts kids specs).h
-side_down View facts kids specs = default_size_of-is_side _ _
-side_down FrameLayout facts kids specs = resolve_of-is_side _ _
 
 -- the sides of the size of a view that was measured
 pub record HasSides (size : Size) : Type 0 where
@@ -150,37 +135,54 @@ sides_at tree view held live shown sized =
     let f = located view tree live in
     let sized : Sized held (Branch f.row f.kids Nothing) = rw f.is at sized in
     let own = (sized.0 (rw f.is at shown)).0 in
-    subst (λ (k : ℕ). HasSides (held k).state.measured) f.key_is
-    (rw own.size (record { width = side_across f.row.view.class _ _ _; height = side_down f.row.view.class _ _ _ }))
+    let lawful = lawful_of (unscrolled f.row.view) (specs_of (held f.row.key).state) in
+    subst (λ (k : ℕ). HasSides (held k).state.measured) f.key_is (rw own.size (record { width = lawful.width _; height = lawful.height _ }))
 
 -- a child that is gone has no layout, and lies nowhere
-pub kid_gone : (tree : Forest Row) (kid : ℕ) (own : Facts) (room : Size) (held : ℕ → Held) → 0 < times kid tree → is_shown (head_view (from kid tree)).facts ≡ false
-    → HidesGone held (alone (from kid tree)) → IsLaid held (alone (from kid tree)) (frame_kids own room held (alone (from kid tree)))
-kid_gone tree kid own room held live gone hidden =
+pub kid_gone : (tree : Forest Row) (kid : ℕ) (placer : Placer) (spot : Spot) (before : List Measured) (held : ℕ → Held) → 0 < times kid tree
+    → is_shown (head_view (from kid tree)).facts ≡ false → HidesGone held (alone (from kid tree)) → PlacesAs placer spot before
+    → LaidKids placer spot before held held (alone (from kid tree))
+kid_gone tree kid placer spot before held live gone hidden places =
     let f = located kid tree live in
     let gone : is_shown f.row.view.facts ≡ false = rw f.is at gone in
     let hidden : HidesGone held (Branch f.row f.kids Nothing) = rw f.is at hidden in
-    let nothing : frame_kids own room held (Branch f.row f.kids Nothing) ≡ [] = rw gone refl in
-    rw f.is (record { lies = laid_nowhere held (Branch f.row f.kids Nothing) (hidden.0 gone) ∙ sym nothing; hidden = hidden })
+    let nothing : group_kids spot before held (Branch f.row f.kids Nothing) ≡ [] = rw gone refl in
+    let none : last_sizes held (Branch f.row f.kids Nothing) ≡ [] = rw gone refl in
+    let here : LaidKids placer spot before held held (Branch f.row f.kids Nothing) = record {
+      laid = record { lies = laid_nowhere held (Branch f.row f.kids Nothing) (hidden.0 gone) ∙ sym nothing; hidden = hidden };
+      places = subst (λ before. PlacesAs placer spot before) (sym (ap (λ sizes. before ++ sizes) none ∙ append-nil before)) places;
+    } in
+    rw f.is here
 
 -- a child that was laid at its place
-pub kid_at : (tree : Forest Row) (kid : ℕ) (own : Facts) (room : Size) (rect : Rect) (old new : ℕ → Held) → 0 < times kid tree → is_shown (head_view (from kid tree)).facts ≡ true
-    → Sized old (alone (from kid tree)) → rect ≡ frame_place own room (head_view (from kid tree)).facts (old kid).state.measured
+pub kid_at : (tree : Forest Row) (kid : ℕ) (placer : Placer) (spot : Spot) (before : List Measured) (size : Size) (rect : Rect) (old new : ℕ → Held) → 0 < times kid tree
+    → is_shown (head_view (from kid tree)).facts ≡ true → Sized old (alone (from kid tree)) → size ≡ (old kid).state.measured
+    → (let measured : Measured = record { facts = unscrolled_facts (head_view (from kid tree)).facts; size = size } in
+    rect ≡ place_in spot before measured None
+    → PlacesAs placer spot (before ++ measured ∷ [])
     → IsLaid new (alone (from kid tree)) (layout_of (from kid tree) (specs_of (old kid).state) rect)
-    → IsLaid new (alone (from kid tree)) (frame_kids own room old (alone (from kid tree)))
-kid_at tree kid own room rect old new live shown sized place laid =
+    → LaidKids placer spot before old new (alone (from kid tree)))
+kid_at tree kid placer spot before size rect old new live shown sized size_is place places laid =
     let f = located kid tree live in
     let sized : Sized old (Branch f.row f.kids Nothing) = rw f.is at sized in
-    let size = (sized.0 (rw f.is at shown)).0.size in
-    let place : rect ≡ frame_place own room f.row.view.facts (old kid).state.measured = rw f.is at place in
-    let laid : IsLaid new (Branch f.row f.kids Nothing) (laid_views f.row.view (views_of f.kids) (specs_of (old kid).state) rect) = rw f.is at laid in
+    let here : is_shown f.row.view.facts ≡ true = rw f.is at shown in
     let specs = specs_of (old f.row.key).state in
-    let geometry = λ (specs : Specs) (size : Size). laid_views f.row.view (views_of f.kids) specs (frame_place own room f.row.view.facts size) in
-    rw f.is (record {
-      lies = laid.lies
-          ∙ ap (λ (rect : Rect). laid_views f.row.view (views_of f.kids) (specs_of (old kid).state) rect) place
-          ∙ ap (λ (k : ℕ). geometry (specs_of (old k).state) (old k).state.measured) (sym f.key_is)
-          ∙ ap (λ (size : Size). geometry specs size) size
-          ∙ sym (append-nil (geometry specs (measured_size f.row.view (views_of f.kids) specs)));
-      hidden = laid.hidden;
-    })
+    let same_key : specs_of (old kid).state ≡ specs = ap (λ (k : ℕ). specs_of (old k).state) (sym f.key_is) in
+    let size_same : size ≡ measured_size f.row.view (views_of f.kids) specs = size_is ∙ ap (λ (k : ℕ). (old k).state.measured) (sym f.key_is) ∙ (sized.0 here).0.size in
+    let as_child : Size → Measured = λ size. record { facts = unscrolled_facts f.row.view.facts; size = size } in
+    let measured : as_child size ≡ kid_under specs f.row f.kids = ap as_child size_same in
+    let place : rect ≡ place_in spot before (as_child size) None = rw f.is at place in
+    let places : PlacesAs placer spot (before ++ as_child size ∷ []) = rw f.is at places in
+    let laid : IsLaid new (Branch f.row f.kids Nothing) (laid_views f.row.view (views_of f.kids) (specs_of (old kid).state) rect) = rw f.is at laid in
+    let one : last_sizes old (Branch f.row f.kids Nothing) ≡ kid_under specs f.row f.kids ∷ [] = rw here refl in
+    let whole : LaidKids placer spot before old new (Branch f.row f.kids Nothing) = record {
+      laid = record {
+        lies = laid.lies
+            ∙ ap (λ (specs : Specs). laid_views f.row.view (views_of f.kids) specs rect) same_key
+            ∙ ap (λ (rect : Rect). laid_views f.row.view (views_of f.kids) specs rect) (place ∙ ap (λ kid. place_in spot before kid None) measured)
+            ∙ sym (append-nil (laid_views f.row.view (views_of f.kids) specs (place_in spot before (kid_under specs f.row f.kids) None)));
+        hidden = laid.hidden;
+      };
+      places = subst (λ more. PlacesAs placer spot (before ++ more)) (ap (λ m. m ∷ []) measured ∙ sym one) places;
+    } in
+    rw f.is whole

@@ -1,61 +1,43 @@
 -- Parts of a list of trees, and what holds of them where what is kept of views changes elsewhere.
-use Rattle.std.proofs.Common.{◌≡◌, ℕ, ◌+◌, ◌<◌, List, refl, ◌∙◌, ap, arith}
-use Rattle.geom_core.specs.declared.geometry.Size.{Size}
-use Rattle.measure_pass.specs.Measured.{Sized, last_specs}
-use Rattle.view_model.specs.declared.attributes.Facts.{Facts}
-use Rattle.view_model.specs.Forest.{Forest, Nothing, Branch}
+use Rattle.std.proofs.Common.{◌≡◌, ◌≤◌, ℕ, Bool, true, false, List, [], ◌∷◌, ◌++◌, length, refl, ◌∙◌, ap, arith, length-append}
+use Rattle.std.specs.Prelude.{if◌then◌else◌, None}
+use Rattle.measure_pass.proofs.Parts.{Same, Sized-along}
+use Rattle.view_model.specs.Facts.{is_shown}
+use Rattle.view_model.specs.Forest.{Forest, Nothing, Branch, count_of}
 use Rattle.view_model.specs.Geometry.{Laid}
+use Rattle.view_model.specs.Layout.{Spot, laid_views, place_in}
+use Rattle.view_model.specs.Measuring.{Measured}
 use Rattle.view_tree.specs.Hidden.{HidesGone}
-use Rattle.view_tree.specs.Rows.{Row, after, alone, times}
-use Rattle.view_tree.specs.Views.{Held, Views, held_of}
+use Rattle.view_tree.specs.Rows.{Row, after, alone, views_of}
+use Rattle.view_tree.specs.Views.{Held, Views, held_of, specs_of}
 use Rattle.view_tree.proofs.GeometryLaws.{laid_along}
 use Rattle.view_tree.proofs.HiddenLaws.{hides_along}
 use Rattle.view_tree.proofs.KeyLaws.{times_self}
-use Rattle.view_world.specs.Laying.{CanBeLaid, IsLaid, KeepsAllButBounds, frame_kids}
-
--- what is kept of the views of a list is the same
-abbrev pub SameIn : (ℕ → Held) → (ℕ → Held) → Forest Row → Type 0
-SameIn old new list = (key : ℕ) → 0 < times key list → new key ≡ old key
-
--- what is kept of all other views is the same
-abbrev pub SameOutside : (ℕ → Held) → (ℕ → Held) → Forest Row → Type 0
-SameOutside old new list = (key : ℕ) → times key list ≡ 0 → new key ≡ old key
-
-pub times_parts : (key : ℕ) (list : Forest Row) → times key list ≡ times key (alone list) + times key (after list)
-times_parts key Nothing = omega arith
-times_parts key (Branch row kids siblings) = omega arith
-
-pub last_specs-along : (old new : ℕ → Held) (list : Forest Row) → SameIn old new list → last_specs new list ≡ last_specs old list
-last_specs-along old new Nothing same = refl
-last_specs-along old new (Branch row kids siblings) same =
-    rw (same row.key (times_self row kids siblings), last_specs-along old new siblings (λ key live. same key (omega arith))) refl
-
-pub Sized-along : (old new : ℕ → Held) (list : Forest Row) → SameIn old new list → Sized old list → Sized new list
-Sized-along old new Nothing same sized = tt
-Sized-along old new (Branch row kids siblings) same sized =
-    let own = same row.key (times_self row kids siblings) in
-    let last = last_specs-along old new kids (λ key live. same key (omega arith)) in (
-      λ here. let now = sized.0 here in (
-        record { size = rw own now.0.size; finals = rw (last, own) now.0.finals },
-        Sized-along old new kids (λ key live. same key (omega arith)) now.1,
-      ),
-      Sized-along old new siblings (λ key live. same key (omega arith)) sized.1,
-    )
+use Rattle.view_world.specs.Laying.{CanBeLaid, IsLaid, KeepsAllButBounds, group_kids, kid_sizes, kid_under, last_sizes}
 
 -- so views that are gone lie nowhere still
-pub hides_same : (old new : ℕ → Held) (list : Forest Row) → SameIn old new list → HidesGone old list → HidesGone new list
+pub hides_same : (old new : ℕ → Held) (list : Forest Row) → Same old new list → HidesGone old list → HidesGone new list
 hides_same old new list same = hides_along old new list (λ key live none. ap (λ (h : Held). h.state.bounds) (same key live) ∙ none)
 
-pub frame_kids-along : (own : Facts) (room : Size) (old new : ℕ → Held) (list : Forest Row) → SameIn old new list → frame_kids own room new list ≡ frame_kids own room old list
-frame_kids-along own room old new Nothing same = refl
-frame_kids-along own room old new (Branch row kids siblings) same =
-    rw (same row.key (times_self row kids siblings), frame_kids-along own room old new siblings (λ key live. same key (omega arith))) refl
+pub group_kids-along : (spot : Spot) (before : List Measured) (old new : ℕ → Held) (list : Forest Row) → Same old new list
+    → group_kids spot before new list ≡ group_kids spot before old list
+group_kids-along spot before old new Nothing same = refl
+group_kids-along spot before old new (Branch row kids siblings) same =
+    let specs = specs_of (old row.key).state in
+    rw (same row.key (times_self row kids siblings))
+    (ap (λ more. laid_views row.view (views_of kids) specs (place_in spot before (kid_under specs row kids) None) ++ more)
+    (group_kids-along spot (before ++ kid_sizes specs row kids) old new siblings (λ key live. same key (omega arith))))
 
-pub CanBeLaid-along : (old new : ℕ → Held) (list : Forest Row) → SameIn old new list → CanBeLaid old list → CanBeLaid new list
+pub last_sizes-along : (old new : ℕ → Held) (list : Forest Row) → Same old new list → last_sizes new list ≡ last_sizes old list
+last_sizes-along old new Nothing same = refl
+last_sizes-along old new (Branch row kids siblings) same =
+    rw (same row.key (times_self row kids siblings), last_sizes-along old new siblings (λ key live. same key (omega arith))) refl
+
+pub CanBeLaid-along : (old new : ℕ → Held) (list : Forest Row) → Same old new list → CanBeLaid old list → CanBeLaid new list
 CanBeLaid-along old new list same ready =
     record { sized = Sized-along old new list same ready.sized; hidden = hides_same old new list same ready.hidden }
 
-pub IsLaid-along : (old new : ℕ → Held) (list : Forest Row) (geometry : List Laid) → SameIn old new list → IsLaid old list geometry → IsLaid new list geometry
+pub IsLaid-along : (old new : ℕ → Held) (list : Forest Row) (geometry : List Laid) → Same old new list → IsLaid old list geometry → IsLaid new list geometry
 IsLaid-along old new list geometry same laid =
     record { lies = laid_along old new list (λ key live. ap (λ (h : Held). h.state.bounds) (same key live)) ∙ laid.lies; hidden = hides_same old new list same laid.hidden }
 
@@ -71,3 +53,17 @@ CanBeLaid-after held (Branch row kids siblings) ready = record { sized = ready.s
 pub kept_on : (old mid new : Views) → KeepsAllButBounds old mid → KeepsAllButBounds mid new → KeepsAllButBounds old new
 kept_on old mid new first second key =
     second key ∙ ap (λ (h : Held). record h { state = record h.state { bounds = (held_of new key).state.bounds } }) (first key)
+
+-- no more sizes than views
+kid_sizes-few : (v : Bool) (kid : Measured) → length (if v then kid ∷ [] else []) ≤ 1
+kid_sizes-few true kid = omega arith
+kid_sizes-few false kid = omega arith
+
+pub last_sizes-few : (held : ℕ → Held) (list : Forest Row) → length (last_sizes held list) ≤ count_of list
+last_sizes-few held Nothing = omega arith
+last_sizes-few held (Branch row kids siblings) =
+    let specs = specs_of (held row.key).state in
+    let one = kid_sizes-few (is_shown row.view.facts) (kid_under specs row kids) in
+    let rest = last_sizes-few held siblings in
+    let both = length-append (kid_sizes specs row kids) (last_sizes held siblings) in
+    omega arith

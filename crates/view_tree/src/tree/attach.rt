@@ -1,3 +1,4 @@
+//! Views that come into a tree.
 ghost use Rattle.std.specs.Prelude.{◌≡◌, ◌+◌, ◌^◌, ◌<◌, length, replicate, None, Some, IfOk, IfSome, OnErr};
 ghost use Rattle.std.specs.Option.{option_map};
 ghost use Rattle.view_model.specs.Forest.{Nothing};
@@ -47,7 +48,7 @@ impl ViewTree {
         ensures unchanged { OnErr result (self.new ≡ self.old) }
     {
         self.may_grow(parent)?;
-        make_room(&mut self.nodes, &mut self.keys)?;
+        make_room(&mut self.nodes, &mut self.keys, &mut self.ids, 1, 0)?;
         let number = self.next;
         let key = hang(&mut self.nodes, parent, number, class, facts, text);
         note_key(&mut self.keys, number, key);
@@ -56,7 +57,7 @@ impl ViewTree {
         Ok(key)
     }
 
-    // Whether a view may come below this one, or as the root.
+    /// Whether a view may come below this one, or as the root.
     fn may_grow(&self, parent: Option<Key>) -> Result<(), AttachFault>
         requires { IfSome parent (λ parent. IsLive self.now parent) }
         ensures { RefusedFor (refusal_at (plain_of self.now) (option_map (number_of self.now) parent)) result }
@@ -70,7 +71,7 @@ impl ViewTree {
         }
     }
 
-    // How deep a view is: 1 for the root.
+    /// How deep a view is: 1 for the root.
     fn depth(&self, view: Key) -> usize
         requires live { IsLive self.now view }
         requires shallow { length (ancestors view self.now.tree) < 32 }
@@ -86,7 +87,7 @@ impl ViewTree {
     }
 }
 
-// Whether a view of this class and depth may get a child, in a tree of so many views.
+/// Whether a view of this class and depth may get a child, in a tree of so many views.
 #[tactic(auto, unfolding(view_model::specs::Growth::growth_refusal))]
 fn growth(class: Class, depth: usize, count: usize) -> Result<(), AttachFault>
     ensures { RefusedFor (growth_refusal class depth count) result }
@@ -112,7 +113,7 @@ fn takes_children(class: Class) -> bool
     }
 }
 
-// The root once a view has come.
+/// The root once a view has come.
 fn root_with(root: Option<Key>, parent: Option<Key>, key: Key) -> Option<Key>
     ensures { result ≡ instead parent (Some key) root }
 {

@@ -6,4 +6,4 @@ use Rattle.axml_reader.proofs.dump.put_each_node.Given as goal
 
 abbrev pub invariant-loop-node : goal.invariant-loop-node
 invariant-loop-node g l =
-    Sends (g.K.Sink.gone l.fn.sink) (g.K.Sink.gone l.sink) (g.K.Sink.faults l.fn.sink) (g.K.Sink.faults l.sink) l.fn.text l.text (texts_of (node_lines l.attrs) (take l.node-index l.nodes))
+    Sends (g.K.Sink.state l.fn.sink) (g.K.Sink.state l.sink) l.fn.text l.text (texts_of (node_lines l.attrs) (take l.node-index l.nodes))

@@ -8,16 +8,16 @@ use Rattle.axml_reader.proofs.Strings.{string_there}
 use Rattle.axml_reader.proofs.dump.put_each_string.Goals as goal
 
 pub loop-k-init : goal.loop-k-init
-loop-k-init g c = items_none string_line _ _ _
+loop-k-init g c = items_none string_line _ _
 
 pub loop-k-preserved : goal.loop-k-preserved
 loop-k-preserved g c =
     let texts = c.args.pool.now.texts in
     let lt : c.loop-k.k < length texts = omega (arith, c.loop-k-test.true, c.len-k-end.ensures.value) in
-    items_more string_line _ _ _ _ _ _ _ _ _ (enumerate_from 0 texts) c.loop-k.k (0, []) (omega (arith, lt, length-enumerate_from 0 texts)) c.loop-k.invariant
-    (sends_as _ _ _ _ _ _ _ _ (ap (λ t. string_line (c.loop-k.k, t)) c.string_of.ensures ∙ sym (string_there texts c.loop-k.k lt)) c.put_string_line.ensures)
+    items_more string_line (enumerate_from 0 texts) c.loop-k.k (0, []) (omega (arith, lt, length-enumerate_from 0 texts)) c.loop-k.invariant
+    (sends_as (ap (λ t. string_line (c.loop-k.k, t)) c.string_of.ensures ∙ sym (string_there texts c.loop-k.k lt)) c.put_string_line.ensures)
 
 pub returns : goal.returns
 returns g c =
     let texts = c.args.pool.now.texts in
-    items_all string_line _ _ _ _ _ _ (enumerate_from 0 texts) c.loop-k.k (omega (arith, c.loop-k-test.false, c.len-k-end.ensures.value, length-enumerate_from 0 texts)) c.loop-k.invariant
+    items_all string_line (enumerate_from 0 texts) c.loop-k.k (omega (arith, c.loop-k-test.false, c.len-k-end.ensures.value, length-enumerate_from 0 texts)) c.loop-k.invariant

@@ -7,4 +7,4 @@ use Rattle.axml_reader.proofs.dump.put_each_string.Given as goal
 
 abbrev pub invariant-loop-k : goal.invariant-loop-k
 invariant-loop-k g l =
-    Sends (g.K.Sink.gone l.fn.sink) (g.K.Sink.gone l.sink) (g.K.Sink.faults l.fn.sink) (g.K.Sink.faults l.sink) l.fn.text l.text (texts_of string_line (take l.k (enumerate_from 0 l.pool.texts)))
+    Sends (g.K.Sink.state l.fn.sink) (g.K.Sink.state l.sink) l.fn.text l.text (texts_of string_line (take l.k (enumerate_from 0 l.pool.texts)))

@@ -6,4 +6,4 @@ use Rattle.axml_reader.proofs.dump.put_id_lines.Given as goal
 
 abbrev pub invariant-loop-id : goal.invariant-loop-id
 invariant-loop-id g l =
-    Sends (g.K.Sink.gone l.fn.sink) (g.K.Sink.gone l.sink) (g.K.Sink.faults l.fn.sink) (g.K.Sink.faults l.sink) l.fn.text l.text (texts_of id_line (take l.id-index l.ids))
+    Sends (g.K.Sink.state l.fn.sink) (g.K.Sink.state l.sink) l.fn.text l.text (texts_of id_line (take l.id-index l.ids))

@@ -1,31 +1,30 @@
-use Rattle.std.proofs.Common.{◌≡◌, ◌+◌, ◌*◌, [], List, true}
-use Rattle.frame_layout.specs.FramePlan.{InFirst, InSecond}
-use Rattle.measure_pass.specs.Measured.{KeepsPlaces}
-use Rattle.measure_pass.specs.Phases.{IsUnder}
-use Rattle.measure_pass.proofs.Walk.{Firsts, Seconds, Walked}
-use Rattle.view_model.specs.declared.attributes.Facts.{Facts}
+use Rattle.std.proofs.Common.{◌≡◌, ◌+◌, ◌*◌, [], List}
+use Rattle.measure_pass.specs.Courses.{CanTurn, InCourse}
+use Rattle.measure_pass.specs.Measured.{Keeps}
+use Rattle.measure_pass.specs.Plans.{Group, Stands, rule_in}
+use Rattle.measure_pass.proofs.Walk.{Phasing, Walked}
+use Rattle.view_model.specs.Course.{Requested}
 use Rattle.view_model.specs.Forest.{count_of}
-use Rattle.view_model.specs.FrameLayout.{first_specs, measures_again}
-use Rattle.view_model.specs.Measuring.{Measured, Specs}
+use Rattle.view_model.specs.Measuring.{Measured}
 use Rattle.view_tree.specs.Rows.{alone, below, from, rest_from}
 use Rattle.view_tree.specs.Views.{SameTree, held_of}
 use Rattle.measure_pass.proofs.measuring.+measure.Given as goal
 
--- one round from a view to its child goes through five functions
+-- one round from a view to its child goes through these functions
 abbrev pub decreases-measure_kid : goal.decreases-measure_kid
-decreases-measure_kid l = 5 * count_of (alone (from l.kid l.tree.now.tree)) + 4
+decreases-measure_kid l = 8 * count_of (alone (from l.kid l.tree.now.tree)) + 6
 
 abbrev pub decreases-measure : goal.decreases-measure
-decreases-measure l = 5 * count_of (alone (from l.view l.tree.now.tree)) + 3
+decreases-measure l = 8 * count_of (alone (from l.view l.tree.now.tree)) + 5
 
 abbrev pub decreases-measure_below : goal.decreases-measure_below
-decreases-measure_below l = 5 * count_of (alone (from l.view l.tree.now.tree)) + 2
+decreases-measure_below l = 8 * count_of (alone (from l.view l.tree.now.tree)) + 4
 
-abbrev pub decreases-measure_frame : goal.decreases-measure_frame
-decreases-measure_frame l = 5 * count_of (alone (from l.view l.tree.now.tree)) + 1
+abbrev pub decreases-measure_phases : goal.decreases-measure_phases
+decreases-measure_phases l = 8 * count_of (alone (from l.view l.tree.now.tree)) + 1 + l.left
 
 abbrev pub decreases-measure_kids : goal.decreases-measure_kids
-decreases-measure_kids l = 5 * count_of (alone (from l.view l.tree.now.tree))
+decreases-measure_kids l = 8 * count_of (alone (from l.view l.tree.now.tree))
 
 abbrev pub invariant-measure_kids-loop-next : goal.invariant-measure_kids-loop-next
 invariant-measure_kids-loop-next l =
@@ -36,10 +35,9 @@ invariant-measure_kids-loop-next l =
     record {
       same : SameTree l.fn.tree l.tree;
       walked : Walked tree kids start l.next now;
-      first : (own : Facts) (specs : Specs) → InFirst l.fn.plan own specs [] → Firsts l.plan own specs kids (rest_from l.next tree) now l.fn.work.measured l.work.measured;
-      second : (own : Facts) (specs : Specs) (taken : List Measured) → InSecond l.fn.plan own specs taken → measures_again specs taken ≡ true
-          → IsUnder start (first_specs own specs) kids → Seconds l.plan own specs taken kids (rest_from l.next tree) now l.fn.work.measured l.work.measured;
-      places : KeepsPlaces l.fn.tree l.tree;
+      phase : (group : Group) (past : List (List Measured)) (asked : List Requested) → Stands l.fn.plan group past [] → InCourse start kids asked → CanTurn (rule_in group) past asked
+          → Phasing l.plan group past asked kids (rest_from l.next tree) start now l.fn.work.measured l.work.measured;
+      keeps : Keeps start now;
       painted : l.work.painted ≡ l.fn.work.painted;
     }
 

@@ -1,9 +1,12 @@
 use Rattle.std.proofs.Common.{◌≡◌, Err, None, Ok, chars, ◌∙◌, sym, ap, true, false, rules}
 use Rattle.std.proofs.lemmas.Str.{chars_from_encodes}
-use Rattle.view_model.specs.PlainTree.{with_text}
+use Rattle.view_model.specs.PlainTree.{View, with_text}
+use Rattle.view_tree.specs.Rows.{put_view}
 use Rattle.view_tree.specs.Views.{number_of, plain_of}
 use Rattle.tree_edits.specs.Scene.{Scene, scene_of}
 use Rattle.tree_edits.proofs.EditLaws.{TextSet, no_memory, text_set, written_by}
+use Rattle.tree_edits.proofs.KeepLaws.{put_keeps}
+use Rattle.tree_edits.specs.declared.edits.Edit.TheVariants as edit
 use Rattle.tree_edits.proofs.applying.write.Goals as goal
 use Rattle.tree_edits.proofs.applying.write.Goals.{After-set_text}
 
@@ -23,7 +26,7 @@ returns-in_err-text-clause-applied c =
 
 text_is : (c : After-set_text) → TextSet c.args.tree.now c.args.view (chars c.args.text.now) c.set_text.new.self
 text_is c =
-    text_set c.args.tree.now c.set_text.new.self c.args.view (chars c.args.text.now) c.in_ok-text.text c.class.ensures.is_tree c.requires.live c.requires.consistent
+    text_set c.args.tree.now c.set_text.new.self c.args.view (chars c.args.text.now) c.in_ok-text.text c.class.ensures.is_tree c.requires.live
     (chars_from_encodes c.in_ok-text.text c.args.text.now c.utf8.text c.in_ok-text.ensures)
     c.set_text.ensures.tree c.set_text.ensures.plain c.set_text.ensures.next c.set_text.ensures.held
 
@@ -32,6 +35,13 @@ returns-clause-applied c =
     let has : c.has_text.result ≡ true = search rules in
     written_by c.args.tree.now c.args.view (chars c.args.text.now) c.class.result c.has_text.result c.class.ensures.is_tree c.requires.live c.class.ensures.value c.has_text.ensures
     ∙ rw has (ap (λ (scene : Scene). Ok (scene, None)) (sym (text_is c).scene))
+
+pub returns-clause-kept : goal.returns-clause-kept
+returns-clause-kept c =
+    let written = chars_from_encodes c.in_ok-text.text c.args.text.now c.utf8.text c.in_ok-text.ensures in
+    put_keeps c.args.tree.now c.set_text.new.self (edit.Text c.args.view c.args.text) c.args.view (λ (v : View). record v { text = c.in_ok-text.text })
+    c.set_text.ensures.tree (ap (λ t. put_view c.args.view (λ (v : View). record v { text = t }) c.args.tree.now.tree) written)
+    c.set_text.ensures.next c.set_text.ensures.held
 
 pub returns-clause-consistent : goal.returns-clause-consistent
 returns-clause-consistent c = (text_is c).kept

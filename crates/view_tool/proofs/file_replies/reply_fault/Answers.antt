@@ -1,7 +1,6 @@
-use Rattle.view_tool.proofs.DeliveredLaws.{delivered}
+use Rattle.text_lines.proofs.Sending.{delivered}
 use Rattle.view_tool.proofs.file_replies.reply_fault.Goals as goal
 
 pub returns : goal.returns
 returns g c =
-    delivered c.finish.result _ _ _ _ _ _ c.new-reply.result _ c.finish.new.self _ c.new-reply.ensures c.put_fault.ensures c.finish.ensures.sends c.finish.ensures.empty
-    c.finish.ensures.whole c.finish.ensures.failed
+    delivered c.finish.result c.new-reply.ensures c.put_fault.ensures c.finish.ensures.sends c.finish.ensures.empty c.finish.ensures.whole c.finish.ensures.failed

@@ -10,7 +10,7 @@ use Rattle.view_tool.proofs.refusals.put_detail.Goals as goal
 
 pub returns-in-Cycle : goal.returns-in-Cycle
 returns-in-Cycle g c =
-    sends_as _ _ _ _ _ _ _ _ (
+    sends_as (
     ap (λ (text : List ℕ). text ⧺ texts_of member_text c.as_slice.result.now) c.axis.ensures
     ∙ ap (λ (members : List Member). axis_text c.in-Cycle.down ⧺ texts_of member_text members) c.as_slice.ensures.value
     ∙ sym (ap (λ (detail : Detail). reason_text (reason_of detail)) c.in-Cycle.is)

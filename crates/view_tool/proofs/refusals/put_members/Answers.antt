@@ -3,11 +3,10 @@ use Rattle.view_tool.specs.Refusals.{member_text}
 use Rattle.view_tool.proofs.refusals.put_members.Goals as goal
 
 pub loop-member-init : goal.loop-member-init
-loop-member-init g c = items_none member_text _ _ _
+loop-member-init g c = items_none member_text _ _
 
 pub loop-member-preserved : goal.loop-member-preserved
-loop-member-preserved g c =
-    items_more member_text _ _ _ _ _ _ _ _ _ c.args.members.now c.loop-member.member-index _ c.loop-member-test.true c.loop-member.invariant c.put_member.ensures
+loop-member-preserved g c = items_more member_text c.args.members.now c.loop-member.member-index _ c.loop-member-test.true c.loop-member.invariant c.put_member.ensures
 
 pub returns : goal.returns
-returns g c = items_all member_text _ _ _ _ _ _ c.args.members.now c.loop-member.member-index c.loop-member-test.false c.loop-member.invariant
+returns g c = items_all member_text c.args.members.now c.loop-member.member-index c.loop-member-test.false c.loop-member.invariant

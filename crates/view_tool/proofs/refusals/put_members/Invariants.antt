@@ -6,4 +6,4 @@ use Rattle.view_tool.proofs.refusals.put_members.Given as goal
 
 abbrev pub invariant-loop-member : goal.invariant-loop-member
 invariant-loop-member g l =
-    Sends (g.K.Sink.gone l.fn.sink) (g.K.Sink.gone l.sink) (g.K.Sink.faults l.fn.sink) (g.K.Sink.faults l.sink) l.fn.reply l.reply (texts_of member_text (take l.member-index l.members))
+    Sends (g.K.Sink.state l.fn.sink) (g.K.Sink.state l.sink) l.fn.reply l.reply (texts_of member_text (take l.member-index l.members))

@@ -1,19 +1,18 @@
-use Rattle.std.proofs.Common.{◌≡◌, ◌≤◌, ◌+◌, ◌*◌, List, ℕ, length}
-use Rattle.std.specs.Io.KnownBytes.{Consumes}
-use Rattle.view_tool.specs.Run.{IsBehind}
+use Rattle.std.proofs.Common.{◌≡◌, ◌≤◌, ◌+◌, ◌-◌, ◌*◌, ◌^◌, min}
+use Rattle.view_tool.proofs.ScriptLaws.{HasTaken}
 use Rattle.view_tool.proofs.script.carry_through.Given as goal
 
--- the run stands behind the bytes that were taken
+-- the run stands behind the bytes that were taken, and no call has failed
 abbrev pub invariant-loop-n : goal.invariant-loop-n
 invariant-loop-n g l = record {
   bound : l.left ≤ 16777216;
   numbers : l.run.course.world.views.next + 4096 * l.left ≤ 4096 * 16777216 + 1;
-  taken : (taken : List ℕ) × Consumes (g.S.Source.left l.fn.source) (g.S.Source.left l.source) taken × (length taken + l.left ≡ 16777216)
-      × IsBehind (g.K.Sink.gone l.fn.sink) (g.K.Sink.gone l.sink) l.run taken;
+  taken : HasTaken (g.S.Source.left l.fn.source) (g.S.Source.left l.source) (g.K.Sink.state l.fn.sink).gone (g.K.Sink.state l.sink).gone l.run l.left;
   shelf : l.shelf ≡ l.fn.shelf;
   painted : l.work.painted ≡ l.fn.work.painted;
-  source_later : g.S.Source.faults l.fn.source ≤ g.S.Source.faults l.source;
-  sink_later : g.K.Sink.faults l.fn.sink ≤ g.K.Sink.faults l.sink;
+  measured : min l.fn.work.measured (2 ^ 64 - 1) ≤ l.work.measured;
+  reads : g.S.Source.faults l.source ≡ g.S.Source.faults l.fn.source;
+  writes : (g.K.Sink.state l.sink).faults ≡ (g.K.Sink.state l.fn.sink).faults;
 }
 
 abbrev pub decreases-loop-n : goal.decreases-loop-n

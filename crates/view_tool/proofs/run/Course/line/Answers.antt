@@ -1,23 +1,8 @@
-use Rattle.std.proofs.Common.{arith, ap, subst, Option, List, ℕ}
-use Rattle.text_lines.specs.Prefix.{AppendsPrefix}
-use Rattle.view_model.specs.Refusals.{told}
-use Rattle.view_tool.specs.Refusals.{refused_line}
+use Rattle.std.proofs.Common.{arith, sym, ◌∙◌}
+use Rattle.view_tool.proofs.RunLaws.{passed_line}
 use Rattle.view_tool.specs.Run.{line_now}
-use Rattle.view_tool.proofs.RunLaws.{after_lines-lines, carried_refused, carried_sink, done_prefix, not_done, refused_prefix}
 use Rattle.view_tool.proofs.run.Course.line.Goals as goal
 
-pub returns-in-Err-Refused-clause-stopped : goal.returns-in-Err-Refused-clause-stopped
-returns-in-Err-Refused-clause-stopped g c first lines short at =
-    let refusal = c.in-Err-Refused.refusal in
-    let same = not_done c.in-Err-Refused.field-0 refusal c.in-Err-Refused.field-0-is c.in-Err-Refused.ensures.unchanged in
-    let part =
-    subst (λ (gone : Option (List ℕ)). AppendsPrefix gone (g.K.Sink.gone c.reply_refusal.new.sink) (refused_line c.saturating_add-self.result (told refusal)))
-    (ap g.K.Sink.gone same.1) c.in-Err.ensures.prefix in
-    refused_prefix first (g.K.Sink.gone c.args.sink.now) _ c.args.self.now lines (line_now c.args.line) c.saturating_add-self.result (told refusal) at
-    (carried_refused _ _ _ _ c.in-Err-Refused.field-0 refusal c.in-Err-Refused.field-0-is c.in-Err-Refused.ensures.carried)
-    (omega (arith, c.saturating_add-self.ensures, at.lines, after_lines-lines lines, short)) part
-
-pub returns-in-Err-Sink-clause-stopped : goal.returns-in-Err-Sink-clause-stopped
-returns-in-Err-Sink-clause-stopped g c first lines short at =
-    let carried = carried_sink _ _ _ _ c.in-Err-Sink.field-0 c.in-Err-Sink.field-0-is c.in-Err-Sink.ensures.carried in
-    done_prefix first (g.K.Sink.gone c.args.sink.now) _ c.args.self.now lines (line_now c.args.line) _ carried.0 at carried.1 carried.2
+pub returns-then-is_passed-clause-done : goal.returns-then-is_passed-clause-done
+returns-then-is_passed-clause-done g c first progress short at =
+    passed_line first (g.K.Sink.state c.args.sink.now).gone c.args.self.now progress (line_now c.args.line) c.saturating_add-self.result (sym c.is_passed.ensures ∙ c.if-is_passed.true) (omega (arith, c.saturating_add-self.ensures, at.lines, short)) at

@@ -11,11 +11,12 @@ loop-at-preserved g c =
     let some = c.in_ok-at.ensures.some left in
     record {
       within = omega (arith, c.in_ok-at.ensures.within, length-take {A = ℕ}, length-drop {A = ℕ}, c.loop-at.invariant.within);
-      behind = λ first before short s. subst (λ (bytes : List ℕ). IsBehind first (g.K.Sink.gone c.take.new.sink) c.take.new.self bytes)
+      behind = λ first before short s. subst (λ (bytes : List ℕ). IsBehind first (g.K.Sink.state c.take.new.sink).gone c.take.new.self bytes)
           (taken_more before piece at c.in_ok-at.field-0 c.loop-at.invariant.within)
           (c.in_ok-at.ensures.done first (before ++ take at piece) (taken_short before piece at _ short) (c.loop-at.invariant.behind first before short s));
       numbers = omega (arith, c.loop-at.invariant.numbers, c.take.ensures.numbers, some);
       shelf = c.take.ensures.shelf ∙ c.loop-at.invariant.shelf;
       painted = c.take.ensures.painted ∙ c.loop-at.invariant.painted;
-      later = omega (arith, c.loop-at.invariant.later, c.take.ensures.later);
+      measured = omega (arith, c.loop-at.invariant.measured, c.take.ensures.measured);
+      counted = c.in_ok-at.ensures.counted ∙ c.loop-at.invariant.counted;
     }

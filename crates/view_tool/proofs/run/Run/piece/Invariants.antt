@@ -1,4 +1,4 @@
-use Rattle.std.proofs.Common.{◌≡◌, ◌≤◌, ◌<◌, ◌+◌, ◌-◌, ◌*◌, ◌++◌, ◌^◌, List, Option, ℕ, length, take}
+use Rattle.std.proofs.Common.{◌≡◌, min, ◌≤◌, ◌<◌, ◌+◌, ◌-◌, ◌*◌, ◌++◌, ◌^◌, List, Option, ℕ, length, take}
 use Rattle.view_tool.specs.Run.{IsBehind}
 use Rattle.view_tool.proofs.run.Run.piece.Given as goal
 
@@ -6,12 +6,13 @@ use Rattle.view_tool.proofs.run.Run.piece.Given as goal
 abbrev pub invariant-loop-at : goal.invariant-loop-at
 invariant-loop-at g l = record {
   within : l.at ≤ length l.piece;
-  behind : (first : Option (List ℕ)) (before : List ℕ) → length (before ++ l.piece) < 2 ^ 63 → IsBehind first (g.K.Sink.gone l.fn.sink) l.fn.self before
-      → IsBehind first (g.K.Sink.gone l.sink) l.self (before ++ take l.at l.piece);
+  behind : (first : Option (List ℕ)) (before : List ℕ) → length (before ++ l.piece) < 2 ^ 63 → IsBehind first (g.K.Sink.state l.fn.sink).gone l.fn.self before
+      → IsBehind first (g.K.Sink.state l.sink).gone l.self (before ++ take l.at l.piece);
   numbers : l.self.course.world.views.next ≤ l.fn.self.course.world.views.next + 4096 * l.at;
   shelf : l.shelf ≡ l.fn.shelf;
   painted : l.work.painted ≡ l.fn.work.painted;
-  later : g.K.Sink.faults l.fn.sink ≤ g.K.Sink.faults l.sink;
+  measured : min l.fn.work.measured (2 ^ 64 - 1) ≤ l.work.measured;
+  counted : (g.K.Sink.state l.sink).faults ≡ (g.K.Sink.state l.fn.sink).faults;
 }
 
 abbrev pub decreases-loop-at : goal.decreases-loop-at

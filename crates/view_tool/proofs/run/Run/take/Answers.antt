@@ -1,37 +1,43 @@
-use Rattle.std.proofs.Common.{◌≡◌}
+use Rattle.std.proofs.Common.{◌≡◌, ◌++◌, List, ℕ, sym, ap, ◌∙◌}
 use Rattle.std.specs.Prelude.{Err}
 use Rattle.std.proofs.lemmas.Result.{err_from_is_err_and}
-use Rattle.script_lines.specs.Lines.{Text, LongLine, cut_of}
+use Rattle.script_lines.specs.Held.{lines_at}
+use Rattle.script_lines.specs.Lines.{Line, cut_of}
+use Rattle.view_tool.specs.Run.{line_now}
 use Rattle.view_tool.specs.Transcript.{after_lines}
-use Rattle.view_tool.proofs.RunLaws.{behind_more, counted_short, lines_short, stops_in_piece}
+use Rattle.view_tool.proofs.RunLaws.{behind_more, behind_same, counted_short, lines_short, stops_in_piece}
 use Rattle.view_tool.proofs.run.Run.take.Goals as goal
 
-pub returns-in_ok-line-in-Line-clause-done : goal.returns-in_ok-line-in-Line-clause-done
-returns-in_ok-line-in-Line-clause-done g c first before short s =
-    behind_more first _ c.feed-used.new.self c.line.new.self before _ (Text c.bytes.result.now)
-    (c.in_ok-line-in-Line.ensures.done first (after_lines (cut_of before).lines) (counted_short before _ short) s.course) (c.feed-used.ensures.stands before s.held)
-    (rw (c.in-Line.is, ← c.bytes.ensures.line) at (c.feed-used.ensures.lines before s.held))
+pub returns-in_default-clause-done : goal.returns-in_default-clause-done
+returns-in_default-clause-done g c first before short s =
+    let place = c.next_line-used.result.1 in
+    let piece = c.args.piece.now in
+    let none = rw c.in_default.is at c.ended_line.ensures in
+    behind_same first _ c.next_line-used.new.self c.args.self.now.course before _ s.course (c.next_line-used.ensures.stands before s.held)
+    (c.next_line-used.ensures.lines before s.held ∙ ap (λ (held : List ℕ). (cut_of before).lines ++ lines_at place piece held) (sym c.bytes.ensures.line)
+    ∙ ap (λ (lines : List Line). (cut_of before).lines ++ lines) (sym none))
 
-pub returns-in_err-line-in-Line-clause-stopped : goal.returns-in_err-line-in-Line-clause-stopped
-returns-in_err-line-in-Line-clause-stopped g c first before short s =
+pub returns-clause-done : goal.returns-clause-done
+returns-clause-done g c first before short s =
+    let place = c.next_line-used.result.1 in
+    let piece = c.args.piece.now in
+    let line = line_now c.in-Some.line in
+    let one = rw c.in-Some.is at c.ended_line.ensures in
+    behind_more first _ c.next_line-used.new.self c.line.new.self before _ line
+    (c.in_ok-line.ensures.done first (after_lines (cut_of before).lines) (counted_short before _ short) s.course) (c.next_line-used.ensures.stands before s.held)
+    (c.next_line-used.ensures.lines before s.held ∙ ap (λ (held : List ℕ). (cut_of before).lines ++ lines_at place piece held) (sym c.bytes.ensures.line)
+    ∙ ap (λ (lines : List Line). (cut_of before).lines ++ lines) (sym one))
+
+pub returns-in_err-line-clause-stopped : goal.returns-in_err-line-clause-stopped
+returns-in_err-line-clause-stopped g c first before short s =
     let p = err_from_is_err_and c.from_residual.result c.from_residual.ensures.1 in
-    let e : c.from_residual.result ≡ Err c.in_err-line-in-Line.field-0.0 = cc (p.1, p.2) in
+    let e : c.from_residual.result ≡ Err c.in_err-line.field-0.0 = cc (p.1, p.2) in
+    let place = c.next_line-used.result.1 in
+    let piece = c.args.piece.now in
+    let line = line_now c.in-Some.line in
+    let one = rw c.in-Some.is at c.ended_line.ensures in
     rw e
-    (stops_in_piece first _ before c.args.piece.now c.feed-used.result.0 (Text c.bytes.result.now) c.in_err-line-in-Line.field-0.0
-    (rw (c.in-Line.is, ← c.bytes.ensures.line) at (c.feed-used.ensures.lines before s.held))
-    (c.in_err-line-in-Line.ensures.stopped first (cut_of before).lines (lines_short before _ short) s.course))
-
-pub returns-in_ok-line-in-Long-clause-done : goal.returns-in_ok-line-in-Long-clause-done
-returns-in_ok-line-in-Long-clause-done g c first before short s =
-    behind_more first _ c.feed-used.new.self c.line-in-Long.new.self before _ LongLine
-    (c.in_ok-line-in-Long.ensures.done first (after_lines (cut_of before).lines) (counted_short before _ short) s.course) (c.feed-used.ensures.stands before s.held)
-    (rw c.in-Long.is at (c.feed-used.ensures.lines before s.held))
-
-pub returns-in_err-line-in-Long-clause-stopped : goal.returns-in_err-line-in-Long-clause-stopped
-returns-in_err-line-in-Long-clause-stopped g c first before short s =
-    let p = err_from_is_err_and c.from_residual-in_err-line-in-Long.result c.from_residual-in_err-line-in-Long.ensures.1 in
-    let e : c.from_residual-in_err-line-in-Long.result ≡ Err c.in_err-line-in-Long.field-0.0 = cc (p.1, p.2) in
-    rw e
-    (stops_in_piece first _ before c.args.piece.now c.feed-used.result.0 LongLine c.in_err-line-in-Long.field-0.0
-    (rw c.in-Long.is at (c.feed-used.ensures.lines before s.held))
-    (c.in_err-line-in-Long.ensures.stopped first (cut_of before).lines (lines_short before _ short) s.course))
+    (stops_in_piece first _ before piece c.next_line-used.result.0 line c.in_err-line.field-0.0
+    (c.next_line-used.ensures.lines before s.held ∙ ap (λ (held : List ℕ). (cut_of before).lines ++ lines_at place piece held) (sym c.bytes.ensures.line)
+    ∙ ap (λ (lines : List Line). (cut_of before).lines ++ lines) (sym one))
+    (c.in_err-line.ensures.stopped first (cut_of before).lines (lines_short before _ short) s.course))

@@ -1,0 +1,79 @@
+-- A child that was handed to the plan of its group: gone, skipped or measured; and a view whose whole measuring is over.
+use Rattle.std.proofs.Common.{◌≡◌, ℤ, ℕ, ◌<◌, true, false, Some, None, List, [], ◌∷◌, ◌++◌, ap, sym, subst}
+use Rattle.std.specs.Option.{option_map}
+use Rattle.geom_core.specs.declared.geometry.Size.{Size}
+use Rattle.measure_pass.specs.declared.plan.Plan.{Plan}
+use Rattle.measure_pass.specs.Courses.{AfterAll, AfterPhase, CanTurn, InCourse, IsMeasuredBelow}
+use Rattle.measure_pass.specs.Measured.{Costs, Sized, calls_under, size_under}
+use Rattle.measure_pass.specs.Plans.{Group, Stands, group_of, rule_in}
+use Rattle.measure_pass.proofs.Laws.{lawful_of}
+use Rattle.measure_pass.proofs.Parts.{facts_in}
+use Rattle.measure_pass.proofs.Turns.{asked_row, gone_row, left_row}
+use Rattle.measure_pass.proofs.Whole.{whole_row}
+use Rattle.view_model.specs.Course.{Requested, begun}
+use Rattle.view_model.specs.Facts.{is_shown}
+use Rattle.view_model.specs.Forest.{Forest, Nothing, Branch}
+use Rattle.view_model.specs.Growth.{is_group}
+use Rattle.view_model.specs.Layout.{children_of, unscrolled}
+use Rattle.view_model.specs.Measuring.{Measured, Specs, pair_of, taken_as}
+use Rattle.view_tree.specs.Rows.{Row, alone, below, from, times, views_of}
+use Rattle.view_tree.specs.Views.{Held, IsLive, IsTree, Views, specs_of}
+use Rattle.view_tree.proofs.KeptLaws.{no_children_of}
+use Rattle.view_tree.proofs.KeyLaws.{located}
+
+pub gone_kid : (plan : Plan) (group : Group) (past : List (List Measured)) (taken : List Measured) (tree : Forest Row) (kid : ℕ) (asked : List Requested) (held : ℕ → Held)
+    (count : ℕ) → 0 < times kid tree → is_shown (facts_in (from kid tree)) ≡ false → Stands plan group past taken → InCourse held (alone (from kid tree)) asked
+    → AfterPhase plan group past taken asked held held (alone (from kid tree)) count count
+gone_kid plan group past taken tree kid asked held count live gone stands course =
+    let x = located kid tree live in
+    let course : InCourse held (Branch x.row x.kids Nothing) asked = rw x.is at course in
+    let gone : is_shown x.row.view.facts ≡ false = rw x.is at gone in
+    rw x.is (gone_row plan group past taken x.row x.kids asked held count gone stands course)
+
+pub skipped_kid : (plan : Plan) (group : Group) (past : List (List Measured)) (taken : List Measured) (tree : Forest Row) (kid : ℕ) (asked : List Requested) (held : ℕ → Held)
+    (present : Size) (count : ℕ) → 0 < times kid tree → is_shown (facts_in (from kid tree)) ≡ true → present ≡ (held kid).state.measured
+    → None ≡ option_map pair_of ((rule_in group).ask past taken (record { facts = facts_in (from kid tree); size = present }))
+    → Stands plan group past (taken ++ taken_as (rule_in group) past taken (facts_in (from kid tree)) present ∷ []) → InCourse held (alone (from kid tree)) asked
+    → CanTurn (rule_in group) past asked
+    → AfterPhase plan group past taken asked held held (alone (from kid tree)) count count
+skipped_kid plan group past taken tree kid asked held present count live here present_is answer stands course can =
+    let x = located kid tree live in
+    let course : InCourse held (Branch x.row x.kids Nothing) asked = rw x.is at course in
+    let here : is_shown x.row.view.facts ≡ true = rw x.is at here in
+    let present_is : present ≡ (held x.row.key).state.measured = subst (λ key. present ≡ (held key).state.measured) (sym x.key_is) present_is in
+    rw x.is (left_row plan group past taken x.row x.kids asked held present count here present_is (rw x.is at answer) (rw x.is at stands) course can)
+
+pub measured_kid : (plan : Plan) (group : Group) (past : List (List Measured)) (taken : List Measured) (tree : Forest Row) (kid : ℕ) (asked : List Requested) (before held : ℕ → Held)
+    (present size : Size) (specs : Specs) (old new : ℕ) → 0 < times kid tree → is_shown (facts_in (from kid tree)) ≡ true
+    → present ≡ (before kid).state.measured
+    → Some (pair_of specs) ≡ option_map pair_of ((rule_in group).ask past taken (record { facts = facts_in (from kid tree); size = present }))
+    → size ≡ size_under (from kid tree) specs → Sized held (alone (from kid tree)) → specs_of (held kid).state ≡ specs
+    → Stands plan group past (taken ++ taken_as (rule_in group) past taken (facts_in (from kid tree)) size ∷ []) → Costs (alone (from kid tree)) before held old (calls_under (from kid tree) specs) new
+    → InCourse before (alone (from kid tree)) asked
+    → CanTurn (rule_in group) past asked
+    → AfterPhase plan group past taken asked before held (alone (from kid tree)) old new
+measured_kid plan group past taken tree kid asked before held present size specs old new live here present_is answer measured sized last stands costs course can =
+    let x = located kid tree live in
+    let course : InCourse before (Branch x.row x.kids Nothing) asked = rw x.is at course in
+    let here : is_shown x.row.view.facts ≡ true = rw x.is at here in
+    let present_is : present ≡ (before x.row.key).state.measured = subst (λ key. present ≡ (before key).state.measured) (sym x.key_is) present_is in
+    let measured : size ≡ size_under (Branch x.row x.kids x.siblings) specs = rw x.is at measured in
+    let sized : Sized held (Branch x.row x.kids Nothing) = rw x.is at sized in
+    let last : specs_of (held x.row.key).state ≡ specs = subst (λ key. specs_of (held key).state ≡ specs) (sym x.key_is) last in
+    let costs : Costs (Branch x.row x.kids Nothing) before held old (calls_under (Branch x.row x.kids x.siblings) specs) new = rw x.is at costs in
+    rw x.is (asked_row plan group past taken x.row x.kids x.siblings asked before held present size specs old new here present_is (rw x.is at answer) measured sized last (rw x.is at stands)
+    costs course can)
+
+-- a view whose whole measuring is over
+pub measured_whole : (views : Views) (view : ℕ) (specs : Specs) (before held : ℕ → Held) (answer : Size) (total : ℤ) (old new : ℕ) → IsTree views → IsLive views view
+    → (let part = from view views.tree in
+    AfterAll (group_of part specs) 2 (begun (children_of (views_of (below part)))) before held (below part) answer total old new
+    → IsMeasuredBelow part specs before held answer total old new)
+measured_whole views view specs before held answer total old new is_tree live after =
+    let x = located view views.tree live in
+    let part = Branch x.row x.kids x.siblings in
+    let after : AfterAll (group_of part specs) 2 (begun (children_of (views_of x.kids))) before held x.kids answer total old new = rw x.is at after in
+    let childless : is_group x.row.view.class ≡ false → x.kids ≡ Nothing = rw x.is at (no_children_of views view is_tree) in
+    let lawful = lawful_of (unscrolled x.row.view) specs in
+    let asked = lawful.asked (children_of (views_of x.kids)) (λ leaf. ap (λ kids. children_of (views_of kids)) (childless leaf)) in
+    rw x.is (whole_row x.row x.kids x.siblings specs before held answer total old new asked (rw after.size (lawful.width _)) (rw after.size (lawful.height _)) after)

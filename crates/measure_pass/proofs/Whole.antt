@@ -1,0 +1,280 @@
+-- The whole measuring of a group.
+use Rattle.std.proofs.Common.{◌≡◌, ℤ, ℕ, zero, suc, ◌+◌, ◌-◌, Bool, true, false, inl, inr, Option, Some, None, List, [], ◌∷◌, ◌++◌, arith, ap, ◌∙◌, sym, refl, subst}
+use Rattle.std.proofs.lemmas.Bool.{cases_Bool}
+use Rattle.std.proofs.lemmas.List.Sums.{sum_by-cons}
+use Rattle.std.specs.Prelude.{if◌then◌else◌, map, filter, sum_by}
+use Rattle.geom_core.specs.declared.geometry.Size.{Size}
+use Rattle.geom_core.specs.Limits.{IsSide}
+use Rattle.measure_pass.specs.declared.plan.Plan.{Plan}
+use Rattle.measure_pass.specs.Courses.{AfterAll, AfterPhase, CanTurn, InCourse, IsMeasuredBelow, MeasuredFor, StaysReady, calls_for, calls_of, from_here, has_requests, phase_calls}
+use Rattle.measure_pass.specs.Measured.{IsSized, Sized, calls_under, last_specs}
+use Rattle.measure_pass.specs.Plans.{Group, group_of, rule_in}
+use Rattle.measure_pass.proofs.Counts.{costs_own, costs_same, costs_twice}
+use Rattle.view_model.specs.Course.{Child, Progress, Requested, after_phase, after_turn, asked_for, begun, course_of, last_of, measured_of, one_phase, phases_on, size_in}
+use Rattle.view_model.specs.Facts.{is_shown}
+use Rattle.view_model.specs.Forest.{Forest, Nothing, Branch}
+use Rattle.view_model.specs.Layout.{Final, children_of}
+use Rattle.view_model.specs.Measuring.{Measured, Rule, Specs}
+use Rattle.view_tree.specs.Rows.{Row, below, views_of}
+use Rattle.view_tree.specs.Views.{Held, specs_of}
+
+pub no_true : {A : Type 0} (v : Bool) → v ≡ false → v ≡ true → A
+no_true v f t = let e : true ≡ false = sym t ∙ f in absurd (cc)
+
+-- what a phase costs is what the new requests do
+calls_push : (calls : Specs → ℕ) (requests : List Specs) (specs : Specs) → sum_by calls (requests ++ specs ∷ []) ≡ sum_by calls requests + calls specs
+calls_push calls [] specs = let one = sum_by-cons calls specs [] in omega arith
+calls_push calls (first ∷ more) specs =
+    let all = sum_by-cons calls first (more ++ specs ∷ []) in
+    let some = sum_by-cons calls first more in
+    let rest = calls_push calls more specs in
+    omega arith
+
+own_calls : Requested → ℕ
+own_calls kid = sum_by kid.child.calls kid.requests
+
+calls_asked : (answer : Option Specs) (kid : Requested) → sum_by (asked_for answer kid).child.calls (asked_for answer kid).requests ≡ sum_by kid.child.calls kid.requests + calls_for answer kid.child
+calls_asked None kid = omega arith
+calls_asked (Some specs) kid = calls_push kid.child.calls kid.requests specs
+
+calls_turn : (v : Bool) (answer : Option Specs) (kid : Requested)
+    → (let next = (if v then asked_for answer kid else kid) in sum_by next.child.calls next.requests)
+    ≡ sum_by kid.child.calls kid.requests + (if v then calls_for answer kid.child else 0)
+calls_turn true answer kid = calls_asked answer kid
+calls_turn false answer kid = omega arith
+
+calls_after : (ask : List Measured → Measured → Option Specs) (taken : List Measured) (kids : List Requested) → calls_of (after_phase ask taken kids) ≡ calls_of kids + phase_calls ask taken kids
+calls_after ask taken [] = refl
+calls_after ask taken (kid ∷ kids) =
+    let next = after_turn ask taken kid in
+    let calls : Requested → ℕ = λ kid. sum_by kid.child.calls kid.requests in
+    let new = sum_by-cons calls next (after_phase ask (taken ++ size_in next) kids) in
+    let old = sum_by-cons calls kid kids in
+    let rest = calls_after ask (taken ++ size_in next) kids in
+    let one = calls_turn (is_shown kid.child.facts) (ask taken (measured_of kid)) kid in
+    omega arith
+
+phases_stop : (left : ℕ) (rule : Rule) (progress : Progress) → rule.turns progress.past ≡ false → phases_on left rule progress ≡ progress
+phases_stop zero rule progress over = refl
+phases_stop (suc left) rule progress over = ap (λ b. if b then phases_on left rule (one_phase rule progress) else progress) over
+
+one_less : (left : ℕ) → left ≡ suc left - 1
+one_less left = omega arith
+
+phases_go : (left : ℕ) (rule : Rule) (progress : Progress) → (left ≡ 0 → ⊥) → rule.turns progress.past ≡ true → phases_on left rule progress ≡ phases_on (left - 1) rule (one_phase rule progress)
+phases_go zero rule progress some again = absurd (some refl)
+phases_go (suc left) rule progress some again =
+    ap (λ b. if b then phases_on left rule (one_phase rule progress) else progress) again ∙ ap (λ left. phases_on left rule (one_phase rule progress)) (one_less left)
+
+pub ready_now : (rule : Rule) (left : ℕ) (progress : Progress) → StaysReady rule left progress → CanTurn rule progress.past progress.kids
+ready_now rule zero progress h = h
+ready_now rule (suc left) progress h = h.0
+
+pub ready_then : (rule : Rule) (left : ℕ) (progress : Progress) → (left ≡ 0 → ⊥) → rule.turns (one_phase rule progress).past ≡ true → StaysReady rule left progress
+    → StaysReady rule (left - 1) (one_phase rule progress)
+ready_then rule zero progress some again h = absurd (some refl)
+ready_then rule (suc left) progress some again h = subst (λ left. StaysReady rule left (one_phase rule progress)) (one_less left) (h.1 again)
+
+-- after the last phase
+pub phases_end : (plan : Plan) (group : Group) (left : ℕ) (past : List (List Measured)) (kids : List Requested) (before held : ℕ → Held) (list : Forest Row) (answer : Size) (total : ℤ) (old new : ℕ)
+    → (let progress : Progress = record { past = past; kids = kids } in
+    phases_on left (rule_in group) (one_phase (rule_in group) progress) ≡ one_phase (rule_in group) progress
+    → AfterPhase plan group past [] kids before held list old new
+    → answer ≡ (rule_in group).size (one_phase (rule_in group) progress).past
+    → total ≡ (rule_in group).total (one_phase (rule_in group) progress).past
+    → AfterAll group left progress before held list answer total old new)
+phases_end plan group left past kids before held list answer total old new ends phase finished summed = record {
+  length = summed ∙ ap (λ (progress : Progress). (rule_in group).total progress.past) (sym ends);
+  size = finished ∙ ap (λ (progress : Progress). (rule_in group).size progress.past) (sym ends);
+  stands = subst (λ (progress : Progress). InCourse held list progress.kids) (sym ends) phase.course;
+  more = phase_calls ((rule_in group).ask past) [] kids;
+  calls = ap (λ (progress : Progress). calls_of progress.kids) ends ∙ calls_after ((rule_in group).ask past) [] kids;
+  costs = phase.costs;
+}
+
+pub ends_at_0 : (group : Group) (left : ℕ) (progress : Progress) → left ≡ 0 → phases_on left (rule_in group) progress ≡ progress
+ends_at_0 group left progress none = ap (λ left. phases_on left (rule_in group) progress) none
+
+pub ends_here : (group : Group) (left : ℕ) (progress : Progress) → (rule_in group).turns progress.past ≡ false → phases_on left (rule_in group) progress ≡ progress
+ends_here group left progress over = phases_stop left (rule_in group) progress over
+
+-- after a phase and those that follow on it
+pub phases_more : (plan : Plan) (group : Group) (left : ℕ) (past : List (List Measured)) (kids : List Requested) (before mid held : ℕ → Held) (list : Forest Row) (answer : Size) (total : ℤ)
+    (old between new : ℕ)
+    → (let progress : Progress = record { past = past; kids = kids } in
+    (left ≡ 0 → ⊥) → (rule_in group).turns (one_phase (rule_in group) progress).past ≡ true
+    → AfterPhase plan group past [] kids before mid list old between
+    → AfterAll group (left - 1) (one_phase (rule_in group) progress) mid held list answer total between new
+    → AfterAll group left progress before held list answer total old new)
+phases_more plan group left past kids before mid held list answer total old between new some again phase rest =
+    let progress : Progress = record { past = past; kids = kids } in
+    let rule = rule_in group in
+    let is = phases_go left rule (one_phase rule progress) some again in
+    let calls = rest.calls in
+    let first = calls_after (rule.ask past) [] kids in
+    let all : calls_of (from_here group (left - 1) (one_phase rule progress)).kids ≡ calls_of kids + (phase_calls (rule.ask past) [] kids + rest.more) = omega arith in
+    record {
+      size = rest.size ∙ ap (λ (progress : Progress). rule.size progress.past) (sym is);
+      length = rest.length ∙ ap (λ (progress : Progress). rule.total progress.past) (sym is);
+      stands = subst (λ (progress : Progress). InCourse held list progress.kids) (sym is) rest.stands;
+      more = phase_calls (rule.ask past) [] kids + rest.more;
+      calls = ap (λ (progress : Progress). calls_of progress.kids) is ∙ all;
+      costs = costs_twice list before mid held old between new (phase_calls (rule.ask past) [] kids) rest.more phase.costs rest.costs;
+    }
+
+-- every child that takes part in layout was measured, and no other
+abbrev pub AllAsked : List Requested → Type 0
+AllAsked [] = Unit {0}
+AllAsked (kid ∷ kids) = (is_shown kid.child.facts ≡ true → has_requests kid.requests ≡ true) × AllAsked kids
+
+abbrev GoneLeft : List Requested → Type 0
+GoneLeft [] = Unit {0}
+GoneLeft (kid ∷ kids) = (is_shown kid.child.facts ≡ false → kid.requests ≡ []) × GoneLeft kids
+
+pub has-push : (requests : List Specs) (specs : Specs) → has_requests (requests ++ specs ∷ []) ≡ true
+has-push [] specs = refl
+has-push (first ∷ more) specs = refl
+
+-- what a phase leaves of that
+asked_turn : (v : Bool) (answer : Option Specs) (kid : Requested) → (is_shown kid.child.facts ≡ true → has_requests kid.requests ≡ true)
+    → (let next = (if v then asked_for answer kid else kid) in is_shown next.child.facts ≡ true → has_requests next.requests ≡ true)
+asked_turn true None kid h = h
+asked_turn true (Some specs) kid h = λ here. has-push kid.requests specs
+asked_turn false answer kid h = h
+
+pub asked_on : (ask : List Measured → Measured → Option Specs) (taken : List Measured) (kids : List Requested) → AllAsked kids → AllAsked (after_phase ask taken kids)
+asked_on ask taken [] h = tt
+asked_on ask taken (kid ∷ kids) h = (asked_turn (is_shown kid.child.facts) (ask taken (measured_of kid)) kid h.0, asked_on ask (taken ++ size_in (after_turn ask taken kid)) kids h.1)
+
+pub asked_through : (left : ℕ) (rule : Rule) (progress : Progress) → AllAsked progress.kids → AllAsked (phases_on left rule progress).kids
+asked_through zero rule progress h = h
+asked_through (suc left) rule progress h =
+    by_test (rule.turns progress.past) (asked_through left rule (one_phase rule progress) (asked_on (rule.ask progress.past) [] progress.kids h)) h
+  where
+    by_test : (v : Bool) → AllAsked (phases_on left rule (one_phase rule progress)).kids → AllAsked progress.kids
+        → AllAsked (if v then phases_on left rule (one_phase rule progress) else progress).kids
+    by_test true go stop = go
+    by_test false go stop = stop
+
+gone_turn : (v : Bool) (answer : Option Specs) (kid : Requested) → v ≡ is_shown kid.child.facts → (is_shown kid.child.facts ≡ false → kid.requests ≡ [])
+    → (let next = (if v then asked_for answer kid else kid) in is_shown next.child.facts ≡ false → next.requests ≡ [])
+gone_turn true None kid is h = h
+gone_turn true (Some specs) kid is h = λ gone. no_true (is_shown kid.child.facts) gone (sym is)
+gone_turn false answer kid is h = h
+
+gone_on : (ask : List Measured → Measured → Option Specs) (taken : List Measured) (kids : List Requested) → GoneLeft kids → GoneLeft (after_phase ask taken kids)
+gone_on ask taken [] h = tt
+gone_on ask taken (kid ∷ kids) h = (gone_turn (is_shown kid.child.facts) (ask taken (measured_of kid)) kid refl h.0, gone_on ask (taken ++ size_in (after_turn ask taken kid)) kids h.1)
+
+gone_through : (left : ℕ) (rule : Rule) (progress : Progress) → GoneLeft progress.kids → GoneLeft (phases_on left rule progress).kids
+gone_through zero rule progress h = h
+gone_through (suc left) rule progress h =
+    by_test (rule.turns progress.past) (gone_through left rule (one_phase rule progress) (gone_on (rule.ask progress.past) [] progress.kids h)) h
+  where
+    by_test : (v : Bool) → GoneLeft (phases_on left rule (one_phase rule progress)).kids → GoneLeft progress.kids
+        → GoneLeft (if v then phases_on left rule (one_phase rule progress) else progress).kids
+    by_test true go stop = go
+    by_test false go stop = stop
+
+gone_begun : (kids : List Child) → GoneLeft (begun kids).kids
+gone_begun [] = tt
+gone_begun (kid ∷ kids) = (λ gone. refl, gone_begun kids)
+
+gone_course : (rule : Rule) (kids : List Child) → GoneLeft (course_of rule kids).kids
+gone_course rule kids = gone_through 2 rule (one_phase rule (begun kids)) (gone_on (rule.ask []) [] (begun kids).kids (gone_begun kids))
+
+-- children before anything is asked of them
+pub begun_course : (held : ℕ → Held) (list : Forest Row) → InCourse held list (begun (children_of (views_of list))).kids
+begun_course held Nothing = tt
+begun_course held (Branch row kids siblings) = (refl, tt, begun_course held siblings)
+
+-- what is left with children of which all that take part in layout were measured
+measured_sized : (held : ℕ → Held) (row : Row) (kids : Forest Row) (requests : List Specs) → MeasuredFor held row kids requests → has_requests requests ≡ true
+    → IsSized held (held row.key) row kids × Sized held kids
+measured_sized held row kids [] m has = let e : true ≡ false = sym has in absurd (cc)
+measured_sized held row kids (specs ∷ more) m has = (m.1, m.2)
+
+pub course_sized : (held : ℕ → Held) (list : Forest Row) (kids : List Requested) → InCourse held list kids → AllAsked kids → Sized held list
+course_sized held Nothing [] h all = tt
+course_sized held Nothing (kid ∷ more) h all = absurd h
+course_sized held (Branch row below siblings) [] h all = absurd h
+course_sized held (Branch row below siblings) (kid ∷ more) h all = (
+  λ here. measured_sized held row below kid.requests h.1 (all.0 (ap (λ (child : Child). is_shown child.facts) h.0 ∙ here)),
+  course_sized held siblings more h.2 all.1,
+)
+
+measured_last : (held : ℕ → Held) (row : Row) (kids : Forest Row) (specs : Specs) (requests : List Specs) → MeasuredFor held row kids requests → has_requests requests ≡ true
+    → specs_of (held row.key).state ≡ last_of specs requests
+measured_last held row kids specs [] m has = let e : true ≡ false = sym has in absurd (cc)
+measured_last held row kids specs (first ∷ more) m has = m.0
+
+-- the last specs of those that take part in layout
+abbrev lasts_of : Specs → List Requested → List Specs
+lasts_of specs kids =
+    map (λ (kid : Final). kid.specs) (map (λ (kid : Requested). record { child = kid.child; specs = last_of specs kid.requests; edges = kid.edges })
+    (filter (λ (kid : Requested). is_shown kid.child.facts) kids))
+
+course_lasts : (held : ℕ → Held) (list : Forest Row) (specs : Specs) (kids : List Requested) → InCourse held list kids → AllAsked kids → last_specs held list ≡ lasts_of specs kids
+course_lasts held Nothing specs [] h all = refl
+course_lasts held Nothing specs (kid ∷ more) h all = absurd h
+course_lasts held (Branch row below siblings) specs [] h all = absurd h
+course_lasts held (Branch row below siblings) specs (kid ∷ more) h all =
+    let rest = course_lasts held siblings specs more h.2 all.1 in
+    let same = ap (λ (child : Child). is_shown child.facts) h.0 in
+    elim (cases_Bool (is_shown row.view.facts)) [
+      | inl here ↦
+          let here' = same ∙ here in
+          let last = measured_last held row below specs kid.requests h.1 (all.0 here') in
+          rw (here, here', last, rest) refl
+      | inr gone ↦ let gone' = same ∙ gone in rw (gone, gone', rest) refl
+    ]
+
+shown_calls : (kids : List Requested) → GoneLeft kids → sum_by (λ (kid : Requested). sum_by kid.child.calls kid.requests) (filter (λ (kid : Requested). is_shown kid.child.facts) kids) ≡ calls_of kids
+shown_calls [] h = refl
+shown_calls (kid ∷ kids) h =
+    let calls : Requested → ℕ = λ kid. sum_by kid.child.calls kid.requests in
+    let rest = shown_calls kids h.1 in
+    let all = sum_by-cons calls kid kids in
+    elim (cases_Bool (is_shown kid.child.facts)) [
+      | inl here ↦
+          let some = sum_by-cons calls kid (filter (λ (kid : Requested). is_shown kid.child.facts) kids) in
+          rw here (omega arith)
+      | inr gone ↦
+          let none : sum_by kid.child.calls kid.requests ≡ 0 = ap (λ requests. sum_by kid.child.calls requests) (h.0 gone) in
+          rw gone (omega arith)
+    ]
+
+-- a view that was measured whole
+pub whole_row : (row : Row) (kids siblings : Forest Row) (specs : Specs) (before held : ℕ → Held) (answer : Size) (total : ℤ) (old new : ℕ)
+    → (let group = group_of (Branch row kids siblings) specs in
+    AllAsked (course_of (rule_in group) (children_of (views_of kids))).kids
+    → IsSide answer.w → IsSide answer.h
+    → AfterAll group 2 (begun (children_of (views_of kids))) before held kids answer total old new
+    → IsMeasuredBelow (Branch row kids siblings) specs before held answer total old new)
+whole_row row kids siblings specs before held answer total old new asked width height after =
+    let rule = rule_in (group_of (Branch row kids siblings) specs) in
+    let course = course_of rule (children_of (views_of kids)) in
+    let none = calls_begun (children_of (views_of kids)) in
+    let all : calls_of course.kids ≡ after.more = after.calls ∙ ap (λ n. n + after.more) none ∙ zero_on after.more in
+    let shown = shown_calls course.kids (gone_course rule (children_of (views_of kids))) in
+    record {
+      size = after.size;
+      length = after.length;
+      width = width;
+      height = height;
+      sized = course_sized held kids course.kids after.stands asked;
+      finals = course_lasts held kids specs course.kids after.stands asked;
+      costs = costs_same kids before held old (1 + after.more) (calls_under (Branch row kids siblings) specs) (new + 1) (ap (λ n. 1 + n) (shown ∙ all))
+          (costs_own kids kids before held held old after.more new after.costs);
+    }
+  where
+    zero_on : (n : ℕ) → 0 + n ≡ n
+    zero_on n = omega arith
+
+    calls_begun : (kids : List Child) → calls_of (begun kids).kids ≡ 0
+    calls_begun [] = refl
+    calls_begun (kid ∷ kids) =
+        let calls : Requested → ℕ = λ kid. sum_by kid.child.calls kid.requests in
+        let all = sum_by-cons calls (record { child = kid; requests = []; edges = None }) (begun kids).kids in
+        let rest = calls_begun kids in
+        omega arith

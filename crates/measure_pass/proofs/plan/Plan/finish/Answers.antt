@@ -1,0 +1,6 @@
+use Rattle.measure_pass.proofs.plan.Plan.finish.Goals as goal
+
+pub returns-in-Frame : goal.returns-in-Frame
+returns-in-Frame c = λ group past taken stands.
+    let s = rw c.in-Frame.is at stands in
+    rw s.0 (c.finish.ensures.value group.view.facts group.specs past taken s.1)

@@ -1,0 +1,6 @@
+use Rattle.measure_pass.proofs.plan.Plan.take.Goals as goal
+
+pub returns-in-Frame : goal.returns-in-Frame
+returns-in-Frame c = λ group past taken stands few.
+    let s = rw c.in-Frame.is at stands in
+    (s.0, rw s.0 (c.take.ensures group.view.facts group.specs past taken s.1))

@@ -1,0 +1,106 @@
+-- What is left with the children of a view in the course of its measuring.
+use Rattle.std.specs.Prelude.{◌≡◌, ℤ, ℕ, ◌+◌, zero, suc, Bool, true, false, if◌then◌else◌, Option, Some, None, List, [], ◌∷◌, ◌++◌, sum_by}
+use Rattle.geom_core.specs.Limits.{IsSide}
+use Rattle.geom_core.specs.declared.geometry.Size.{Size}
+use Rattle.measure_pass.specs.declared.plan.Plan.{Plan}
+use Rattle.measure_pass.specs.Measured.{Costs, IsSized, Sized, calls_under, finals_under, last_specs, size_under, total_under}
+use Rattle.measure_pass.specs.Plans.{Group, Stands, rule_in}
+use Rattle.view_model.specs.Course.{Child, Progress, Requested, after_phase, after_turn, last_of, measured_of, one_phase, phases_on, size_after, size_in, sizes_of}
+use Rattle.view_model.specs.Facts.{is_shown}
+use Rattle.view_model.specs.Forest.{Forest, Nothing, Branch}
+use Rattle.view_model.specs.Layout.{child_under}
+use Rattle.view_model.specs.Measuring.{Measured, Rule, Specs, counted_as}
+use Rattle.view_tree.specs.Rows.{Row, below, views_of}
+use Rattle.view_tree.specs.Views.{Held, specs_of}
+
+-- a row as a child
+abbrev pub child_of : Row → Forest Row → Child
+child_of row kids = child_under row.view (views_of kids)
+
+-- a view was last measured under the last of these specs, if there are any, and all below it for that
+abbrev pub MeasuredFor : (ℕ → Held) → Row → Forest Row → List Specs → Type 0
+MeasuredFor held row kids [] = Unit {0}
+MeasuredFor held row kids (specs ∷ more) =
+    (specs_of (held row.key).state ≡ last_of specs more) × IsSized held (held row.key) row kids × Sized held kids
+
+-- the views of a list are these children, each measured for what was asked of it so far
+abbrev pub InCourse : (ℕ → Held) → Forest Row → List Requested → Type 0
+InCourse held Nothing [] = Unit {0}
+InCourse held Nothing (kid ∷ more) = ⊥
+InCourse held (Branch row kids siblings) [] = ⊥
+InCourse held (Branch row kids siblings) (kid ∷ more) =
+    (kid.child ≡ child_of row kids) × MeasuredFor held row kids kid.requests × InCourse held siblings more
+
+abbrev pub has_requests : List Specs → Bool
+has_requests [] = false
+has_requests (specs ∷ more) = true
+
+-- a child whose turn comes: what its group asks, and with which size it is taken, are the same where it is handed the size
+-- that is kept of it, which is of an earlier measuring of the whole group where this one did not measure it so far
+pub record TurnIsKnown (rule : Rule) (past : List (List Measured)) (kid : Requested) : Type 0 where
+  pub asked : (taken : List Measured) (present : Size) → (has_requests kid.requests ≡ true → present ≡ size_after kid.child kid.requests)
+      → rule.ask past taken (record { facts = kid.child.facts; size = present }) ≡ rule.ask past taken (measured_of kid)
+  pub left : (taken : List Measured) (present : Size) → (has_requests kid.requests ≡ true → present ≡ size_after kid.child kid.requests)
+      → rule.ask past taken (measured_of kid) ≡ None → counted_as past None present ≡ size_after kid.child kid.requests
+  pub got : (taken : List Measured) (specs : Specs) (size : Size) → rule.ask past taken (measured_of kid) ≡ Some specs
+      → counted_as past (rule.ask past taken (record { facts = kid.child.facts; size = size })) size ≡ size
+
+-- so is that of each of some children
+abbrev pub CanTurn : Rule → List (List Measured) → List Requested → Type 0
+CanTurn rule past [] = Unit {0}
+CanTurn rule past (kid ∷ kids) = (is_shown kid.child.facts ≡ true → TurnIsKnown rule past kid) × CanTurn rule past kids
+
+-- so it is in the next phase, and in those that follow
+abbrev pub StaysReady : Rule → ℕ → Progress → Type 0
+StaysReady rule zero progress = CanTurn rule progress.past progress.kids
+StaysReady rule (suc left) progress =
+    CanTurn rule progress.past progress.kids × (rule.turns (one_phase rule progress).past ≡ true → StaysReady rule left (one_phase rule progress))
+
+-- how many views are measured where a child gets these specs, if any
+abbrev pub calls_for : Option Specs → Child → ℕ
+calls_for None kid = 0
+calls_for (Some specs) kid = kid.calls specs
+
+-- how many in the turn of a child, and in a whole phase
+abbrev pub turn_calls : (List Measured → Measured → Option Specs) → List Measured → Requested → ℕ
+turn_calls ask taken kid = if is_shown kid.child.facts then calls_for (ask taken (measured_of kid)) kid.child else 0
+
+abbrev pub phase_calls : (List Measured → Measured → Option Specs) → List Measured → List Requested → ℕ
+phase_calls ask taken [] = 0
+phase_calls ask taken (kid ∷ kids) = turn_calls ask taken kid + phase_calls ask (taken ++ size_in (after_turn ask taken kid)) kids
+
+-- how many for all that was asked of these children so far
+abbrev pub calls_of : List Requested → ℕ
+calls_of kids = sum_by (λ (kid : Requested). sum_by kid.child.calls kid.requests) kids
+
+-- the views below the first one of a list were measured for it under these specs: its size is known, and its own measuring
+-- is all that is still to be counted
+pub record IsMeasuredBelow (part : Forest Row) (specs : Specs) (before held : ℕ → Held) (answer : Size) (total : ℤ) (old new : ℕ) : Type 0 where
+  pub size : answer ≡ size_under part specs
+  pub length : total ≡ total_under part specs
+  pub width : IsSide answer.w
+  pub height : IsSide answer.h
+  pub sized : Sized held (below part)
+  pub finals : last_specs held (below part) ≡ finals_under part specs
+  pub costs : Costs (below part) before held old (calls_under part specs) (new + 1)
+
+-- a plan has taken the views of a list, which are these children, behind others of the same phase
+pub record AfterPhase (plan : Plan) (group : Group) (past : List (List Measured)) (taken : List Measured) (kids : List Requested)
+    (before held : ℕ → Held) (list : Forest Row) (old new : ℕ) : Type 0 where
+  pub plan_stands : Stands plan group past (taken ++ sizes_of (after_phase ((rule_in group).ask past) taken kids))
+  pub course : InCourse held list (after_phase ((rule_in group).ask past) taken kids)
+  pub costs : Costs list before held old (phase_calls ((rule_in group).ask past) taken kids) new
+
+-- what follows for the children of a group from phases that are over and the next one, up to so many more
+abbrev pub from_here : Group → ℕ → Progress → Progress
+from_here group left progress = phases_on left (rule_in group) (one_phase (rule_in group) progress)
+
+-- a group's whole measuring, from phases that are over
+pub record AfterAll (group : Group) (left : ℕ) (progress : Progress) (before held : ℕ → Held) (list : Forest Row) (answer : Size) (total : ℤ)
+    (old new : ℕ) : Type 0 where
+  pub size : answer ≡ (rule_in group).size (from_here group left progress).past
+  pub length : total ≡ (rule_in group).total (from_here group left progress).past
+  pub stands : InCourse held list (from_here group left progress).kids
+  pub more : ℕ
+  pub calls : calls_of (from_here group left progress).kids ≡ calls_of progress.kids + more
+  pub costs : Costs list before held old more new

@@ -1,0 +1,107 @@
+//! The measuring of one view, by its class. What is here has one arm a class.
+ghost use Rattle.std.specs.Prelude.{◌≡◌, ◌<◌, [], ◌∷◌, ◌++◌, List, length};
+ghost use Rattle.std.specs.Option.{option_map};
+ghost use Rattle.measure_pass.specs.Plans.{Group, Stands, Turned, group_of, rule_in};
+ghost use Rattle.view_model.specs.Facts.{unscrolled_facts};
+ghost use Rattle.view_model.specs.Leaf.{view_size};
+ghost use Rattle.view_model.specs.Measuring.{Measured, pair_of, taken_as};
+ghost use Rattle.view_tree.specs.Rows.{from};
+ghost use Rattle.view_tree.specs.Views.{IsLive};
+
+use frame_layout::FramePlan;
+use geom_core::{Size, Spec, default_size};
+use view_model::{Class, Facts};
+use view_tree::{Key, ViewTree};
+
+/// How a view measures its children: in each phase they are handed in in order, by `ask`, measuring and `take`.
+#[derive(Clone, Copy, Debug)]
+pub enum Plan {
+    /// A view of this size, which measures no child.
+    Leaf(Size),
+    Frame(FramePlan),
+}
+
+impl Plan {
+    /// The plan of a view before its first child, measured under these specs.
+    pub fn start(tree: &ViewTree, view: Key, ws: Spec, hs: Spec) -> Plan
+        requires live { IsLive tree.now view }
+        ensures { Stands result (group_of (from view tree.now.tree) (record { across = ws; down = hs })) [] [] }
+    {
+        match tree.class(view) {
+            Class::View => Plan::Leaf(minimal_size(tree.facts(view), ws, hs)),
+            Class::FrameLayout => Plan::Frame(FramePlan::start(tree.facts(view), ws, hs)),
+        }
+    }
+
+    /// The specs of a child in this phase, or None where it is not measured in it. The size is the child's measured size
+    /// at this moment.
+    pub fn ask(&self, kid: &Facts, size: Size) -> Option<(Spec, Spec)>
+        ensures { (group : Group) (past : List (List Measured)) (taken : List Measured)
+            → Stands self.now group past taken
+            → result ≡ option_map pair_of ((rule_in group).ask past taken (record { facts = unscrolled_facts kid.now; size = size })) }
+    {
+        match self {
+            Plan::Leaf(_) => None,
+            Plan::Frame(plan) => plan.ask(kid, size),
+        }
+    }
+
+    /// Takes the size that a child has got; where `ask` answered None, the one that was handed to it.
+    pub fn take(&mut self, kid: &Facts, size: Size)
+        ensures { (group : Group) (past : List (List Measured)) (taken : List Measured)
+            → Stands self.old group past taken
+            → length taken < 4096
+            → Stands self.new group past (taken ++ taken_as (rule_in group) past taken (unscrolled_facts kid.now) size ∷ []) }
+    {
+        match self {
+            Plan::Leaf(_) => (),
+            Plan::Frame(plan) => plan.take(kid, size),
+        }
+    }
+
+    /// Ends a phase: true where another follows.
+    pub fn turn(&mut self) -> bool
+        ensures { (group : Group) (past : List (List Measured)) (taken : List Measured)
+            → Stands self.old group past taken
+            → Turned self.new group past taken result }
+    {
+        match self {
+            Plan::Leaf(_) => false,
+            Plan::Frame(plan) => plan.turn(),
+        }
+    }
+
+    /// The own size, once every child of the last phase is taken.
+    pub fn finish(&self) -> Size
+        ensures { (group : Group) (past : List (List Measured)) (taken : List Measured)
+            → Stands self.now group past taken
+            → result ≡ (rule_in group).size (past ++ taken ∷ []) }
+    {
+        match self {
+            Plan::Leaf(size) => *size,
+            Plan::Frame(plan) => plan.finish(),
+        }
+    }
+
+    /// What the children took along the axis of the view, with its padding, once every child of the last phase is taken; 0
+    /// for a view without an axis.
+    pub fn total(&self) -> i64
+        ensures { (group : Group) (past : List (List Measured)) (taken : List Measured)
+            → Stands self.now group past taken
+            → result ≡ (rule_in group).total (past ++ taken ∷ []) }
+    {
+        match self {
+            Plan::Leaf(_) | Plan::Frame(_) => 0,
+        }
+    }
+}
+
+/// The size of a plain view.
+fn minimal_size(facts: &Facts, ws: Spec, hs: Spec) -> Size
+    ensures { result ≡ view_size (unscrolled_facts facts.now) (record { across = ws; down = hs }) }
+{
+    Size {
+        w: default_size(facts.min.w, ws),
+        h: default_size(facts.min.h, hs),
+    }
+}

@@ -1,0 +1,299 @@
+-- Commands, read from their texts.
+use Rattle.std.proofs.Common.{◌≡◌, ◌≢◌, ℕ, suc, zero, ◌<◌, ◌^◌, Bool, true, false, refl, ap, sym, subst, ◌∙◌, inl, inr, List, [], ◌∷◌, arith}
+use Rattle.std.specs.Prelude.{◌||◌, IsTrue, ℤ, pos, negsuc, slice_index, codes, Some, None, Ok}
+use Rattle.std.specs.Fmt.{decimal, signed_decimal}
+use Rattle.std.specs.Str.{bytes_eq}
+use Rattle.std.proofs.lemmas.Int.{ints}
+use Rattle.geom_core.specs.declared.geometry.Insets.{Insets}
+use Rattle.view_model.specs.Facts.{no_gravity}
+use Rattle.view_model.specs.declared.changes.Act.{Act}
+use Rattle.view_model.specs.declared.changes.Act.TheVariants as act
+use Rattle.view_model.specs.declared.changes.Change.{Change}
+use Rattle.view_model.specs.declared.changes.Change.TheVariants as change
+use Rattle.view_model.specs.declared.kinds.Class.{Class}
+use Rattle.view_model.specs.declared.kinds.Class.TheVariants as class
+use Rattle.view_model.specs.declared.kinds.Visibility.{Visibility}
+use Rattle.view_model.specs.declared.kinds.Visibility.TheVariants as visibility
+use Rattle.view_model.specs.declared.placing.Across.{Across}
+use Rattle.view_model.specs.declared.placing.Across.TheVariants as across
+use Rattle.view_model.specs.declared.placing.Down.{Down}
+use Rattle.view_model.specs.declared.placing.Down.TheVariants as down
+use Rattle.view_model.specs.declared.placing.Gravity.{Gravity}
+use Rattle.script_lines.specs.Changes.{AreWithin, IsActInBounds, IsChangeInBounds, act_of, change_of, insets_of, new_id_of, own_gravity_of, sides_of, visibility_of, visible_of}
+use Rattle.script_lines.specs.Commands.{IsInBounds, add_of, bounds_of, class_of, command_by, command_of, frame_of, remove_of, set_of}
+use Rattle.script_lines.specs.Dimensions.{IsExtent, dimension_of, extent_of, extents_of}
+use Rattle.script_lines.specs.Gravities.{across_of, down_of, gravity_of, is_set_across, is_set_down, one_across, one_down, with_word, with_words}
+use Rattle.script_lines.specs.Numbers.{IsWithin}
+use Rattle.script_lines.specs.Spelled.{ActHasLine, ChangeHasLine, HasLine, HasWord, act_head, act_words, change_head, change_words, class_text, extent_text, gravity_text, insets_words, name_text, parent_text, spelled, visibility_text}
+use Rattle.script_lines.specs.declared.commands.Command.{Command}
+use Rattle.script_lines.specs.declared.commands.Command.TheVariants as command
+use Rattle.script_lines.specs.declared.changes.Sides.{Sides}
+use Rattle.script_lines.specs.declared.dimension.Dimension.{Dimension}
+use Rattle.script_lines.specs.declared.dimension.Dimension.TheVariants.{Match, Wrap, Pixels}
+use Rattle.script_lines.specs.declared.naming.Name.TheVariants.{Id}
+use Rattle.script_lines.proofs.SpelledNames.{id_of-text, name_of-text, name_word, parent_of-text, parent_word}
+use Rattle.script_lines.proofs.SpelledNumbers.{IsShort, decimal_first, decimal_word, differs, integer_of-signed, pair_of-signed, short_within, signed_word, within_of-within}
+use Rattle.script_lines.proofs.SpelledWords.{AreWords, IsWord, command_of-joined, word_by}
+
+-- dimensions
+abbrev dimension_as : ℤ → Dimension
+dimension_as (pos n) = Pixels (pos n)
+dimension_as (negsuc zero) = Match
+dimension_as (negsuc (suc n)) = Wrap
+
+other_word : (word : List ℕ) (b : ℕ) (bs : List ℕ) → slice_index word 0 ≢ b → bytes_eq word (b ∷ bs) ≡ false
+other_word [] b bs h = refl
+other_word (c ∷ cs) b bs h = rw (differs c b h) refl
+
+extent_short : (n : ℕ) → IsExtent (pos n) → n < 10 ^ 10
+extent_short n h = omega (arith, ints, h.1)
+
+dimension_of-text : (z : ℤ) → IsExtent z → dimension_of (extent_text z) ≡ Ok (dimension_as z)
+unfolding dimension_of
+dimension_of-text (pos n) h =
+    let k = extent_short n h in
+    let m : bytes_eq (decimal n) (codes "match") ≡ false = other_word (decimal n) 109 _ (decimal_first n 109 k (λ r. absurd (omega (arith, r.1)))) in
+    let w : bytes_eq (decimal n) (codes "wrap") ≡ false = other_word (decimal n) 119 _ (decimal_first n 119 k (λ r. absurd (omega (arith, r.1)))) in
+    rw (m, w, integer_of-signed (pos n) k) refl
+dimension_of-text (negsuc zero) h = refl
+dimension_of-text (negsuc (suc n)) h = refl
+
+extent_of-as : (z : ℤ) → IsExtent z → extent_of (dimension_as z) ≡ Ok z
+extent_of-as (pos n) h = within_of-within (pos 0) (pos 16777215) (pos n) (omega (arith, ints), h.1)
+extent_of-as (negsuc zero) h = refl
+extent_of-as (negsuc (suc zero)) h = refl
+extent_of-as (negsuc (suc (suc n))) h = absurd (omega (arith, ints, h.0))
+
+extents_of-text : (w h : ℤ) → IsExtent w → IsExtent h → extents_of (extent_text w ∷ extent_text h ∷ []) ≡ Ok (w, h)
+unfolding extents_of
+extents_of-text w h iw ih = rw (dimension_of-text w iw, dimension_of-text h ih, extent_of-as w iw, extent_of-as h ih) refl
+
+extent_word : (z : ℤ) → IsExtent z → IsWord (extent_text z)
+extent_word (pos n) h = decimal_word n (extent_short n h)
+extent_word (negsuc zero) h = word_by (codes "match") refl
+extent_word (negsuc (suc n)) h = word_by (codes "wrap") refl
+
+-- classes
+class_of-text : (class : Class) → class_of (class_text class) ≡ Ok class
+unfolding class_of
+class_of-text class.View = refl
+class_of-text class.FrameLayout = refl
+
+class_word : (class : Class) → IsWord (class_text class)
+class_word class.View = word_by (codes "View") refl
+class_word class.FrameLayout = word_by (codes "FrameLayout") refl
+
+-- visibilities
+visibility_of-text : (visibility : Visibility) → visibility_of (visibility_text visibility) ≡ Ok visibility
+unfolding visibility_of
+visibility_of-text visibility.Visible = refl
+visibility_of-text visibility.Invisible = refl
+visibility_of-text visibility.Gone = refl
+
+visibility_word : (visibility : Visibility) → IsWord (visibility_text visibility)
+visibility_word visibility.Visible = word_by (codes "visible") refl
+visibility_word visibility.Invisible = word_by (codes "invisible") refl
+visibility_word visibility.Gone = word_by (codes "gone") refl
+
+-- gravities
+abbrev given : Across → Down → Gravity
+given a d = record { given = true; across = a; down = d }
+
+record ReadsBack (gravity : Gravity) : Type 0 where
+  word : IsWord (gravity_text gravity)
+  value : gravity_of (gravity_text gravity) ≡ Ok gravity
+
+given_back : (a : Across) (d : Down) → IsTrue (is_set_across a || is_set_down d) → ReadsBack (given a d)
+unfolding across_of down_of one_across one_down with_word with_words gravity_of
+given_back across.Unset down.Unset h = absurd (cc)
+given_back across.Unset down.Top h = record { word = word_by _ refl; value = refl }
+given_back across.Unset down.Bottom h = record { word = word_by _ refl; value = refl }
+given_back across.Unset down.Center h = record { word = word_by _ refl; value = refl }
+given_back across.Left down.Unset h = record { word = word_by _ refl; value = refl }
+given_back across.Left down.Top h = record { word = word_by _ refl; value = refl }
+given_back across.Left down.Bottom h = record { word = word_by _ refl; value = refl }
+given_back across.Left down.Center h = record { word = word_by _ refl; value = refl }
+given_back across.Right down.Unset h = record { word = word_by _ refl; value = refl }
+given_back across.Right down.Top h = record { word = word_by _ refl; value = refl }
+given_back across.Right down.Bottom h = record { word = word_by _ refl; value = refl }
+given_back across.Right down.Center h = record { word = word_by _ refl; value = refl }
+given_back across.Center down.Unset h = record { word = word_by _ refl; value = refl }
+given_back across.Center down.Top h = record { word = word_by _ refl; value = refl }
+given_back across.Center down.Bottom h = record { word = word_by _ refl; value = refl }
+given_back across.Center down.Center h = record { word = word_by _ refl; value = refl }
+given_back across.Start down.Unset h = record { word = word_by _ refl; value = refl }
+given_back across.Start down.Top h = record { word = word_by _ refl; value = refl }
+given_back across.Start down.Bottom h = record { word = word_by _ refl; value = refl }
+given_back across.Start down.Center h = record { word = word_by _ refl; value = refl }
+given_back across.End down.Unset h = record { word = word_by _ refl; value = refl }
+given_back across.End down.Top h = record { word = word_by _ refl; value = refl }
+given_back across.End down.Bottom h = record { word = word_by _ refl; value = refl }
+given_back across.End down.Center h = record { word = word_by _ refl; value = refl }
+
+none_back : ReadsBack no_gravity
+unfolding gravity_of
+none_back = record { word = word_by (codes "none") refl; value = refl }
+
+gravity_back : (gravity : Gravity) → HasWord gravity → ReadsBack gravity
+gravity_back gravity (inl e) = subst ReadsBack (sym e) none_back
+gravity_back gravity (inr h) =
+    let P : Bool → Type 0 = λ b. ReadsBack (record { given = b; across = gravity.across; down = gravity.down }) in
+    subst P (sym h.0) (given_back gravity.across gravity.down h.1)
+
+-- sides
+side_short : (low : ℕ) (z : ℤ) → low < 2 ^ 31 → IsWithin (negsuc low) (pos 1048575) z → IsShort z
+side_short low z l h = short_within low 1048575 z h.0 h.1 l (omega arith)
+
+abbrev sides_as : Insets → Sides
+sides_as sides = record { left = sides.left; top = sides.top; right = sides.right; bottom = sides.bottom }
+
+record AreShort (sides : Insets) : Type 0 where
+  left : IsShort sides.left
+  top : IsShort sides.top
+  right : IsShort sides.right
+  bottom : IsShort sides.bottom
+
+sides_short : (low : ℕ) (sides : Insets) → low < 2 ^ 31 → AreWithin (negsuc low) (pos 1048575) sides → AreShort sides
+sides_short low sides l h = record { left = side_short low sides.left l h.0; top = side_short low sides.top l h.1; right = side_short low sides.right l h.2; bottom = side_short low sides.bottom l h.3 }
+
+sides_of-text : (sides : Insets) → AreShort sides → sides_of (insets_words sides) ≡ Ok (sides_as sides)
+unfolding sides_of
+sides_of-text sides h = rw (integer_of-signed sides.left h.left, integer_of-signed sides.top h.top, integer_of-signed sides.right h.right, integer_of-signed sides.bottom h.bottom) refl
+
+insets_of-as : (low : ℤ) (sides : Insets) → AreWithin low (pos 1048575) sides → insets_of low (sides_as sides) ≡ Ok sides
+unfolding insets_of
+insets_of-as low sides h =
+    rw (within_of-within low (pos 1048575) sides.left h.0, within_of-within low (pos 1048575) sides.top h.1, within_of-within low (pos 1048575) sides.right h.2, within_of-within low (pos 1048575) sides.bottom h.3) refl
+
+sides_words : (sides : Insets) → AreShort sides → AreWords (insets_words sides)
+sides_words sides h = (signed_word sides.left h.left, (signed_word sides.top h.top, (signed_word sides.right h.right, (signed_word sides.bottom h.bottom, tt))))
+
+-- from 0 upward is from -1 upward
+from_0 : (z : ℤ) → IsWithin (pos 0) (pos 1048575) z → IsWithin (negsuc 0) (pos 1048575) z
+from_0 z h = (omega (arith, ints, h.0), h.1)
+
+padding_short : (sides : Insets) → AreWithin (pos 0) (pos 1048575) sides → AreShort sides
+padding_short sides h = sides_short 0 sides (omega arith) (from_0 sides.left h.0, from_0 sides.top h.1, from_0 sides.right h.2, from_0 sides.bottom h.3)
+
+size_short : (z : ℤ) → IsWithin (pos 0) (pos 16777215) z → IsShort z
+size_short z h = short_within 0 16777215 z (omega (arith, ints, h.0)) h.1 (omega arith) (omega arith)
+
+-- what a change says behind the view, and what that is read as
+record ChangeReads (c : Change) : Type 0 where
+  head : IsWord (change_head c)
+  words : AreWords (change_words c)
+  value : act_of (change_head c) (change_words c) ≡ Ok (act.Change c)
+
+change_reads : (c : Change) → IsChangeInBounds c → ChangeHasLine c → ChangeReads c
+unfolding act_of change_of own_gravity_of
+change_reads (change.Size width height) b l = record {
+  head = word_by (codes "size") refl;
+  words = (extent_word width b.0, (extent_word height b.1, tt));
+  value = rw (extents_of-text width height b.0 b.1) refl;
+}
+change_reads (change.Min size) b l = record {
+  head = word_by (codes "min") refl;
+  words = (signed_word size.w (size_short size.w b.0), (signed_word size.h (size_short size.h b.1), tt));
+  value = rw (pair_of-signed (pos 0) (pos 16777215) size.w size.h (size_short size.w b.0) (size_short size.h b.1) b.0 b.1) refl;
+}
+change_reads (change.Margins sides) b l =
+    let h = sides_short 1048574 sides (omega arith) b in
+    record {
+      head = word_by (codes "margins") refl;
+      words = sides_words sides h;
+      value = rw (sides_of-text sides h, insets_of-as (negsuc 1048574) sides b) refl;
+    }
+change_reads (change.Padding sides) b l =
+    let h = padding_short sides b in
+    record {
+      head = word_by (codes "padding") refl;
+      words = sides_words sides h;
+      value = rw (sides_of-text sides h, insets_of-as (pos 0) sides b) refl;
+    }
+change_reads (change.Weight weight) b l = absurd l
+change_reads (change.Gravity kids gravity) b l =
+    let back = gravity_back gravity l.1 in
+    record {
+      head = word_by (codes "gravity") refl;
+      words = (word_by (codes "self") refl, (back.word, tt));
+      value = rw back.value (ap (λ k. Ok (act.Change (change.Gravity k gravity))) (sym l.0));
+    }
+change_reads (change.Background color) b l = absurd l
+
+record ActReads (a : Act) : Type 0 where
+  head : IsWord (act_head a)
+  words : AreWords (act_words a)
+  value : act_of (act_head a) (act_words a) ≡ Ok a
+
+act_reads : (a : Act) → IsActInBounds a → ActHasLine a → ActReads a
+unfolding act_of visible_of new_id_of
+act_reads (act.Change change) b l = let r = change_reads change b l in record { head = r.head; words = r.words; value = r.value }
+act_reads (act.Visible visibility) b l = record {
+  head = word_by (codes "visible") refl;
+  words = (visibility_word visibility, tt);
+  value = rw (visibility_of-text visibility) refl;
+}
+act_reads (act.Id id) b l = record {
+  head = word_by (codes "id") refl;
+  words = (name_word (Id id) l, tt);
+  value = rw (id_of-text id l) refl;
+}
+act_reads (act.WeightSum sum) b l = absurd l
+act_reads (act.Orient vertical) b l = absurd l
+act_reads (act.Flag flag on) b l = absurd l
+act_reads (act.Ink color) b l = absurd l
+act_reads (act.Rule verb value) b l = absurd l
+act_reads (act.Answer answer) b l = absurd l
+act_reads (act.Intercept actions) b l = absurd l
+act_reads (act.Scroll offset) b l = absurd l
+
+-- the first words of the lines that set something are none of the others
+command_by-change : (c : Change) (ws : List (List ℕ)) → ChangeHasLine c → command_by (change_head c) ws ≡ set_of (change_head c) ws
+unfolding command_by
+command_by-change (change.Size width height) ws l = refl
+command_by-change (change.Min size) ws l = refl
+command_by-change (change.Margins sides) ws l = refl
+command_by-change (change.Padding sides) ws l = refl
+command_by-change (change.Weight weight) ws l = absurd l
+command_by-change (change.Gravity kids gravity) ws l = refl
+command_by-change (change.Background color) ws l = absurd l
+
+command_by-act : (a : Act) (ws : List (List ℕ)) → ActHasLine a → command_by (act_head a) ws ≡ set_of (act_head a) ws
+unfolding command_by
+command_by-act (act.Change change) ws l = command_by-change change ws l
+command_by-act (act.Visible visibility) ws l = refl
+command_by-act (act.Id id) ws l = refl
+command_by-act (act.WeightSum sum) ws l = absurd l
+command_by-act (act.Orient vertical) ws l = absurd l
+command_by-act (act.Flag flag on) ws l = absurd l
+command_by-act (act.Ink color) ws l = absurd l
+command_by-act (act.Rule verb value) ws l = absurd l
+command_by-act (act.Answer answer) ws l = absurd l
+command_by-act (act.Intercept actions) ws l = absurd l
+command_by-act (act.Scroll offset) ws l = absurd l
+
+side_of_window : (z : ℤ) → IsWithin (pos 1) (pos 4096) z → IsShort z
+side_of_window z h = short_within 0 4096 z (omega (arith, ints, h.0)) h.1 (omega arith) (omega arith)
+
+-- The command of the text of a command is that command.
+pub command_of-spelled : (c : Command) → IsInBounds c → HasLine c → command_of (spelled c) ≡ Ok c
+unfolding command_by add_of remove_of frame_of bounds_of set_of
+command_of-spelled (command.Window w h) b l =
+    command_of-joined (codes "window") (signed_decimal w ∷ signed_decimal h ∷ []) (word_by (codes "window") refl, (signed_word w (side_of_window w b.0), (signed_word h (side_of_window h b.1), tt)))
+    ∙ rw (pair_of-signed (pos 1) (pos 4096) w h (side_of_window w b.0) (side_of_window h b.1) b.0 b.1) refl
+command_of-spelled (command.Add parent class width height) b l =
+    command_of-joined (codes "add") (parent_text parent ∷ class_text class ∷ extent_text width ∷ extent_text height ∷ []) (word_by (codes "add") refl, (parent_word parent l, (class_word class, (extent_word width b.0, (extent_word height b.1, tt)))))
+    ∙ rw (parent_of-text parent l, class_of-text class, extents_of-text width height b.0 b.1) refl
+command_of-spelled (command.Remove view) b l =
+    command_of-joined (codes "remove") (name_text view ∷ []) (word_by (codes "remove") refl, (name_word view l, tt))
+    ∙ rw (name_of-text view l) refl
+command_of-spelled (command.Act view act) b l =
+    let r = act_reads act b l.1 in
+    command_of-joined (act_head act) (name_text view ∷ act_words act) (r.head, (name_word view l.0, r.words))
+    ∙ command_by-act act (name_text view ∷ act_words act) l.1
+    ∙ rw (name_of-text view l.0, r.value) refl
+command_of-spelled command.Frame b l = command_of-joined (codes "frame") [] (word_by (codes "frame") refl, tt)
+command_of-spelled (command.Bounds None) b l = command_of-joined (codes "bounds") [] (word_by (codes "bounds") refl, tt)
+command_of-spelled (command.Bounds (Some view)) b l =
+    command_of-joined (codes "bounds") (name_text view ∷ []) (word_by (codes "bounds") refl, (name_word view l, tt))
+    ∙ rw (name_of-text view l) refl

@@ -1,0 +1,44 @@
+-- Commands, and their texts.
+use Rattle.std.proofs.Common.{◌≡◌, refl}
+use Rattle.std.specs.Prelude.{codes, Some, None, pos, negsuc, true, false}
+use Rattle.std.specs.Fmt.{digits}
+use Rattle.view_model.specs.Facts.{no_gravity}
+use Rattle.view_model.specs.declared.changes.Act.TheVariants as act
+use Rattle.view_model.specs.declared.changes.Change.TheVariants as change
+use Rattle.view_model.specs.declared.kinds.Class.TheVariants as class
+use Rattle.view_model.specs.declared.placing.Across.TheVariants as across
+use Rattle.view_model.specs.declared.placing.Down.TheVariants as down
+use Rattle.script_lines.specs.Spelled.{spelled}
+use Rattle.script_lines.specs.declared.commands.Command.TheVariants.{Window, Add, Act, Bounds}
+use Rattle.script_lines.specs.declared.naming.Name.TheVariants.{Number, Id}
+
+pub a_window : spelled (Window (pos 100) (pos 4096)) ≡ codes "window 100 4096"
+unfolding digits
+a_window = refl
+
+pub a_root : spelled (Add None class.FrameLayout (negsuc 0) (negsuc 1)) ≡ codes "add root FrameLayout match wrap"
+unfolding digits
+a_root = refl
+
+pub a_child : spelled (Add (Some (Number 10)) class.View (pos 0) (pos 7)) ≡ codes "add v10 View 0 7"
+unfolding digits
+a_child = refl
+
+pub an_id : spelled (Act (Number 1) (act.Id 48879)) ≡ codes "id v1 @beef"
+unfolding digits
+an_id = refl
+
+pub margins : spelled (Act (Id 10) (act.Change (change.Margins (record { left = negsuc 4; top = pos 0; right = pos 1; bottom = pos 20 })))) ≡ codes "margins @a -5 0 1 20"
+unfolding digits
+margins = refl
+
+pub two_axes : spelled (Act (Number 2) (act.Change (change.Gravity false (record { given = true; across = across.End; down = down.Center })))) ≡ codes "gravity v2 self end|center_vertical"
+unfolding digits
+two_axes = refl
+
+pub no_axis : spelled (Act (Number 2) (act.Change (change.Gravity false no_gravity))) ≡ codes "gravity v2 self none"
+unfolding digits
+no_axis = refl
+
+pub all_bounds : spelled (Bounds None) ≡ codes "bounds"
+all_bounds = refl

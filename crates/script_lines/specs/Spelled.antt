@@ -1,0 +1,177 @@
+-- The text of a command: one way to write it, of those that the grammar reads.
+use Rattle.std.specs.Prelude.{◌≡◌, ℕ, zero, suc, ◌<◌, ◌^◌, not, ◌&&◌, ◌||◌, true, false, IsTrue, if◌then◌else◌, ℤ, pos, negsuc, ◌⊎◌, List, [], ◌∷◌, ◌++◌, codes, Option, Some, None, IfSome}
+use Rattle.std.specs.Fmt.{decimal, signed_decimal, digits}
+use Rattle.std.specs.List.{join_with_byte}
+use Rattle.geom_core.specs.declared.geometry.Insets.{Insets}
+use Rattle.view_model.specs.Facts.{no_gravity}
+use Rattle.view_model.specs.declared.changes.Act.{Act}
+use Rattle.view_model.specs.declared.changes.Act.TheVariants as act
+use Rattle.view_model.specs.declared.changes.Change.{Change}
+use Rattle.view_model.specs.declared.changes.Change.TheVariants as change
+use Rattle.view_model.specs.declared.kinds.Class.{Class}
+use Rattle.view_model.specs.declared.kinds.Class.TheVariants as class
+use Rattle.view_model.specs.declared.kinds.Visibility.{Visibility}
+use Rattle.view_model.specs.declared.kinds.Visibility.TheVariants as visibility
+use Rattle.view_model.specs.declared.placing.Across.{Across}
+use Rattle.view_model.specs.declared.placing.Across.TheVariants as across
+use Rattle.view_model.specs.declared.placing.Down.{Down}
+use Rattle.view_model.specs.declared.placing.Down.TheVariants as down
+use Rattle.view_model.specs.declared.placing.Gravity.{Gravity}
+use Rattle.script_lines.specs.Gravities.{is_set_across, is_set_down}
+use Rattle.script_lines.specs.declared.commands.Command.{Command}
+use Rattle.script_lines.specs.declared.commands.Command.TheVariants as command
+use Rattle.script_lines.specs.declared.naming.Name.{Name}
+use Rattle.script_lines.specs.declared.naming.Name.TheVariants.{Number, Id}
+
+-- `vN`, or `@HEX` in lower case without leading zeros
+abbrev pub name_text : Name → List ℕ
+name_text (Number n) = codes "v" ++ decimal n
+name_text (Id id) = codes "@" ++ digits 16 false id
+
+abbrev pub parent_text : Option Name → List ℕ
+parent_text None = codes "root"
+parent_text (Some view) = name_text view
+
+abbrev pub class_text : Class → List ℕ
+class_text class.View = codes "View"
+class_text class.FrameLayout = codes "FrameLayout"
+
+-- a dimension as facts keep it
+abbrev pub extent_text : ℤ → List ℕ
+extent_text (pos n) = decimal n
+extent_text (negsuc zero) = codes "match"
+extent_text (negsuc (suc n)) = codes "wrap"
+
+abbrev pub insets_words : Insets → List (List ℕ)
+insets_words sides = signed_decimal sides.left ∷ signed_decimal sides.top ∷ signed_decimal sides.right ∷ signed_decimal sides.bottom ∷ []
+
+abbrev pub across_text : Across → List ℕ
+across_text across.Unset = []
+across_text across.Left = codes "left"
+across_text across.Right = codes "right"
+across_text across.Center = codes "center_horizontal"
+across_text across.Start = codes "start"
+across_text across.End = codes "end"
+
+abbrev pub down_text : Down → List ℕ
+down_text down.Unset = []
+down_text down.Top = codes "top"
+down_text down.Bottom = codes "bottom"
+down_text down.Center = codes "center_vertical"
+
+-- a bar stands between the words of two axes
+abbrev pub gravity_text : Gravity → List ℕ
+gravity_text gravity =
+    if not gravity.given then codes "none" else (
+    across_text gravity.across
+    ++ (if is_set_across gravity.across && is_set_down gravity.down then codes "|" else [])
+    ++ down_text gravity.down)
+
+abbrev pub visibility_text : Visibility → List ℕ
+visibility_text visibility.Visible = codes "visible"
+visibility_text visibility.Invisible = codes "invisible"
+visibility_text visibility.Gone = codes "gone"
+
+-- the first word of the line that makes a change; no line gives a weight or a background
+abbrev pub change_head : Change → List ℕ
+change_head (change.Size width height) = codes "size"
+change_head (change.Min size) = codes "min"
+change_head (change.Margins sides) = codes "margins"
+change_head (change.Padding sides) = codes "padding"
+change_head (change.Weight weight) = []
+change_head (change.Gravity kids gravity) = codes "gravity"
+change_head (change.Background color) = []
+
+-- the words behind the view
+abbrev pub change_words : Change → List (List ℕ)
+change_words (change.Size width height) = extent_text width ∷ extent_text height ∷ []
+change_words (change.Min size) = signed_decimal size.w ∷ signed_decimal size.h ∷ []
+change_words (change.Margins sides) = insets_words sides
+change_words (change.Padding sides) = insets_words sides
+change_words (change.Weight weight) = []
+change_words (change.Gravity kids gravity) = codes "self" ∷ gravity_text gravity ∷ []
+change_words (change.Background color) = []
+
+-- the first word of the line that sets this; some things no line sets
+abbrev pub act_head : Act → List ℕ
+act_head (act.Change change) = change_head change
+act_head (act.WeightSum sum) = []
+act_head (act.Orient vertical) = []
+act_head (act.Flag flag on) = []
+act_head (act.Visible visibility) = codes "visible"
+act_head (act.Ink color) = []
+act_head (act.Id id) = codes "id"
+act_head (act.Rule verb value) = []
+act_head (act.Answer answer) = []
+act_head (act.Intercept actions) = []
+act_head (act.Scroll offset) = []
+
+-- the words behind the view
+abbrev pub act_words : Act → List (List ℕ)
+act_words (act.Change change) = change_words change
+act_words (act.WeightSum sum) = []
+act_words (act.Orient vertical) = []
+act_words (act.Flag flag on) = []
+act_words (act.Visible visibility) = visibility_text visibility ∷ []
+act_words (act.Ink color) = []
+act_words (act.Id id) = name_text (Id id) ∷ []
+act_words (act.Rule verb value) = []
+act_words (act.Answer answer) = []
+act_words (act.Intercept actions) = []
+act_words (act.Scroll offset) = []
+
+-- the words of a command
+abbrev pub command_words : Command → List (List ℕ)
+command_words (command.Window w h) = codes "window" ∷ signed_decimal w ∷ signed_decimal h ∷ []
+command_words (command.Add parent class width height) = codes "add" ∷ parent_text parent ∷ class_text class ∷ extent_text width ∷ extent_text height ∷ []
+command_words (command.Remove view) = codes "remove" ∷ name_text view ∷ []
+command_words (command.Act view act) = act_head act ∷ name_text view ∷ act_words act
+command_words command.Frame = codes "frame" ∷ []
+command_words (command.Bounds None) = codes "bounds" ∷ []
+command_words (command.Bounds (Some view)) = codes "bounds" ∷ name_text view ∷ []
+
+-- the text of a command, with single spaces between its words
+abbrev pub spelled : Command → List ℕ
+spelled command = join_with_byte 32 (command_words command)
+
+-- a view that a line can name
+abbrev pub HasText : Name → Type 0
+HasText (Number n) = n < 10 ^ 10
+HasText (Id id) = id < 2 ^ 32
+
+-- a gravity that a word can give: none, or one that is set on an axis
+abbrev pub HasWord : Gravity → Type 0
+HasWord gravity = (gravity ≡ no_gravity) ⊎ ((gravity.given ≡ true) × IsTrue (is_set_across gravity.across || is_set_down gravity.down))
+
+-- a change that a line can make
+abbrev pub ChangeHasLine : Change → Type 0
+ChangeHasLine (change.Size width height) = Unit {0}
+ChangeHasLine (change.Min size) = Unit {0}
+ChangeHasLine (change.Margins sides) = Unit {0}
+ChangeHasLine (change.Padding sides) = Unit {0}
+ChangeHasLine (change.Weight weight) = ⊥
+ChangeHasLine (change.Gravity kids gravity) = (kids ≡ false) × HasWord gravity
+ChangeHasLine (change.Background color) = ⊥
+
+-- what a line can set
+abbrev pub ActHasLine : Act → Type 0
+ActHasLine (act.Change change) = ChangeHasLine change
+ActHasLine (act.WeightSum sum) = ⊥
+ActHasLine (act.Orient vertical) = ⊥
+ActHasLine (act.Flag flag on) = ⊥
+ActHasLine (act.Visible visibility) = Unit {0}
+ActHasLine (act.Ink color) = ⊥
+ActHasLine (act.Id id) = HasText (Id id)
+ActHasLine (act.Rule verb value) = ⊥
+ActHasLine (act.Answer answer) = ⊥
+ActHasLine (act.Intercept actions) = ⊥
+ActHasLine (act.Scroll offset) = ⊥
+
+-- a command that a line can give, if its numbers are within their bounds
+abbrev pub HasLine : Command → Type 0
+HasLine (command.Window w h) = Unit {0}
+HasLine (command.Add parent class width height) = IfSome parent HasText
+HasLine (command.Remove view) = HasText view
+HasLine (command.Act view act) = HasText view × ActHasLine act
+HasLine command.Frame = Unit {0}
+HasLine (command.Bounds view) = IfSome view HasText

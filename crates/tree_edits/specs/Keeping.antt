@@ -1,0 +1,53 @@
+-- What an edit leaves of the views of a tree of the code, key by key.
+use Rattle.std.specs.Prelude.{◌≡◌, ℕ, ◌+◌, ◌==◌, None, if◌then◌else◌, chars}
+use Rattle.view_model.specs.Changes.{acted}
+use Rattle.view_model.specs.declared.changes.Act.{Act}
+use Rattle.view_model.specs.Forest.{Forest}
+use Rattle.view_model.specs.PlainTree.{View}
+use Rattle.view_tree.specs.Rows.{Row, cut, leaf, put_view, times, unscrolled_facts, with_child}
+use Rattle.view_tree.specs.Views.{Held, IsLive, Views, facts_of, held_of, held_or}
+use Rattle.tree_edits.specs.declared.edits.Edit.{Edit}
+use Rattle.tree_edits.specs.declared.edits.Edit.TheVariants as edit
+use Rattle.tree_edits.specs.Editing.{hides, new_view}
+use Rattle.tree_edits.specs.Hiding.{held_hiding}
+
+-- the view of a row after an act
+abbrev pub acted_view : Act → View → View
+acted_view act view = record view { facts = unscrolled_facts (acted act view.facts) }
+
+-- the keyed views after an edit; a new view comes under the key `fresh`
+abbrev pub tree_after : Views → Edit → ℕ → Forest Row
+tree_after views (edit.Add parent class width height) fresh = with_child parent (leaf fresh (new_view views.next class width height)) views.tree
+tree_after views (edit.Remove view) fresh = cut view views.tree
+tree_after views (edit.Act view act) fresh = put_view view (acted_view act) views.tree
+tree_after views (edit.Text view text) fresh = put_view view (λ v. record v { text = chars text.now }) views.tree
+
+-- the number of the view that is made next after an edit
+abbrev pub next_after : Views → Edit → ℕ
+next_after views (edit.Add parent class width height) = views.next + 1
+next_after views (edit.Remove view) = views.next
+next_after views (edit.Act view act) = views.next
+next_after views (edit.Text view text) = views.next
+
+-- what is kept under a key after an act on a view: what it hides has no bounds; the view's offset is that of its facts
+abbrev pub held_acted : Views → ℕ → Act → ℕ → Held
+held_acted views view act key =
+    let held = held_hiding (hides act) views view key in
+    if key == view then record held { offset = (acted act (facts_of views view)).offset } else held
+
+-- what is kept under the key of a view that an edit leaves in the tree
+abbrev pub held_after : Views → Edit → ℕ → Held
+held_after views (edit.Add parent class width height) key = held_of views key
+held_after views (edit.Remove view) key = held_of views key
+held_after views (edit.Act view act) key = held_acted views view act key
+held_after views (edit.Text view text) key = held_of views key
+
+-- Each view that stays keeps its key and what is kept of it, but for what the edit hides or scrolls. A new view stands
+-- under a key that none had, and nothing was kept of it before.
+pub record KeepsViews (old new : Views) (edit : Edit) : Type 0 where
+  pub fresh : ℕ
+  pub unused : times fresh old.tree ≡ 0
+  pub tree : new.tree ≡ tree_after old edit fresh
+  pub next : new.next ≡ next_after old edit
+  pub stays : (key : ℕ) → IsLive old key → IsLive new key → held_of new key ≡ held_after old edit key
+  pub made : IsLive new fresh → held_of new fresh ≡ held_or None

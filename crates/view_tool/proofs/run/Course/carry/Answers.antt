@@ -1,0 +1,23 @@
+use Rattle.std.proofs.Common.{arith, ap, subst, Option, List, ℕ}
+use Rattle.text_lines.specs.Prefix.{AppendsPrefix}
+use Rattle.view_model.specs.Refusals.{told}
+use Rattle.view_tool.specs.Refusals.{refused_line}
+use Rattle.view_tool.specs.Run.{line_now}
+use Rattle.view_tool.proofs.RunLaws.{after_lines-lines, carried_refused, carried_sink, done_prefix, not_done, refused_prefix}
+use Rattle.view_tool.proofs.run.Course.carry.Goals as goal
+
+pub returns-in-Err-Refused-clause-stopped : goal.returns-in-Err-Refused-clause-stopped
+returns-in-Err-Refused-clause-stopped g c first lines short at =
+    let refusal = c.in-Err-Refused.refusal in
+    let same = not_done c.in-Err-Refused.field-0 refusal c.in-Err-Refused.field-0-is c.in-Err-Refused.ensures.unchanged in
+    let part =
+    subst (λ (gone : Option (List ℕ)). AppendsPrefix gone (g.K.Sink.state c.reply_refusal.new.sink).gone (refused_line c.saturating_add-self.result (told refusal)))
+    (ap (λ sink. (g.K.Sink.state sink).gone) same.1) c.in-Err.ensures.prefix in
+    refused_prefix first (g.K.Sink.state c.args.sink.now).gone _ c.args.self.now lines (line_now c.args.line) c.saturating_add-self.result (told refusal) at
+    (carried_refused _ _ _ _ c.in-Err-Refused.field-0 refusal c.in-Err-Refused.field-0-is c.in-Err-Refused.ensures.carried)
+    (omega (arith, c.saturating_add-self.ensures, at.lines, after_lines-lines lines, short)) part
+
+pub returns-in-Err-Sink-clause-stopped : goal.returns-in-Err-Sink-clause-stopped
+returns-in-Err-Sink-clause-stopped g c first lines short at =
+    let carried = carried_sink _ _ _ _ c.in-Err-Sink.field-0 c.in-Err-Sink.field-0-is c.in-Err-Sink.ensures.carried in
+    done_prefix first (g.K.Sink.state c.args.sink.now).gone _ c.args.self.now lines (line_now c.args.line) _ carried.0 at carried.1 carried.2

@@ -1,0 +1,76 @@
+//! Laying a measured view and all below it: the walk, which is the same for every class.
+ghost use Rattle.std.specs.Prelude.{◌≡◌, ◌+◌, ◌≤◌, ℕ, true, [], List, length};
+ghost use Rattle.view_model.specs.Facts.{is_shown};
+ghost use Rattle.view_model.specs.Forest.{count_of};
+ghost use Rattle.view_model.specs.Geometry.{extent_of};
+ghost use Rattle.view_model.specs.Layout.{Spot};
+ghost use Rattle.view_model.specs.Measuring.{Measured};
+ghost use Rattle.view_tree.specs.Rows.{alone, below, from, times};
+ghost use Rattle.view_tree.specs.Views.{IsLive, IsTree, SameTree, facts_of, held_of, specs_of, state_of};
+ghost use Rattle.view_world.specs.Laying.{CanBeLaid, IsLaid, KeepsAllButBounds, group_kids, layout_of, spot_of};
+ghost use Rattle.view_world.specs.Placing.{LaidKids, PlacesAs};
+
+use super::placer::Placer;
+use geom_core::{Rect, Size};
+use view_tree::{Key, ViewTree};
+
+/// Lays a shown view, which was measured, in a rectangle of this size, and all below it.
+#[cycle(lay)]
+pub fn lay(tree: &mut ViewTree, view: Key, rect: Rect, size: Size)
+    requires is_tree { IsTree tree.old }
+    requires live { IsLive tree.old view }
+    requires shown { is_shown (facts_of tree.old view) ≡ true }
+    requires ready { CanBeLaid (held_of tree.old) (alone (from view tree.old.tree)) }
+    requires extent { extent_of rect ≡ size }
+    ensures same { SameTree tree.old tree.new }
+    ensures laid { IsLaid (held_of tree.new) (alone (from view tree.old.tree)) (layout_of (from view tree.old.tree) (specs_of (state_of tree.old view)) rect) }
+    ensures kept { KeepsAllButBounds tree.old tree.new }
+    ensures others { (key : ℕ) → times key (alone (from view tree.old.tree)) ≡ 0 → held_of tree.new key ≡ held_of tree.old key }
+{
+    tree.set_bounds(view, Some(rect));
+    lay_kids(tree, view, size);
+}
+
+/// Lays the children of a view of this size.
+#[cycle(lay)]
+fn lay_kids(tree: &mut ViewTree, view: Key, size: Size)
+    requires live { IsLive tree.old view }
+    requires ready { CanBeLaid (held_of tree.old) (below (from view tree.old.tree)) }
+    ensures same { SameTree tree.old tree.new }
+    ensures laid { IsLaid (held_of tree.new) (below (from view tree.old.tree))
+        (group_kids (spot_of (from view tree.old.tree) (held_of tree.old view) size) [] (held_of tree.old) (below (from view tree.old.tree))) }
+    ensures kept { KeepsAllButBounds tree.old tree.new }
+    ensures others { (key : ℕ) → times key (below (from view tree.old.tree)) ≡ 0 → held_of tree.new key ≡ held_of tree.old key }
+{
+    let mut next = tree.first(view);
+    if next.is_none() {
+        return;
+    }
+    let mut placer = Placer::start(tree, view, size);
+    while let Some(kid) = next {
+        lay_kid(tree, &mut placer, kid);
+        next = tree.next(kid);
+    }
+}
+
+/// Lays a child where its group places it, if it takes part in layout.
+#[cycle(lay)]
+fn lay_kid(tree: &mut ViewTree, placer: &mut Placer, kid: Key)
+    requires live { IsLive tree.old kid }
+    requires ready { CanBeLaid (held_of tree.old) (alone (from kid tree.old.tree)) }
+    ensures same { SameTree tree.old tree.new }
+    ensures laid { (spot : Spot) (before : List Measured)
+        → PlacesAs placer.old spot before
+        → length before + count_of (alone (from kid tree.old.tree)) ≤ 4096
+        → LaidKids placer.new spot before (held_of tree.old) (held_of tree.new) (alone (from kid tree.old.tree)) }
+    ensures kept { KeepsAllButBounds tree.old tree.new }
+    ensures others { (key : ℕ) → times key (alone (from kid tree.old.tree)) ≡ 0 → held_of tree.new key ≡ held_of tree.old key }
+{
+    let facts = tree.facts(kid);
+    if !facts.is_shown() {
+        return;
+    }
+    let size = tree.state(kid).measured;
+    let rect = placer.place(facts, size);
+    lay(tree, kid, rect, size);
+}

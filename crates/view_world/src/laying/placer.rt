@@ -1,0 +1,56 @@
+//! Where a group puts its children, one after the other. What is here has one arm a class.
+ghost use Rattle.std.specs.Prelude.{◌≡◌, ◌<◌, [], ◌∷◌, ◌++◌, List, None, length};
+ghost use Rattle.geom_core.specs.Limits.{IsSide};
+ghost use Rattle.view_model.specs.Facts.{unscrolled_facts};
+ghost use Rattle.view_model.specs.Geometry.{extent_of};
+ghost use Rattle.view_model.specs.Layout.{Spot, place_in};
+ghost use Rattle.view_model.specs.Measuring.{Measured};
+ghost use Rattle.view_tree.specs.Rows.{from};
+ghost use Rattle.view_tree.specs.Views.{IsLive, held_of};
+ghost use Rattle.view_world.specs.Laying.{spot_of};
+ghost use Rattle.view_world.specs.Placing.{PlacesAs};
+
+use frame_layout::place;
+use geom_core::{Rect, Size};
+use view_model::{Class, Facts};
+use view_tree::{Key, ViewTree};
+
+/// How a view places its children.
+#[derive(Clone, Copy, Debug)]
+pub enum Placer {
+    /// Over one another.
+    Over { own: Facts, room: Size },
+}
+
+impl Placer {
+    /// Before the first child of a view of this size.
+    pub fn start(tree: &ViewTree, view: Key, room: Size) -> Placer
+        requires live { IsLive tree.now view }
+        ensures { PlacesAs result (spot_of (from view tree.now.tree) (held_of tree.now view) room) [] }
+    {
+        match tree.class(view) {
+            Class::View | Class::FrameLayout => Placer::Over {
+                own: *tree.facts(view),
+                room,
+            },
+        }
+    }
+
+    /// The place of the next child, which has this size.
+    pub fn place(&mut self, kid: &Facts, size: Size) -> Rect
+        requires width { IsSide size.w }
+        requires height { IsSide size.h }
+        ensures extent { extent_of result ≡ size }
+        ensures place { (spot : Spot) (before : List Measured)
+            → PlacesAs self.old spot before
+            → result ≡ place_in spot before (record { facts = unscrolled_facts kid.now; size = size }) None }
+        ensures next { (spot : Spot) (before : List Measured)
+            → PlacesAs self.old spot before
+            → length before < 4096
+            → PlacesAs self.new spot (before ++ record { facts = unscrolled_facts kid.now; size = size } ∷ []) }
+    {
+        match self {
+            Placer::Over { own, room } => place(own, *room, kid, size),
+        }
+    }
+}
