@@ -5,7 +5,7 @@ pub mod Fields
 pub mod Parts
 pub mod Nodes
 pub mod Decoding
-pub mod View
+pub mod Meaning
 pub mod Relation
 pub mod Sound
 pub mod Dump

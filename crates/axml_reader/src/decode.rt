@@ -5,7 +5,7 @@ ghost use Rattle.axml_reader.specs.Decoding.{start, document_of, one_chunk, chun
 ghost use Rattle.axml_reader.specs.Document.{Document};
 ghost use Rattle.axml_reader.specs.Relation.{IsDocument};
 ghost use Rattle.axml_reader.specs.Sound.{IsSound};
-ghost use Rattle.axml_reader.specs.View.{document, reading};
+ghost use Rattle.axml_reader.specs.Meaning.{document, reading};
 
 use crate::doc::Doc;
 use crate::reading::Reading;

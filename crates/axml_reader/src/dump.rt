@@ -3,11 +3,11 @@
 ghost use Rattle.std.specs.Prelude.{◌≡◌, ◌+◌, ◌<◌, ◌≤◌, decimal, length, slice_index_or, [], true};
 ghost use Rattle.std.specs.List.{enumerate_from};
 ghost use Rattle.text_lines.specs.Delivered.{Delivered};
-ghost use Rattle.text_lines.specs.Held.{Sends};
+ghost use Rattle.text_lines.specs.BufferedText.{Sends};
 ghost use Rattle.text_lines.specs.Joined.{texts_of};
 ghost use Rattle.axml_reader.specs.Dump.{encoding, string_mark, string_name, control_escape, name_field, number_field, hex_field, value_fields, escaped, pool_line, string_line, string_lines, id_line, namespace_line, attr_line, start_line, end_line, chars_line, node_lines, dump_text};
 ghost use Rattle.axml_reader.specs.Sound.{AreWithin, is_within};
-ghost use Rattle.axml_reader.specs.View.{document};
+ghost use Rattle.axml_reader.specs.Meaning.{document};
 
 use crate::doc::{Attr, Doc, NO_STRING, Node};
 use axml_chunks::Pool;

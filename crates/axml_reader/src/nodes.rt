@@ -5,7 +5,7 @@ ghost use Rattle.axml_reader.specs.Alike.{AreAlike};
 ghost use Rattle.axml_reader.specs.Brackets.{is_closed_by};
 ghost use Rattle.axml_reader.specs.Fields.{same_text};
 ghost use Rattle.axml_reader.specs.Nodes.{IsStart, is_short, is_outside, pair_at, names_at, chars_at, start_at, pool_part, map_part, namespace_start_part, namespace_end_part, start_part, end_part, chars_part, part_at, joined};
-ghost use Rattle.axml_reader.specs.View.{reading};
+ghost use Rattle.axml_reader.specs.Meaning.{reading};
 
 use crate::alike::{are_alike, none_alike};
 use crate::doc::Node;

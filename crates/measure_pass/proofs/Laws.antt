@@ -9,7 +9,7 @@ use Rattle.view_model.specs.Growth.{is_group}
 use Rattle.view_model.specs.Layout.{rule_by, rule_of}
 use Rattle.view_model.specs.Leaf.{view_size}
 use Rattle.view_model.specs.Measuring.{Specs}
-use Rattle.view_model.specs.PlainTree.{View as PlainView}
+use Rattle.view_model.specs.PlainTree.{PlainView}
 
 lawful_by : (class : Class) (view : PlainView) (specs : Specs) → IsLawful (is_group class) (rule_by class view specs)
 lawful_by View view specs = leaf_lawful (view_size view.facts specs) (default_size_of-is_side _ _) (default_size_of-is_side _ _)

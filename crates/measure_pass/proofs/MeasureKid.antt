@@ -16,14 +16,14 @@ use Rattle.view_model.specs.Forest.{Forest, Nothing, Branch}
 use Rattle.view_model.specs.Growth.{is_group}
 use Rattle.view_model.specs.Layout.{children_of, unscrolled}
 use Rattle.view_model.specs.Measuring.{Measured, Specs, pair_of, taken_as}
-use Rattle.view_tree.specs.Rows.{Row, alone, below, from, times, views_of}
+use Rattle.view_tree.specs.Rows.{Row, first_tree, children_of_first, part_from, count_of_key, views_of}
 use Rattle.view_tree.specs.Views.{Held, IsLive, IsTree, Views, specs_of}
 use Rattle.view_tree.proofs.KeptLaws.{no_children_of}
 use Rattle.view_tree.proofs.KeyLaws.{located}
 
 pub gone_kid : (plan : Plan) (group : Group) (past : List (List Measured)) (taken : List Measured) (tree : Forest Row) (kid : ℕ) (asked : List Requested) (held : ℕ → Held)
-    (count : ℕ) → 0 < times kid tree → is_shown (facts_in (from kid tree)) ≡ false → Stands plan group past taken → InCourse held (alone (from kid tree)) asked
-    → AfterPhase plan group past taken asked held held (alone (from kid tree)) count count
+    (count : ℕ) → 0 < count_of_key kid tree → is_shown (facts_in (part_from kid tree)) ≡ false → Stands plan group past taken → InCourse held (first_tree (part_from kid tree)) asked
+    → AfterPhase plan group past taken asked held held (first_tree (part_from kid tree)) count count
 gone_kid plan group past taken tree kid asked held count live gone stands course =
     let x = located kid tree live in
     let course : InCourse held (Branch x.row x.kids Nothing) asked = rw x.is at course in
@@ -31,11 +31,11 @@ gone_kid plan group past taken tree kid asked held count live gone stands course
     rw x.is (gone_row plan group past taken x.row x.kids asked held count gone stands course)
 
 pub skipped_kid : (plan : Plan) (group : Group) (past : List (List Measured)) (taken : List Measured) (tree : Forest Row) (kid : ℕ) (asked : List Requested) (held : ℕ → Held)
-    (present : Size) (count : ℕ) → 0 < times kid tree → is_shown (facts_in (from kid tree)) ≡ true → present ≡ (held kid).state.measured
-    → None ≡ option_map pair_of ((rule_in group).ask past taken (record { facts = facts_in (from kid tree); size = present }))
-    → Stands plan group past (taken ++ taken_as (rule_in group) past taken (facts_in (from kid tree)) present ∷ []) → InCourse held (alone (from kid tree)) asked
+    (present : Size) (count : ℕ) → 0 < count_of_key kid tree → is_shown (facts_in (part_from kid tree)) ≡ true → present ≡ (held kid).state.measured
+    → None ≡ option_map pair_of ((rule_in group).ask past taken (record { facts = facts_in (part_from kid tree); size = present }))
+    → Stands plan group past (taken ++ taken_as (rule_in group) past taken (facts_in (part_from kid tree)) present ∷ []) → InCourse held (first_tree (part_from kid tree)) asked
     → CanTurn (rule_in group) past asked
-    → AfterPhase plan group past taken asked held held (alone (from kid tree)) count count
+    → AfterPhase plan group past taken asked held held (first_tree (part_from kid tree)) count count
 skipped_kid plan group past taken tree kid asked held present count live here present_is answer stands course can =
     let x = located kid tree live in
     let course : InCourse held (Branch x.row x.kids Nothing) asked = rw x.is at course in
@@ -44,14 +44,14 @@ skipped_kid plan group past taken tree kid asked held present count live here pr
     rw x.is (left_row plan group past taken x.row x.kids asked held present count here present_is (rw x.is at answer) (rw x.is at stands) course can)
 
 pub measured_kid : (plan : Plan) (group : Group) (past : List (List Measured)) (taken : List Measured) (tree : Forest Row) (kid : ℕ) (asked : List Requested) (before held : ℕ → Held)
-    (present size : Size) (specs : Specs) (old new : ℕ) → 0 < times kid tree → is_shown (facts_in (from kid tree)) ≡ true
+    (present size : Size) (specs : Specs) (old new : ℕ) → 0 < count_of_key kid tree → is_shown (facts_in (part_from kid tree)) ≡ true
     → present ≡ (before kid).state.measured
-    → Some (pair_of specs) ≡ option_map pair_of ((rule_in group).ask past taken (record { facts = facts_in (from kid tree); size = present }))
-    → size ≡ size_under (from kid tree) specs → Sized held (alone (from kid tree)) → specs_of (held kid).state ≡ specs
-    → Stands plan group past (taken ++ taken_as (rule_in group) past taken (facts_in (from kid tree)) size ∷ []) → Costs (alone (from kid tree)) before held old (calls_under (from kid tree) specs) new
-    → InCourse before (alone (from kid tree)) asked
+    → Some (pair_of specs) ≡ option_map pair_of ((rule_in group).ask past taken (record { facts = facts_in (part_from kid tree); size = present }))
+    → size ≡ size_under (part_from kid tree) specs → Sized held (first_tree (part_from kid tree)) → specs_of (held kid).state ≡ specs
+    → Stands plan group past (taken ++ taken_as (rule_in group) past taken (facts_in (part_from kid tree)) size ∷ []) → Costs (first_tree (part_from kid tree)) before held old (calls_under (part_from kid tree) specs) new
+    → InCourse before (first_tree (part_from kid tree)) asked
     → CanTurn (rule_in group) past asked
-    → AfterPhase plan group past taken asked before held (alone (from kid tree)) old new
+    → AfterPhase plan group past taken asked before held (first_tree (part_from kid tree)) old new
 measured_kid plan group past taken tree kid asked before held present size specs old new live here present_is answer measured sized last stands costs course can =
     let x = located kid tree live in
     let course : InCourse before (Branch x.row x.kids Nothing) asked = rw x.is at course in
@@ -66,8 +66,8 @@ measured_kid plan group past taken tree kid asked before held present size specs
 
 -- a view whose whole measuring is over
 pub measured_whole : (views : Views) (view : ℕ) (specs : Specs) (before held : ℕ → Held) (answer : Size) (total : ℤ) (old new : ℕ) → IsTree views → IsLive views view
-    → (let part = from view views.tree in
-    AfterAll (group_of part specs) 2 (begun (children_of (views_of (below part)))) before held (below part) answer total old new
+    → (let part = part_from view views.tree in
+    AfterAll (group_of part specs) 2 (begun (children_of (views_of (children_of_first part)))) before held (children_of_first part) answer total old new
     → IsMeasuredBelow part specs before held answer total old new)
 measured_whole views view specs before held answer total old new is_tree live after =
     let x = located view views.tree live in

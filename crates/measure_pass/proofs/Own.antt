@@ -9,7 +9,7 @@ use Rattle.measure_pass.proofs.Counts.{costs_stored}
 use Rattle.measure_pass.proofs.Parts.{Agree, Same, Sized-along, last_specs-along}
 use Rattle.view_model.specs.Forest.{Forest, Nothing, Branch}
 use Rattle.view_model.specs.Measuring.{Specs}
-use Rattle.view_tree.specs.Rows.{Row, alone, below, from, times}
+use Rattle.view_tree.specs.Rows.{Row, first_tree, children_of_first, part_from, count_of_key}
 use Rattle.view_tree.specs.Views.{Held, Views, held_of, specs_of}
 use Rattle.view_tree.proofs.Forests.{times_from}
 use Rattle.view_tree.proofs.KeyLaws.{located}
@@ -21,10 +21,10 @@ pub record Own (list : Forest Row) (view : ℕ) (specs : Specs) (before held : �
   pub height : IsSide got.h
   pub last : specs_of (held view).state ≡ specs
   pub kept_size : (held view).state.measured ≡ size_under list specs
-  pub sized : Sized held (alone list)
+  pub sized : Sized held (first_tree list)
   pub keeps : Keeps before held
-  pub others : Agree before held (alone list)
-  pub costs : Costs (alone list) before held old (calls_under list specs) new
+  pub others : Agree before held (first_tree list)
+  pub costs : Costs (first_tree list) before held old (calls_under list specs) new
 
 -- a write to one view
 pub record Wrote (old new : ℕ → Held) (view : ℕ) (own : Held) : Type 0 where
@@ -51,23 +51,23 @@ keeps_by old new view own w bounds offset = record {
   ];
 }
 
-own_more : (row : Row) (kids siblings : Forest Row) (key : ℕ) → row.key ≡ key → times key kids + times key siblings < times key (Branch row kids siblings)
+own_more : (row : Row) (kids siblings : Forest Row) (key : ℕ) → row.key ≡ key → count_of_key key kids + count_of_key key siblings < count_of_key key (Branch row kids siblings)
 own_more row kids siblings key e = rw (eq-eqb row.key key e) (omega arith)
 
-not_own : (row : Row) (kids : Forest Row) (key : ℕ) → times key (Branch row kids Nothing) ≡ 0 → key ≢ row.key
+not_own : (row : Row) (kids : Forest Row) (key : ℕ) → count_of_key key (Branch row kids Nothing) ≡ 0 → key ≢ row.key
 not_own row kids key none e = let m = own_more row kids Nothing key (sym e) in absurd (omega arith)
 
-wrote_below : (old new : ℕ → Held) (row : Row) (kids : Forest Row) (own : Held) → ((key : ℕ) → times key (Branch row kids Nothing) ≤ 1) → Wrote old new row.key own
+wrote_below : (old new : ℕ → Held) (row : Row) (kids : Forest Row) (own : Held) → ((key : ℕ) → count_of_key key (Branch row kids Nothing) ≤ 1) → Wrote old new row.key own
     → Same old new kids
 wrote_below old new row kids own once w =
     λ key here. w.others key (λ e. let m = own_more row kids Nothing key (sym e) in let o = once key in absurd (omega arith))
 
-no_own_below : (row : Row) (kids : Forest Row) → ((key : ℕ) → times key (Branch row kids Nothing) ≤ 1) → times row.key kids ≡ 0
+no_own_below : (row : Row) (kids : Forest Row) → ((key : ℕ) → count_of_key key (Branch row kids Nothing) ≤ 1) → count_of_key row.key kids ≡ 0
 no_own_below row kids once = let m = own_more row kids Nothing row.key refl in let o = once row.key in omega arith
 
 -- measured through its children
 new_row : (held mid new : ℕ → Held) (row : Row) (kids siblings : Forest Row) (specs : Specs) (size : Size) (total : ℤ) (old between count : ℕ)
-    → ((key : ℕ) → times key (Branch row kids Nothing) ≤ 1) → IsMeasuredBelow (Branch row kids siblings) specs held mid size total old between
+    → ((key : ℕ) → count_of_key key (Branch row kids Nothing) ≤ 1) → IsMeasuredBelow (Branch row kids siblings) specs held mid size total old between
     → Keeps held mid → Agree held mid kids → Wrote mid new row.key (done_with (mid row.key) specs size total) → count ≡ min (between + 1) (2 ^ 64 - 1)
     → Own (Branch row kids siblings) row.key specs held new old count size
 new_row held mid new row kids siblings specs size total old between count once m keeps others w more =
@@ -88,26 +88,26 @@ new_row held mid new row kids siblings specs size total old between count once m
     }
 
 -- the same at a view of a tree
-once_at : (tree : Forest Row) (view : ℕ) → ((key : ℕ) → times key tree ≤ 1) → 0 < times view tree → (key : ℕ) → times key (from view tree) ≤ 1
+once_at : (tree : Forest Row) (view : ℕ) → ((key : ℕ) → count_of_key key tree ≤ 1) → 0 < count_of_key view tree → (key : ℕ) → count_of_key key (part_from view tree) ≤ 1
 once_at tree view once live key = let a = times_from view key tree live in let o = once key in omega arith
 
-alone_once : (row : Row) (kids siblings : Forest Row) → ((key : ℕ) → times key (Branch row kids siblings) ≤ 1) → (key : ℕ) → times key (Branch row kids Nothing) ≤ 1
+alone_once : (row : Row) (kids siblings : Forest Row) → ((key : ℕ) → count_of_key key (Branch row kids siblings) ≤ 1) → (key : ℕ) → count_of_key key (Branch row kids Nothing) ≤ 1
 alone_once row kids siblings once key = let o = once key in omega arith
 
 pub new_at : (tree : Forest Row) (view : ℕ) (held mid new : ℕ → Held) (specs : Specs) (size : Size) (total : ℤ) (old between count : ℕ)
-    → ((key : ℕ) → times key tree ≤ 1) → 0 < times view tree → IsMeasuredBelow (from view tree) specs held mid size total old between
-    → Keeps held mid → Agree held mid (below (from view tree)) → Wrote mid new view (done_with (mid view) specs size total) → count ≡ min (between + 1) (2 ^ 64 - 1)
-    → Own (from view tree) view specs held new old count size
+    → ((key : ℕ) → count_of_key key tree ≤ 1) → 0 < count_of_key view tree → IsMeasuredBelow (part_from view tree) specs held mid size total old between
+    → Keeps held mid → Agree held mid (children_of_first (part_from view tree)) → Wrote mid new view (done_with (mid view) specs size total) → count ≡ min (between + 1) (2 ^ 64 - 1)
+    → Own (part_from view tree) view specs held new old count size
 new_at tree view held mid new specs size total old between count once live m keeps others w more =
     let x = located view tree live in
     let m : IsMeasuredBelow (Branch x.row x.kids x.siblings) specs held mid size total old between = rw x.is at m in
     let others : Agree held mid x.kids = rw x.is at others in
-    let once : (key : ℕ) → times key (Branch x.row x.kids x.siblings) ≤ 1 = rw x.is at (once_at tree view once live) in
+    let once : (key : ℕ) → count_of_key key (Branch x.row x.kids x.siblings) ≤ 1 = rw x.is at (once_at tree view once live) in
     let w : Wrote mid new x.row.key (done_with (mid x.row.key) specs size total) =
     subst (λ key. Wrote mid new key (done_with (mid key) specs size total)) (sym x.key_is) w in
     rw x.is (subst (λ key. Own (Branch x.row x.kids x.siblings) key specs held new old count size) x.key_is
     (new_row held mid new x.row x.kids x.siblings specs size total old between count (alone_once x.row x.kids x.siblings once) m keeps others w more))
 
 pub measured_at : (old new : Views) (view : ℕ) (specs : Specs) (before : ℕ → Held) (first last : ℕ) (got : Size) → new.tree ≡ old.tree
-    → Own (from view old.tree) view specs before (held_of new) first last got → IsMeasured new view specs
+    → Own (part_from view old.tree) view specs before (held_of new) first last got → IsMeasured new view specs
 measured_at old new view specs before first last got same own = record { last = own.last; size = rw same own.kept_size; sized = rw same own.sized }

@@ -9,7 +9,7 @@ use Rattle.view_model.specs.Course.{Requested, after_phase, after_turn, last_of,
 use Rattle.view_model.specs.Facts.{unscrolled_facts}
 use Rattle.view_model.specs.Forest.{Forest, Nothing, Branch, count_of}
 use Rattle.view_model.specs.Measuring.{Measured, Rule, Specs}
-use Rattle.view_tree.specs.Rows.{Row, after, alone, below, from, head_view, times}
+use Rattle.view_tree.specs.Rows.{Row, later_siblings, first_tree, children_of_first, part_from, head_view, count_of_key}
 use Rattle.view_tree.specs.Views.{Held, specs_of}
 use Rattle.view_tree.proofs.Forests.{count-within}
 use Rattle.view_tree.proofs.KeyLaws.{located, times_self}
@@ -20,11 +20,11 @@ facts_in list = unscrolled_facts (head_view list).facts
 
 -- two trees keep the same of each of these views
 abbrev pub Same : (ℕ → Held) → (ℕ → Held) → Forest Row → Type 0
-Same old new list = (key : ℕ) → 0 < times key list → new key ≡ old key
+Same old new list = (key : ℕ) → 0 < count_of_key key list → new key ≡ old key
 
 -- two trees keep the same of each view that is not among these
 abbrev pub Agree : (ℕ → Held) → (ℕ → Held) → Forest Row → Type 0
-Agree old new list = (key : ℕ) → times key list ≡ 0 → new key ≡ old key
+Agree old new list = (key : ℕ) → count_of_key key list ≡ 0 → new key ≡ old key
 
 pub same_self : (old new : ℕ → Held) (row : Row) (kids siblings : Forest Row) → Same old new (Branch row kids siblings) → new row.key ≡ old row.key
 same_self old new row kids siblings same = same row.key (times_self row kids siblings)
@@ -48,9 +48,9 @@ IsSized-along old new own row kids same h = record { size = h.size; finals = las
 pub Sized-along : (old new : ℕ → Held) (list : Forest Row) → Same old new list → Sized old list → Sized new list
 Sized-along old new Nothing same h = tt
 Sized-along old new (Branch row kids siblings) same h =
-    let below = same_kids old new row kids siblings same in
+    let children_of_first = same_kids old new row kids siblings same in
     let e : old row.key ≡ new row.key = sym (same_self old new row kids siblings same) in (
-      λ here. (subst (λ (own : Held). IsSized new own row kids) e (IsSized-along old new (old row.key) row kids below (h.0 here).0), Sized-along old new kids below (h.0 here).1),
+      λ here. (subst (λ (own : Held). IsSized new own row kids) e (IsSized-along old new (old row.key) row kids children_of_first (h.0 here).0), Sized-along old new kids children_of_first (h.0 here).1),
       Sized-along old new siblings (same_siblings old new row kids siblings same) h.1,
     )
 
@@ -64,15 +64,15 @@ MeasuredFor-along old new row kids (specs ∷ more) own same h =
 pub InCourse-along : (old new : ℕ → Held) (list : Forest Row) (kids : List Requested) → Same old new list → InCourse old list kids → InCourse new list kids
 InCourse-along old new Nothing [] same h = tt
 InCourse-along old new Nothing (kid ∷ more) same h = absurd h
-InCourse-along old new (Branch row below siblings) [] same h = absurd h
-InCourse-along old new (Branch row below siblings) (kid ∷ more) same h = (
+InCourse-along old new (Branch row children_of_first siblings) [] same h = absurd h
+InCourse-along old new (Branch row children_of_first siblings) (kid ∷ more) same h = (
   h.0,
-  MeasuredFor-along old new row below kid.requests (same_self old new row below siblings same) (same_kids old new row below siblings same) h.1,
-  InCourse-along old new siblings more (same_siblings old new row below siblings same) h.2,
+  MeasuredFor-along old new row children_of_first kid.requests (same_self old new row children_of_first siblings same) (same_kids old new row children_of_first siblings same) h.1,
+  InCourse-along old new siblings more (same_siblings old new row children_of_first siblings same) h.2,
 )
 
 -- how often a key occurs
-pub times_parts : (key : ℕ) (list : Forest Row) → times key list ≡ times key (alone list) + times key (after list)
+pub times_parts : (key : ℕ) (list : Forest Row) → count_of_key key list ≡ count_of_key key (first_tree list) + count_of_key key (later_siblings list)
 times_parts key Nothing = omega arith
 times_parts key (Branch row kids siblings) = omega arith
 
@@ -81,8 +81,8 @@ pub record Split (rule : Rule) (past : List (List Measured)) (held : ℕ → Hel
   pub first : List Requested
   pub rest : List Requested
   pub whole : kids ≡ first ++ rest
-  pub alone : InCourse held (alone list) first
-  pub behind : InCourse held (after list) rest
+  pub alone : InCourse held (first_tree list) first
+  pub behind : InCourse held (later_siblings list) rest
   pub turn : CanTurn rule past first
   pub turns : CanTurn rule past rest
 
@@ -90,17 +90,17 @@ pub split : (rule : Rule) (past : List (List Measured)) (held : ℕ → Held) (l
     → Split rule past held list kids
 split rule past held Nothing [] h can = record { first = []; rest = []; whole = refl; alone = tt; behind = tt; turn = tt; turns = tt }
 split rule past held Nothing (kid ∷ more) h can = absurd h
-split rule past held (Branch row below siblings) [] h can = absurd h
-split rule past held (Branch row below siblings) (kid ∷ more) h can =
+split rule past held (Branch row children_of_first siblings) [] h can = absurd h
+split rule past held (Branch row children_of_first siblings) (kid ∷ more) h can =
     record { first = kid ∷ []; rest = more; whole = refl; alone = (h.0, h.1, tt); behind = h.2; turn = (can.0, tt); turns = can.1 }
 
-pub InCourse-join : (held : ℕ → Held) (list : Forest Row) (first rest : List Requested) → InCourse held (alone list) first → InCourse held (after list) rest
+pub InCourse-join : (held : ℕ → Held) (list : Forest Row) (first rest : List Requested) → InCourse held (first_tree list) first → InCourse held (later_siblings list) rest
     → InCourse held list (first ++ rest)
 InCourse-join held Nothing [] rest one more = more
 InCourse-join held Nothing (kid ∷ kids) rest one more = absurd one
-InCourse-join held (Branch row below siblings) [] rest one more = absurd one
-InCourse-join held (Branch row below siblings) (kid ∷ []) rest one more = (one.0, one.1, more)
-InCourse-join held (Branch row below siblings) (kid ∷ other ∷ kids) rest one more = absurd one.2
+InCourse-join held (Branch row children_of_first siblings) [] rest one more = absurd one
+InCourse-join held (Branch row children_of_first siblings) (kid ∷ []) rest one more = (one.0, one.1, more)
+InCourse-join held (Branch row children_of_first siblings) (kid ∷ other ∷ kids) rest one more = absurd one.2
 
 -- a phase of children, one part behind the other
 pub after_phase-append : (ask : List Measured → Measured → Option Specs) (taken : List Measured) (first rest : List Requested)
@@ -126,11 +126,11 @@ phase_calls-append ask taken (kid ∷ kids) rest =
     omega arith
 
 -- a view counts for at least one
-pub count_one : (tree : Forest Row) (kid : ℕ) → 0 < times kid tree → 0 < count_of (alone (from kid tree))
+pub count_one : (tree : Forest Row) (kid : ℕ) → 0 < count_of_key kid tree → 0 < count_of (first_tree (part_from kid tree))
 count_one tree kid live = let x = located kid tree live in rw x.is (omega arith)
 
 -- below a view there are no more views than in its tree
-pub count_few : (view : ℕ) (tree : Forest Row) → 0 < times view tree → count_of tree ≤ 4096 → count_of (below (from view tree)) ≤ 4096
+pub count_few : (view : ℕ) (tree : Forest Row) → 0 < count_of_key view tree → count_of tree ≤ 4096 → count_of (children_of_first (part_from view tree)) ≤ 4096
 count_few view tree live few =
     let x = located view tree live in
     let all = count-within x.within in

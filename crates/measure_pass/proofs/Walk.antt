@@ -12,16 +12,16 @@ use Rattle.view_model.specs.Course.{Requested, after_phase, measured_of, sizes_o
 use Rattle.view_model.specs.Facts.{is_shown}
 use Rattle.view_model.specs.Forest.{Forest, Nothing, Branch, count_of}
 use Rattle.view_model.specs.Measuring.{Measured, Specs}
-use Rattle.view_tree.specs.Rows.{Row, after, alone, from, rest_from, times}
+use Rattle.view_tree.specs.Rows.{Row, later_siblings, first_tree, part_from, rest_from, count_of_key}
 use Rattle.view_tree.specs.Views.{Held}
 use Rattle.view_tree.proofs.Forests.{live_after, times_from}
 
 -- what was kept before a walk over these children and what is now, where the children from `next` on are left
 pub record Walked (tree kids : Forest Row) (start : ℕ → Held) (next : Option ℕ) (now : ℕ → Held) : Type 0 where
-  pub live : IfSome next (λ key. 0 < times key tree)
-  pub once : (key : ℕ) → times key tree ≤ 1
+  pub live : IfSome next (λ key. 0 < count_of_key key tree)
+  pub once : (key : ℕ) → count_of_key key tree ≤ 1
   pub few : count_of (rest_from next tree) ≤ count_of kids
-  pub within : (key : ℕ) → times key (rest_from next tree) ≤ times key kids
+  pub within : (key : ℕ) → count_of_key key (rest_from next tree) ≤ count_of_key key kids
   pub others : Agree start now kids
   pub still : Same start now (rest_from next tree)
 
@@ -40,17 +40,17 @@ pub record Phasing (plan : Plan) (group : Group) (past : List (List Measured)) (
       → Costs kids begin end start (phase_calls ((rule_in group).ask past) [] asked) last
 
 -- a part with a first view, then that view alone, then the part behind it
-agree_on : (old mid end : ℕ → Held) (part : Forest Row) → Agree old mid (alone part) → Agree mid end (after part) → Agree old end part
+agree_on : (old mid end : ℕ → Held) (part : Forest Row) → Agree old mid (first_tree part) → Agree mid end (later_siblings part) → Agree old end part
 agree_on old mid end part first rest = λ key none. let p = times_parts key part in rest key (omega arith) ∙ first key (omega arith)
 
-after_same : (old mid : ℕ → Held) (part : Forest Row) → ((key : ℕ) → times key part ≤ 1) → Agree old mid (alone part) → Same old mid (after part)
+after_same : (old mid : ℕ → Held) (part : Forest Row) → ((key : ℕ) → count_of_key key part ≤ 1) → Agree old mid (first_tree part) → Same old mid (later_siblings part)
 after_same old mid part once first = λ key here. let p = times_parts key part in let o = once key in first key (omega arith)
 
-alone_same : (mid end : ℕ → Held) (part : Forest Row) → ((key : ℕ) → times key part ≤ 1) → Agree mid end (after part) → Same mid end (alone part)
+alone_same : (mid end : ℕ → Held) (part : Forest Row) → ((key : ℕ) → count_of_key key part ≤ 1) → Agree mid end (later_siblings part) → Same mid end (first_tree part)
 alone_same mid end part once rest = λ key here. let p = times_parts key part in let o = once key in rest key (omega arith)
 
-pub walk_start : (tree kids : Forest Row) (start : ℕ → Held) (next : Option ℕ) → ((key : ℕ) → times key tree ≤ 1) → rest_from next tree ≡ kids
-    → IfSome next (λ key. 0 < times key tree)
+pub walk_start : (tree kids : Forest Row) (start : ℕ → Held) (next : Option ℕ) → ((key : ℕ) → count_of_key key tree ≤ 1) → rest_from next tree ≡ kids
+    → IfSome next (λ key. 0 < count_of_key key tree)
     → Walked tree kids start next start
 walk_start tree kids start next once is live = record {
   live = live;
@@ -62,11 +62,11 @@ walk_start tree kids start next once is live = record {
 }
 
 -- each view of the part that a live key begins occurs once
-pub once_from : (tree kids : Forest Row) (start : ℕ → Held) (kid : ℕ) (now : ℕ → Held) → Walked tree kids start (Some kid) now → (key : ℕ) → times key (from kid tree) ≤ 1
+pub once_from : (tree kids : Forest Row) (start : ℕ → Held) (kid : ℕ) (now : ℕ → Held) → Walked tree kids start (Some kid) now → (key : ℕ) → count_of_key key (part_from kid tree) ≤ 1
 once_from tree kids start kid now w key = let a = times_from kid key tree w.live in let o = w.once key in omega arith
 
 pub walk_on : (tree kids : Forest Row) (start : ℕ → Held) (kid : ℕ) (old mid : ℕ → Held) (next : Option ℕ) → Walked tree kids start (Some kid) old
-    → Agree old mid (alone (from kid tree)) → rest_from next tree ≡ after (from kid tree) → IfSome next (λ key. 0 < times key tree) → Walked tree kids start next mid
+    → Agree old mid (first_tree (part_from kid tree)) → rest_from next tree ≡ later_siblings (part_from kid tree) → IfSome next (λ key. 0 < count_of_key key tree) → Walked tree kids start next mid
 walk_on tree kids start kid old mid next w others is live =
     let fall = live_after kid tree w.live in
     let few = w.few in
@@ -75,9 +75,9 @@ walk_on tree kids start kid old mid next w others is live =
       live = live;
       once = w.once;
       few = rw is (omega arith);
-      within = λ key. rw is (let a = w.within key in let p = times_parts key (from kid tree) in omega arith);
-      others = λ key none. others key (let a = w.within key in let p = times_parts key (from kid tree) in omega arith) ∙ w.others key none;
-      still = rw is (λ key here. after_same old mid (from kid tree) once others key here ∙ w.still key (let p = times_parts key (from kid tree) in omega arith));
+      within = λ key. rw is (let a = w.within key in let p = times_parts key (part_from kid tree) in omega arith);
+      others = λ key none. others key (let a = w.within key in let p = times_parts key (part_from kid tree) in omega arith) ∙ w.others key none;
+      still = rw is (λ key here. after_same old mid (part_from kid tree) once others key here ∙ w.still key (let p = times_parts key (part_from kid tree) in omega arith));
     }
 
 pub phase_start : (plan : Plan) (group : Group) (past : List (List Measured)) (asked : List Requested) (kids : Forest Row) (now : ℕ → Held) (count : ℕ)
@@ -86,7 +86,7 @@ pub phase_start : (plan : Plan) (group : Group) (past : List (List Measured)) (a
 phase_start plan group past asked kids now count stands few course can =
     record { taken = []; ahead = asked; plan_stands = stands; few = omega arith; before = course; can = can; sizes = refl; done = λ end agree h. h; costs = λ end last agree h. h }
 
-count_parts : (list : Forest Row) → count_of list ≡ count_of (alone list) + count_of (after list)
+count_parts : (list : Forest Row) → count_of list ≡ count_of (first_tree list) + count_of (later_siblings list)
 count_parts Nothing = omega arith
 count_parts (Branch row kids siblings) = omega arith
 
@@ -109,11 +109,11 @@ sizes_few now (Branch row below siblings) (kid ∷ more) h =
     omega arith
 
 pub phase_on : (before plan : Plan) (group : Group) (past : List (List Measured)) (asked : List Requested) (kids part : Forest Row) (begin old mid : ℕ → Held) (start count new : ℕ)
-    → ((key : ℕ) → times key part ≤ 1)
-    → Phasing before group past asked kids part begin old start count → Agree old mid (alone part)
-    → ((taken : List Measured) (first : List Requested) → Stands before group past taken → length taken + count_of (alone part) ≤ 4096 → InCourse old (alone part) first
-    → CanTurn (rule_in group) past first → AfterPhase plan group past taken first old mid (alone part) count new)
-    → Phasing plan group past asked kids (after part) begin mid start new
+    → ((key : ℕ) → count_of_key key part ≤ 1)
+    → Phasing before group past asked kids part begin old start count → Agree old mid (first_tree part)
+    → ((taken : List Measured) (first : List Requested) → Stands before group past taken → length taken + count_of (first_tree part) ≤ 4096 → InCourse old (first_tree part) first
+    → CanTurn (rule_in group) past first → AfterPhase plan group past taken first old mid (first_tree part) count new)
+    → Phasing plan group past asked kids (later_siblings part) begin mid start new
 phase_on before plan group past asked kids part begin old mid start count new once f others turn =
     let ask = (rule_in group).ask past in
     let s = split (rule_in group) past old part f.ahead f.before f.can in
@@ -124,7 +124,7 @@ phase_on before plan group past asked kids part begin old mid start count new on
     let taken = f.taken ++ sizes_of first in
     let rest = after_phase ask taken s.rest in
     let apart : after_phase ask f.taken f.ahead ≡ first ++ rest = ap (λ all. after_phase ask f.taken all) s.whole ∙ after_phase-append ask f.taken s.first s.rest in
-    let fewer = sizes_few mid (alone part) first phase.course in
+    let fewer = sizes_few mid (first_tree part) first phase.course in
     let longer = length-append f.taken (sizes_of first) in
     let calls : phase_calls ask f.taken f.ahead ≡ phase_calls ask f.taken s.first + phase_calls ask taken s.rest =
     ap (λ all. phase_calls ask f.taken all) s.whole ∙ phase_calls-append ask f.taken s.first s.rest in
@@ -133,12 +133,12 @@ phase_on before plan group past asked kids part begin old mid start count new on
       ahead = s.rest;
       plan_stands = phase.plan_stands;
       few = omega arith;
-      before = InCourse-along old mid (after part) s.rest (after_same old mid part once others) s.behind;
+      before = InCourse-along old mid (later_siblings part) s.rest (after_same old mid part once others) s.behind;
       can = s.turns;
       sizes = append_assoc f.taken (sizes_of first) (sizes_of rest) ∙ ap (λ more. f.taken ++ more) (sym (sizes_of-append first rest) ∙ ap sizes_of (sym apart)) ∙ f.sizes;
       done = λ end agree h. f.done end (agree_on old mid end part others agree)
           (subst (λ all. InCourse end part all) (sym apart)
-          (InCourse-join end part first rest (InCourse-along mid end (alone part) first (alone_same mid end part once agree) phase.course) h));
+          (InCourse-join end part first rest (InCourse-along mid end (first_tree part) first (alone_same mid end part once agree) phase.course) h));
       costs = λ end last agree h. f.costs end last (agree_on old mid end part others agree)
           (costs_same part old end count (phase_calls ask f.taken s.first + phase_calls ask taken s.rest) (phase_calls ask f.taken f.ahead) last calls
           (costs_parts part old mid end count new last (phase_calls ask f.taken s.first) (phase_calls ask taken s.rest) once others agree phase.costs h));

@@ -15,7 +15,7 @@ use Rattle.view_model.specs.Facts.{is_shown}
 use Rattle.view_model.specs.Forest.{Forest, Nothing, Branch}
 use Rattle.view_model.specs.Layout.{Final, children_of}
 use Rattle.view_model.specs.Measuring.{Measured, Rule, Specs}
-use Rattle.view_tree.specs.Rows.{Row, below, views_of}
+use Rattle.view_tree.specs.Rows.{Row, children_of_first, views_of}
 use Rattle.view_tree.specs.Views.{Held, specs_of}
 
 pub no_true : {A : Type 0} (v : Bool) → v ≡ false → v ≡ true → A
@@ -197,9 +197,9 @@ measured_sized held row kids (specs ∷ more) m has = (m.1, m.2)
 pub course_sized : (held : ℕ → Held) (list : Forest Row) (kids : List Requested) → InCourse held list kids → AllAsked kids → Sized held list
 course_sized held Nothing [] h all = tt
 course_sized held Nothing (kid ∷ more) h all = absurd h
-course_sized held (Branch row below siblings) [] h all = absurd h
-course_sized held (Branch row below siblings) (kid ∷ more) h all = (
-  λ here. measured_sized held row below kid.requests h.1 (all.0 (ap (λ (child : Child). is_shown child.facts) h.0 ∙ here)),
+course_sized held (Branch row children_of_first siblings) [] h all = absurd h
+course_sized held (Branch row children_of_first siblings) (kid ∷ more) h all = (
+  λ here. measured_sized held row children_of_first kid.requests h.1 (all.0 (ap (λ (child : Child). is_shown child.facts) h.0 ∙ here)),
   course_sized held siblings more h.2 all.1,
 )
 
@@ -217,14 +217,14 @@ lasts_of specs kids =
 course_lasts : (held : ℕ → Held) (list : Forest Row) (specs : Specs) (kids : List Requested) → InCourse held list kids → AllAsked kids → last_specs held list ≡ lasts_of specs kids
 course_lasts held Nothing specs [] h all = refl
 course_lasts held Nothing specs (kid ∷ more) h all = absurd h
-course_lasts held (Branch row below siblings) specs [] h all = absurd h
-course_lasts held (Branch row below siblings) specs (kid ∷ more) h all =
+course_lasts held (Branch row children_of_first siblings) specs [] h all = absurd h
+course_lasts held (Branch row children_of_first siblings) specs (kid ∷ more) h all =
     let rest = course_lasts held siblings specs more h.2 all.1 in
     let same = ap (λ (child : Child). is_shown child.facts) h.0 in
     elim (cases_Bool (is_shown row.view.facts)) [
       | inl here ↦
           let here' = same ∙ here in
-          let last = measured_last held row below specs kid.requests h.1 (all.0 here') in
+          let last = measured_last held row children_of_first specs kid.requests h.1 (all.0 here') in
           rw (here, here', last, rest) refl
       | inr gone ↦ let gone' = same ∙ gone in rw (gone, gone', rest) refl
     ]

@@ -10,7 +10,7 @@ use Rattle.view_model.specs.Facts.{is_shown}
 use Rattle.view_model.specs.Forest.{Forest, Nothing, Branch}
 use Rattle.view_model.specs.Layout.{child_under}
 use Rattle.view_model.specs.Measuring.{Measured, Rule, Specs, counted_as}
-use Rattle.view_tree.specs.Rows.{Row, below, views_of}
+use Rattle.view_tree.specs.Rows.{Row, children_of_first, views_of}
 use Rattle.view_tree.specs.Views.{Held, specs_of}
 
 -- a row as a child
@@ -80,9 +80,9 @@ pub record IsMeasuredBelow (part : Forest Row) (specs : Specs) (before held : �
   pub length : total ≡ total_under part specs
   pub width : IsSide answer.w
   pub height : IsSide answer.h
-  pub sized : Sized held (below part)
-  pub finals : last_specs held (below part) ≡ finals_under part specs
-  pub costs : Costs (below part) before held old (calls_under part specs) (new + 1)
+  pub sized : Sized held (children_of_first part)
+  pub finals : last_specs held (children_of_first part) ≡ finals_under part specs
+  pub costs : Costs (children_of_first part) before held old (calls_under part specs) (new + 1)
 
 -- a plan has taken the views of a list, which are these children, behind others of the same phase
 pub record AfterPhase (plan : Plan) (group : Group) (past : List (List Measured)) (taken : List Measured) (kids : List Requested)

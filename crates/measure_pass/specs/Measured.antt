@@ -5,7 +5,7 @@ use Rattle.view_model.specs.Facts.{is_shown}
 use Rattle.view_model.specs.Forest.{Forest, Nothing, Branch}
 use Rattle.view_model.specs.Layout.{final_specs, measure_calls, measured_size, total_size}
 use Rattle.view_model.specs.Measuring.{Specs}
-use Rattle.view_tree.specs.Rows.{Row, alone, from, views_of}
+use Rattle.view_tree.specs.Rows.{Row, first_tree, part_from, views_of}
 use Rattle.view_tree.specs.Views.{Held, Views, IsLive, held_of, specs_of, state_of}
 
 -- the size of the first view of a list under these specs
@@ -54,8 +54,8 @@ pub record IsReady (views : Views) (view : ℕ) : Type 0 where
 -- a view was measured under these specs, and all below it for that
 pub record IsMeasured (views : Views) (view : ℕ) (specs : Specs) : Type 0 where
   pub last : specs_of (state_of views view) ≡ specs
-  pub size : (state_of views view).measured ≡ size_under (from view views.tree) specs
-  pub sized : Sized (held_of views) (alone (from view views.tree))
+  pub size : (state_of views view).measured ≡ size_under (part_from view views.tree) specs
+  pub sized : Sized (held_of views) (first_tree (part_from view views.tree))
 
 -- a measuring leaves where views lie, and how far they have scrolled
 pub record Keeps (old new : ℕ → Held) : Type 0 where

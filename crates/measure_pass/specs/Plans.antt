@@ -8,7 +8,7 @@ use Rattle.view_model.specs.Forest.{Forest}
 use Rattle.view_model.specs.Layout.{rule_of, unscrolled}
 use Rattle.view_model.specs.Leaf.{leaf_rule}
 use Rattle.view_model.specs.Measuring.{Measured, Rule, Specs}
-use Rattle.view_model.specs.PlainTree.{View as PlainView}
+use Rattle.view_model.specs.PlainTree.{PlainView}
 use Rattle.view_tree.specs.Rows.{Row, head_view}
 
 -- a view that is measured

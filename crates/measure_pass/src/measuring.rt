@@ -7,7 +7,7 @@ ghost use Rattle.measure_pass.specs.Plans.{Group, Stands, rule_in};
 ghost use Rattle.view_model.specs.Course.{Requested};
 ghost use Rattle.view_model.specs.Forest.{count_of};
 ghost use Rattle.view_model.specs.Measuring.{Measured};
-ghost use Rattle.view_tree.specs.Rows.{alone, below, from, times};
+ghost use Rattle.view_tree.specs.Rows.{first_tree, children_of_first, part_from, count_of_key};
 ghost use Rattle.view_tree.specs.Views.{IsLive, IsTree, KeepsOthers, SameTree, held_of};
 
 use crate::plan::Plan;
@@ -20,15 +20,15 @@ use view_tree::{Key, ViewTree};
 #[cycle(measure)]
 pub fn measure(tree: &mut ViewTree, view: Key, ws: Spec, hs: Spec, work: &mut Work) -> Size
     requires ready { IsReady tree.old view }
-    ensures size { result ≡ size_under (from view tree.old.tree) (record { across = ws; down = hs }) }
+    ensures size { result ≡ size_under (part_from view tree.old.tree) (record { across = ws; down = hs }) }
     ensures width { IsSide result.w }
     ensures height { IsSide result.h }
     ensures same { SameTree tree.old tree.new }
     ensures measured { IsMeasured tree.new view (record { across = ws; down = hs }) }
     ensures keeps { Keeps (held_of tree.old) (held_of tree.new) }
-    ensures others { (key : ℕ) → times key (alone (from view tree.old.tree)) ≡ 0 → held_of tree.new key ≡ held_of tree.old key }
+    ensures others { (key : ℕ) → count_of_key key (first_tree (part_from view tree.old.tree)) ≡ 0 → held_of tree.new key ≡ held_of tree.old key }
     ensures painted { work.new.painted ≡ work.old.painted }
-    ensures counted { work.new.measured ≡ min (work.old.measured + calls_under (from view tree.old.tree) (record { across = ws; down = hs })) (2 ^ 64 - 1) }
+    ensures counted { work.new.measured ≡ min (work.old.measured + calls_under (part_from view tree.old.tree) (record { across = ws; down = hs })) (2 ^ 64 - 1) }
 {
     let outcome = measure_below(tree, view, ws, hs, work);
     finish(tree, view, ws, hs, outcome, work);
@@ -61,11 +61,11 @@ fn finish(tree: &mut ViewTree, view: Key, ws: Spec, hs: Spec, outcome: Outcome, 
 fn measure_below(tree: &mut ViewTree, view: Key, ws: Spec, hs: Spec, work: &mut Work) -> Outcome
     requires live { IsLive tree.old view }
     ensures is_tree { IsTree tree.old }
-    ensures measured { IsMeasuredBelow (from view tree.old.tree) (record { across = ws; down = hs }) (held_of tree.old) (held_of tree.new)
+    ensures measured { IsMeasuredBelow (part_from view tree.old.tree) (record { across = ws; down = hs }) (held_of tree.old) (held_of tree.new)
         result.size result.total work.old.measured work.new.measured }
     ensures same { SameTree tree.old tree.new }
     ensures keeps { Keeps (held_of tree.old) (held_of tree.new) }
-    ensures others { (key : ℕ) → times key (below (from view tree.old.tree)) ≡ 0 → held_of tree.new key ≡ held_of tree.old key }
+    ensures others { (key : ℕ) → count_of_key key (children_of_first (part_from view tree.old.tree)) ≡ 0 → held_of tree.new key ≡ held_of tree.old key }
     ensures painted { work.new.painted ≡ work.old.painted }
 {
     let mut plan = Plan::start(tree, view, ws, hs);
@@ -86,13 +86,13 @@ fn measure_phases(
     ensures is_tree { IsTree tree.old }
     ensures phases { (group : Group) (past : List (List Measured)) (kids : List Requested)
         → Stands plan.old group past []
-        → InCourse (held_of tree.old) (below (from view tree.old.tree)) kids
+        → InCourse (held_of tree.old) (children_of_first (part_from view tree.old.tree)) kids
         → StaysReady (rule_in group) left (record { past = past; kids = kids })
-        → AfterAll group left (record { past = past; kids = kids }) (held_of tree.old) (held_of tree.new) (below (from view tree.old.tree))
+        → AfterAll group left (record { past = past; kids = kids }) (held_of tree.old) (held_of tree.new) (children_of_first (part_from view tree.old.tree))
         result.size result.total work.old.measured work.new.measured }
     ensures same { SameTree tree.old tree.new }
     ensures keeps { Keeps (held_of tree.old) (held_of tree.new) }
-    ensures others { (key : ℕ) → times key (below (from view tree.old.tree)) ≡ 0 → held_of tree.new key ≡ held_of tree.old key }
+    ensures others { (key : ℕ) → count_of_key key (children_of_first (part_from view tree.old.tree)) ≡ 0 → held_of tree.new key ≡ held_of tree.old key }
     ensures painted { work.new.painted ≡ work.old.painted }
 {
     measure_kids(tree, view, plan, work);
@@ -127,12 +127,12 @@ fn measure_kids(tree: &mut ViewTree, view: Key, plan: &mut Plan, work: &mut Work
     ensures is_tree { IsTree tree.old }
     ensures phase { (group : Group) (past : List (List Measured)) (kids : List Requested)
         → Stands plan.old group past []
-        → InCourse (held_of tree.old) (below (from view tree.old.tree)) kids
+        → InCourse (held_of tree.old) (children_of_first (part_from view tree.old.tree)) kids
         → CanTurn (rule_in group) past kids
-        → AfterPhase plan.new group past [] kids (held_of tree.old) (held_of tree.new) (below (from view tree.old.tree)) work.old.measured work.new.measured }
+        → AfterPhase plan.new group past [] kids (held_of tree.old) (held_of tree.new) (children_of_first (part_from view tree.old.tree)) work.old.measured work.new.measured }
     ensures same { SameTree tree.old tree.new }
     ensures keeps { Keeps (held_of tree.old) (held_of tree.new) }
-    ensures others { (key : ℕ) → times key (below (from view tree.old.tree)) ≡ 0 → held_of tree.new key ≡ held_of tree.old key }
+    ensures others { (key : ℕ) → count_of_key key (children_of_first (part_from view tree.old.tree)) ≡ 0 → held_of tree.new key ≡ held_of tree.old key }
     ensures painted { work.new.painted ≡ work.old.painted }
 {
     let mut next = tree.first(view);
@@ -148,13 +148,13 @@ fn measure_kid(tree: &mut ViewTree, kid: Key, plan: &mut Plan, work: &mut Work)
     requires live { IsLive tree.old kid }
     ensures phase { (group : Group) (past : List (List Measured)) (taken : List Measured) (kids : List Requested)
         → Stands plan.old group past taken
-        → length taken + count_of (alone (from kid tree.old.tree)) ≤ 4096
-        → InCourse (held_of tree.old) (alone (from kid tree.old.tree)) kids
+        → length taken + count_of (first_tree (part_from kid tree.old.tree)) ≤ 4096
+        → InCourse (held_of tree.old) (first_tree (part_from kid tree.old.tree)) kids
         → CanTurn (rule_in group) past kids
-        → AfterPhase plan.new group past taken kids (held_of tree.old) (held_of tree.new) (alone (from kid tree.old.tree)) work.old.measured work.new.measured }
+        → AfterPhase plan.new group past taken kids (held_of tree.old) (held_of tree.new) (first_tree (part_from kid tree.old.tree)) work.old.measured work.new.measured }
     ensures same { SameTree tree.old tree.new }
     ensures keeps { Keeps (held_of tree.old) (held_of tree.new) }
-    ensures others { (key : ℕ) → times key (alone (from kid tree.old.tree)) ≡ 0 → held_of tree.new key ≡ held_of tree.old key }
+    ensures others { (key : ℕ) → count_of_key key (first_tree (part_from kid tree.old.tree)) ≡ 0 → held_of tree.new key ≡ held_of tree.old key }
     ensures painted { work.new.painted ≡ work.old.painted }
 {
     let facts = tree.facts(kid);

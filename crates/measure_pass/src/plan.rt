@@ -5,7 +5,7 @@ ghost use Rattle.measure_pass.specs.Plans.{Group, Stands, Turned, group_of, rule
 ghost use Rattle.view_model.specs.Facts.{unscrolled_facts};
 ghost use Rattle.view_model.specs.Leaf.{view_size};
 ghost use Rattle.view_model.specs.Measuring.{Measured, pair_of, taken_as};
-ghost use Rattle.view_tree.specs.Rows.{from};
+ghost use Rattle.view_tree.specs.Rows.{part_from};
 ghost use Rattle.view_tree.specs.Views.{IsLive};
 
 use frame_layout::FramePlan;
@@ -25,7 +25,7 @@ impl Plan {
     /// The plan of a view before its first child, measured under these specs.
     pub fn start(tree: &ViewTree, view: Key, ws: Spec, hs: Spec) -> Plan
         requires live { IsLive tree.now view }
-        ensures { Stands result (group_of (from view tree.now.tree) (record { across = ws; down = hs })) [] [] }
+        ensures { Stands result (group_of (part_from view tree.now.tree) (record { across = ws; down = hs })) [] [] }
     {
         match tree.class(view) {
             Class::View => Plan::Leaf(minimal_size(tree.facts(view), ws, hs)),

@@ -7,7 +7,7 @@ use Rattle.std.proofs.lemmas.Bool.Decides.{nat_tests}
 use Rattle.std.proofs.lemmas.List.{take_all, append-nil, take-append-le, take-append-drop}
 use Rattle.std.proofs.Math.Seq.{take-append-add}
 use Rattle.script_lines.specs.Lines.{Line, Text, LongLine, Cut, cut_of, is_line_feed, last_line, last_of, line_of, without_return}
-use Rattle.script_lines.specs.Held.{held_of}
+use Rattle.script_lines.specs.LineBuffer.{held_of}
 use Rattle.script_lines.proofs.LineLaws.{cut-append, behind_none, behind_feed, add_one, last_of-some}
 
 take_short : (k m : ℕ) (ys : List ℕ) → m ≡ min (length ys) k → take m ys ≡ take k ys

@@ -2,15 +2,15 @@
 use Rattle.std.proofs.Common.{◌≡◌, ℕ, ap, sym, subst, ◌∙◌, List, [], ◌∷◌, ◌++◌, append_assoc, take}
 use Rattle.std.proofs.lemmas.List.{append-nil}
 use Rattle.script_lines.specs.Lines.{Line, cut_of, last_of, lines_of}
-use Rattle.script_lines.specs.Held.{Held, Stands}
-use Rattle.script_lines.specs.Pieces.{Taken, Course, bytes_in, lines_in}
+use Rattle.script_lines.specs.LineBuffer.{LineBuffer, IsAfter}
+use Rattle.script_lines.specs.Pieces.{Feed, FeedSequence, bytes_in, lines_in}
 
 -- after any course
-after_course : (first last : Held) (course : List Taken) (before : List ℕ) → Stands first before → Course first course last
-    → ((cut_of (before ++ bytes_in course)).lines ≡ (cut_of before).lines ++ lines_in course) × Stands last (before ++ bytes_in course)
+after_course : (first last : LineBuffer) (course : List Feed) (before : List ℕ) → IsAfter first before → FeedSequence first course last
+    → ((cut_of (before ++ bytes_in course)).lines ≡ (cut_of before).lines ++ lines_in course) × IsAfter last (before ++ bytes_in course)
 after_course first last [] before s c = (
   ap (λ l. (cut_of l).lines) (append-nil before) ∙ sym (append-nil (cut_of before).lines),
-  record { begun = ap (λ (h : Held). h.begun) c ∙ s.begun ∙ sym (ap (λ l. take 1025 (cut_of l).rest) (append-nil before)) },
+  record { begun = ap (λ (h : LineBuffer). h.begun) c ∙ s.begun ∙ sym (ap (λ l. take 1025 (cut_of l).rest) (append-nil before)) },
 )
 after_course first last (taken ∷ course) before s c =
     let fed = c.0 before s in
@@ -18,11 +18,11 @@ after_course first last (taken ∷ course) before s c =
     let same = append_assoc before taken.bytes (bytes_in course) in (
       ap (λ l. (cut_of l).lines) (sym same) ∙ more.0 ∙ ap (λ l. l ++ lines_in course) fed.0
           ∙ append_assoc (cut_of before).lines (taken.lines) (lines_in course),
-      subst (λ l. Stands last l) same more.1,
+      subst (λ l. IsAfter last l) same more.1,
     )
 
 -- However a script is cut into pieces, its lines are those that were told of, and the last one.
-pub lines_in_pieces : (first last : Held) (course : List Taken) (rest : List Line) → Stands first [] → Course first course last → ((before : List ℕ) → Stands last before → last_of (cut_of before).rest ≡ rest)
+pub lines_in_pieces : (first last : LineBuffer) (course : List Feed) (rest : List Line) → IsAfter first [] → FeedSequence first course last → ((before : List ℕ) → IsAfter last before → last_of (cut_of before).rest ≡ rest)
     → lines_of (bytes_in course) ≡ lines_in course ++ rest
 unfolding lines_of
 lines_in_pieces first last course rest s c f =

@@ -2,7 +2,7 @@ pub mod Changes
 pub mod Commands
 pub mod Dimensions
 pub mod Gravities
-pub mod Held
+pub mod LineBuffer
 pub mod Lines
 pub mod Names
 pub mod Numbers

@@ -3,8 +3,8 @@
 ghost use Rattle.std.specs.Prelude.{◌≡◌, ◌≢◌, ℕ, ◌+◌, ◌<◌, ◌≤◌, ◌↔◌, ◌⊎◌, List, [], ◌++◌, length, take, min};
 ghost use Rattle.std.specs.List.{list_all, position_or_len};
 ghost use Rattle.script_lines.specs.Lines.{cut_of, is_line_feed, is_passed_over, is_space, last_of, lines_of, without_return};
-ghost use Rattle.script_lines.specs.Held.{Held, IsLent, Stands, lines_as, lines_at};
-ghost use Rattle.script_lines.specs.Pieces.{Course, Taken, bytes_in, lines_in};
+ghost use Rattle.script_lines.specs.LineBuffer.{LineBuffer, IsLent, IsAfter, lines_as, lines_at};
+ghost use Rattle.script_lines.specs.Pieces.{FeedSequence, Feed, bytes_in, lines_in};
 
 use crate::places::place_of;
 use std::marker::Model;
@@ -47,9 +47,9 @@ pub struct Lines {
 
 impl Model for Lines {
     ghost use Rattle.std.specs.Prelude.{◌≤◌, take};
-    ghost use Rattle.script_lines.specs.Held.{Held};
+    ghost use Rattle.script_lines.specs.LineBuffer.{LineBuffer};
 
-    ghost Value = { Held };
+    ghost Value = { LineBuffer };
 
     ghost view = { λ s. record { begun = take s.begun s.buffer; line = take s.line s.buffer } };
 
@@ -59,7 +59,7 @@ impl Model for Lines {
 impl Lines {
     /// Before the first byte.
     pub fn new() -> Lines
-        ensures stands { Stands result [] }
+        ensures stands { IsAfter result [] }
         ensures line { result.line ≡ [] }
     {
         Lines {
@@ -79,13 +79,13 @@ impl Lines {
         ensures some { 0 < length piece.now → 0 < result.0 }
         ensures all { result.1 ≡ LinePlace.No → result.0 ≡ length piece.now }
         ensures none { (result.1 ≡ LinePlace.No) ↔ (position_or_len is_line_feed piece.now ≡ length piece.now) }
-        ensures lines { (before : List ℕ) → Stands self.old before
+        ensures lines { (before : List ℕ) → IsAfter self.old before
             → (cut_of (before ++ take result.0 piece.now)).lines ≡ (cut_of before).lines ++ lines_at result.1 piece.now self.new.line }
         ensures lent { IsLent result.1 (length piece.now) }
         ensures whole { self.old.begun ≡ [] → result.1 ≢ LinePlace.Held }
         ensures line { (result.1 ≡ LinePlace.Held) ⊎ (self.new.line ≡ []) }
         ensures begun { (result.1 ≡ LinePlace.No) ⊎ (self.new.begun ≡ []) }
-        ensures stands { (before : List ℕ) → Stands self.old before → Stands self.new (before ++ take result.0 piece.now) }
+        ensures stands { (before : List ℕ) → IsAfter self.old before → IsAfter self.new (before ++ take result.0 piece.now) }
     {
         let end = line_end(piece);
         self.line = 0;
@@ -117,10 +117,10 @@ impl Lines {
         ensures some { 0 < length piece.now → 0 < result.0 }
         ensures all { result.1 ≡ Ended.No → result.0 ≡ length piece.now }
         ensures none { (result.1 ≡ Ended.No) ↔ (position_or_len is_line_feed piece.now ≡ length piece.now) }
-        ensures lines { (before : List ℕ) → Stands self.old before
+        ensures lines { (before : List ℕ) → IsAfter self.old before
             → (cut_of (before ++ take result.0 piece.now)).lines ≡ (cut_of before).lines ++ lines_as result.1 self.new.line }
         ensures line { (result.1 ≡ Ended.Line) ⊎ (self.new.line ≡ []) }
-        ensures stands { (before : List ℕ) → Stands self.old before → Stands self.new (before ++ take result.0 piece.now) }
+        ensures stands { (before : List ℕ) → IsAfter self.old before → IsAfter self.new (before ++ take result.0 piece.now) }
     {
         let (used, place) = self.next_line(piece);
         match place {
@@ -138,14 +138,14 @@ impl Lines {
     /// Ends the script: what has come of a line is its last one, unless nothing has. From then on another script may come.
     /// After any `course` of pieces the lines of all their bytes are those that were told of, and this one.
     pub fn finish(&mut self) -> Ended
-        ensures lines { (before : List ℕ) → Stands self.old before → last_of (cut_of before).rest ≡ lines_as result self.new.line }
-        ensures pieces { (first : Held) (course : List Taken)
-            → Stands first []
-            → Course first course self.old
+        ensures lines { (before : List ℕ) → IsAfter self.old before → last_of (cut_of before).rest ≡ lines_as result self.new.line }
+        ensures pieces { (first : LineBuffer) (course : List Feed)
+            → IsAfter first []
+            → FeedSequence first course self.old
             → lines_of (bytes_in course) ≡ lines_in course ++ lines_as result self.new.line }
         ensures none { (result ≡ Ended.No) ↔ (self.old.begun ≡ []) }
         ensures line { (result ≡ Ended.Line) ⊎ (self.new.line ≡ []) }
-        ensures anew { Stands self.new [] }
+        ensures anew { IsAfter self.new [] }
     {
         let len = self.begun;
         self.begun = 0;

@@ -4,7 +4,7 @@ use Rattle.std.specs.List.{flat_map}
 use Rattle.std.proofs.lemmas.List.{take_more, take_all, append-nil}
 use Rattle.std.proofs.lemmas.List.Concat.{flat_map-cons}
 use Rattle.std.proofs.lemmas.Grind.{flat_map-append}
-use Rattle.text_lines.specs.Held.{Held, Sends}
+use Rattle.text_lines.specs.BufferedText.{BufferedText, Sends}
 use Rattle.text_lines.specs.Joined.{◌⧺◌, texts_of}
 use Rattle.text_lines.proofs.Sending.{sends_as, sends_none, ◌⨾◌}
 use Rattle.tool_io.specs.SinkState.{SinkState}
@@ -22,16 +22,16 @@ texts_of-more text items i d lt =
     ∙ ap (λ (l : List ℕ). flat_map text (take i items) ++ l) (flat_map-cons text item [] ∙ append-nil (text item))
 
 -- none of the items yet
-pub items_none : {A : Type 0} (text : A → List ℕ) (old : SinkState) (held : Held) → Sends old old held held (texts_of text [])
+pub items_none : {A : Type 0} (text : A → List ℕ) (old : SinkState) (held : BufferedText) → Sends old old held held (texts_of text [])
 items_none text old held = sends_as (sym (texts_of-nil text)) (sends_none old held)
 
 -- one item more
-pub items_more : {A : Type 0} {old mid new : SinkState} {before held after : Held} (text : A → List ℕ) (items : List A) (i : ℕ) (d : A) → i < length items
+pub items_more : {A : Type 0} {old mid new : SinkState} {before held after : BufferedText} (text : A → List ℕ) (items : List A) (i : ℕ) (d : A) → i < length items
     → Sends old mid before held (texts_of text (take i items)) → Sends mid new held after (text (get_or items i d)) → Sends old new before after (texts_of text (take (i + 1) items))
 items_more text items i d lt first second = sends_as (sym (texts_of-more text items i d lt)) (first ⨾ second)
 
 -- all items
-pub items_all : {A : Type 0} {old new : SinkState} {before after : Held} (text : A → List ℕ) (items : List A) (i : ℕ) → length items ≤ i
+pub items_all : {A : Type 0} {old new : SinkState} {before after : BufferedText} (text : A → List ℕ) (items : List A) (i : ℕ) → length items ≤ i
     → Sends old new before after (texts_of text (take i items)) → Sends old new before after (texts_of text items)
 items_all {old = old} {new = new} {before = before} {after = after} text items i le sent =
     subst (λ (l : List _). Sends old new before after (texts_of text l)) (take_all i items le) sent

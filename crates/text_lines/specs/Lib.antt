@@ -1,5 +1,5 @@
 pub mod Prefix
 pub mod Hex
 pub mod Joined
-pub mod Held
+pub mod BufferedText
 pub mod Delivered

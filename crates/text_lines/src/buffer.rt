@@ -2,7 +2,7 @@
 
 ghost use Rattle.std.specs.Prelude.{◌≡◌, ◌+◌, ◌≤◌, false, true, [], ◌++◌, decimal, length, OnOk, OnErr};
 ghost use Rattle.std.specs.Fmt.{signed_decimal};
-ghost use Rattle.text_lines.specs.Held.{Held, Sends};
+ghost use Rattle.text_lines.specs.BufferedText.{BufferedText, Sends};
 ghost use Rattle.text_lines.specs.Hex.{hex_text};
 
 use crate::digits::hex_digits;
@@ -26,9 +26,9 @@ pub struct TextBuffer {
 
 impl Model for TextBuffer {
     ghost use Rattle.std.specs.Prelude.{◌≤◌, take};
-    ghost use Rattle.text_lines.specs.Held.{Held};
+    ghost use Rattle.text_lines.specs.BufferedText.{BufferedText};
 
-    ghost Value = { Held };
+    ghost Value = { BufferedText };
 
     ghost view = { λ b. record { bytes = take b.len b.bytes; failed = b.failed } };
 

@@ -20,9 +20,9 @@ pub struct MemorySink {
 
 impl Model for MemorySink {
     ghost use Rattle.std.specs.Prelude.{◌<◌};
-    ghost use Rattle.tool_io.specs.MemorySink.{BytesGone};
+    ghost use Rattle.tool_io.specs.MemorySink.{ListedSink};
 
-    ghost Value = { BytesGone };
+    ghost Value = { ListedSink };
 
     ghost view = { λ s. record { gone = s.gone.items; most = s.most; calls = s.calls } };
 

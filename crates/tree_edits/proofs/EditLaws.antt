@@ -9,22 +9,22 @@ use Rattle.view_model.specs.declared.kinds.Class.{Class}
 use Rattle.view_model.specs.Facts.{new_facts}
 use Rattle.view_model.specs.Forest.{Forest, Nothing}
 use Rattle.view_model.specs.Growth.{refusal_at}
-use Rattle.view_model.specs.PlainTree.{View, pruned, view_in, with_text}
-use Rattle.view_model.specs.Refusals.{plainly}
+use Rattle.view_model.specs.PlainTree.{PlainView, pruned, view_in, with_text}
+use Rattle.view_model.specs.Refusals.{refusal_numbered}
 use Rattle.view_tree.specs.Attached.{Attached}
 use Rattle.view_tree.specs.declared.fault.AttachFault.{AttachFault}
 use Rattle.view_tree.specs.declared.fault.AttachFault.TheVariants as attach
-use Rattle.view_tree.specs.Faults.{RefusedFor}
+use Rattle.view_tree.specs.Faults.{IsRefusedExactlyFor}
 use Rattle.view_tree.specs.Hidden.{HidesGone, IsConsistent}
-use Rattle.view_tree.specs.Rows.{Row, alone, cut, from, put_view, times}
+use Rattle.view_tree.specs.Rows.{Row, first_tree, pruned_at_key, part_from, changed_at_key, count_of_key}
 use Rattle.view_tree.specs.Views.{Held, IsLive, IsTree, Views, class_of, held_of, laid_rows, number_of, plain_of}
-use Rattle.view_tree.proofs.GeometryLaws.{geometry-cut, geometry-with_child}
-use Rattle.view_tree.proofs.HiddenLaws.{hidden-cut, hidden-with_child}
+use Rattle.view_tree.proofs.GeometryLaws.{geometry-pruned_at_key, geometry-with_child}
+use Rattle.view_tree.proofs.HiddenLaws.{hidden-pruned_at_key, hidden-with_child}
 use Rattle.view_tree.proofs.PlainLaws.{number_there}
-use Rattle.tree_edits.specs.Applied.{Applied, IsAddable, fault_of}
+use Rattle.tree_edits.specs.Applied.{AppliesEdit, IsAddable, fault_of}
 use Rattle.tree_edits.specs.declared.fault.EditFault.{EditFault}
 use Rattle.tree_edits.specs.declared.fault.EditFault.TheVariants as fault
-use Rattle.tree_edits.specs.Editing.{Add, Outcome, added, after_act, done, edited, new_view, removed, takes, has_text, written}
+use Rattle.tree_edits.specs.Editing.{Add, Outcome, outcome_of_add, after_act, outcome_of_act, outcome_of_edit, new_view, outcome_of_remove, takes, has_text, outcome_of_text}
 use Rattle.tree_edits.specs.Scene.{Scene, scene_of}
 use Rattle.tree_edits.proofs.ActLaws.{same_scene, stays}
 
@@ -40,7 +40,7 @@ pub attached_new : (old new : Views) (parent : Option ℕ) (class : Class) (widt
     → Attached old parent (record { number = old.next; class = class; facts = facts; text = text }) key new
     → Attached old parent (new_view old.next class width height) key new
 attached_new old new parent class width height facts text key facts_is text_is attached =
-    let view : Facts → List ℕ → View = λ f t. record { number = old.next; class = class; facts = f; text = t } in
+    let view : Facts → List ℕ → PlainView = λ f t. record { number = old.next; class = class; facts = f; text = t } in
     subst (λ (t : List ℕ). Attached old parent (view (new_facts width height) t) key new) text_is
     (subst (λ (f : Facts). Attached old parent (view f text) key new) facts_is attached)
 
@@ -48,9 +48,9 @@ pub attached_scene : (old new : Views) (parent : Option ℕ) (class : Class) (wi
     → refusal_at (plain_of old) (option_map (number_of old) parent) ≡ None
     → Attached old parent (new_view old.next class width height) key new
     → number ≡ old.next
-    → edited (scene_of old) (Add (option_map (number_of old) parent) class width height) ≡ Ok (scene_of new, Some number)
+    → outcome_of_edit (scene_of old) (Add (option_map (number_of old) parent) class width height) ≡ Ok (scene_of new, Some number)
 attached_scene old new parent class width height key number addable free attached number_is =
-    ap (added (scene_of old) (option_map (number_of old) parent) class width height) free
+    ap (outcome_of_add (scene_of old) (option_map (number_of old) parent) class width height) free
     ∙ ap (λ (scene : Scene). Ok (scene, Some old.next))
     (sym (same_scene _ _ _ _ _ _
     attached.plain
@@ -60,7 +60,7 @@ attached_scene old new parent class width height key number addable free attache
     (ap (λ (h : Held). h.state.bounds) attached.held) attached.others)))
     ∙ ap (λ (n : ℕ). Ok (scene_of new, Some n)) (sym number_is)
 
-pub attached_kept : (old new : Views) (parent : Option ℕ) (view : View) (key : ℕ) → Attached old parent view key new → IsConsistent old → IsConsistent new
+pub attached_kept : (old new : Views) (parent : Option ℕ) (view : PlainView) (key : ℕ) → Attached old parent view key new → IsConsistent old → IsConsistent new
 attached_kept old new parent view key attached kept = record {
   hidden =
       subst (λ (t : Forest Row). HidesGone (held_of new) t) (sym attached.tree)
@@ -69,85 +69,85 @@ attached_kept old new parent view key attached kept = record {
 
 -- a view was not added
 pub not_attached : (old : Views) (after : Scene) (parent : Option ℕ) (class : Class) (width height : ℤ) (given : AttachFault) (answer : Result (Option ℕ) EditFault)
-    → RefusedFor {A = ℕ} (refusal_at (plain_of old) (option_map (number_of old) parent)) (Err given)
+    → IsRefusedExactlyFor {A = ℕ} (refusal_at (plain_of old) (option_map (number_of old) parent)) (Err given)
     → IsErrAnd answer (λ fault. fault ≡ fault_of given)
-    → Applied (edited (scene_of old) (Add (option_map (number_of old) parent) class width height)) after answer
+    → AppliesEdit (outcome_of_edit (scene_of old) (Add (option_map (number_of old) parent) class width height)) after answer
 not_attached old after parent class width height given (Ok number) refused is = absurd is
 not_attached old after parent class width height (attach.Refused refusal) (Err fault) refused is =
-    subst (λ (f : EditFault). Applied (edited (scene_of old) (Add (option_map (number_of old) parent) class width height)) after (Err f)) (sym is)
-    (ap (added (scene_of old) (option_map (number_of old) parent) class width height) refused)
+    subst (λ (f : EditFault). AppliesEdit (outcome_of_edit (scene_of old) (Add (option_map (number_of old) parent) class width height)) after (Err f)) (sym is)
+    (ap (outcome_of_add (scene_of old) (option_map (number_of old) parent) class width height) refused)
 not_attached old after parent class width height attach.NoMemory (Err fault) refused is =
-    subst (λ (f : EditFault). Applied (edited (scene_of old) (Add (option_map (number_of old) parent) class width height)) after (Err f)) (sym is)
-    (_, _, ap (added (scene_of old) (option_map (number_of old) parent) class width height) refused)
+    subst (λ (f : EditFault). AppliesEdit (outcome_of_edit (scene_of old) (Add (option_map (number_of old) parent) class width height)) after (Err f)) (sym is)
+    (_, _, ap (outcome_of_add (scene_of old) (option_map (number_of old) parent) class width height) refused)
 
 -- a view and all below it were taken away
 pub detached_scene : (old new : Views) (view : ℕ) → IsTree old → IsLive old view
-    → new.tree ≡ cut view old.tree
+    → new.tree ≡ pruned_at_key view old.tree
     → plain_of new ≡ pruned (number_of old view) (plain_of old)
     → new.next ≡ old.next
-    → ((key : ℕ) → times key (alone (from view old.tree)) ≡ 0 → held_of new key ≡ held_of old key)
-    → removed (scene_of old) (number_of old view) ≡ Ok (scene_of new, None)
+    → ((key : ℕ) → count_of_key key (first_tree (part_from view old.tree)) ≡ 0 → held_of new key ≡ held_of old key)
+    → outcome_of_remove (scene_of old) (number_of old view) ≡ Ok (scene_of new, None)
 detached_scene old new view is live tree plain next others =
     ap (λ (scene : Scene). Ok (scene, None))
-    (sym (same_scene _ _ _ _ _ _ plain next (ap (laid_rows (held_of new)) tree ∙ geometry-cut old (held_of new) view is live others)))
+    (sym (same_scene _ _ _ _ _ _ plain next (ap (laid_rows (held_of new)) tree ∙ geometry-pruned_at_key old (held_of new) view is live others)))
 
 pub detached_kept : (old new : Views) (view : ℕ) → IsTree old
-    → new.tree ≡ cut view old.tree
-    → ((key : ℕ) → times key (alone (from view old.tree)) ≡ 0 → held_of new key ≡ held_of old key)
+    → new.tree ≡ pruned_at_key view old.tree
+    → ((key : ℕ) → count_of_key key (first_tree (part_from view old.tree)) ≡ 0 → held_of new key ≡ held_of old key)
     → IsConsistent old → IsConsistent new
 detached_kept old new view is tree others kept = record {
-  hidden = subst (λ (t : Forest Row). HidesGone (held_of new) t) (sym tree) (hidden-cut old (held_of new) view is kept.hidden others);
+  hidden = subst (λ (t : Forest Row). HidesGone (held_of new) t) (sym tree) (hidden-pruned_at_key old (held_of new) view is kept.hidden others);
 }
 
 -- an act is done or refused, by the class of its view
 pub done_by : (views : Views) (view : ℕ) (act : Act) (class : Class) (taken : Bool) → IsTree views → IsLive views view → class ≡ class_of views view
     → taken ≡ takes class act
-    → done (scene_of views) (number_of views view) act (view_in (plain_of views) (number_of views view))
-    ≡ (if taken then Ok (after_act (scene_of views) (number_of views view) act, None) else Err (plainly 29))
+    → outcome_of_act (scene_of views) (number_of views view) act (view_in (plain_of views) (number_of views view))
+    ≡ (if taken then Ok (after_act (scene_of views) (number_of views view) act, None) else Err (refusal_numbered 29))
 done_by views view act class taken is live class_is taken_is =
-    ap (done (scene_of views) (number_of views view) act) (number_there views view is live)
-    ∙ ap (λ (b : Bool). if b then Ok (after_act (scene_of views) (number_of views view) act, None) else Err (plainly 29))
+    ap (outcome_of_act (scene_of views) (number_of views view) act) (number_there views view is live)
+    ∙ ap (λ (b : Bool). if b then Ok (after_act (scene_of views) (number_of views view) act, None) else Err (refusal_numbered 29))
     (sym (taken_is ∙ ap (λ (k : Class). takes k act) class_is))
 
 -- a text is set or refused, by the class of its view
 pub written_by : (views : Views) (view : ℕ) (text : List ℕ) (class : Class) (has : Bool) → IsTree views → IsLive views view → class ≡ class_of views view
     → has ≡ has_text class
-    → written (scene_of views) (number_of views view) text (view_in (plain_of views) (number_of views view))
-    ≡ (if has then Ok (record (scene_of views) { tree = with_text (number_of views view) text (plain_of views) }, None) else Err (plainly 29))
+    → outcome_of_text (scene_of views) (number_of views view) text (view_in (plain_of views) (number_of views view))
+    ≡ (if has then Ok (record (scene_of views) { tree = with_text (number_of views view) text (plain_of views) }, None) else Err (refusal_numbered 29))
 written_by views view text class has is live class_is has_is =
-    ap (written (scene_of views) (number_of views view) text) (number_there views view is live)
-    ∙ ap (λ (b : Bool). if b then Ok (record (scene_of views) { tree = with_text (number_of views view) text (plain_of views) }, None) else Err (plainly 29))
+    ap (outcome_of_text (scene_of views) (number_of views view) text) (number_there views view is live)
+    ∙ ap (λ (b : Bool). if b then Ok (record (scene_of views) { tree = with_text (number_of views view) text (plain_of views) }, None) else Err (refusal_numbered 29))
     (sym (has_is ∙ ap has_text class_is))
 
 -- an act that is done, but for want of memory
 pub not_named : (outcome : Outcome) (made after : Scene) (given : AttachFault) (answer : Result (Option ℕ) EditFault) → outcome ≡ Ok (made, None)
-    → RefusedFor {A = Unit {0}} None (Err given)
+    → IsRefusedExactlyFor {A = Unit {0}} None (Err given)
     → IsErrAnd answer (λ fault. fault ≡ fault_of given)
-    → Applied outcome after answer
+    → AppliesEdit outcome after answer
 not_named outcome made after given (Ok number) is refused fault_is = absurd fault_is
 not_named outcome made after (attach.Refused refusal) (Err fault) is refused fault_is = absurd (cc)
 not_named outcome made after attach.NoMemory (Err fault) is refused fault_is =
-    subst (λ (f : EditFault). Applied outcome after (Err f)) (sym fault_is) (made, None, is)
+    subst (λ (f : EditFault). AppliesEdit outcome after (Err f)) (sym fault_is) (made, None, is)
 
 -- what is done, but for want of memory
 pub no_memory : (outcome : Outcome) (made after : Scene) (answer : Result (Option ℕ) EditFault) → outcome ≡ Ok (made, None)
-    → IsErrAnd answer (λ given. given ≡ fault.NoMemory) → Applied outcome after answer
+    → IsErrAnd answer (λ given. given ≡ fault.NoMemory) → AppliesEdit outcome after answer
 no_memory outcome made after (Ok number) is fault_is = absurd fault_is
-no_memory outcome made after (Err fault) is fault_is = subst (λ (f : EditFault). Applied outcome after (Err f)) (sym fault_is) (made, None, is)
+no_memory outcome made after (Err fault) is fault_is = subst (λ (f : EditFault). AppliesEdit outcome after (Err f)) (sym fault_is) (made, None, is)
 
 -- a text was set
 pub record TextSet (old : Views) (view : ℕ) (text : List ℕ) (new : Views) : Type 0 where
   pub scene : scene_of new ≡ record (scene_of old) { tree = with_text (number_of old view) text (plain_of old) }
   pub kept : IsConsistent old → IsConsistent new
 
-pub text_set : (old new : Views) (view : ℕ) (text written : List ℕ) → IsTree old → IsLive old view → written ≡ text
-    → new.tree ≡ put_view view (λ (v : View). record v { text = written }) old.tree
-    → plain_of new ≡ with_text (number_of old view) written (plain_of old)
+pub text_set : (old new : Views) (view : ℕ) (text outcome_of_text : List ℕ) → IsTree old → IsLive old view → outcome_of_text ≡ text
+    → new.tree ≡ changed_at_key view (λ (v : PlainView). record v { text = outcome_of_text }) old.tree
+    → plain_of new ≡ with_text (number_of old view) outcome_of_text (plain_of old)
     → new.next ≡ old.next
     → ((key : ℕ) → held_of new key ≡ held_of old key)
     → TextSet old view text new
-text_set old new view text written is live same tree plain next held =
-    let s = stays old new view (λ (v : View). record v { text = written }) is live (λ _. refl) (λ _. refl) tree held in
+text_set old new view text outcome_of_text is live same tree plain next held =
+    let s = stays old new view (λ (v : PlainView). record v { text = outcome_of_text }) is live (λ _. refl) (λ _. refl) tree held in
     record {
       scene = same_scene _ _ _ _ _ _ (plain ∙ ap (λ (t : List ℕ). with_text (number_of old view) t (plain_of old)) same) next s.geometry;
       kept = s.kept;

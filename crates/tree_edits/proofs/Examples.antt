@@ -11,31 +11,31 @@ use Rattle.view_model.specs.Facts.{new_facts}
 use Rattle.view_model.specs.Forest.{Forest, Nothing, Branch}
 use Rattle.view_model.specs.Geometry.{Laid}
 use Rattle.view_model.specs.Growth.{growth_refusal}
-use Rattle.view_model.specs.PlainTree.{View}
-use Rattle.view_model.specs.Refusals.{plainly}
-use Rattle.tree_edits.specs.Editing.{Add, Do, Remove, Write, edited, new_view}
+use Rattle.view_model.specs.PlainTree.{PlainView}
+use Rattle.view_model.specs.Refusals.{refusal_numbered}
+use Rattle.tree_edits.specs.Editing.{Add, ActOn, Remove, SetText, outcome_of_edit, new_view}
 use Rattle.tree_edits.specs.Keeping.{held_acted}
 use Rattle.tree_edits.specs.Scene.{Scene}
 use Rattle.view_tree.specs.Rows.{Row}
 use Rattle.view_tree.specs.Views.{Views, held_of}
 
-frame : ℕ → View
+frame : ℕ → PlainView
 frame number = new_view number class.FrameLayout (pos 40) (pos 30)
 
-leaf : ℕ → View
+leaf : ℕ → PlainView
 leaf number = new_view number class.View (pos 5) (pos 6)
 
 laid : ℕ → ℕ → ℕ → Laid
 laid number right bottom = record { number = number; rect = record { left = pos 0; top = pos 0; right = pos right; bottom = pos bottom } }
 
-scene : Forest View → ℕ → List Laid → Scene
+scene : Forest PlainView → ℕ → List Laid → Scene
 scene tree next geometry = record { tree = tree; next = next; geometry = geometry }
 
 -- a frame 1 with a frame 2, which has a view 3, and behind it a view 4
-inner : Forest View
+inner : Forest PlainView
 inner = Branch (leaf 3) Nothing Nothing
 
-tree_with : View → Forest View
+tree_with : PlainView → Forest PlainView
 tree_with second = Branch (frame 1) (Branch second inner (Branch (leaf 4) Nothing Nothing)) Nothing
 
 everywhere : List Laid
@@ -45,27 +45,27 @@ start : Scene
 start = scene (tree_with (frame 2)) 5 everywhere
 
 -- a new view is the last child, has the next number and lies nowhere
-view_is_added : edited start (Add (Some 2) class.View (pos 7) (pos 8))
+view_is_added : outcome_of_edit start (Add (Some 2) class.View (pos 7) (pos 8))
     ≡ Ok
     (scene (Branch (frame 1) (Branch (frame 2) (Branch (leaf 3) Nothing (Branch (new_view 5 class.View (pos 7) (pos 8)) Nothing Nothing)) (Branch (leaf 4) Nothing Nothing)) Nothing) 6 everywhere, Some 5)
 unfolding start scene tree_with inner everywhere frame leaf laid growth_refusal
 view_is_added = refl
 
-root_is_added : edited (scene Nothing 5 []) (Add None class.View (pos 7) (pos 8)) ≡ Ok (scene (Branch (new_view 5 class.View (pos 7) (pos 8)) Nothing Nothing) 6 [], Some 5)
+root_is_added : outcome_of_edit (scene Nothing 5 []) (Add None class.View (pos 7) (pos 8)) ≡ Ok (scene (Branch (new_view 5 class.View (pos 7) (pos 8)) Nothing Nothing) 6 [], Some 5)
 unfolding scene
 root_is_added = refl
 
 -- only a group takes a child
-view_takes_no_child : edited start (Add (Some 3) class.View (pos 7) (pos 8)) ≡ Err (plainly 21)
+view_takes_no_child : outcome_of_edit start (Add (Some 3) class.View (pos 7) (pos 8)) ≡ Err (refusal_numbered 21)
 unfolding start scene tree_with inner everywhere frame leaf laid growth_refusal
 view_takes_no_child = refl
 
 -- a view goes with all below it, and so does where they lie
-part_is_removed : edited start (Remove 2) ≡ Ok (scene (Branch (frame 1) (Branch (leaf 4) Nothing Nothing) Nothing) 5 (laid 1 40 30 ∷ laid 4 5 6 ∷ []), None)
+part_is_removed : outcome_of_edit start (Remove 2) ≡ Ok (scene (Branch (frame 1) (Branch (leaf 4) Nothing Nothing) Nothing) 5 (laid 1 40 30 ∷ laid 4 5 6 ∷ []), None)
 unfolding start scene tree_with inner everywhere frame leaf laid
 part_is_removed = refl
 
-root_is_removed : edited start (Remove 1) ≡ Ok (scene Nothing 5 [], None)
+root_is_removed : outcome_of_edit start (Remove 1) ≡ Ok (scene Nothing 5 [], None)
 unfolding start scene tree_with inner everywhere frame leaf laid
 root_is_removed = refl
 
@@ -73,17 +73,17 @@ root_is_removed = refl
 gone : Scene
 gone = scene (tree_with (record (frame 2) { facts = record (new_facts (pos 40) (pos 30)) { visibility = Gone } })) 5 (laid 1 40 30 ∷ laid 4 5 6 ∷ [])
 
-gone_lies_nowhere : edited start (Do 2 (act.Visible Gone)) ≡ Ok (gone, None)
+gone_lies_nowhere : outcome_of_edit start (ActOn 2 (act.Visible Gone)) ≡ Ok (gone, None)
 unfolding start gone scene tree_with inner everywhere frame leaf laid
 gone_lies_nowhere = refl
 
 -- shown again it lies nowhere until the next layout
-shown_again : edited gone (Do 2 (act.Visible Visible)) ≡ Ok (scene (tree_with (frame 2)) 5 (laid 1 40 30 ∷ laid 4 5 6 ∷ []), None)
+shown_again : outcome_of_edit gone (ActOn 2 (act.Visible Visible)) ≡ Ok (scene (tree_with (frame 2)) 5 (laid 1 40 30 ∷ laid 4 5 6 ∷ []), None)
 unfolding gone scene tree_with inner frame leaf laid
 shown_again = refl
 
 -- a view that is not drawn keeps its place
-invisible_stays : edited start (Do 2 (act.Visible Invisible))
+invisible_stays : outcome_of_edit start (ActOn 2 (act.Visible Invisible))
     ≡ Ok (scene (tree_with (record (frame 2) { facts = record (new_facts (pos 40) (pos 30)) { visibility = Invisible } })) 5 everywhere, None)
 unfolding start scene tree_with inner everywhere frame leaf laid
 invisible_stays = refl
@@ -95,21 +95,21 @@ sides = record { left = pos 1; top = pos 2; right = pos 3; bottom = pos 4 }
 started : Facts
 started = record (new_facts (pos 40) (pos 30)) { margin_start = Some (pos 8); margin_end = Some (pos 9); padding_start = Some (pos 7) }
 
-margins_drop_start_and_end : edited (scene (Branch (record (frame 1) { facts = started }) Nothing Nothing) 2 []) (Do 1 (act.Change (change.Margins sides)))
+margins_drop_start_and_end : outcome_of_edit (scene (Branch (record (frame 1) { facts = started }) Nothing Nothing) 2 []) (ActOn 1 (act.Change (change.Margins sides)))
     ≡ Ok (scene (Branch (record (frame 1) { facts = record (new_facts (pos 40) (pos 30)) { margins = sides; padding_start = Some (pos 7) } }) Nothing Nothing) 2 [], None)
 unfolding scene frame started sides
 margins_drop_start_and_end = refl
 
 -- what a class does not have is refused
-view_clips_nothing : edited start (Do 3 (act.Flag flag.Clip true)) ≡ Err (plainly 29)
+view_clips_nothing : outcome_of_edit start (ActOn 3 (act.Flag flag.Clip true)) ≡ Err (refusal_numbered 29)
 unfolding start scene tree_with inner everywhere frame leaf laid
 view_clips_nothing = refl
 
-frame_does_not_scroll : edited start (Do 2 (act.Scroll (pos 3))) ≡ Err (plainly 29)
+frame_does_not_scroll : outcome_of_edit start (ActOn 2 (act.Scroll (pos 3))) ≡ Err (refusal_numbered 29)
 unfolding start scene tree_with inner everywhere frame leaf laid
 frame_does_not_scroll = refl
 
-frame_has_no_text : edited start (Write 2 (65 ∷ [])) ≡ Err (plainly 29)
+frame_has_no_text : outcome_of_edit start (SetText 2 (65 ∷ [])) ≡ Err (refusal_numbered 29)
 unfolding start scene tree_with inner everywhere frame leaf laid
 frame_has_no_text = refl
 

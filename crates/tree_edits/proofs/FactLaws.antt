@@ -2,7 +2,7 @@
 use Rattle.std.proofs.Common.{◌≡◌, ℕ, ℤ, pos, ◌≤◌, true, false, refl, sym, ◌∙◌, ap, arith, inl, inr}
 use Rattle.std.proofs.lemmas.Bool.{cases_Bool}
 use Rattle.std.specs.Prelude.{◌==◌}
-use Rattle.view_model.specs.Changes.{acted}
+use Rattle.view_model.specs.Changes.{facts_after_act}
 use Rattle.view_model.specs.declared.attributes.Facts.{Facts}
 use Rattle.view_model.specs.declared.changes.Act.{Act}
 use Rattle.view_model.specs.declared.changes.Act.TheVariants as act
@@ -12,7 +12,7 @@ use Rattle.view_model.specs.declared.kinds.Visibility.TheVariants.{Visible, Invi
 use Rattle.view_model.specs.Facts.{is_shown}
 use Rattle.view_model.specs.Forest.{Forest, Nothing, Branch}
 use Rattle.view_model.specs.PlainTree.{with_facts}
-use Rattle.view_tree.specs.Rows.{Row, from, times, unscrolled_facts}
+use Rattle.view_tree.specs.Rows.{Row, part_from, count_of_key, unscrolled_facts}
 use Rattle.view_tree.specs.Views.{Held, IsLive, IsTree, Views, facts_of, held_of, number_of, plain_of, plain_rows, scrolled}
 use Rattle.view_tree.proofs.KeyLaws.{Agree, absent, located, zero_or_more}
 use Rattle.view_tree.proofs.PlainLaws.{agree_live}
@@ -20,7 +20,7 @@ use Rattle.tree_edits.specs.Applied.{names_views}
 use Rattle.tree_edits.specs.Editing.{hides}
 
 -- a view that is gone after an act was gone before, or the act hides it
-pub gone_after : (act : Act) (facts : Facts) → hides act ≡ false → is_shown (acted act facts) ≡ false → is_shown facts ≡ false
+pub gone_after : (act : Act) (facts : Facts) → hides act ≡ false → is_shown (facts_after_act act facts) ≡ false → is_shown facts ≡ false
 gone_after (act.Change (change.Size width height)) facts stays gone = gone
 gone_after (act.Change (change.Min size)) facts stays gone = gone
 gone_after (act.Change (change.Margins sides)) facts stays gone = gone
@@ -49,7 +49,7 @@ abbrev pub renamed : Facts → Facts → Facts
 renamed other facts = record facts { id = other.id; rules = other.rules }
 
 -- an act that sets names sets nothing else
-pub names_alone : (act : Act) (facts : Facts) → names_views act ≡ true → renamed (acted act facts) facts ≡ acted act facts
+pub names_alone : (act : Act) (facts : Facts) → names_views act ≡ true → renamed (facts_after_act act facts) facts ≡ facts_after_act act facts
 names_alone (act.Id id) facts names = refl
 names_alone (act.Rule verb value) facts names = refl
 names_alone (act.Change change) facts names = absurd (cc)
@@ -63,7 +63,7 @@ names_alone (act.Intercept actions) facts names = absurd (cc)
 names_alone (act.Scroll offset) facts names = absurd (cc)
 
 -- what an act leaves of an offset is not seen in a row
-pub acted-offset : (act : Act) (facts : Facts) (offset : ℤ) → unscrolled_facts (acted act (record facts { offset = offset })) ≡ unscrolled_facts (acted act facts)
+pub acted-offset : (act : Act) (facts : Facts) (offset : ℤ) → unscrolled_facts (facts_after_act act (record facts { offset = offset })) ≡ unscrolled_facts (facts_after_act act facts)
 acted-offset (act.Change (change.Size width height)) facts offset = refl
 acted-offset (act.Change (change.Min size)) facts offset = refl
 acted-offset (act.Change (change.Margins sides)) facts offset = refl
@@ -86,15 +86,15 @@ acted-offset (act.Intercept actions) facts offset = refl
 acted-offset (act.Scroll to) facts offset = refl
 
 -- an act that sets names leaves the offset
-pub names_offset : (act : Act) (facts : Facts) → names_views act ≡ true → (acted act facts).offset ≡ facts.offset
+pub names_offset : (act : Act) (facts : Facts) → names_views act ≡ true → (facts_after_act act facts).offset ≡ facts.offset
 names_offset act facts names = ap (λ (f : Facts). f.offset) (sym (names_alone act facts names))
 
 -- what it makes of a view in its row
 pub acted-named : (act : Act) (facts : Facts) (offset : ℤ) → names_views act ≡ true → facts.offset ≡ pos 0
-    → renamed (acted act (record facts { offset = offset })) facts ≡ unscrolled_facts (acted act facts)
+    → renamed (facts_after_act act (record facts { offset = offset })) facts ≡ unscrolled_facts (facts_after_act act facts)
 acted-named act facts offset names flat =
-    let other = acted act (record facts { offset = offset }) in
-    let same : unscrolled_facts other ≡ unscrolled_facts (acted act facts) = acted-offset act facts offset in
+    let other = facts_after_act act (record facts { offset = offset }) in
+    let same : unscrolled_facts other ≡ unscrolled_facts (facts_after_act act facts) = acted-offset act facts offset in
     let alone : renamed other (record facts { offset = offset }) ≡ other = names_alone act (record facts { offset = offset }) names in
     ap (λ (o : ℤ). record (renamed other facts) { offset = o }) flat ∙ ap unscrolled_facts alone ∙ same
 
@@ -112,8 +112,8 @@ names_stay (act.Intercept actions) names = refl
 names_stay (act.Scroll offset) names = refl
 
 -- two changes of facts are one where they make the same of the view that is changed
-pub same_rows : (held : ℕ → Held) (key number : ℕ) (f g : Facts → Facts) (tree : Forest Row) → Agree key number tree → times key tree ≤ 1
-    → ((row : Row) (kids siblings : Forest Row) → from key tree ≡ Branch row kids siblings → f (scrolled held row).facts ≡ g (scrolled held row).facts)
+pub same_rows : (held : ℕ → Held) (key number : ℕ) (f g : Facts → Facts) (tree : Forest Row) → Agree key number tree → count_of_key key tree ≤ 1
+    → ((row : Row) (kids siblings : Forest Row) → part_from key tree ≡ Branch row kids siblings → f (scrolled held row).facts ≡ g (scrolled held row).facts)
     → with_facts number f (plain_rows held tree) ≡ with_facts number g (plain_rows held tree)
 same_rows held key number f g Nothing agree once same = refl
 same_rows held key number f g (Branch row kids siblings) agree once same =
@@ -123,11 +123,11 @@ same_rows held key number f g (Branch row kids siblings) agree once same =
           rw (agree.0, e) (ap (λ (facts : Facts). Branch (record (scrolled held row) { facts = facts }) (plain_rows held kids) (plain_rows held siblings)) own)
       | inr e ↦
           let once = rw e at once in
-          let later = λ (kid : Row) (b a : Forest Row) (is : from key kids ≡ Branch kid b a). same kid b a (rw (e, is)) in
-          let behind : (sibling : Row) (b a : Forest Row) → from key siblings ≡ Branch sibling b a → f (scrolled held sibling).facts ≡ g (scrolled held sibling).facts =
-          λ sibling b a is. elim (zero_or_more (times key siblings)) [
+          let later = λ (kid : Row) (b a : Forest Row) (is : part_from key kids ≡ Branch kid b a). same kid b a (rw (e, is)) in
+          let behind : (sibling : Row) (b a : Forest Row) → part_from key siblings ≡ Branch sibling b a → f (scrolled held sibling).facts ≡ g (scrolled held sibling).facts =
+          λ sibling b a is. elim (zero_or_more (count_of_key key siblings)) [
             | inl z ↦ absurd (let gone = absent key siblings z in cc)
-            | inr l ↦ same sibling b a (let z : times key kids ≡ 0 = omega arith in rw (e, absent key kids z, is))
+            | inr l ↦ same sibling b a (let z : count_of_key key kids ≡ 0 = omega arith in rw (e, absent key kids z, is))
           ] in
           rw (
             agree.0,

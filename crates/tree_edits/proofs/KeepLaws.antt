@@ -2,18 +2,18 @@
 use Rattle.std.proofs.Common.{◌≡◌, ℕ, ℤ, ◌+◌, ◌<◌, ◌≤◌, pos, true, Option, refl, sym, ◌∙◌, ap, arith, eqb-true, inl, inr}
 use Rattle.std.proofs.lemmas.Bool.{cases_Bool, cases_eq, eq-eqb, ne_eqb}
 use Rattle.std.specs.Prelude.{◌==◌, OnErr, OnOk, Result, Ok, Err}
-use Rattle.view_model.specs.Changes.{acted}
+use Rattle.view_model.specs.Changes.{facts_after_act}
 use Rattle.view_model.specs.declared.attributes.Facts.{Facts}
 use Rattle.view_model.specs.declared.changes.Act.{Act}
 use Rattle.view_model.specs.declared.kinds.Class.{Class}
 use Rattle.view_model.specs.Forest.{Forest, Nothing, Branch}
-use Rattle.view_model.specs.PlainTree.{View}
+use Rattle.view_model.specs.PlainTree.{PlainView}
 use Rattle.view_tree.specs.Attached.{Attached}
-use Rattle.view_tree.specs.Rows.{Row, alone, cut, from, head_view, put_view, times, unscrolled_facts}
+use Rattle.view_tree.specs.Rows.{Row, first_tree, pruned_at_key, part_from, head_view, changed_at_key, count_of_key, unscrolled_facts}
 use Rattle.view_tree.specs.Views.{Held, IsLive, IsTree, KeepsOthers, SameTree, Unscrolled, Views, facts_of, held_of, offset_of}
 use Rattle.view_tree.proofs.HiddenLaws.{put_absent}
 use Rattle.view_tree.proofs.KeyLaws.{absent, or_else_live, zero_or_more}
-use Rattle.view_tree.proofs.NumberLaws.{live-cut, times-cut_le, times-put}
+use Rattle.view_tree.proofs.NumberLaws.{live-pruned_at_key, count_of_key-cut_le, count_of_key-put}
 use Rattle.tree_edits.specs.Applied.{names_views}
 use Rattle.tree_edits.specs.declared.edits.Edit.{Edit}
 use Rattle.tree_edits.specs.declared.edits.Edit.TheVariants as edit
@@ -28,7 +28,7 @@ abbrev pub key_above : Forest Row → ℕ
 key_above Nothing = 0
 key_above (Branch row kids siblings) = (row.key + 1) + (key_above kids + key_above siblings)
 
-pub above_unused : (key : ℕ) (tree : Forest Row) → key_above tree ≤ key → times key tree ≡ 0
+pub above_unused : (key : ℕ) (tree : Forest Row) → key_above tree ≤ key → count_of_key key tree ≡ 0
 above_unused key Nothing above = refl
 above_unused key (Branch row kids siblings) above =
     elim (cases_Bool (row.key == key)) [
@@ -39,7 +39,7 @@ above_unused key (Branch row kids siblings) above =
 -- an edit by which no view comes
 pub none_made : (old new : Views) (edit : Edit) → new.tree ≡ tree_after old edit (key_above old.tree)
     → new.next ≡ next_after old edit
-    → ((key : ℕ) → times key new.tree ≤ times key old.tree)
+    → ((key : ℕ) → count_of_key key new.tree ≤ count_of_key key old.tree)
     → ((key : ℕ) → IsLive old key → IsLive new key → held_of new key ≡ held_after old edit key)
     → KeepsViews old new edit
 none_made old new edit tree next fewer stays =
@@ -60,70 +60,70 @@ attached_keeps old new parent class width height key attached = record {
   unused = attached.unused;
   tree = attached.tree;
   next = attached.next;
-  stays = λ other live _. attached.others other (λ e. let none : times other old.tree ≡ 0 = rw e attached.unused in omega arith);
+  stays = λ other live _. attached.others other (λ e. let none : count_of_key other old.tree ≡ 0 = rw e attached.unused in omega arith);
   made = λ _. attached.held;
 }
 
-pub detached_keeps : (old new : Views) (view : ℕ) → IsTree old → new.tree ≡ cut view old.tree → new.next ≡ old.next
-    → ((key : ℕ) → times key (alone (from view old.tree)) ≡ 0 → held_of new key ≡ held_of old key)
+pub detached_keeps : (old new : Views) (view : ℕ) → IsTree old → new.tree ≡ pruned_at_key view old.tree → new.next ≡ old.next
+    → ((key : ℕ) → count_of_key key (first_tree (part_from view old.tree)) ≡ 0 → held_of new key ≡ held_of old key)
     → KeepsViews old new (edit.Remove view)
 detached_keeps old new view is tree next others =
     none_made old new (edit.Remove view) tree next
-    (λ key. rw tree (times-cut_le key view old.tree))
-    (λ key was live. let there : 0 < times key (cut view old.tree) = rw tree at live in others key ((live-cut key view old.tree (is.keys view) (is.keys key)).0 there).1)
+    (λ key. rw tree (count_of_key-cut_le key view old.tree))
+    (λ key was live. let there : 0 < count_of_key key (pruned_at_key view old.tree) = rw tree at live in others key ((live-pruned_at_key key view old.tree (is.keys view) (is.keys key)).0 there).1)
 
 -- two changes that make the same of the view that is changed
-pub put_same : (key : ℕ) (f g : View → View) (tree : Forest Row) → times key tree ≤ 1 → f (head_view (from key tree)) ≡ g (head_view (from key tree))
-    → put_view key f tree ≡ put_view key g tree
+pub put_same : (key : ℕ) (f g : PlainView → PlainView) (tree : Forest Row) → count_of_key key tree ≤ 1 → f (head_view (part_from key tree)) ≡ g (head_view (part_from key tree))
+    → changed_at_key key f tree ≡ changed_at_key key g tree
 put_same key f g Nothing once same = refl
 put_same key f g (Branch row kids siblings) once same =
     elim (cases_Bool (row.key == key)) [
-      | inl e ↦ let same = rw e at same in rw e (ap (λ (view : View). Branch (record row { view = view }) kids siblings) same)
+      | inl e ↦ let same = rw e at same in rw e (ap (λ (view : PlainView). Branch (record row { view = view }) kids siblings) same)
       | inr e ↦
           let once = rw e at once in
           let same = rw e at same in
-          elim (zero_or_more (times key kids)) [
+          elim (zero_or_more (count_of_key key kids)) [
             | inl z ↦ rw (e, put_absent key f kids z, put_absent key g kids z, put_same key f g siblings (omega arith) (rw (absent key kids z) at same))
             | inr l ↦
-                let z : times key siblings ≡ 0 = omega arith in
-                rw (e, put_absent key f siblings z, put_absent key g siblings z, put_same key f g kids (omega arith) (rw (or_else_live key kids (from key siblings) l) at same))
+                let z : count_of_key key siblings ≡ 0 = omega arith in
+                rw (e, put_absent key f siblings z, put_absent key g siblings z, put_same key f g kids (omega arith) (rw (or_else_live key kids (part_from key siblings) l) at same))
           ]
     ]
 
 -- a view in its row has the offset 0
-pub offset_at : (key : ℕ) (tree : Forest Row) → Unscrolled tree → (head_view (from key tree)).facts.offset ≡ pos 0
+pub offset_at : (key : ℕ) (tree : Forest Row) → Unscrolled tree → (head_view (part_from key tree)).facts.offset ≡ pos 0
 offset_at key Nothing flat = refl
 offset_at key (Branch row kids siblings) flat =
     elim (cases_Bool (row.key == key)) [
       | inl e ↦ rw (e, flat.0)
-      | inr e ↦ elim (zero_or_more (times key kids)) [
+      | inr e ↦ elim (zero_or_more (count_of_key key kids)) [
         | inl z ↦ rw (e, absent key kids z) (offset_at key siblings flat.2)
-        | inr l ↦ rw (e, or_else_live key kids (from key siblings) l) (offset_at key kids flat.1)
+        | inr l ↦ rw (e, or_else_live key kids (part_from key siblings) l) (offset_at key kids flat.1)
       ]
     ]
 
 -- an edit of the view of one key
-pub put_keeps : (old new : Views) (edit : Edit) (view : ℕ) (change : View → View) → new.tree ≡ put_view view change old.tree
-    → put_view view change old.tree ≡ tree_after old edit (key_above old.tree)
+pub put_keeps : (old new : Views) (edit : Edit) (view : ℕ) (change : PlainView → PlainView) → new.tree ≡ changed_at_key view change old.tree
+    → changed_at_key view change old.tree ≡ tree_after old edit (key_above old.tree)
     → new.next ≡ next_after old edit
     → ((key : ℕ) → held_of new key ≡ held_after old edit key)
     → KeepsViews old new edit
 put_keeps old new edit view change tree is next held =
-    none_made old new edit (tree ∙ is) next (λ key. let same = times-put key view change old.tree in rw tree (omega arith)) (λ key _ _. held key)
+    none_made old new edit (tree ∙ is) next (λ key. let same = count_of_key-put key view change old.tree in rw tree (omega arith)) (λ key _ _. held key)
 
 -- an id or a rule is set
 pub names_keep : (old new : Views) (view : ℕ) (act : Act) (facts : Facts) → IsTree old → names_views act ≡ true
-    → facts ≡ acted act (facts_of old view)
-    → new.tree ≡ put_view view (λ (v : View). record v { facts = renamed facts v.facts }) old.tree
+    → facts ≡ facts_after_act act (facts_of old view)
+    → new.tree ≡ changed_at_key view (λ (v : PlainView). record v { facts = renamed facts v.facts }) old.tree
     → new.next ≡ old.next
     → ((key : ℕ) → held_of new key ≡ held_of old key)
     → KeepsViews old new (edit.Act view act)
 names_keep old new view act facts is names made tree next held =
-    let own = head_view (from view old.tree) in
-    let same : renamed facts own.facts ≡ unscrolled_facts (acted act own.facts) =
+    let own = head_view (part_from view old.tree) in
+    let same : renamed facts own.facts ≡ unscrolled_facts (facts_after_act act own.facts) =
     ap (λ (f : Facts). renamed f own.facts) made ∙ acted-named act own.facts (offset_of old view) names (offset_at view old.tree is.unscrolled) in
-    put_keeps old new (edit.Act view act) view (λ (v : View). record v { facts = renamed facts v.facts }) tree
-    (put_same view (λ (v : View). record v { facts = renamed facts v.facts }) (acted_view act) old.tree (is.keys view) (ap (λ (f : Facts). record own { facts = f }) same))
+    put_keeps old new (edit.Act view act) view (λ (v : PlainView). record v { facts = renamed facts v.facts }) tree
+    (put_same view (λ (v : PlainView). record v { facts = renamed facts v.facts }) (acted_view act) old.tree (is.keys view) (ap (λ (f : Facts). record own { facts = f }) same))
     next
     (λ key. held key ∙ sym (kept key))
   where
@@ -135,19 +135,19 @@ names_keep old new view act facts is names made tree next held =
 
 -- other facts are set, once what the act hides is hidden
 pub facts_keep : (old mid new : Views) (view : ℕ) (act : Act) (facts : Facts) → IsTree old
-    → facts ≡ acted act (facts_of old view)
+    → facts ≡ facts_after_act act (facts_of old view)
     → SameTree old mid
     → ((key : ℕ) → held_of mid key ≡ held_hiding (hides act) old view key)
-    → new.tree ≡ put_view view (λ (v : View). record v { facts = unscrolled_facts facts }) mid.tree
+    → new.tree ≡ changed_at_key view (λ (v : PlainView). record v { facts = unscrolled_facts facts }) mid.tree
     → new.next ≡ mid.next
     → held_of new view ≡ record (held_of mid view) { offset = facts.offset }
     → KeepsOthers mid new view
     → KeepsViews old new (edit.Act view act)
 facts_keep old mid new view act facts is made same hid tree next own others =
-    let change = λ (v : View). record v { facts = unscrolled_facts facts } in
-    let head = head_view (from view old.tree) in
-    let facts_is : unscrolled_facts facts ≡ unscrolled_facts (acted act head.facts) = ap unscrolled_facts made ∙ acted-offset act head.facts (offset_of old view) in
-    put_keeps old new (edit.Act view act) view change (tree ∙ ap (put_view view change) same.tree)
+    let change = λ (v : PlainView). record v { facts = unscrolled_facts facts } in
+    let head = head_view (part_from view old.tree) in
+    let facts_is : unscrolled_facts facts ≡ unscrolled_facts (facts_after_act act head.facts) = ap unscrolled_facts made ∙ acted-offset act head.facts (offset_of old view) in
+    put_keeps old new (edit.Act view act) view change (tree ∙ ap (changed_at_key view change) same.tree)
     (put_same view change (acted_view act) old.tree (is.keys view) (ap (λ (f : Facts). record head { facts = f }) facts_is))
     (next ∙ same.next)
     (λ key. elim (cases_eq key view) [

@@ -4,7 +4,7 @@ use Rattle.std.specs.Option.{option_map}
 use Rattle.view_model.specs.declared.changes.Act.{Act}
 use Rattle.view_model.specs.declared.changes.Act.TheVariants as act
 use Rattle.view_model.specs.Forest.{Nothing}
-use Rattle.view_model.specs.Refusals.{told}
+use Rattle.view_model.specs.Refusals.{plain_refusal}
 use Rattle.view_tree.specs.declared.fault.AttachFault.{AttachFault}
 use Rattle.view_tree.specs.declared.fault.AttachFault.TheVariants as attach
 use Rattle.view_tree.specs.Views.{Views, IsLive, number_of}
@@ -12,15 +12,15 @@ use Rattle.tree_edits.specs.declared.edits.Edit.{Edit}
 use Rattle.tree_edits.specs.declared.edits.Edit.TheVariants as edit
 use Rattle.tree_edits.specs.declared.fault.EditFault.{EditFault}
 use Rattle.tree_edits.specs.declared.fault.EditFault.TheVariants as fault
-use Rattle.tree_edits.specs.Editing.{NumberedEdit, Add, Remove, Do, Write, Outcome}
+use Rattle.tree_edits.specs.Editing.{NumberedEdit, Add, Remove, ActOn, SetText, Outcome}
 use Rattle.tree_edits.specs.Scene.{Scene}
 
 -- an edit with the numbers of the views in place of their keys, and with the characters of its text
 abbrev pub numbered : Views → Edit → NumberedEdit
 numbered views (edit.Add parent class width height) = Add (option_map (number_of views) parent) class width height
 numbered views (edit.Remove view) = Remove (number_of views view)
-numbered views (edit.Act view act) = Do (number_of views view) act
-numbered views (edit.Text view text) = Write (number_of views view) (chars text.now)
+numbered views (edit.Act view act) = ActOn (number_of views view) act
+numbered views (edit.Text view text) = SetText (number_of views view) (chars text.now)
 
 -- a root is added only where there is none
 abbrev pub IsAddable : Views → Option ℕ → Type 0
@@ -70,10 +70,10 @@ MayWantMemory (edit.Act view act) = names_views act ≡ true
 MayWantMemory (edit.Text view text) = Unit {0}
 
 -- The answer is the outcome: the scene and the number of the new view, or the refusal. Want of memory comes where there is none.
-abbrev pub Applied : Outcome → Scene → Result (Option ℕ) EditFault → Type 0
-Applied outcome after (Ok number) = outcome ≡ Ok (after, number)
-Applied outcome after (Err (fault.Refused refusal)) = outcome ≡ Err (told refusal)
-Applied outcome after (Err fault.NoMemory) = (scene : Scene) × (number : Option ℕ) × (outcome ≡ Ok (scene, number))
+abbrev pub AppliesEdit : Outcome → Scene → Result (Option ℕ) EditFault → Type 0
+AppliesEdit outcome after (Ok number) = outcome ≡ Ok (after, number)
+AppliesEdit outcome after (Err (fault.Refused refusal)) = outcome ≡ Err (plain_refusal refusal)
+AppliesEdit outcome after (Err fault.NoMemory) = (scene : Scene) × (number : Option ℕ) × (outcome ≡ Ok (scene, number))
 
 -- the fault of an edit by which the tree did not take a view
 abbrev pub fault_of : AttachFault → EditFault

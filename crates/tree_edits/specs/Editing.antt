@@ -1,6 +1,6 @@
 -- What an edit makes of a scene, or why it is refused.
 use Rattle.std.specs.Prelude.{ℕ, ◌+◌, ℤ, Bool, true, false, if◌then◌else◌, List, [], Option, Some, None, Result, Ok, Err, not}
-use Rattle.view_model.specs.Changes.{acted}
+use Rattle.view_model.specs.Changes.{facts_after_act}
 use Rattle.view_model.specs.declared.changes.Act.{Act}
 use Rattle.view_model.specs.declared.changes.Act.TheVariants as act
 use Rattle.view_model.specs.declared.changes.Change.{Change}
@@ -12,20 +12,20 @@ use Rattle.view_model.specs.declared.kinds.Class.TheVariants as class
 use Rattle.view_model.specs.Facts.{new_facts, takes_part}
 use Rattle.view_model.specs.Geometry.{Laid, without}
 use Rattle.view_model.specs.Growth.{grown_at, is_group, refusal_at}
-use Rattle.view_model.specs.PlainTree.{View, numbers_of, part_of, pruned, single, view_in, with_facts, with_text}
-use Rattle.view_model.specs.Refusals.{Told, plainly}
+use Rattle.view_model.specs.PlainTree.{PlainView, numbers_of, part_of, pruned, single, view_in, with_facts, with_text}
+use Rattle.view_model.specs.Refusals.{PlainRefusal, refusal_numbered}
 use Rattle.tree_edits.specs.Scene.{Scene}
 
 -- an edit that names views by their numbers
 pub data NumberedEdit : Type 0 where
   Add : (parent : Option ℕ) (class : Class) (width height : ℤ) → NumberedEdit
   Remove : (view : ℕ) → NumberedEdit
-  Do : (view : ℕ) (act : Act) → NumberedEdit
-  Write : (view : ℕ) (text : List ℕ) → NumberedEdit
+  ActOn : (view : ℕ) (act : Act) → NumberedEdit
+  SetText : (view : ℕ) (text : List ℕ) → NumberedEdit
 
 -- the scene after an edit, with the number of the view that it made, or why it is refused
 abbrev pub Outcome : Type 0
-Outcome = Result (Scene × Option ℕ) Told
+Outcome = Result (Scene × Option ℕ) PlainRefusal
 
 -- what no class that there is has: children in a row, a text, a child that moves
 abbrev pub takes_change : Change → Bool
@@ -81,38 +81,38 @@ abbrev pub hidden : ℕ → Scene → List Laid
 hidden number scene = without (numbers_of (part_of number scene.tree)) scene.geometry
 
 -- a new view: its facts are the default ones but for its dimensions, and its text is empty
-abbrev pub new_view : ℕ → Class → ℤ → ℤ → View
+abbrev pub new_view : ℕ → Class → ℤ → ℤ → PlainView
 new_view number class width height = record { number = number; class = class; facts = new_facts width height; text = [] }
 
 -- a view is added under the next number, unless there is a reason against it; it lies nowhere
-abbrev pub added : Scene → Option ℕ → Class → ℤ → ℤ → Option Told → Outcome
-added scene parent class width height (Some refusal) = Err refusal
-added scene parent class width height None =
+abbrev pub outcome_of_add : Scene → Option ℕ → Class → ℤ → ℤ → Option PlainRefusal → Outcome
+outcome_of_add scene parent class width height (Some refusal) = Err refusal
+outcome_of_add scene parent class width height None =
     Ok (record scene { tree = grown_at parent (single (new_view scene.next class width height)) scene.tree; next = scene.next + 1 }, Some scene.next)
 
 -- a view and all below it go, and lie nowhere
-abbrev pub removed : Scene → ℕ → Outcome
-removed scene number = Ok (record scene { tree = pruned number scene.tree; geometry = hidden number scene }, None)
+abbrev pub outcome_of_remove : Scene → ℕ → Outcome
+outcome_of_remove scene number = Ok (record scene { tree = pruned number scene.tree; geometry = hidden number scene }, None)
 
 -- what an act makes of a scene
 abbrev pub after_act : Scene → ℕ → Act → Scene
 after_act scene number act =
-    record scene { tree = with_facts number (acted act) scene.tree; geometry = if hides act then hidden number scene else scene.geometry }
+    record scene { tree = with_facts number (facts_after_act act) scene.tree; geometry = if hides act then hidden number scene else scene.geometry }
 
 -- an act on a view, by what is found under its number
-abbrev pub done : Scene → ℕ → Act → Option View → Outcome
-done scene number act None = Ok (scene, None)
-done scene number act (Some view) = if takes view.class act then Ok (after_act scene number act, None) else Err (plainly 29)
+abbrev pub outcome_of_act : Scene → ℕ → Act → Option PlainView → Outcome
+outcome_of_act scene number act None = Ok (scene, None)
+outcome_of_act scene number act (Some view) = if takes view.class act then Ok (after_act scene number act, None) else Err (refusal_numbered 29)
 
 -- a text of a view, by what is found under its number
-abbrev pub written : Scene → ℕ → List ℕ → Option View → Outcome
-written scene number text None = Ok (scene, None)
-written scene number text (Some view) =
-    if has_text view.class then Ok (record scene { tree = with_text number text scene.tree }, None) else Err (plainly 29)
+abbrev pub outcome_of_text : Scene → ℕ → List ℕ → Option PlainView → Outcome
+outcome_of_text scene number text None = Ok (scene, None)
+outcome_of_text scene number text (Some view) =
+    if has_text view.class then Ok (record scene { tree = with_text number text scene.tree }, None) else Err (refusal_numbered 29)
 
 -- what an edit of views that are there makes of a scene
-abbrev pub edited : Scene → NumberedEdit → Outcome
-edited scene (Add parent class width height) = added scene parent class width height (refusal_at scene.tree parent)
-edited scene (Remove number) = removed scene number
-edited scene (Do number act) = done scene number act (view_in scene.tree number)
-edited scene (Write number text) = written scene number text (view_in scene.tree number)
+abbrev pub outcome_of_edit : Scene → NumberedEdit → Outcome
+outcome_of_edit scene (Add parent class width height) = outcome_of_add scene parent class width height (refusal_at scene.tree parent)
+outcome_of_edit scene (Remove number) = outcome_of_remove scene number
+outcome_of_edit scene (ActOn number act) = outcome_of_act scene number act (view_in scene.tree number)
+outcome_of_edit scene (SetText number text) = outcome_of_text scene number text (view_in scene.tree number)

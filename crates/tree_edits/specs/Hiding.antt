@@ -1,6 +1,6 @@
 -- What is kept of views that go out of the geometry.
 use Rattle.std.specs.Prelude.{ℕ, ◌==◌, Bool, if◌then◌else◌, None}
-use Rattle.view_tree.specs.Rows.{alone, from, times}
+use Rattle.view_tree.specs.Rows.{first_tree, part_from, count_of_key}
 use Rattle.view_tree.specs.Views.{Held, Views, held_of}
 
 -- what is kept of a view, its bounds gone
@@ -9,8 +9,8 @@ unplaced held = record held { state = record held.state { bounds = None } }
 
 -- what is kept of a view that occurs this often among those that go
 abbrev pub hidden_at : ℕ → Held → Held
-hidden_at times held = if times == 0 then held else unplaced held
+hidden_at count_of_key held = if count_of_key == 0 then held else unplaced held
 
 -- what is kept under a key, once a view and all below it have gone, if they go
 abbrev pub held_hiding : Bool → Views → ℕ → ℕ → Held
-held_hiding goes views view key = if goes then hidden_at (times key (alone (from view views.tree))) (held_of views key) else held_of views key
+held_hiding goes views view key = if goes then hidden_at (count_of_key key (first_tree (part_from view views.tree))) (held_of views key) else held_of views key

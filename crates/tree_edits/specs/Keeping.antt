@@ -1,10 +1,10 @@
 -- What an edit leaves of the views of a tree of the code, key by key.
 use Rattle.std.specs.Prelude.{◌≡◌, ℕ, ◌+◌, ◌==◌, None, if◌then◌else◌, chars}
-use Rattle.view_model.specs.Changes.{acted}
+use Rattle.view_model.specs.Changes.{facts_after_act}
 use Rattle.view_model.specs.declared.changes.Act.{Act}
 use Rattle.view_model.specs.Forest.{Forest}
-use Rattle.view_model.specs.PlainTree.{View}
-use Rattle.view_tree.specs.Rows.{Row, cut, leaf, put_view, times, unscrolled_facts, with_child}
+use Rattle.view_model.specs.PlainTree.{PlainView}
+use Rattle.view_tree.specs.Rows.{Row, pruned_at_key, leaf, changed_at_key, count_of_key, unscrolled_facts, with_child}
 use Rattle.view_tree.specs.Views.{Held, IsLive, Views, facts_of, held_of, held_or}
 use Rattle.tree_edits.specs.declared.edits.Edit.{Edit}
 use Rattle.tree_edits.specs.declared.edits.Edit.TheVariants as edit
@@ -12,15 +12,15 @@ use Rattle.tree_edits.specs.Editing.{hides, new_view}
 use Rattle.tree_edits.specs.Hiding.{held_hiding}
 
 -- the view of a row after an act
-abbrev pub acted_view : Act → View → View
-acted_view act view = record view { facts = unscrolled_facts (acted act view.facts) }
+abbrev pub acted_view : Act → PlainView → PlainView
+acted_view act view = record view { facts = unscrolled_facts (facts_after_act act view.facts) }
 
 -- the keyed views after an edit; a new view comes under the key `fresh`
 abbrev pub tree_after : Views → Edit → ℕ → Forest Row
 tree_after views (edit.Add parent class width height) fresh = with_child parent (leaf fresh (new_view views.next class width height)) views.tree
-tree_after views (edit.Remove view) fresh = cut view views.tree
-tree_after views (edit.Act view act) fresh = put_view view (acted_view act) views.tree
-tree_after views (edit.Text view text) fresh = put_view view (λ v. record v { text = chars text.now }) views.tree
+tree_after views (edit.Remove view) fresh = pruned_at_key view views.tree
+tree_after views (edit.Act view act) fresh = changed_at_key view (acted_view act) views.tree
+tree_after views (edit.Text view text) fresh = changed_at_key view (λ v. record v { text = chars text.now }) views.tree
 
 -- the number of the view that is made next after an edit
 abbrev pub next_after : Views → Edit → ℕ
@@ -33,7 +33,7 @@ next_after views (edit.Text view text) = views.next
 abbrev pub held_acted : Views → ℕ → Act → ℕ → Held
 held_acted views view act key =
     let held = held_hiding (hides act) views view key in
-    if key == view then record held { offset = (acted act (facts_of views view)).offset } else held
+    if key == view then record held { offset = (facts_after_act act (facts_of views view)).offset } else held
 
 -- what is kept under the key of a view that an edit leaves in the tree
 abbrev pub held_after : Views → Edit → ℕ → Held
@@ -46,7 +46,7 @@ held_after views (edit.Text view text) key = held_of views key
 -- under a key that none had, and nothing was kept of it before.
 pub record KeepsViews (old new : Views) (edit : Edit) : Type 0 where
   pub fresh : ℕ
-  pub unused : times fresh old.tree ≡ 0
+  pub unused : count_of_key fresh old.tree ≡ 0
   pub tree : new.tree ≡ tree_after old edit fresh
   pub next : new.next ≡ next_after old edit
   pub stays : (key : ℕ) → IsLive old key → IsLive new key → held_of new key ≡ held_after old edit key

@@ -2,11 +2,11 @@
 use Rattle.std.specs.Prelude.{ℕ, List}
 use Rattle.view_model.specs.Forest.{Forest}
 use Rattle.view_model.specs.Geometry.{Laid}
-use Rattle.view_model.specs.PlainTree.{View}
+use Rattle.view_model.specs.PlainTree.{PlainView}
 use Rattle.view_tree.specs.Views.{Views, geometry_of, plain_of}
 
 pub record Scene : Type 0 where
-  pub tree : Forest View
+  pub tree : Forest PlainView
   pub next : ℕ
   pub geometry : List Laid
 

@@ -5,11 +5,11 @@ ghost use Rattle.tree_edits.specs.Editing.{after_act, hides};
 ghost use Rattle.tree_edits.specs.Hiding.{held_hiding};
 ghost use Rattle.tree_edits.specs.Keeping.{KeepsViews};
 ghost use Rattle.tree_edits.specs.Scene.{scene_of};
-ghost use Rattle.view_tree.specs.Faults.{RefusedFor};
+ghost use Rattle.view_tree.specs.Faults.{IsRefusedExactlyFor};
 ghost use Rattle.view_tree.specs.Hidden.{IsConsistent};
 ghost use Rattle.view_tree.specs.Views.{IsLive, SameTree, held_of, number_of};
 
-use crate::changing::acted;
+use crate::changing::facts_after_act;
 use crate::edits::Edit;
 use crate::hiding::hide;
 use view_model::{Act, Visibility};
@@ -29,11 +29,11 @@ pub fn set_names(tree: &mut ViewTree, view: Key, act: Act) -> Result<(), AttachF
     requires names { names_views act ≡ true }
     ensures scene { OnOk result (scene_of tree.new ≡ after_act (scene_of tree.old) (number_of tree.old view) act) }
     ensures kept { OnOk result (KeepsViews tree.old tree.new (Edit.Act view act)) }
-    ensures refused { RefusedFor None result }
+    ensures refused { IsRefusedExactlyFor None result }
     ensures unchanged { OnErr result (tree.new ≡ tree.old) }
     ensures consistent { IsConsistent tree.old → IsConsistent tree.new }
 {
-    let facts = acted(act, *tree.facts(view));
+    let facts = facts_after_act(act, *tree.facts(view));
     tree.set_rules(view, facts.id, facts.rules)
 }
 
@@ -46,7 +46,7 @@ pub fn set_facts(tree: &mut ViewTree, view: Key, act: Act)
     ensures kept { KeepsViews tree.old tree.new (Edit.Act view act) }
     ensures consistent { IsConsistent tree.old → IsConsistent tree.new }
 {
-    let facts = acted(act, *tree.facts(view));
+    let facts = facts_after_act(act, *tree.facts(view));
     hide_by(tree, view, act);
     tree.set_facts(view, facts);
 }

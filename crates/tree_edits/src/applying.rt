@@ -1,7 +1,7 @@
 ghost use Rattle.std.specs.Prelude.{◌≡◌, ◌<◌, ◌^◌, true, chars, length, Err, OnErr, OnOk, None, Ok};
 ghost use Rattle.std.specs.Option.{option_map};
-ghost use Rattle.tree_edits.specs.Applied.{Applied, IsAddable, IsEdit, IsVerb, MayWantMemory, names_views, numbered};
-ghost use Rattle.tree_edits.specs.Editing.{Add, Do, Write, edited, removed};
+ghost use Rattle.tree_edits.specs.Applied.{AppliesEdit, IsAddable, IsEdit, IsVerb, MayWantMemory, names_views, numbered};
+ghost use Rattle.tree_edits.specs.Editing.{Add, ActOn, SetText, outcome_of_edit, outcome_of_remove};
 ghost use Rattle.tree_edits.specs.Keeping.{KeepsViews};
 ghost use Rattle.tree_edits.specs.Scene.{scene_of};
 ghost use Rattle.view_tree.specs.Hidden.{IsConsistent};
@@ -21,7 +21,7 @@ const WRONG_CLASS: u8 = 29;
 /// Makes an edit, and answers the number of the view that it made.
 pub fn apply(alloc: Global, tree: &mut ViewTree, edit: Edit<'_>) -> Result<Option<u64>, EditFault>
     requires edit { IsEdit tree.old edit }
-    ensures applied { Applied (edited (scene_of tree.old) (numbered tree.old edit.entry)) (scene_of tree.new) result }
+    ensures applied { AppliesEdit (outcome_of_edit (scene_of tree.old) (numbered tree.old edit.entry)) (scene_of tree.new) result }
     ensures kept { OnOk result (KeepsViews tree.old tree.new edit.entry) }
     ensures unchanged { OnErr result (tree.new ≡ tree.old) }
     ensures memory { result ≡ Err EditFault.NoMemory → MayWantMemory edit.entry }
@@ -52,7 +52,7 @@ fn add(
     height: i32,
 ) -> Result<Option<u64>, EditFault>
     requires addable { IsAddable tree.old parent }
-    ensures applied { Applied (edited (scene_of tree.old) (Add (option_map (number_of tree.old) parent) class width height)) (scene_of tree.new) result }
+    ensures applied { AppliesEdit (outcome_of_edit (scene_of tree.old) (Add (option_map (number_of tree.old) parent) class width height)) (scene_of tree.new) result }
     ensures kept { OnOk result (KeepsViews tree.old tree.new (Edit.Add parent class width height)) }
     ensures unchanged { OnErr result (tree.new ≡ tree.old) }
     ensures consistent { IsConsistent tree.old → IsConsistent tree.new }
@@ -65,7 +65,7 @@ fn add(
 
 fn remove(tree: &mut ViewTree, view: Key)
     requires live { IsLive tree.old view }
-    ensures scene { removed (scene_of tree.old) (number_of tree.old view) ≡ Ok (scene_of tree.new, None) }
+    ensures scene { outcome_of_remove (scene_of tree.old) (number_of tree.old view) ≡ Ok (scene_of tree.new, None) }
     ensures kept { KeepsViews tree.old tree.new (Edit.Remove view) }
     ensures consistent { IsConsistent tree.old → IsConsistent tree.new }
 {
@@ -75,7 +75,7 @@ fn remove(tree: &mut ViewTree, view: Key)
 fn act_on(tree: &mut ViewTree, view: Key, act: Act) -> Result<Option<u64>, EditFault>
     requires live { IsLive tree.old view }
     requires verb { IsVerb act }
-    ensures applied { Applied (edited (scene_of tree.old) (Do (number_of tree.old view) act)) (scene_of tree.new) result }
+    ensures applied { AppliesEdit (outcome_of_edit (scene_of tree.old) (ActOn (number_of tree.old view) act)) (scene_of tree.new) result }
     ensures kept { OnOk result (KeepsViews tree.old tree.new (Edit.Act view act)) }
     ensures unchanged { OnErr result (tree.new ≡ tree.old) }
     ensures memory { result ≡ Err EditFault.NoMemory → names_views act ≡ true }
@@ -100,7 +100,7 @@ fn write(
 ) -> Result<Option<u64>, EditFault>
     requires live { IsLive tree.old view }
     requires short { length text.now < 2 ^ 31 }
-    ensures applied { Applied (edited (scene_of tree.old) (Write (number_of tree.old view) (chars text.now))) (scene_of tree.new) result }
+    ensures applied { AppliesEdit (outcome_of_edit (scene_of tree.old) (SetText (number_of tree.old view) (chars text.now))) (scene_of tree.new) result }
     ensures kept { OnOk result (KeepsViews tree.old tree.new (Edit.Text view text.entry)) }
     ensures unchanged { OnErr result (tree.new ≡ tree.old) }
     ensures consistent { IsConsistent tree.old → IsConsistent tree.new }

@@ -1,23 +1,23 @@
 //! What an act makes of the facts of a view.
 ghost use Rattle.std.specs.Prelude.{◌≡◌, ◌<◌, slice_set};
 ghost use Rattle.tree_edits.specs.Applied.{IsVerb};
-ghost use Rattle.view_model.specs.Changes.{acted, changed, flagged};
+ghost use Rattle.view_model.specs.Changes.{facts_after_act, facts_after_change, facts_with_flag};
 
 use view_model::{Act, Change, Facts, Flag, Gravity, Rules};
 
 /// The facts of a view after an act.
-pub fn acted(act: Act, facts: Facts) -> Facts
+pub fn facts_after_act(act: Act, facts: Facts) -> Facts
     requires { IsVerb act }
-    ensures { result ≡ acted act facts }
+    ensures { result ≡ facts_after_act act facts }
 {
     match act {
-        Act::Change(change) => changed(change, facts),
+        Act::Change(change) => facts_after_change(change, facts),
         Act::WeightSum(weight_sum) => Facts {
             weight_sum,
             ..facts
         },
         Act::Orient { vertical } => Facts { vertical, ..facts },
-        Act::Flag { flag, on } => flagged(flag, on, facts),
+        Act::Flag { flag, on } => facts_with_flag(flag, on, facts),
         Act::Visible(visibility) => Facts {
             visibility,
             ..facts
@@ -34,8 +34,8 @@ pub fn acted(act: Act, facts: Facts) -> Facts
     }
 }
 
-fn changed(change: Change, facts: Facts) -> Facts
-    ensures { result ≡ changed change facts }
+fn facts_after_change(change: Change, facts: Facts) -> Facts
+    ensures { result ≡ facts_after_change change facts }
 {
     match change {
         Change::Size { width, height } => Facts {
@@ -66,7 +66,7 @@ fn changed(change: Change, facts: Facts) -> Facts
 }
 
 fn placed(kids: bool, gravity: Gravity, facts: Facts) -> Facts
-    ensures { result ≡ changed (Change.Gravity kids gravity) facts }
+    ensures { result ≡ facts_after_change (Change.Gravity kids gravity) facts }
 {
     if kids {
         Facts { gravity, ..facts }
@@ -78,8 +78,8 @@ fn placed(kids: bool, gravity: Gravity, facts: Facts) -> Facts
     }
 }
 
-fn flagged(flag: Flag, on: bool, facts: Facts) -> Facts
-    ensures { result ≡ flagged flag on facts }
+fn facts_with_flag(flag: Flag, on: bool, facts: Facts) -> Facts
+    ensures { result ≡ facts_with_flag flag on facts }
 {
     match flag {
         Flag::Clip => Facts { clip: on, ..facts },

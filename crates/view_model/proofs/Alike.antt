@@ -10,7 +10,7 @@ use Rattle.view_model.specs.Facts.{is_shown}
 use Rattle.view_model.specs.Geometry.{Laid, extent_of}
 use Rattle.view_model.specs.Layout.{Placed, calls_by, child_by, course_by, laid_by, measured_by, placed_from, requested_by, rule_of, total_by}
 use Rattle.view_model.specs.Measuring.{Measured, Rule, Specs}
-use Rattle.view_model.specs.PlainTree.{View as PlainView}
+use Rattle.view_model.specs.PlainTree.{PlainView}
 
 -- the same children, but for what is below those that are gone
 abbrev pub Alike : List Requested → List Requested → Type 0

@@ -3,12 +3,12 @@ use Rattle.std.specs.Fmt.{digits}
 use Rattle.std.specs.Prelude.{◌≡◌, [], codes, refl}
 use Rattle.axml_chunks.specs.Faults.{truncated}
 use Rattle.text_lines.specs.Joined.{◌⧺◌}
-use Rattle.view_model.specs.Refusals.{Place, Element, plainly}
+use Rattle.view_model.specs.Refusals.{Place, Element, refusal_numbered}
 use Rattle.view_tool.specs.Dump.{fault_text, refused_file_text}
 use Rattle.view_tool.specs.Names.{refusal_name, refusal_names}
 use Rattle.view_tool.specs.Refusals.{refused_line, refused_text}
 
-tells_of_no_root : refused_line 3 (plainly 34) ≡ codes "line 3: refused 34 NoRoot\n"
+tells_of_no_root : refused_line 3 (refusal_numbered 34) ≡ codes "line 3: refused 34 NoRoot\n"
 unfolding digits refused_line refused_text ◌⧺◌ refusal_name refusal_names
 tells_of_no_root = refl
 

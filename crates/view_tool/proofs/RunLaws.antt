@@ -4,7 +4,7 @@ use Rattle.std.specs.Prelude.{◌⊎◌, Option, fold, Err}
 use Rattle.std.specs.Io.KnownBytes.{Appends}
 use Rattle.std.proofs.lemmas.Grind.{fold-append}
 use Rattle.std.proofs.lemmas.List.{append-nil, take-append-drop}
-use Rattle.script_lines.specs.Held.{Held, Stands}
+use Rattle.script_lines.specs.LineBuffer.{LineBuffer, IsAfter}
 use Rattle.script_lines.specs.Lines.{Line, Text, LongLine, cut_of, last_of, lines_of}
 use Rattle.text_lines.specs.Prefix.{AppendsPrefix}
 use Rattle.text_lines.proofs.Prefixes.{prefix_of_first, prefix_of_second}
@@ -17,13 +17,13 @@ use Rattle.view_tool.specs.Transcript.{Progress, after_line, after_lines, after_
 use Rattle.tool_io.specs.Counts.{raised}
 use Rattle.tool_io.specs.SinkState.{SinkState}
 use Rattle.view_model.specs.declared.refusal.Refusal.{Refusal}
-use Rattle.view_model.specs.Refusals.{Told, told}
+use Rattle.view_model.specs.Refusals.{PlainRefusal, plain_refusal}
 use Rattle.view_model.specs.World.{World}
 use Rattle.view_world.specs.declared.fault.StepFault.{StepFault}
 use Rattle.view_world.specs.declared.fault.StepFault.TheVariants as step
-use Rattle.view_world.specs.Carried.{CarriedOut, IsDone}
+use Rattle.view_world.specs.Carried.{WritesReply, IsDone}
 use Rattle.view_world.specs.Step.{Reply, Done, Refused}
-use Rattle.view_world.specs.WorldView.{world_of}
+use Rattle.view_world.specs.KeyedWorld.{world_of}
 use Rattle.view_tool.proofs.CutLaws.{cut_count, cut_more}
 
 pub after_lines-push : (lines : List Line) (line : Line) → after_lines (lines ++ line ∷ []) ≡ after_line (after_lines lines) line
@@ -106,16 +106,16 @@ not_done fault refusal e (inl done) = absurd (subst (λ (f : StepFault). IsDone 
 not_done fault refusal e (inr same) = same
 
 pub carried_refused : (reply : Reply) (new : World) (before after : SinkState) (fault : StepFault) (refusal : Refusal) → fault ≡ step.Refused refusal
-    → CarriedOut reply new before after (Err fault) → reply ≡ Refused (told refusal)
-carried_refused reply new before after fault refusal e carried = subst (λ (f : StepFault). CarriedOut reply new before after (Err f)) e carried
+    → WritesReply reply new before after (Err fault) → reply ≡ Refused (plain_refusal refusal)
+carried_refused reply new before after fault refusal e carried = subst (λ (f : StepFault). WritesReply reply new before after (Err f)) e carried
 
 -- what a line whose text could not be written has done
-pub carried_sink : (reply : Reply) (new : World) (before after : SinkState) (fault : StepFault) → fault ≡ step.Sink → CarriedOut reply new before after (Err fault)
+pub carried_sink : (reply : Reply) (new : World) (before after : SinkState) (fault : StepFault) → fault ≡ step.Sink → WritesReply reply new before after (Err fault)
     → (text : List ℕ) × (reply ≡ Done new text) × AppendsPrefix before.gone after.gone text × (after.faults ≡ raised before.faults)
-carried_sink reply new before after fault e carried = subst (λ (f : StepFault). CarriedOut reply new before after (Err f)) e carried
+carried_sink reply new before after fault e carried = subst (λ (f : StepFault). WritesReply reply new before after (Err f)) e carried
 
 -- a line was refused, and to tell of it failed
-pub refused_prefix : (first mid now : Option (List ℕ)) (course : Course) (lines : List Line) (line : Line) (number : ℕ) (refusal : Told) → IsAt first mid course (after_lines lines)
+pub refused_prefix : (first mid now : Option (List ℕ)) (course : Course) (lines : List Line) (line : Line) (number : ℕ) (refusal : PlainRefusal) → IsAt first mid course (after_lines lines)
     → reply_to_line (world_of course.world) line ≡ Refused refusal → number ≡ (after_lines lines).lines + 1 → AppendsPrefix mid now (refused_line number refusal)
     → AppendsPrefix first now (after_lines (lines ++ line ∷ [])).text
 refused_prefix first mid now course lines line number refusal at refused counted part =
@@ -152,7 +152,7 @@ stops_in_piece first now before piece n line stop e stops =
     (ap (λ (l : List Line). l ++ more.0) (sym e) ∙ sym more.1 ∙ ap (λ (l : List ℕ). (cut_of l).lines) all) stops
 
 -- no line ended
-pub behind_same : (first now : Option (List ℕ)) (held : Held) (course : Course) (before bytes : List ℕ) → IsAt first now course (after_lines (cut_of before).lines) → Stands held bytes
+pub behind_same : (first now : Option (List ℕ)) (held : LineBuffer) (course : Course) (before bytes : List ℕ) → IsAt first now course (after_lines (cut_of before).lines) → IsAfter held bytes
     → (cut_of bytes).lines ≡ (cut_of before).lines ++ [] → IsBehind first now (record { lines = held; course = course }) bytes
 behind_same first now held course before bytes at stands e = record {
   held = stands;
@@ -160,8 +160,8 @@ behind_same first now held course before bytes at stands e = record {
 }
 
 -- one line ended, and was carried out
-pub behind_more : (first now : Option (List ℕ)) (held : Held) (course : Course) (before bytes : List ℕ) (line : Line) → IsAt first now course (after_line (after_lines (cut_of before).lines) line)
-    → Stands held bytes → (cut_of bytes).lines ≡ (cut_of before).lines ++ line ∷ [] → IsBehind first now (record { lines = held; course = course }) bytes
+pub behind_more : (first now : Option (List ℕ)) (held : LineBuffer) (course : Course) (before bytes : List ℕ) (line : Line) → IsAt first now course (after_line (after_lines (cut_of before).lines) line)
+    → IsAfter held bytes → (cut_of bytes).lines ≡ (cut_of before).lines ++ line ∷ [] → IsBehind first now (record { lines = held; course = course }) bytes
 behind_more first now held course before bytes line at stands e = record {
   held = stands;
   course = subst (IsAt first now course) (sym (ap after_lines e ∙ after_lines-push (cut_of before).lines line)) at;

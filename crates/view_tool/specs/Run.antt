@@ -2,7 +2,7 @@
 use Rattle.std.specs.Prelude.{◌≡◌, ℕ, List, [], ◌∷◌, ◌++◌, Option, Some, None, Result, Ok, Err}
 use Rattle.std.proofs.Common.{Bor}
 use Rattle.std.specs.Io.KnownBytes.{Appends}
-use Rattle.script_lines.specs.Held.{Stands}
+use Rattle.script_lines.specs.LineBuffer.{IsAfter}
 use Rattle.script_lines.specs.Lines.{Line, Text, LongLine, cut_of}
 use Rattle.text_lines.specs.Prefix.{AppendsPrefix}
 use Rattle.tool_io.specs.Counts.{raised}
@@ -11,7 +11,7 @@ use Rattle.view_tool.specs.declared.run.Run.{Run}
 use Rattle.view_tool.specs.declared.run.Stop.{Stop}
 use Rattle.view_tool.specs.declared.run.Stop.TheVariants as stop
 use Rattle.view_tool.specs.Transcript.{MayWant, Progress, after_lines}
-use Rattle.view_world.specs.WorldView.{world_of}
+use Rattle.view_world.specs.KeyedWorld.{world_of}
 
 -- a line as the code has it: none is too long
 abbrev pub line_now : Option (Bor (List ℕ)) → Line
@@ -32,7 +32,7 @@ pub record IsAt (first now : Option (List ℕ)) (course : Course) (progress : Pr
 
 -- a run has carried out the lines whose line feed is among these bytes, and holds what came behind them
 pub record IsBehind (first now : Option (List ℕ)) (run : Run) (bytes : List ℕ) : Type 0 where
-  pub held : Stands run.lines bytes
+  pub held : IsAfter run.lines bytes
   pub course : IsAt first now run.course (after_lines (cut_of bytes).lines)
 
 -- the texts of the lines before one of these, which may want memory, have gone

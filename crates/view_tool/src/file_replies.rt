@@ -2,7 +2,7 @@
 
 ghost use Rattle.std.specs.Prelude.{◌≤◌};
 ghost use Rattle.text_lines.specs.Delivered.{Delivered};
-ghost use Rattle.text_lines.specs.Held.{Sends};
+ghost use Rattle.text_lines.specs.BufferedText.{Sends};
 ghost use Rattle.view_tool.specs.Dump.{fault_text, refused_file_text};
 
 use crate::refusals::{put_counted, put_refused};

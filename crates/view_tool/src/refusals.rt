@@ -2,9 +2,9 @@
 
 ghost use Rattle.std.specs.Prelude.{◌≡◌, ◌≤◌, decimal, length};
 ghost use Rattle.text_lines.specs.Delivered.{Delivered};
-ghost use Rattle.text_lines.specs.Held.{Sends};
+ghost use Rattle.text_lines.specs.BufferedText.{Sends};
 ghost use Rattle.text_lines.specs.Joined.{◌⧺◌, texts_of};
-ghost use Rattle.view_model.specs.Refusals.{reason_of, told};
+ghost use Rattle.view_model.specs.Refusals.{reason_of, plain_refusal};
 ghost use Rattle.view_tool.specs.Refusals.{axis_text, member_text, reason_text, refused_line, refused_text};
 
 use crate::names::name_of;
@@ -19,7 +19,7 @@ pub fn reply_refusal<K: Sink>(
     line: u64,
     refusal: &Refusal,
 ) -> Result<(), Failed>
-    ensures { Delivered (K.state sink.old) (K.state sink.new) result (refused_line line (told refusal.now)) }
+    ensures { Delivered (K.state sink.old) (K.state sink.new) result (refused_line line (plain_refusal refusal.now)) }
 {
     reply.restart();
     put_refusal(reply, sink, line, refusal);
@@ -27,7 +27,7 @@ pub fn reply_refusal<K: Sink>(
 }
 
 fn put_refusal<K: Sink>(reply: &mut TextBuffer, sink: &mut K, line: u64, refusal: &Refusal)
-    ensures { Sends (K.state sink.old) (K.state sink.new) reply.old reply.new (refused_line line (told refusal.now)) }
+    ensures { Sends (K.state sink.old) (K.state sink.new) reply.old reply.new (refused_line line (plain_refusal refusal.now)) }
 {
     reply.put(sink, b"line ");
     reply.natural(sink, line);

@@ -1,12 +1,12 @@
 //! A script that is carried out as its bytes come.
 
 ghost use Rattle.std.specs.Prelude.{◌≡◌, ◌⊎◌, ℕ, ◌+◌, ◌-◌, ◌*◌, ◌<◌, ◌≤◌, ◌^◌, min, false, List, ◌∷◌, [], ◌++◌, Option, Err, OnOk, IfOk, IfErr, length, take};
-ghost use Rattle.script_lines.specs.Held.{IsLent, lines_at};
+ghost use Rattle.script_lines.specs.LineBuffer.{IsLent, lines_at};
 ghost use Rattle.script_lines.specs.Lines.{Line, cut_of, lines_of};
 ghost use Rattle.view_tool.specs.Run.{IsAt, IsBehind, StopsIn, line_now, lines_now, writes_counted};
 ghost use Rattle.view_tool.specs.Transcript.{MayWant, Progress, after_line, after_lines, is_idle, reply_to_line};
-ghost use Rattle.view_world.specs.Carried.{CarriedOut, IsDone};
-ghost use Rattle.view_world.specs.WorldView.{world_of};
+ghost use Rattle.view_world.specs.Carried.{WritesReply, IsDone};
+ghost use Rattle.view_world.specs.KeyedWorld.{world_of};
 
 use crate::refusals::reply_refusal;
 use script_lines::{Ended, LineFault, LinePlace, Lines, line, passes_over};
@@ -142,7 +142,7 @@ fn carry_out<K: Sink, F: Shelf>(
 ) -> Result<(), StepFault>
     requires numbered { world.old.views.next < 2 ^ 62 }
     requires counts { is_idle (line_now bytes) ≡ false }
-    ensures carried { CarriedOut (reply_to_line (world_of world.old) (line_now bytes.entry)) (world_of world.new) (K.state sink.old) (K.state sink.new) result }
+    ensures carried { WritesReply (reply_to_line (world_of world.old) (line_now bytes.entry)) (world_of world.new) (K.state sink.old) (K.state sink.new) result }
     ensures unchanged { IsDone result ⊎ ((world.new ≡ world.old) × (sink.new ≡ sink.old)) }
     ensures memory { result ≡ Err StepFault.NoMemory → MayWant (line_now bytes.entry) }
     ensures numbers { world.new.views.next ≤ world.old.views.next + 4096 }

@@ -3,15 +3,15 @@ use Rattle.std.proofs.Common.{◌≡◌, ◌≢◌, ℕ, ◌+◌, ◌^◌, ◌<�
 use Rattle.std.proofs.lemmas.Bool.{cases_Bool}
 use Rattle.std.specs.Prelude.{◌==◌, if◌then◌else◌, IfSome}
 use Rattle.view_model.specs.Forest.{Forest, Nothing, Branch, count_of}
-use Rattle.view_model.specs.PlainTree.{View}
+use Rattle.view_model.specs.PlainTree.{PlainView}
 use Rattle.view_tree.specs.declared.ids.Holders.{Holders}
 use Rattle.view_tree.specs.Holders.{dropped, noted, renamed}
 use Rattle.view_tree.specs.Nodes.{has_id, holders_of}
-use Rattle.view_tree.specs.Rows.{Row, alone, below, count_where, cut, from, head_view, key_where, keys_where, leaf, put_view, times, with_child}
+use Rattle.view_tree.specs.Rows.{Row, first_tree, children_of_first, count_where, pruned_at_key, part_from, head_view, key_where, keys_where, leaf, changed_at_key, count_of_key, with_child}
 use Rattle.view_tree.proofs.HiddenLaws.{put_absent}
 use Rattle.view_tree.proofs.HolderLaws.{dropped_is, held_few, held_none, held_one, noted_is, own, renamed_is}
 use Rattle.view_tree.proofs.KeyLaws.{absent, located, or_else_live, zero_or_more}
-use Rattle.view_tree.proofs.NumberLaws.{weight, weight-cut, weight-with_child}
+use Rattle.view_tree.proofs.NumberLaws.{weight, weight-pruned_at_key, weight-with_child}
 use Rattle.view_tree.proofs.PlainLaws.{key_where_live}
 use Rattle.view_tree.proofs.Searches.{search}
 
@@ -20,33 +20,33 @@ abbrev pub at_head : (Row → ℕ) → Forest Row → ℕ
 at_head f Nothing = 0
 at_head f (Branch row kids siblings) = f row
 
-abbrev put_row : (View → View) → Row → Row
+abbrev put_row : (PlainView → PlainView) → Row → Row
 put_row change row = record row { view = change row.view }
 
 -- a change of one view
-pub weight-put_at : (f : Row → ℕ) (key : ℕ) (change : View → View) (tree : Forest Row) → times key tree ≤ 1
-    → weight f (put_view key change tree) + at_head f (from key tree) ≡ weight f tree + at_head (λ row. f (put_row change row)) (from key tree)
+pub weight-put_at : (f : Row → ℕ) (key : ℕ) (change : PlainView → PlainView) (tree : Forest Row) → count_of_key key tree ≤ 1
+    → weight f (changed_at_key key change tree) + at_head f (part_from key tree) ≡ weight f tree + at_head (λ row. f (put_row change row)) (part_from key tree)
 weight-put_at f key change Nothing once = refl
 weight-put_at f key change (Branch row kids siblings) once =
     elim (cases_Bool (row.key == key)) [
       | inl e ↦ rw e (omega arith)
       | inr e ↦
           let once = rw e at once in
-          elim (zero_or_more (times key kids)) [
+          elim (zero_or_more (count_of_key key kids)) [
             | inl z ↦ rw (e, put_absent key change kids z, absent key kids z) (let i = weight-put_at f key change siblings (omega arith) in omega arith)
             | inr l ↦
-                rw (e, or_else_live key kids (from key siblings) l, put_absent key change siblings (omega arith))
+                rw (e, or_else_live key kids (part_from key siblings) l, put_absent key change siblings (omega arith))
                 (let i = weight-put_at f key change kids (omega arith) in omega arith)
           ]
     ]
 
 -- a view without children is all there is in its part
-pub weight-leaf : (f : Row → ℕ) (list : Forest Row) → below list ≡ Nothing → weight f (alone list) ≡ at_head f list
+pub weight-leaf : (f : Row → ℕ) (list : Forest Row) → children_of_first list ≡ Nothing → weight f (first_tree list) ≡ at_head f list
 weight-leaf f Nothing none = refl
 weight-leaf f (Branch row kids siblings) none = rw none (omega arith)
 
 -- how many views pass a test, and the sum of their keys
-module _ (passes : View → Bool) where
+module _ (passes : PlainView → Bool) where
   abbrev pub one_of : Row → ℕ
   one_of row = if passes row.view then 1 else 0
 
@@ -105,8 +105,8 @@ module _ (passes : View → Bool) where
       ]
 
 -- what a table has for an id, after edits of the tree
-pub holders_of-with_child : (id : ℕ) (parent : Option ℕ) (key : ℕ) (view : View) (tree : Forest Row) → IfSome parent (λ parent. 0 < times parent tree)
-    → (parent ≡ None → tree ≡ Nothing) → ((key : ℕ) → times key tree ≤ 1) → key < 2 ^ 64
+pub holders_of-with_child : (id : ℕ) (parent : Option ℕ) (key : ℕ) (view : PlainView) (tree : Forest Row) → IfSome parent (λ parent. 0 < count_of_key parent tree)
+    → (parent ≡ None → tree ≡ Nothing) → ((key : ℕ) → count_of_key key tree ≤ 1) → key < 2 ^ 64
     → holders_of id (with_child parent (leaf key view) tree) ≡ noted (holders_of id tree) view.facts.id key id
 holders_of-with_child id parent key view tree live root once small =
     let count = weight-with_child (one_of (has_id id)) parent (leaf key view) tree live root once in
@@ -115,32 +115,32 @@ holders_of-with_child id parent key view tree live root once small =
     (count_where (has_id id) (with_child parent (leaf key view) tree)) (keys_where (has_id id) (with_child parent (leaf key view) tree))
     (omega arith) (omega arith) (keys_where-none (has_id id) tree) small
 
-pub holders_of-cut : (id key : ℕ) (tree : Forest Row) → 0 < times key tree → times key tree ≤ 1 → below (from key tree) ≡ Nothing → key < 2 ^ 64
-    → holders_of id (cut key tree) ≡ dropped (holders_of id tree) (head_view (from key tree)).facts.id key id
-holders_of-cut id key tree live once leaf small =
+pub holders_of-pruned_at_key : (id key : ℕ) (tree : Forest Row) → 0 < count_of_key key tree → count_of_key key tree ≤ 1 → children_of_first (part_from key tree) ≡ Nothing → key < 2 ^ 64
+    → holders_of id (pruned_at_key key tree) ≡ dropped (holders_of id tree) (head_view (part_from key tree)).facts.id key id
+holders_of-pruned_at_key id key tree live once leaf small =
     let f = located key tree live in
-    let count = weight-cut (one_of (has_id id)) key tree once in
-    let keys = weight-cut (key_of (has_id id)) key tree once in
-    let one : weight (one_of (has_id id)) (alone (from key tree)) ≡ own (head_view (from key tree)).facts.id id 1 =
-    weight-leaf (one_of (has_id id)) (from key tree) leaf ∙ rw f.is refl in
-    let key_one : weight (key_of (has_id id)) (alone (from key tree)) ≡ own (head_view (from key tree)).facts.id id key =
-    weight-leaf (key_of (has_id id)) (from key tree) leaf ∙ rw (f.is, f.key_is) refl in
-    dropped_is (head_view (from key tree)).facts.id id key (count_where (has_id id) tree) (keys_where (has_id id) tree)
-    (count_where (has_id id) (cut key tree)) (keys_where (has_id id) (cut key tree)) (omega arith) (omega arith) small
+    let count = weight-pruned_at_key (one_of (has_id id)) key tree once in
+    let keys = weight-pruned_at_key (key_of (has_id id)) key tree once in
+    let one : weight (one_of (has_id id)) (first_tree (part_from key tree)) ≡ own (head_view (part_from key tree)).facts.id id 1 =
+    weight-leaf (one_of (has_id id)) (part_from key tree) leaf ∙ rw f.is refl in
+    let key_one : weight (key_of (has_id id)) (first_tree (part_from key tree)) ≡ own (head_view (part_from key tree)).facts.id id key =
+    weight-leaf (key_of (has_id id)) (part_from key tree) leaf ∙ rw (f.is, f.key_is) refl in
+    dropped_is (head_view (part_from key tree)).facts.id id key (count_where (has_id id) tree) (keys_where (has_id id) tree)
+    (count_where (has_id id) (pruned_at_key key tree)) (keys_where (has_id id) (pruned_at_key key tree)) (omega arith) (omega arith) small
 
-pub holders_of-put : (id key : ℕ) (change : View → View) (tree : Forest Row) → 0 < times key tree → times key tree ≤ 1 → key < 2 ^ 64
-    → holders_of id (put_view key change tree)
-    ≡ renamed (holders_of id tree) (head_view (from key tree)).facts.id (change (head_view (from key tree))).facts.id key id
+pub holders_of-put : (id key : ℕ) (change : PlainView → PlainView) (tree : Forest Row) → 0 < count_of_key key tree → count_of_key key tree ≤ 1 → key < 2 ^ 64
+    → holders_of id (changed_at_key key change tree)
+    ≡ renamed (holders_of id tree) (head_view (part_from key tree)).facts.id (change (head_view (part_from key tree))).facts.id key id
 holders_of-put id key change tree live once small =
     let f = located key tree live in
-    let old = (head_view (from key tree)).facts.id in
-    let new = (change (head_view (from key tree))).facts.id in
-    let count : count_where (has_id id) (put_view key change tree) + own old id 1 ≡ count_where (has_id id) tree + own new id 1 =
+    let old = (head_view (part_from key tree)).facts.id in
+    let new = (change (head_view (part_from key tree))).facts.id in
+    let count : count_where (has_id id) (changed_at_key key change tree) + own old id 1 ≡ count_where (has_id id) tree + own new id 1 =
     rw f.is (rw f.is at (weight-put_at (one_of (has_id id)) key change tree once)) in
-    let keys : keys_where (has_id id) (put_view key change tree) + own old id key ≡ keys_where (has_id id) tree + own new id key =
+    let keys : keys_where (has_id id) (changed_at_key key change tree) + own old id key ≡ keys_where (has_id id) tree + own new id key =
     rw f.is (rw (f.is, f.key_is) at (weight-put_at (key_of (has_id id)) key change tree once)) in
     renamed_is old new id key (count_where (has_id id) tree) (keys_where (has_id id) tree)
-    (count_where (has_id id) (put_view key change tree)) (keys_where (has_id id) (put_view key change tree))
+    (count_where (has_id id) (changed_at_key key change tree)) (keys_where (has_id id) (changed_at_key key change tree))
     count keys (keys_where-none (has_id id) tree) small
 
 -- what a look-up tells of a search
@@ -153,7 +153,7 @@ pub search_none : (id : ℕ) (tree : Forest Row) → id ≢ 0 → holders_of id 
 search_none id tree ne is = key_where-none (has_id id) tree (held_none id (count_where (has_id id) tree) (keys_where (has_id id) tree) ne is)
 
 pub search_one : (id : ℕ) (tree : Forest Row) (held : Holders) → id ≢ 0 → holders_of id tree ≡ Some held → held.count ≡ 1
-    → ((key : ℕ) → 0 < times key tree → key < 2 ^ 64) → key_where (has_id id) tree ≡ Some held.sum
+    → ((key : ℕ) → 0 < count_of_key key tree → key < 2 ^ 64) → key_where (has_id id) tree ≡ Some held.sum
 search_one id tree held ne is one small =
     let all = held_one id (count_where (has_id id) tree) (keys_where (has_id id) tree) held ne is one in
     let sum = keys_where (has_id id) tree in

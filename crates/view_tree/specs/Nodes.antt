@@ -3,17 +3,17 @@ use Rattle.std.specs.Prelude.{ℕ, zero, suc, ◌≡◌, ◌<◌, ◌≤◌, ◌
 use Rattle.slab.specs.Slab.{Slab, get, slab_len}
 use Rattle.indexmap.specs.IndexMap.{get as get_key}
 use Rattle.view_model.specs.Forest.{Forest, Nothing, Branch, count_of}
-use Rattle.view_model.specs.PlainTree.{View}
+use Rattle.view_model.specs.PlainTree.{PlainView}
 use Rattle.view_tree.specs.Holders.{holders}
-use Rattle.view_tree.specs.Rows.{Row, after, count_where, first_key, key_where, keys_where, last_key, times, unscrolled_facts}
+use Rattle.view_tree.specs.Rows.{Row, later_siblings, count_where, first_key, key_where, keys_where, last_key, count_of_key, unscrolled_facts}
 use Rattle.view_tree.specs.Views.{Held, IsTree, Views}
 use Rattle.view_tree.specs.declared.ids.Holders.{Holders}
 use Rattle.view_tree.specs.declared.node.Node.{Node}
 use Rattle.view_tree.specs.declared.tree.ViewTree.TheInside.{Inside}
 
 -- what a node says of the tree, and nothing of its state
-pub record Said : Type 0 where
-  pub view : View
+pub record Links : Type 0 where
+  pub view : PlainView
   pub parent : Option ℕ
   pub first : Option ℕ
   pub last : Option ℕ
@@ -21,15 +21,15 @@ pub record Said : Type 0 where
   pub next : Option ℕ
 
 -- a view as if it was not scrolled
-abbrev pub unscrolled : View → View
+abbrev pub unscrolled : PlainView → PlainView
 unscrolled view = record view { facts = unscrolled_facts view.facts }
 
 -- the view of a node, as it stands in a row
-abbrev pub view_of_node : Node → View
+abbrev pub view_of_node : Node → PlainView
 view_of_node node = unscrolled (record { number = node.number; class = node.class; facts = node.facts; text = node.text })
 
-abbrev pub said_of : Node → Said
-said_of node = record {
+abbrev pub links_of : Node → Links
+links_of node = record {
   view = view_of_node node;
   parent = node.parent;
   first = node.first;
@@ -38,12 +38,12 @@ said_of node = record {
   next = node.next;
 }
 
-abbrev pub said : Option Node → Option Said
-said None = None
-said (Some node) = Some (said_of node)
+abbrev pub links_in : Option Node → Option Links
+links_in None = None
+links_in (Some node) = Some (links_of node)
 
-abbrev pub said_at : Slab Node → ℕ → Option Said
-said_at nodes key = said (get nodes key)
+abbrev pub links_at : Slab Node → ℕ → Option Links
+links_at nodes key = links_in (get nodes key)
 
 -- what is kept of a node's view beside the tree
 abbrev pub held_by : Node → Held
@@ -54,19 +54,19 @@ held_in None = None
 held_in (Some node) = Some (held_by node)
 
 -- a view that a node stands for, where its children and its later siblings are known
-abbrev pub planted : ℕ → Option Said → (Option ℕ → Forest Row) → Forest Row
-planted key None grow = Nothing
-planted key (Some node) grow = Branch (record { key = key; view = node.view }) (grow node.first) (grow node.next)
+abbrev pub branch_at : ℕ → Option Links → (Option ℕ → Forest Row) → Forest Row
+branch_at key None grow = Nothing
+branch_at key (Some node) grow = Branch (record { key = key; view = node.view }) (grow node.first) (grow node.next)
 
 -- the forest that begins at a node, as far as the fuel goes
-unfoldable pub forest : ℕ → (ℕ → Option Said) → Option ℕ → Forest Row
+unfoldable pub forest : ℕ → (ℕ → Option Links) → Option ℕ → Forest Row
 forest zero at key = Nothing
 forest (suc fuel) at None = Nothing
-forest (suc fuel) at (Some key) = planted key (at key) (forest fuel at)
+forest (suc fuel) at (Some key) = branch_at key (at key) (forest fuel at)
 
 -- what the node of a view says that has these around it
-abbrev pub said_for : Row → Option ℕ → Option ℕ → Forest Row → Forest Row → Said
-said_for row parent before kids siblings = record {
+abbrev pub links_for : Row → Option ℕ → Option ℕ → Forest Row → Forest Row → Links
+links_for row parent before kids siblings = record {
   view = row.view;
   parent = parent;
   first = first_key kids;
@@ -76,32 +76,32 @@ said_for row parent before kids siblings = record {
 }
 
 -- the nodes stand for a list of trees, under this parent and behind this sibling
-abbrev pub Stand : (ℕ → Option Said) → Option ℕ → Option ℕ → Forest Row → Type 0
-Stand at parent before Nothing = Unit {0}
-Stand at parent before (Branch row kids siblings) =
-    (at row.key ≡ Some (said_for row parent before kids siblings)) × Stand at (Some row.key) None kids × Stand at parent (Some row.key) siblings
+abbrev pub RepresentsPart : (ℕ → Option Links) → Option ℕ → Option ℕ → Forest Row → Type 0
+RepresentsPart at parent before Nothing = Unit {0}
+RepresentsPart at parent before (Branch row kids siblings) =
+    (at row.key ≡ Some (links_for row parent before kids siblings)) × RepresentsPart at (Some row.key) None kids × RepresentsPart at parent (Some row.key) siblings
 
 -- the parent of a node, or a sibling right beside it
-abbrev pub IsAround : Said → ℕ → Type 0
+abbrev pub IsAround : Links → ℕ → Type 0
 IsAround node key = (node.parent ≡ Some key) ⊎ ((node.previous ≡ Some key) ⊎ (node.next ≡ Some key))
 
 -- what nodes say after a change of one of them, if any
-abbrev pub changed_at : (ℕ → Option Said) → Option ℕ → (Said → Said) → ℕ → Option Said
+abbrev pub changed_at : (ℕ → Option Links) → Option ℕ → (Links → Links) → ℕ → Option Links
 changed_at at None change key = at key
 changed_at at (Some changed) change key = if key == changed then option_map change (at key) else at key
 
 -- what nodes say once there is one more
-abbrev pub with_node : (ℕ → Option Said) → ℕ → Said → ℕ → Option Said
+abbrev pub with_node : (ℕ → Option Links) → ℕ → Links → ℕ → Option Links
 with_node at new node key = if key == new then Some node else at key
 
 -- what nodes say once one is gone
-abbrev pub without : (ℕ → Option Said) → ℕ → ℕ → Option Said
+abbrev pub without : (ℕ → Option Links) → ℕ → ℕ → Option Links
 without at gone key = if key == gone then None else at key
 
 -- the second where the first is none, and else the third
-abbrev pub instead : Option ℕ → Option ℕ → Option ℕ → Option ℕ
-instead None new old = new
-instead (Some key) new old = old
+abbrev pub replaced_if_none : Option ℕ → Option ℕ → Option ℕ → Option ℕ
+replaced_if_none None new old = new
+replaced_if_none (Some key) new old = old
 
 -- the first key, or the second where there is none
 abbrev pub key_or : Option ℕ → ℕ → Option ℕ
@@ -109,44 +109,44 @@ key_or None key = Some key
 key_or (Some first) key = Some first
 
 -- the last child that a node names, if there is such a node
-abbrev pub last_named : Option Said → Option ℕ
+abbrev pub last_named : Option Links → Option ℕ
 last_named None = None
 last_named (Some node) = node.last
 
-abbrev pub last_child : (ℕ → Option Said) → Option ℕ → Option ℕ
+abbrev pub last_child : (ℕ → Option Links) → Option ℕ → Option ℕ
 last_child at None = None
 last_child at (Some parent) = last_named (at parent)
 
 -- what nodes say once a view has come under this key, the last child of its parent, behind a sibling
-abbrev pub hung : (ℕ → Option Said) → Option ℕ → ℕ → View → Option ℕ → ℕ → Option Said
-hung at parent key view before =
+abbrev pub linked : (ℕ → Option Links) → Option ℕ → ℕ → PlainView → Option ℕ → ℕ → Option Links
+linked at parent key view before =
     changed_at (changed_at (with_node at key (record { view = unscrolled view; parent = parent; first = None; last = None; previous = before; next = None }))
     before (λ node. record node { next = Some key }))
     parent (λ node. record node { first = key_or node.first key; last = Some key })
 
 -- what nodes say once one that said this is taken out from among its siblings
-abbrev pub unhung : (ℕ → Option Said) → ℕ → Said → ℕ → Option Said
-unhung at key node =
+abbrev pub unlinked : (ℕ → Option Links) → ℕ → Links → ℕ → Option Links
+unlinked at key node =
     changed_at (changed_at (changed_at (without at key)
     node.previous (λ before. record before { next = node.next }))
     node.next (λ behind. record behind { previous = node.previous }))
-    node.parent (λ above. record above { first = instead node.previous node.next above.first; last = instead node.next node.previous above.last })
+    node.parent (λ above. record above { first = replaced_if_none node.previous node.next above.first; last = replaced_if_none node.next node.previous above.last })
 
 -- the nodes and the root stand for the whole tree
-pub record Stands (at : ℕ → Option Said) (root : Option ℕ) (next : ℕ) (tree : Forest Row) : Type 0 where
+pub record RepresentsTree (at : ℕ → Option Links) (root : Option ℕ) (next : ℕ) (tree : Forest Row) : Type 0 where
   pub outer : first_key tree ≡ root
-  pub single : after tree ≡ Nothing
-  pub stand : Stand at None None tree
-  pub distinct : (key : ℕ) → times key tree ≤ 1
+  pub single : later_siblings tree ≡ Nothing
+  pub stand : RepresentsPart at None None tree
+  pub distinct : (key : ℕ) → count_of_key key tree ≤ 1
   pub few : count_of tree < next
 
 abbrev pub tree_of : Inside → Forest Row
-tree_of inside = forest inside.next (said_at inside.nodes) inside.root
+tree_of inside = forest inside.next (links_at inside.nodes) inside.root
 
 abbrev pub value_of : Inside → Views
 value_of inside = record { tree = tree_of inside; held = map held_in inside.nodes.slots; next = inside.next }
 
-abbrev pub has_id : ℕ → View → Bool
+abbrev pub has_id : ℕ → PlainView → Bool
 has_id id view = view.facts.id == id
 
 -- what a table has for an id: nothing for 0, which names no view, nor for one that no view has
@@ -155,9 +155,9 @@ holders_of id tree = if id == 0 then None else holders (count_where (has_id id) 
 
 -- each view has a node, each node a view, each number its key, and each id its views
 pub record IsSound (inside : Inside) : Type 0 where
-  pub stands : Stands (said_at inside.nodes) inside.root inside.next (tree_of inside)
+  pub stands : RepresentsTree (links_at inside.nodes) inside.root inside.next (tree_of inside)
   pub kept : IsTree (value_of inside)
   pub full : slab_len inside.nodes ≡ count_of (tree_of inside)
   pub found : (number : ℕ) → get_key nat_eq inside.keys number ≡ key_where (λ view. view.number == number) (tree_of inside)
   pub named : (id : ℕ) → get_key nat_eq inside.ids id ≡ holders_of id (tree_of inside)
-  pub small : (key : ℕ) → 0 < times key (tree_of inside) → key < 2 ^ 64
+  pub small : (key : ℕ) → 0 < count_of_key key (tree_of inside) → key < 2 ^ 64

@@ -1,7 +1,7 @@
 //! The views that have each id, kept so that one that has an id alone is found without a walk.
 ghost use Rattle.std.specs.Prelude.{◌≡◌, ◌≤◌, ◌<◌, ◌+◌, ℕ, Some, None, IfSome, IsOk, OnErr, OnOk, nat_eq};
 ghost use Rattle.indexmap.specs.IndexMap.{get as holders_at, spare};
-ghost use Rattle.view_tree.specs.Faults.{RefusedFor};
+ghost use Rattle.view_tree.specs.Faults.{IsRefusedExactlyFor};
 ghost use Rattle.view_tree.specs.Holders.{dropped, noted, renamed, with_holder, without_holder};
 
 use crate::fault::AttachFault;
@@ -42,7 +42,7 @@ fn one_less(holders: Holders, key: usize) -> Option<Holders>
 /// Notes that the view of this key has an id; 0 names nothing and has no entry.
 pub fn note_id(ids: &mut IndexMap<u32, Holders>, id: u32, key: usize) -> Result<(), AttachFault>
     requires { IfSome (holders_at nat_eq ids.old id) (λ holders. holders.count ≤ 4096) }
-    ensures refused { RefusedFor None result }
+    ensures refused { IsRefusedExactlyFor None result }
     ensures noted { OnOk result ((i : ℕ) → holders_at nat_eq ids.new i ≡ noted (holders_at nat_eq ids.old i) id key i) }
     ensures unchanged { OnErr result (ids.new.entries ≡ ids.old.entries) }
     ensures succeeds { 0 < spare ids.old → IsOk result }
@@ -87,7 +87,7 @@ pub fn rename(
     new: u32,
 ) -> Result<(), AttachFault>
     requires { IfSome (holders_at nat_eq ids.old new) (λ holders. holders.count ≤ 4096) }
-    ensures refused { RefusedFor None result }
+    ensures refused { IsRefusedExactlyFor None result }
     ensures renamed { OnOk result ((i : ℕ) → holders_at nat_eq ids.new i ≡ renamed (holders_at nat_eq ids.old i) old new key i) }
     ensures unchanged { OnErr result (ids.new.entries ≡ ids.old.entries) }
 {

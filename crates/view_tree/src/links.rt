@@ -1,7 +1,7 @@
 //! How nodes come among their neighbours and leave them. A key that is `None` stands for a neighbour that is not there.
 ghost use Rattle.std.specs.Prelude.{◌≡◌, ◌≢◌, ◌+◌, ℕ, Some, None};
 ghost use Rattle.slab.specs.Slab.{get, slab_len, ContainsKey, HasRoomFor};
-ghost use Rattle.view_tree.specs.Nodes.{Said, IsAround, changed_at, held_in, hung, instead, key_or, last_child, said_at, unhung};
+ghost use Rattle.view_tree.specs.Nodes.{Links, IsAround, changed_at, held_in, linked, replaced_if_none, key_or, last_child, links_at, unlinked};
 ghost use Rattle.view_tree.specs.Views.{fresh_held};
 
 use crate::node::Node;
@@ -11,7 +11,7 @@ use view_model::{Class, Facts, Text};
 
 fn set_next(nodes: &mut Slab<Node>, key: Option<usize>, next: Option<usize>)
     requires { (k : ℕ) → key ≡ Some k → ContainsKey nodes.old k }
-    ensures said { (x : ℕ) → said_at nodes.new x ≡ changed_at (said_at nodes.old) key (λ node. record node { next = next }) x }
+    ensures links { (x : ℕ) → links_at nodes.new x ≡ changed_at (links_at nodes.old) key (λ node. record node { next = next }) x }
     ensures held { (x : ℕ) → held_in (get nodes.new x) ≡ held_in (get nodes.old x) }
     ensures len { slab_len nodes.new ≡ slab_len nodes.old }
 {
@@ -23,7 +23,7 @@ fn set_next(nodes: &mut Slab<Node>, key: Option<usize>, next: Option<usize>)
 
 fn set_previous(nodes: &mut Slab<Node>, key: Option<usize>, previous: Option<usize>)
     requires { (k : ℕ) → key ≡ Some k → ContainsKey nodes.old k }
-    ensures said { (x : ℕ) → said_at nodes.new x ≡ changed_at (said_at nodes.old) key (λ node. record node { previous = previous }) x }
+    ensures links { (x : ℕ) → links_at nodes.new x ≡ changed_at (links_at nodes.old) key (λ node. record node { previous = previous }) x }
     ensures held { (x : ℕ) → held_in (get nodes.new x) ≡ held_in (get nodes.old x) }
     ensures len { slab_len nodes.new ≡ slab_len nodes.old }
 {
@@ -36,7 +36,7 @@ fn set_previous(nodes: &mut Slab<Node>, key: Option<usize>, previous: Option<usi
 /// A child comes behind the others.
 fn set_last(nodes: &mut Slab<Node>, parent: Option<usize>, kid: usize)
     requires { (k : ℕ) → parent ≡ Some k → ContainsKey nodes.old k }
-    ensures said { (x : ℕ) → said_at nodes.new x ≡ changed_at (said_at nodes.old) parent (λ node. record node { first = key_or node.first kid; last = Some kid }) x }
+    ensures links { (x : ℕ) → links_at nodes.new x ≡ changed_at (links_at nodes.old) parent (λ node. record node { first = key_or node.first kid; last = Some kid }) x }
     ensures held { (x : ℕ) → held_in (get nodes.new x) ≡ held_in (get nodes.old x) }
     ensures len { slab_len nodes.new ≡ slab_len nodes.old }
 {
@@ -57,7 +57,7 @@ fn set_ends(
     next: Option<usize>,
 )
     requires { (k : ℕ) → parent ≡ Some k → ContainsKey nodes.old k }
-    ensures said { (x : ℕ) → said_at nodes.new x ≡ changed_at (said_at nodes.old) parent (λ node. record node { first = instead previous next node.first; last = instead next previous node.last }) x }
+    ensures links { (x : ℕ) → links_at nodes.new x ≡ changed_at (links_at nodes.old) parent (λ node. record node { first = replaced_if_none previous next node.first; last = replaced_if_none next previous node.last }) x }
     ensures held { (x : ℕ) → held_in (get nodes.new x) ≡ held_in (get nodes.old x) }
     ensures len { slab_len nodes.new ≡ slab_len nodes.old }
 {
@@ -74,7 +74,7 @@ fn set_ends(
 
 fn last_of(nodes: &Slab<Node>, parent: Option<usize>) -> Option<usize>
     requires { (k : ℕ) → parent ≡ Some k → ContainsKey nodes.now k }
-    ensures { result ≡ last_child (said_at nodes.now) parent }
+    ensures { result ≡ last_child (links_at nodes.now) parent }
 {
     match parent {
         None => None,
@@ -83,7 +83,7 @@ fn last_of(nodes: &Slab<Node>, parent: Option<usize>) -> Option<usize>
 }
 
 /// Makes a node, the last child of its parent.
-pub fn hang(
+pub fn link_last(
     nodes: &mut Slab<Node>,
     parent: Option<usize>,
     number: u64,
@@ -93,9 +93,9 @@ pub fn hang(
 ) -> usize
     requires room { HasRoomFor nodes.old 1 }
     requires parent { (k : ℕ) → parent ≡ Some k → ContainsKey nodes.old k }
-    requires last { (k : ℕ) → last_child (said_at nodes.old) parent ≡ Some k → ContainsKey nodes.old k }
+    requires last { (k : ℕ) → last_child (links_at nodes.old) parent ≡ Some k → ContainsKey nodes.old k }
     ensures unused { get nodes.old result ≡ None }
-    ensures said { (x : ℕ) → said_at nodes.new x ≡ hung (said_at nodes.old) parent result (record { number = number; class = class; facts = facts; text = text }) (last_child (said_at nodes.old) parent) x }
+    ensures links { (x : ℕ) → links_at nodes.new x ≡ linked (links_at nodes.old) parent result (record { number = number; class = class; facts = facts; text = text }) (last_child (links_at nodes.old) parent) x }
     ensures held { held_in (get nodes.new result) ≡ Some (fresh_held facts.offset) }
     ensures others { (x : ℕ) → x ≢ result → held_in (get nodes.new x) ≡ held_in (get nodes.old x) }
     ensures len { slab_len nodes.new ≡ slab_len nodes.old + 1 }
@@ -119,11 +119,11 @@ pub fn hang(
 }
 
 /// Takes a node out from among its neighbours.
-pub fn unhang(nodes: &mut Slab<Node>, key: usize) -> Node
+pub fn unlink(nodes: &mut Slab<Node>, key: usize) -> Node
     requires there { ContainsKey nodes.old key }
-    requires around { (node : Said) (k : ℕ) → said_at nodes.old key ≡ Some node → IsAround node k → ContainsKey nodes.old k × (k ≢ key) }
+    requires around { (node : Links) (k : ℕ) → links_at nodes.old key ≡ Some node → IsAround node k → ContainsKey nodes.old k × (k ≢ key) }
     ensures node { get nodes.old key ≡ Some result }
-    ensures said { (node : Said) → said_at nodes.old key ≡ Some node → (x : ℕ) → said_at nodes.new x ≡ unhung (said_at nodes.old) key node x }
+    ensures links { (node : Links) → links_at nodes.old key ≡ Some node → (x : ℕ) → links_at nodes.new x ≡ unlinked (links_at nodes.old) key node x }
     ensures held { (x : ℕ) → x ≢ key → held_in (get nodes.new x) ≡ held_in (get nodes.old x) }
     ensures len { slab_len nodes.new + 1 ≡ slab_len nodes.old }
 {

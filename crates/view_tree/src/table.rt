@@ -2,7 +2,7 @@
 ghost use Rattle.std.specs.Prelude.{◌≡◌, ◌<◌, ◌≤◌, ℕ, Some, None, OnOk, if◌then◌else◌, nat_eq};
 ghost use Rattle.indexmap.specs.IndexMap.{get as key_of, spare};
 ghost use Rattle.slab.specs.Slab.{HasRoomFor};
-ghost use Rattle.view_tree.specs.Faults.{RefusedFor};
+ghost use Rattle.view_tree.specs.Faults.{IsRefusedExactlyFor};
 
 use crate::fault::AttachFault;
 use crate::ids::Holders;
@@ -36,7 +36,7 @@ pub fn make_room(
     views: usize,
     names: usize,
 ) -> Result<(), AttachFault>
-    ensures refused { RefusedFor None result }
+    ensures refused { IsRefusedExactlyFor None result }
     ensures nodes { nodes.new ≡ record nodes.old { capacity = nodes.new.capacity } }
     ensures keys { keys.new.entries ≡ keys.old.entries }
     ensures ids { ids.new.entries ≡ ids.old.entries }

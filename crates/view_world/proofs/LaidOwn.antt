@@ -14,7 +14,7 @@ use Rattle.view_model.specs.Geometry.{Laid, extent_of}
 use Rattle.view_model.specs.Layout.{Spot, laid_views, measured_size, place_in, total_size, unscrolled}
 use Rattle.view_model.specs.Measuring.{Measured, Specs}
 use Rattle.view_tree.specs.Hidden.{HidesGone}
-use Rattle.view_tree.specs.Rows.{Row, alone, below, from, head_view, times, views_of}
+use Rattle.view_tree.specs.Rows.{Row, first_tree, children_of_first, part_from, head_view, count_of_key, views_of}
 use Rattle.view_tree.specs.Views.{Held, laid_rows, specs_of}
 use Rattle.view_tree.proofs.Forests.{times_from}
 use Rattle.view_tree.proofs.GeometryLaws.{laid_nowhere}
@@ -31,17 +31,17 @@ pub record Wrote (old new : ℕ → Held) (view : ℕ) (rect : Rect) : Type 0 wh
   pub others : (key : ℕ) → key ≢ view → new key ≡ old key
 
 -- a view is not below itself
-not_below : (row : Row) (kids siblings : Forest Row) → times row.key (Branch row kids siblings) ≤ 1 → times row.key kids ≡ 0
+not_below : (row : Row) (kids siblings : Forest Row) → count_of_key row.key (Branch row kids siblings) ≤ 1 → count_of_key row.key kids ≡ 0
 not_below row kids siblings once = let once = rw (eq-eqb row.key row.key refl) at once in omega arith
 
 -- what is below a view, and what is outside of it, has another key
-apart : (row : Row) (kids : Forest Row) (view key : ℕ) → row.key ≡ view → times row.key kids ≡ 0 → 0 < times key kids → key ≢ view
+apart : (row : Row) (kids : Forest Row) (view key : ℕ) → row.key ≡ view → count_of_key row.key kids ≡ 0 → 0 < count_of_key key kids → key ≢ view
 apart row kids view key is none live e =
-    let z : times key kids ≡ 0 = subst (λ k. times k kids ≡ 0) (is ∙ sym e) none in absurd (omega arith)
+    let z : count_of_key key kids ≡ 0 = subst (λ k. count_of_key k kids ≡ 0) (is ∙ sym e) none in absurd (omega arith)
 
-outside : (row : Row) (kids : Forest Row) (view key : ℕ) → row.key ≡ view → times key (Branch row kids Nothing) ≡ 0 → key ≢ view
+outside : (row : Row) (kids : Forest Row) (view key : ℕ) → row.key ≡ view → count_of_key key (Branch row kids Nothing) ≡ 0 → key ≢ view
 outside row kids view key is none e =
-    let z : times row.key (Branch row kids Nothing) ≡ 0 = subst (λ k. times k (Branch row kids Nothing) ≡ 0) (e ∙ sym is) none in
+    let z : count_of_key row.key (Branch row kids Nothing) ≡ 0 = subst (λ k. count_of_key k (Branch row kids Nothing) ≡ 0) (e ∙ sym is) none in
     let z = rw (eq-eqb row.key row.key refl) at z in absurd (omega arith)
 
 -- no answer is both
@@ -50,7 +50,7 @@ never_both t f = absurd (let e : true ≡ false = sym t ∙ f in cc)
 
 -- what the writing of a view's bounds leaves below it
 same_below : (row : Row) (kids siblings : Forest Row) (view : ℕ) (rect : Rect) (old new : ℕ → Held) → row.key ≡ view
-    → times row.key (Branch row kids siblings) ≤ 1 → Wrote old new view rect → Same old new kids
+    → count_of_key row.key (Branch row kids siblings) ≤ 1 → Wrote old new view rect → Same old new kids
 same_below row kids siblings view rect old new is once wrote key live =
     wrote.others key (apart row kids view key is (not_below row kids siblings once) live)
 
@@ -69,7 +69,7 @@ spot_is row kids siblings view rect old mid is shown sized wrote =
 
 -- a view whose children were laid
 group_laid : (row : Row) (kids siblings : Forest Row) (view : ℕ) (rect : Rect) (old mid new : ℕ → Held) → row.key ≡ view
-    → times row.key (Branch row kids siblings) ≤ 1 → is_shown row.view.facts ≡ true
+    → count_of_key row.key (Branch row kids siblings) ≤ 1 → is_shown row.view.facts ≡ true
     → CanBeLaid old (Branch row kids Nothing) → Wrote old mid view rect
     → IsLaid new kids (group_kids (spot_of (Branch row kids siblings) (mid view) (extent_of rect)) [] mid kids) → Agree mid new kids
     → IsLaid new (Branch row kids Nothing) (laid_views row.view (views_of kids) (specs_of (old view).state) rect)
@@ -92,33 +92,33 @@ group_laid row kids siblings view rect old mid new is once shown ready wrote lai
     }
 
 -- the same of the view of a key
-pub group_at : (tree : Forest Row) (view : ℕ) (rect : Rect) (old mid new : ℕ → Held) → 0 < times view tree → ((key : ℕ) → times key tree ≤ 1)
-    → is_shown (head_view (from view tree)).facts ≡ true
-    → CanBeLaid old (alone (from view tree)) → Wrote old mid view rect
-    → IsLaid new (below (from view tree)) (group_kids (spot_of (from view tree) (mid view) (extent_of rect)) [] mid (below (from view tree)))
-    → Agree mid new (below (from view tree))
-    → IsLaid new (alone (from view tree)) (layout_of (from view tree) (specs_of (old view).state) rect)
+pub group_at : (tree : Forest Row) (view : ℕ) (rect : Rect) (old mid new : ℕ → Held) → 0 < count_of_key view tree → ((key : ℕ) → count_of_key key tree ≤ 1)
+    → is_shown (head_view (part_from view tree)).facts ≡ true
+    → CanBeLaid old (first_tree (part_from view tree)) → Wrote old mid view rect
+    → IsLaid new (children_of_first (part_from view tree)) (group_kids (spot_of (part_from view tree) (mid view) (extent_of rect)) [] mid (children_of_first (part_from view tree)))
+    → Agree mid new (children_of_first (part_from view tree))
+    → IsLaid new (first_tree (part_from view tree)) (layout_of (part_from view tree) (specs_of (old view).state) rect)
 group_at tree view rect old mid new live keys shown ready wrote laid others =
     let f = located view tree live in
-    let once : times f.row.key (Branch f.row f.kids f.siblings) ≤ 1 =
-    rw f.is at (let a = times_from view f.row.key tree live in let b = keys f.row.key in let c : times f.row.key (from view tree) ≤ 1 = omega arith in c) in
+    let once : count_of_key f.row.key (Branch f.row f.kids f.siblings) ≤ 1 =
+    rw f.is at (let a = times_from view f.row.key tree live in let b = keys f.row.key in let c : count_of_key f.row.key (part_from view tree) ≤ 1 = omega arith in c) in
     rw f.is
     (group_laid f.row f.kids f.siblings view rect old mid new f.key_is once (rw f.is at shown) (rw f.is at ready) wrote (rw f.is at laid) (rw f.is at others))
 
 -- the children of a view that got bounds can be laid
-pub below_ready : (tree : Forest Row) (view : ℕ) (rect : Rect) (old mid : ℕ → Held) → 0 < times view tree → ((key : ℕ) → times key tree ≤ 1)
-    → is_shown (head_view (from view tree)).facts ≡ true → CanBeLaid old (alone (from view tree)) → Wrote old mid view rect → CanBeLaid mid (below (from view tree))
+pub below_ready : (tree : Forest Row) (view : ℕ) (rect : Rect) (old mid : ℕ → Held) → 0 < count_of_key view tree → ((key : ℕ) → count_of_key key tree ≤ 1)
+    → is_shown (head_view (part_from view tree)).facts ≡ true → CanBeLaid old (first_tree (part_from view tree)) → Wrote old mid view rect → CanBeLaid mid (children_of_first (part_from view tree))
 below_ready tree view rect old mid live keys shown ready wrote =
     let f = located view tree live in
-    let once : times f.row.key (Branch f.row f.kids f.siblings) ≤ 1 =
-    rw f.is at (let a = times_from view f.row.key tree live in let b = keys f.row.key in let c : times f.row.key (from view tree) ≤ 1 = omega arith in c) in
+    let once : count_of_key f.row.key (Branch f.row f.kids f.siblings) ≤ 1 =
+    rw f.is at (let a = times_from view f.row.key tree live in let b = keys f.row.key in let c : count_of_key f.row.key (part_from view tree) ≤ 1 = omega arith in c) in
     let ready : CanBeLaid old (Branch f.row f.kids Nothing) = rw f.is at ready in
     let kids : CanBeLaid old f.kids = record { sized = (ready.sized.0 (rw f.is at shown)).1; hidden = ready.hidden.1 } in
     rw f.is (CanBeLaid-along old mid f.kids (same_below f.row f.kids f.siblings view rect old mid f.key_is once wrote) kids)
 
 -- what is kept of all views outside
-pub outside_at : (tree : Forest Row) (view : ℕ) (rect : Rect) (old mid new : ℕ → Held) → 0 < times view tree → Wrote old mid view rect
-    → Agree mid new (below (from view tree)) → Agree old new (alone (from view tree))
+pub outside_at : (tree : Forest Row) (view : ℕ) (rect : Rect) (old mid new : ℕ → Held) → 0 < count_of_key view tree → Wrote old mid view rect
+    → Agree mid new (children_of_first (part_from view tree)) → Agree old new (first_tree (part_from view tree))
 outside_at tree view rect old mid new live wrote others =
     let f = located view tree live in
     let others : Agree mid new f.kids = rw f.is at others in
@@ -129,8 +129,8 @@ pub record HasSides (size : Size) : Type 0 where
   pub width : IsSide size.w
   pub height : IsSide size.h
 
-pub sides_at : (tree : Forest Row) (view : ℕ) (held : ℕ → Held) → 0 < times view tree → is_shown (head_view (from view tree)).facts ≡ true
-    → Sized held (alone (from view tree)) → HasSides (held view).state.measured
+pub sides_at : (tree : Forest Row) (view : ℕ) (held : ℕ → Held) → 0 < count_of_key view tree → is_shown (head_view (part_from view tree)).facts ≡ true
+    → Sized held (first_tree (part_from view tree)) → HasSides (held view).state.measured
 sides_at tree view held live shown sized =
     let f = located view tree live in
     let sized : Sized held (Branch f.row f.kids Nothing) = rw f.is at sized in
@@ -139,9 +139,9 @@ sides_at tree view held live shown sized =
     subst (λ (k : ℕ). HasSides (held k).state.measured) f.key_is (rw own.size (record { width = lawful.width _; height = lawful.height _ }))
 
 -- a child that is gone has no layout, and lies nowhere
-pub kid_gone : (tree : Forest Row) (kid : ℕ) (placer : Placer) (spot : Spot) (before : List Measured) (held : ℕ → Held) → 0 < times kid tree
-    → is_shown (head_view (from kid tree)).facts ≡ false → HidesGone held (alone (from kid tree)) → PlacesAs placer spot before
-    → LaidKids placer spot before held held (alone (from kid tree))
+pub kid_gone : (tree : Forest Row) (kid : ℕ) (placer : Placer) (spot : Spot) (before : List Measured) (held : ℕ → Held) → 0 < count_of_key kid tree
+    → is_shown (head_view (part_from kid tree)).facts ≡ false → HidesGone held (first_tree (part_from kid tree)) → PlacesAs placer spot before
+    → LaidKids placer spot before held held (first_tree (part_from kid tree))
 kid_gone tree kid placer spot before held live gone hidden places =
     let f = located kid tree live in
     let gone : is_shown f.row.view.facts ≡ false = rw f.is at gone in
@@ -155,13 +155,13 @@ kid_gone tree kid placer spot before held live gone hidden places =
     rw f.is here
 
 -- a child that was laid at its place
-pub kid_at : (tree : Forest Row) (kid : ℕ) (placer : Placer) (spot : Spot) (before : List Measured) (size : Size) (rect : Rect) (old new : ℕ → Held) → 0 < times kid tree
-    → is_shown (head_view (from kid tree)).facts ≡ true → Sized old (alone (from kid tree)) → size ≡ (old kid).state.measured
-    → (let measured : Measured = record { facts = unscrolled_facts (head_view (from kid tree)).facts; size = size } in
+pub kid_at : (tree : Forest Row) (kid : ℕ) (placer : Placer) (spot : Spot) (before : List Measured) (size : Size) (rect : Rect) (old new : ℕ → Held) → 0 < count_of_key kid tree
+    → is_shown (head_view (part_from kid tree)).facts ≡ true → Sized old (first_tree (part_from kid tree)) → size ≡ (old kid).state.measured
+    → (let measured : Measured = record { facts = unscrolled_facts (head_view (part_from kid tree)).facts; size = size } in
     rect ≡ place_in spot before measured None
     → PlacesAs placer spot (before ++ measured ∷ [])
-    → IsLaid new (alone (from kid tree)) (layout_of (from kid tree) (specs_of (old kid).state) rect)
-    → LaidKids placer spot before old new (alone (from kid tree)))
+    → IsLaid new (first_tree (part_from kid tree)) (layout_of (part_from kid tree) (specs_of (old kid).state) rect)
+    → LaidKids placer spot before old new (first_tree (part_from kid tree)))
 kid_at tree kid placer spot before size rect old new live shown sized size_is place places laid =
     let f = located kid tree live in
     let sized : Sized old (Branch f.row f.kids Nothing) = rw f.is at sized in

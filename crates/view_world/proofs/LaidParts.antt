@@ -8,7 +8,7 @@ use Rattle.view_model.specs.Geometry.{Laid}
 use Rattle.view_model.specs.Layout.{Spot, laid_views, place_in}
 use Rattle.view_model.specs.Measuring.{Measured}
 use Rattle.view_tree.specs.Hidden.{HidesGone}
-use Rattle.view_tree.specs.Rows.{Row, after, alone, views_of}
+use Rattle.view_tree.specs.Rows.{Row, later_siblings, first_tree, views_of}
 use Rattle.view_tree.specs.Views.{Held, Views, held_of, specs_of}
 use Rattle.view_tree.proofs.GeometryLaws.{laid_along}
 use Rattle.view_tree.proofs.HiddenLaws.{hides_along}
@@ -41,14 +41,14 @@ pub IsLaid-along : (old new : ℕ → Held) (list : Forest Row) (geometry : List
 IsLaid-along old new list geometry same laid =
     record { lies = laid_along old new list (λ key live. ap (λ (h : Held). h.state.bounds) (same key live)) ∙ laid.lies; hidden = hides_same old new list same laid.hidden }
 
-pub CanBeLaid-alone : (held : ℕ → Held) (list : Forest Row) → CanBeLaid held list → CanBeLaid held (alone list)
-CanBeLaid-alone held Nothing ready = ready
-CanBeLaid-alone held (Branch row kids siblings) ready =
+pub CanBeLaid-first_tree : (held : ℕ → Held) (list : Forest Row) → CanBeLaid held list → CanBeLaid held (first_tree list)
+CanBeLaid-first_tree held Nothing ready = ready
+CanBeLaid-first_tree held (Branch row kids siblings) ready =
     record { sized = (ready.sized.0, tt); hidden = (ready.hidden.0, ready.hidden.1, tt) }
 
-pub CanBeLaid-after : (held : ℕ → Held) (list : Forest Row) → CanBeLaid held list → CanBeLaid held (after list)
-CanBeLaid-after held Nothing ready = ready
-CanBeLaid-after held (Branch row kids siblings) ready = record { sized = ready.sized.1; hidden = ready.hidden.2 }
+pub CanBeLaid-later_siblings : (held : ℕ → Held) (list : Forest Row) → CanBeLaid held list → CanBeLaid held (later_siblings list)
+CanBeLaid-later_siblings held Nothing ready = ready
+CanBeLaid-later_siblings held (Branch row kids siblings) ready = record { sized = ready.sized.1; hidden = ready.hidden.2 }
 
 pub kept_on : (old mid new : Views) → KeepsAllButBounds old mid → KeepsAllButBounds mid new → KeepsAllButBounds old new
 kept_on old mid new first second key =

@@ -3,7 +3,7 @@ use Rattle.std.specs.Prelude.{ℕ, Option, Some, None}
 use Rattle.geom_core.specs.declared.geometry.Size.{Size}
 use Rattle.view_model.specs.Forest.{Forest}
 use Rattle.view_model.specs.Layout.{root_calls}
-use Rattle.view_model.specs.PlainTree.{View as PlainView}
+use Rattle.view_model.specs.PlainTree.{PlainView}
 use Rattle.view_model.specs.World.{World}
 
 -- those that the layout of a tree takes in the window, if there is one

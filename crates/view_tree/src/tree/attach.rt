@@ -3,23 +3,23 @@ ghost use Rattle.std.specs.Prelude.{◌≡◌, ◌+◌, ◌^◌, ◌<◌, length
 ghost use Rattle.std.specs.Option.{option_map};
 ghost use Rattle.view_model.specs.Forest.{Nothing};
 ghost use Rattle.view_model.specs.Growth.{growth_refusal, is_group, refusal_at};
-ghost use Rattle.view_model.specs.PlainTree.{View};
+ghost use Rattle.view_model.specs.PlainTree.{PlainView};
 ghost use Rattle.view_tree.specs.Attached.{Attached};
-ghost use Rattle.view_tree.specs.Faults.{RefusedFor};
-ghost use Rattle.view_tree.specs.Nodes.{instead};
+ghost use Rattle.view_tree.specs.Faults.{IsRefusedExactlyFor};
+ghost use Rattle.view_tree.specs.Nodes.{replaced_if_none};
 ghost use Rattle.view_tree.specs.Rows.{ancestors};
 ghost use Rattle.view_tree.specs.Views.{IsLive, number_of, plain_of};
 
 use super::{Key, ViewTree};
 use crate::fault::AttachFault;
-use crate::links::hang;
+use crate::links::link_last;
 use crate::table::{make_room, note_key};
 use view_model::{Class, Facts, Refusal, Text};
 
 /// The most views that a tree may have, and how deep the deepest may be.
-const MOST_VIEWS: usize = 4096;
+const MAX_VIEWS: usize = 4096;
 
-const MOST_DEPTH: usize = 32;
+const MAX_DEPTH: usize = 32;
 
 /// The numbers of the refusals.
 const VIEWS: u8 = 19;
@@ -42,15 +42,15 @@ impl ViewTree {
         requires root { parent ≡ None → self.old.tree ≡ Nothing }
         requires unnamed { (facts.id ≡ 0) × (facts.rules.values ≡ replicate 21 0) }
         requires numbers { self.old.next < 2 ^ 62 }
-        ensures attached { let view : View = record { number = self.old.next; class = class; facts = facts; text = text } in
+        ensures attached { let view : PlainView = record { number = self.old.next; class = class; facts = facts; text = text } in
             IfOk result (λ key. Attached self.old parent view key self.new) }
-        ensures refused { RefusedFor (refusal_at (plain_of self.old) (option_map (number_of self.old) parent)) result }
+        ensures refused { IsRefusedExactlyFor (refusal_at (plain_of self.old) (option_map (number_of self.old) parent)) result }
         ensures unchanged { OnErr result (self.new ≡ self.old) }
     {
         self.may_grow(parent)?;
         make_room(&mut self.nodes, &mut self.keys, &mut self.ids, 1, 0)?;
         let number = self.next;
-        let key = hang(&mut self.nodes, parent, number, class, facts, text);
+        let key = link_last(&mut self.nodes, parent, number, class, facts, text);
         note_key(&mut self.keys, number, key);
         self.root = root_with(self.root, parent, key);
         self.next = number + 1;
@@ -60,7 +60,7 @@ impl ViewTree {
     /// Whether a view may come below this one, or as the root.
     fn may_grow(&self, parent: Option<Key>) -> Result<(), AttachFault>
         requires { IfSome parent (λ parent. IsLive self.now parent) }
-        ensures { RefusedFor (refusal_at (plain_of self.now) (option_map (number_of self.now) parent)) result }
+        ensures { IsRefusedExactlyFor (refusal_at (plain_of self.now) (option_map (number_of self.now) parent)) result }
     {
         match parent {
             None => Ok(()),
@@ -90,15 +90,15 @@ impl ViewTree {
 /// Whether a view of this class and depth may get a child, in a tree of so many views.
 #[tactic(auto, unfolding(view_model::specs::Growth::growth_refusal))]
 fn growth(class: Class, depth: usize, count: usize) -> Result<(), AttachFault>
-    ensures { RefusedFor (growth_refusal class depth count) result }
+    ensures { IsRefusedExactlyFor (growth_refusal class depth count) result }
 {
     if !takes_children(class) {
         return Err(AttachFault::Refused(Refusal::plain(NOT_GROUP)));
     }
-    if depth >= MOST_DEPTH {
+    if depth >= MAX_DEPTH {
         return Err(AttachFault::Refused(Refusal::plain(DEPTH)));
     }
-    if count >= MOST_VIEWS {
+    if count >= MAX_VIEWS {
         return Err(AttachFault::Refused(Refusal::plain(VIEWS)));
     }
     Ok(())
@@ -115,7 +115,7 @@ fn takes_children(class: Class) -> bool
 
 /// The root once a view has come.
 fn root_with(root: Option<Key>, parent: Option<Key>, key: Key) -> Option<Key>
-    ensures { result ≡ instead parent (Some key) root }
+    ensures { result ≡ replaced_if_none parent (Some key) root }
 {
     match parent {
         None => Some(key),

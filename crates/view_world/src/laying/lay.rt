@@ -5,7 +5,7 @@ ghost use Rattle.view_model.specs.Forest.{count_of};
 ghost use Rattle.view_model.specs.Geometry.{extent_of};
 ghost use Rattle.view_model.specs.Layout.{Spot};
 ghost use Rattle.view_model.specs.Measuring.{Measured};
-ghost use Rattle.view_tree.specs.Rows.{alone, below, from, times};
+ghost use Rattle.view_tree.specs.Rows.{first_tree, children_of_first, part_from, count_of_key};
 ghost use Rattle.view_tree.specs.Views.{IsLive, IsTree, SameTree, facts_of, held_of, specs_of, state_of};
 ghost use Rattle.view_world.specs.Laying.{CanBeLaid, IsLaid, KeepsAllButBounds, group_kids, layout_of, spot_of};
 ghost use Rattle.view_world.specs.Placing.{LaidKids, PlacesAs};
@@ -20,12 +20,12 @@ pub fn lay(tree: &mut ViewTree, view: Key, rect: Rect, size: Size)
     requires is_tree { IsTree tree.old }
     requires live { IsLive tree.old view }
     requires shown { is_shown (facts_of tree.old view) ≡ true }
-    requires ready { CanBeLaid (held_of tree.old) (alone (from view tree.old.tree)) }
+    requires ready { CanBeLaid (held_of tree.old) (first_tree (part_from view tree.old.tree)) }
     requires extent { extent_of rect ≡ size }
     ensures same { SameTree tree.old tree.new }
-    ensures laid { IsLaid (held_of tree.new) (alone (from view tree.old.tree)) (layout_of (from view tree.old.tree) (specs_of (state_of tree.old view)) rect) }
+    ensures laid { IsLaid (held_of tree.new) (first_tree (part_from view tree.old.tree)) (layout_of (part_from view tree.old.tree) (specs_of (state_of tree.old view)) rect) }
     ensures kept { KeepsAllButBounds tree.old tree.new }
-    ensures others { (key : ℕ) → times key (alone (from view tree.old.tree)) ≡ 0 → held_of tree.new key ≡ held_of tree.old key }
+    ensures others { (key : ℕ) → count_of_key key (first_tree (part_from view tree.old.tree)) ≡ 0 → held_of tree.new key ≡ held_of tree.old key }
 {
     tree.set_bounds(view, Some(rect));
     lay_kids(tree, view, size);
@@ -35,12 +35,12 @@ pub fn lay(tree: &mut ViewTree, view: Key, rect: Rect, size: Size)
 #[cycle(lay)]
 fn lay_kids(tree: &mut ViewTree, view: Key, size: Size)
     requires live { IsLive tree.old view }
-    requires ready { CanBeLaid (held_of tree.old) (below (from view tree.old.tree)) }
+    requires ready { CanBeLaid (held_of tree.old) (children_of_first (part_from view tree.old.tree)) }
     ensures same { SameTree tree.old tree.new }
-    ensures laid { IsLaid (held_of tree.new) (below (from view tree.old.tree))
-        (group_kids (spot_of (from view tree.old.tree) (held_of tree.old view) size) [] (held_of tree.old) (below (from view tree.old.tree))) }
+    ensures laid { IsLaid (held_of tree.new) (children_of_first (part_from view tree.old.tree))
+        (group_kids (spot_of (part_from view tree.old.tree) (held_of tree.old view) size) [] (held_of tree.old) (children_of_first (part_from view tree.old.tree))) }
     ensures kept { KeepsAllButBounds tree.old tree.new }
-    ensures others { (key : ℕ) → times key (below (from view tree.old.tree)) ≡ 0 → held_of tree.new key ≡ held_of tree.old key }
+    ensures others { (key : ℕ) → count_of_key key (children_of_first (part_from view tree.old.tree)) ≡ 0 → held_of tree.new key ≡ held_of tree.old key }
 {
     let mut next = tree.first(view);
     if next.is_none() {
@@ -57,14 +57,14 @@ fn lay_kids(tree: &mut ViewTree, view: Key, size: Size)
 #[cycle(lay)]
 fn lay_kid(tree: &mut ViewTree, placer: &mut Placer, kid: Key)
     requires live { IsLive tree.old kid }
-    requires ready { CanBeLaid (held_of tree.old) (alone (from kid tree.old.tree)) }
+    requires ready { CanBeLaid (held_of tree.old) (first_tree (part_from kid tree.old.tree)) }
     ensures same { SameTree tree.old tree.new }
     ensures laid { (spot : Spot) (before : List Measured)
         → PlacesAs placer.old spot before
-        → length before + count_of (alone (from kid tree.old.tree)) ≤ 4096
-        → LaidKids placer.new spot before (held_of tree.old) (held_of tree.new) (alone (from kid tree.old.tree)) }
+        → length before + count_of (first_tree (part_from kid tree.old.tree)) ≤ 4096
+        → LaidKids placer.new spot before (held_of tree.old) (held_of tree.new) (first_tree (part_from kid tree.old.tree)) }
     ensures kept { KeepsAllButBounds tree.old tree.new }
-    ensures others { (key : ℕ) → times key (alone (from kid tree.old.tree)) ≡ 0 → held_of tree.new key ≡ held_of tree.old key }
+    ensures others { (key : ℕ) → count_of_key key (first_tree (part_from kid tree.old.tree)) ≡ 0 → held_of tree.new key ≡ held_of tree.old key }
 {
     let facts = tree.facts(kid);
     if !facts.is_shown() {

@@ -5,7 +5,7 @@ ghost use Rattle.view_model.specs.Facts.{unscrolled_facts};
 ghost use Rattle.view_model.specs.Geometry.{extent_of};
 ghost use Rattle.view_model.specs.Layout.{Spot, place_in};
 ghost use Rattle.view_model.specs.Measuring.{Measured};
-ghost use Rattle.view_tree.specs.Rows.{from};
+ghost use Rattle.view_tree.specs.Rows.{part_from};
 ghost use Rattle.view_tree.specs.Views.{IsLive, held_of};
 ghost use Rattle.view_world.specs.Laying.{spot_of};
 ghost use Rattle.view_world.specs.Placing.{PlacesAs};
@@ -26,7 +26,7 @@ impl Placer {
     /// Before the first child of a view of this size.
     pub fn start(tree: &ViewTree, view: Key, room: Size) -> Placer
         requires live { IsLive tree.now view }
-        ensures { PlacesAs result (spot_of (from view tree.now.tree) (held_of tree.now view) room) [] }
+        ensures { PlacesAs result (spot_of (part_from view tree.now.tree) (held_of tree.now view) room) [] }
     {
         match tree.class(view) {
             Class::View | Class::FrameLayout => Placer::Over {

@@ -4,7 +4,7 @@ use Rattle.axml_chunks.specs.Steps.{Gives}
 use Rattle.axml_reader.specs.Document.{Document}
 use Rattle.axml_reader.specs.Decoding.{decoded, finished}
 use Rattle.axml_reader.specs.Relation.{IsDocument}
-use Rattle.axml_reader.specs.View.{document, reading}
+use Rattle.axml_reader.specs.Meaning.{document, reading}
 use Rattle.axml_reader.proofs.Answers.{gives_found}
 use Rattle.axml_reader.proofs.DocumentLaws.{decoded_found, decoded_again}
 use Rattle.axml_reader.proofs.SoundLaws.{document_sound}

@@ -1,6 +1,6 @@
 use Rattle.std.proofs.Common.{◌-◌, ◌≤◌}
 use Rattle.axml_reader.specs.Decoding.{chunks_from, start}
-use Rattle.axml_reader.specs.View.{reading}
+use Rattle.axml_reader.specs.Meaning.{reading}
 use Rattle.axml_reader.proofs.Loop.{Leads}
 use Rattle.axml_reader.proofs.decode.read_chunks.Given as goal
 

@@ -1,5 +1,5 @@
 use Rattle.std.proofs.Common.{take}
-use Rattle.text_lines.specs.Held.{Sends}
+use Rattle.text_lines.specs.BufferedText.{Sends}
 use Rattle.text_lines.specs.Joined.{texts_of}
 use Rattle.axml_reader.specs.Dump.{node_lines}
 use Rattle.axml_reader.proofs.dump.put_each_node.Given as goal

@@ -17,12 +17,12 @@ use Rattle.view_model.specs.Layout.{children_of}
 use Rattle.view_model.specs.Measuring.{Measured, Specs}
 use Rattle.view_tree.specs.declared.state.State.{State}
 use Rattle.view_tree.proofs.Forests.{count_alone, live_after, live_below}
-use Rattle.view_tree.specs.Rows.{after, alone, below, from, rest_from, views_of}
+use Rattle.view_tree.specs.Rows.{later_siblings, first_tree, children_of_first, part_from, rest_from, views_of}
 use Rattle.view_tree.specs.Views.{held_of}
 use Rattle.measure_pass.proofs.measuring.+measure.Goals as goal
 
 own_new : (t : ℕ) (c : goal.measure-After-result-1 t) → (let specs : Specs = record { across = c.args.ws; down = c.args.hs } in
-    Own (from c.args.view c.args.tree.now.tree) c.args.view specs (held_of c.args.tree.now) (held_of c.finish.new.tree) c.args.work.now.measured c.finish.new.work.measured
+    Own (part_from c.args.view c.args.tree.now.tree) c.args.view specs (held_of c.args.tree.now) (held_of c.finish.new.tree) c.args.work.now.measured c.finish.new.work.measured
     c.measure_below-outcome.result.size)
 own_new t c =
     let specs : Specs = record { across = c.args.ws; down = c.args.hs } in
@@ -50,10 +50,10 @@ measure-returns-clause-counted t c =
 pub measure_below-returns-clause-measured : goal.measure_below-returns-clause-measured
 measure_below-returns-clause-measured t c =
     let specs : Specs = record { across = c.args.ws; down = c.args.hs } in
-    let part = from c.args.view c.args.tree.now.tree in
-    let kids = children_of (views_of (below part)) in
+    let part = part_from c.args.view c.args.tree.now.tree in
+    let kids = children_of (views_of (children_of_first part)) in
     let m = c.measure_phases in
-    let all = m.ensures.phases (group_of part specs) [] (begun kids).kids c.start-plan.ensures (begun_course (held_of c.args.tree.now) (below part))
+    let all = m.ensures.phases (group_of part specs) [] (begun kids).kids c.start-plan.ensures (begun_course (held_of c.args.tree.now) (children_of_first part))
     ((lawful_of (group_of part specs).view specs).ready kids) in
     measured_whole c.args.tree.now c.args.view specs (held_of c.args.tree.now) (held_of m.new.tree) m.result.size m.result.total c.args.work.now.measured m.new.work.measured
     m.ensures.is_tree c.requires.live all
@@ -62,7 +62,7 @@ pub measure_phases-returns-then-left-eq0-clause-phases : goal.measure_phases-ret
 measure_phases-returns-then-left-eq0-clause-phases t c = λ group past kids stands course ready.
     let before : Progress = record { past = past; kids = kids } in
     let phase = c.measure_kids.ensures.phase group past kids stands course (ready_now (rule_in group) c.args.left before ready) in
-    phases_end c.measure_kids.new.plan group c.args.left past kids (held_of c.args.tree.now) (held_of c.measure_kids.new.tree) (below (from c.args.view c.args.tree.now.tree)) c.outcome_of.result.size c.outcome_of.result.total
+    phases_end c.measure_kids.new.plan group c.args.left past kids (held_of c.args.tree.now) (held_of c.measure_kids.new.tree) (children_of_first (part_from c.args.view c.args.tree.now.tree)) c.outcome_of.result.size c.outcome_of.result.total
     c.args.work.now.measured c.measure_kids.new.work.measured
     (ends_at_0 group c.args.left (one_phase (rule_in group) before) c.if-left-eq0.true) phase (c.outcome_of.ensures.size group past _ phase.plan_stands) (c.outcome_of.ensures.total group past _ phase.plan_stands)
 
@@ -71,7 +71,7 @@ measure_phases-returns-then-not-turn-clause-phases t c = λ group past kids stan
     let before : Progress = record { past = past; kids = kids } in
     let phase = c.measure_kids.ensures.phase group past kids stands course (ready_now (rule_in group) c.args.left before ready) in
     let turned = c.turn.ensures group past _ phase.plan_stands in
-    phases_end c.measure_kids.new.plan group c.args.left past kids (held_of c.args.tree.now) (held_of c.measure_kids.new.tree) (below (from c.args.view c.args.tree.now.tree)) c.outcome_of-then-not-turn.result.size c.outcome_of-then-not-turn.result.total
+    phases_end c.measure_kids.new.plan group c.args.left past kids (held_of c.args.tree.now) (held_of c.measure_kids.new.tree) (children_of_first (part_from c.args.view c.args.tree.now.tree)) c.outcome_of-then-not-turn.result.size c.outcome_of-then-not-turn.result.total
     c.args.work.now.measured c.measure_kids.new.work.measured
     (ends_here group c.args.left (one_phase (rule_in group) before) (sym turned.answers ∙ c.if-not-turn.true)) phase
     (c.outcome_of-then-not-turn.ensures.size group past _ (turned.ends c.if-not-turn.true))
@@ -80,7 +80,7 @@ measure_phases-returns-then-not-turn-clause-phases t c = λ group past kids stan
 pub measure_phases-returns-clause-phases : goal.measure_phases-returns-clause-phases
 measure_phases-returns-clause-phases t c = λ group past kids stands course ready.
     let rule = rule_in group in
-    let list = below (from c.args.view c.args.tree.now.tree) in
+    let list = children_of_first (part_from c.args.view c.args.tree.now.tree) in
     let before : Progress = record { past = past; kids = kids } in
     let phase = c.measure_kids.ensures.phase group past kids stands course (ready_now rule c.args.left before ready) in
     let turned = c.turn.ensures group past _ phase.plan_stands in
@@ -99,7 +99,7 @@ measure_kid-returns-then-not-is_shown-clause-phase t c = λ group past taken kid
 pub measure_kid-returns-in_default-clause-phase : goal.measure_kid-returns-in_default-clause-phase
 measure_kid-returns-in_default-clause-phase t c = λ group past taken kids stands few course can.
     let one = count_one c.args.tree.now.tree c.args.kid c.requires.live in
-    let facts_is : unscrolled_facts c.facts-facts.result.now ≡ facts_in (from c.args.kid c.args.tree.now.tree) = ap unscrolled_facts c.facts-facts.ensures.value in
+    let facts_is : unscrolled_facts c.facts-facts.result.now ≡ facts_in (part_from c.args.kid c.args.tree.now.tree) = ap unscrolled_facts c.facts-facts.ensures.value in
     skipped_kid c.take.new.self group past taken c.args.tree.now.tree c.args.kid kids (held_of c.args.tree.now) c.state.result.measured
     c.args.work.now.measured c.requires.live (sym (ap is_shown c.facts-facts.ensures.value) ∙ sym c.is_shown.ensures ∙ c.if-not-is_shown.false)
     (ap (λ (state : State). state.measured) c.state.ensures.value)
@@ -109,9 +109,9 @@ pub measure_kid-returns-clause-phase : goal.measure_kid-returns-clause-phase
 measure_kid-returns-clause-phase t c = λ group past taken kids stands few course can.
     let tree = c.args.tree.now.tree in
     let m = c.measure-size.ensures in
-    let facts_is : unscrolled_facts c.facts-facts.result.now ≡ facts_in (from c.args.kid tree) = ap unscrolled_facts c.facts-facts.ensures.value in
-    let still : unscrolled_facts c.facts.result.now ≡ facts_in (from c.args.kid tree) = ap unscrolled_facts c.facts.ensures.value ∙ ap (λ tree. facts_in (from c.args.kid tree)) m.same.tree in
-    let sized : Sized (held_of c.measure-size.new.tree) (alone (from c.args.kid tree)) = rw m.same.tree at m.measured.sized in
+    let facts_is : unscrolled_facts c.facts-facts.result.now ≡ facts_in (part_from c.args.kid tree) = ap unscrolled_facts c.facts-facts.ensures.value in
+    let still : unscrolled_facts c.facts.result.now ≡ facts_in (part_from c.args.kid tree) = ap unscrolled_facts c.facts.ensures.value ∙ ap (λ tree. facts_in (part_from c.args.kid tree)) m.same.tree in
+    let sized : Sized (held_of c.measure-size.new.tree) (first_tree (part_from c.args.kid tree)) = rw m.same.tree at m.measured.sized in
     let one = count_one tree c.args.kid c.requires.live in
     measured_kid c.take-2.new.self group past taken tree c.args.kid kids (held_of c.args.tree.now) (held_of c.measure-size.new.tree)
     c.state.result.measured c.measure-size.result (record { across = c.in-Some.across; down = c.in-Some.down }) c.args.work.now.measured c.measure-size.new.work.measured
@@ -123,7 +123,7 @@ measure_kid-returns-clause-phase t c = λ group past taken kids stands few cours
 pub measure_kids-loop-next-init : goal.measure_kids-loop-next-init
 measure_kids-loop-next-init t c =
     let tree = c.args.tree.now.tree in
-    let kids = below (from c.args.view tree) in
+    let kids = children_of_first (part_from c.args.view tree) in
     let first = c.first-next.ensures in
     let few = count_few c.args.view tree c.requires.live first.is_tree.few in
     record {
@@ -137,9 +137,9 @@ measure_kids-loop-next-init t c =
 pub measure_kids-measure_kid-requires : goal.measure_kids-measure_kid-requires
 measure_kids-measure_kid-requires t c =
     let i = rw c.in-Some.is at c.loop-next.invariant.walked in
-    let few : count_of (from c.in-Some.kid c.args.tree.now.tree) ≤ count_of (below (from c.args.view c.args.tree.now.tree)) = i.few in
+    let few : count_of (part_from c.in-Some.kid c.args.tree.now.tree) ≤ count_of (children_of_first (part_from c.args.view c.args.tree.now.tree)) = i.few in
     let one = live_below c.args.view c.args.tree.now.tree c.requires.live in
-    let two = count_alone (from c.in-Some.kid c.args.tree.now.tree) in
+    let two = count_alone (part_from c.in-Some.kid c.args.tree.now.tree) in
     rw c.loop-next.invariant.same.tree (omega arith, i.live)
 
 pub measure_kids-loop-next-smaller : goal.measure_kids-loop-next-smaller
@@ -150,7 +150,7 @@ measure_kids-loop-next-smaller t c =
 pub measure_kids-loop-next-preserved : goal.measure_kids-loop-next-preserved
 measure_kids-loop-next-preserved t c =
     let tree = c.args.tree.now.tree in
-    let kids = below (from c.args.view tree) in
+    let kids = children_of_first (part_from c.args.view tree) in
     let kid = c.in-Some.kid in
     let old = held_of c.loop-next.tree in
     let mid = held_of c.measure_kid.new.tree in
@@ -158,19 +158,19 @@ measure_kids-loop-next-preserved t c =
     let same = i.same.tree in
     let m = c.measure_kid.ensures in
     let walked = rw c.in-Some.is at i.walked in
-    let others : Agree old mid (alone (from kid tree)) = rw same at m.others in
-    let part : rest_from c.next-next.result tree ≡ after (from kid tree) = rw (m.same.tree, same) at c.next-next.ensures.part in
+    let others : Agree old mid (first_tree (part_from kid tree)) = rw same at m.others in
+    let part : rest_from c.next-next.result tree ≡ later_siblings (part_from kid tree) = rw (m.same.tree, same) at c.next-next.ensures.part in
     let keys = once_from tree kids (held_of c.args.tree.now) kid old walked in
     record {
       same = record { tree = m.same.tree ∙ same; next = m.same.next ∙ i.same.next };
       walked = walk_on tree kids (held_of c.args.tree.now) kid old mid c.next-next.result walked others part (rw (m.same.tree, same) at c.next-next.ensures.live);
       phase = λ group past asked started course can.
           let f = rw c.in-Some.is at (i.phase group past asked started course can) in
-          let turn : (taken : List Measured) (first : List Requested) → Stands c.loop-next.plan group past taken → length taken + count_of (alone (from kid tree)) ≤ 4096
-          → InCourse old (alone (from kid tree)) first → CanTurn (rule_in group) past first
-          → AfterPhase c.measure_kid.new.plan group past taken first old mid (alone (from kid tree)) c.loop-next.work.measured c.measure_kid.new.work.measured =
+          let turn : (taken : List Measured) (first : List Requested) → Stands c.loop-next.plan group past taken → length taken + count_of (first_tree (part_from kid tree)) ≤ 4096
+          → InCourse old (first_tree (part_from kid tree)) first → CanTurn (rule_in group) past first
+          → AfterPhase c.measure_kid.new.plan group past taken first old mid (first_tree (part_from kid tree)) c.loop-next.work.measured c.measure_kid.new.work.measured =
           rw same at (m.phase group past) in
-          rw part (phase_on c.loop-next.plan c.measure_kid.new.plan group past asked kids (from kid tree) (held_of c.args.tree.now) old mid c.args.work.now.measured c.loop-next.work.measured
+          rw part (phase_on c.loop-next.plan c.measure_kid.new.plan group past asked kids (part_from kid tree) (held_of c.args.tree.now) old mid c.args.work.now.measured c.loop-next.work.measured
           c.measure_kid.new.work.measured keys f others turn);
       keeps = keeps_trans (held_of c.args.tree.now) old mid i.keeps m.keeps;
       painted = m.painted ∙ i.painted;
@@ -178,5 +178,5 @@ measure_kids-loop-next-preserved t c =
 
 pub measure_kids-returns-clause-phase : goal.measure_kids-returns-clause-phase
 measure_kids-returns-clause-phase t c = λ group past asked started course can.
-    phase_end c.loop-next.plan group past asked (below (from c.args.view c.args.tree.now.tree)) (held_of c.args.tree.now) (held_of c.loop-next.tree) c.args.work.now.measured c.loop-next.work.measured
+    phase_end c.loop-next.plan group past asked (children_of_first (part_from c.args.view c.args.tree.now.tree)) (held_of c.args.tree.now) (held_of c.loop-next.tree) c.args.work.now.measured c.loop-next.work.measured
     (rw c.in_default.is at (c.loop-next.invariant.phase group past asked started course can))

@@ -6,30 +6,30 @@ use Rattle.measure_pass.proofs.Walk.{Phasing, Walked}
 use Rattle.view_model.specs.Course.{Requested}
 use Rattle.view_model.specs.Forest.{count_of}
 use Rattle.view_model.specs.Measuring.{Measured}
-use Rattle.view_tree.specs.Rows.{alone, below, from, rest_from}
+use Rattle.view_tree.specs.Rows.{first_tree, children_of_first, part_from, rest_from}
 use Rattle.view_tree.specs.Views.{SameTree, held_of}
 use Rattle.measure_pass.proofs.measuring.+measure.Given as goal
 
 -- one round from a view to its child goes through these functions
 abbrev pub decreases-measure_kid : goal.decreases-measure_kid
-decreases-measure_kid l = 8 * count_of (alone (from l.kid l.tree.now.tree)) + 6
+decreases-measure_kid l = 8 * count_of (first_tree (part_from l.kid l.tree.now.tree)) + 6
 
 abbrev pub decreases-measure : goal.decreases-measure
-decreases-measure l = 8 * count_of (alone (from l.view l.tree.now.tree)) + 5
+decreases-measure l = 8 * count_of (first_tree (part_from l.view l.tree.now.tree)) + 5
 
 abbrev pub decreases-measure_below : goal.decreases-measure_below
-decreases-measure_below l = 8 * count_of (alone (from l.view l.tree.now.tree)) + 4
+decreases-measure_below l = 8 * count_of (first_tree (part_from l.view l.tree.now.tree)) + 4
 
 abbrev pub decreases-measure_phases : goal.decreases-measure_phases
-decreases-measure_phases l = 8 * count_of (alone (from l.view l.tree.now.tree)) + 1 + l.left
+decreases-measure_phases l = 8 * count_of (first_tree (part_from l.view l.tree.now.tree)) + 1 + l.left
 
 abbrev pub decreases-measure_kids : goal.decreases-measure_kids
-decreases-measure_kids l = 8 * count_of (alone (from l.view l.tree.now.tree))
+decreases-measure_kids l = 8 * count_of (first_tree (part_from l.view l.tree.now.tree))
 
 abbrev pub invariant-measure_kids-loop-next : goal.invariant-measure_kids-loop-next
 invariant-measure_kids-loop-next l =
     let tree = l.fn.tree.tree in
-    let kids = below (from l.view tree) in
+    let kids = children_of_first (part_from l.view tree) in
     let start = held_of l.fn.tree in
     let now = held_of l.tree in
     record {

@@ -1,5 +1,5 @@
 use Rattle.std.proofs.Common.{◌≡◌, Err, None, Ok, ap, false, rules, sym, true, ◌∙◌}
-use Rattle.tree_edits.specs.Editing.{after_act, done}
+use Rattle.tree_edits.specs.Editing.{after_act, outcome_of_act}
 use Rattle.tree_edits.specs.Scene.{Scene, scene_of}
 use Rattle.view_model.specs.PlainTree.{view_in}
 use Rattle.view_tree.specs.Views.{number_of, plain_of}
@@ -17,7 +17,7 @@ pub returns-in_err-set_names-clause-applied : goal.returns-in_err-set_names-clau
 returns-in_err-set_names-clause-applied c =
     let after = after_act (scene_of c.args.tree.now) (number_of c.args.tree.now c.args.view) c.args.act in
     let taken : c.takes.result ≡ true = search rules in
-    let is : done (scene_of c.args.tree.now) (number_of c.args.tree.now c.args.view) c.args.act (view_in (plain_of c.args.tree.now) (number_of c.args.tree.now c.args.view)) ≡ Ok (after, None) =
+    let is : outcome_of_act (scene_of c.args.tree.now) (number_of c.args.tree.now c.args.view) c.args.act (view_in (plain_of c.args.tree.now) (number_of c.args.tree.now c.args.view)) ≡ Ok (after, None) =
     done_by c.args.tree.now c.args.view c.args.act c.class.result c.takes.result c.class.ensures.is_tree c.requires.live c.class.ensures.value c.takes.ensures
     ∙ rw taken in
     not_named _ after (scene_of c.set_names.new.tree) c.in_err-set_names.field-0.0 c.from_residual.result is c.in_err-set_names.ensures.refused c.from_residual.ensures.1

@@ -1,7 +1,7 @@
 use Rattle.std.proofs.Common.{◌≡◌, Err, None, Ok, chars, ◌∙◌, sym, ap, true, false, rules}
 use Rattle.std.proofs.lemmas.Str.{chars_from_encodes}
-use Rattle.view_model.specs.PlainTree.{View, with_text}
-use Rattle.view_tree.specs.Rows.{put_view}
+use Rattle.view_model.specs.PlainTree.{PlainView, with_text}
+use Rattle.view_tree.specs.Rows.{changed_at_key}
 use Rattle.view_tree.specs.Views.{number_of, plain_of}
 use Rattle.tree_edits.specs.Scene.{Scene, scene_of}
 use Rattle.tree_edits.proofs.EditLaws.{TextSet, no_memory, text_set, written_by}
@@ -39,8 +39,8 @@ returns-clause-applied c =
 pub returns-clause-kept : goal.returns-clause-kept
 returns-clause-kept c =
     let written = chars_from_encodes c.in_ok-text.text c.args.text.now c.utf8.text c.in_ok-text.ensures in
-    put_keeps c.args.tree.now c.set_text.new.self (edit.Text c.args.view c.args.text) c.args.view (λ (v : View). record v { text = c.in_ok-text.text })
-    c.set_text.ensures.tree (ap (λ t. put_view c.args.view (λ (v : View). record v { text = t }) c.args.tree.now.tree) written)
+    put_keeps c.args.tree.now c.set_text.new.self (edit.Text c.args.view c.args.text) c.args.view (λ (v : PlainView). record v { text = c.in_ok-text.text })
+    c.set_text.ensures.tree (ap (λ t. changed_at_key c.args.view (λ (v : PlainView). record v { text = t }) c.args.tree.now.tree) written)
     c.set_text.ensures.next c.set_text.ensures.held
 
 pub returns-clause-consistent : goal.returns-clause-consistent

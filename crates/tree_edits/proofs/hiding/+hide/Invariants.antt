@@ -1,13 +1,13 @@
 use Rattle.std.proofs.Common.{◌≡◌}
 use Rattle.view_model.specs.Forest.{count_of}
-use Rattle.view_tree.specs.Rows.{alone, below, from, rest_from}
+use Rattle.view_tree.specs.Rows.{first_tree, children_of_first, part_from, rest_from}
 use Rattle.view_tree.specs.Views.{held_of}
 use Rattle.tree_edits.proofs.Walk.{Walked}
 use Rattle.tree_edits.proofs.hiding.+hide.Given as goal
 
 -- the views from this one down
 abbrev pub decreases-hide : goal.decreases-hide
-decreases-hide l = count_of (alone (from l.view l.tree.now.tree))
+decreases-hide l = count_of (first_tree (part_from l.view l.tree.now.tree))
 
 -- the views among the later siblings
 abbrev pub decreases-loop-next : goal.decreases-loop-next
@@ -19,5 +19,5 @@ invariant-loop-next l =
     record {
       same : l.tree.tree ≡ tree;
       numbers : l.tree.next ≡ l.fn.tree.next;
-      walked : Walked tree (below (from l.view tree)) (held_of l.initial.tree) l.next (held_of l.tree);
+      walked : Walked tree (children_of_first (part_from l.view tree)) (held_of l.initial.tree) l.next (held_of l.tree);
     }

@@ -1,5 +1,5 @@
 use Rattle.std.proofs.Common.{take}
-use Rattle.text_lines.specs.Held.{Sends}
+use Rattle.text_lines.specs.BufferedText.{Sends}
 use Rattle.text_lines.specs.Joined.{texts_of}
 use Rattle.view_tool.specs.Refusals.{member_text}
 use Rattle.view_tool.proofs.refusals.put_members.Given as goal

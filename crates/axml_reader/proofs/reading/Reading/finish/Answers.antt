@@ -2,7 +2,7 @@ use Rattle.std.proofs.Common.{◌≡◌, ◌∙◌, sym, vec_len, length, rules}
 use Rattle.std.proofs.lemmas.Bool.{eqb-true}
 use Rattle.axml_reader.proofs.DocumentLaws.{finished_by, made, nil_is}
 use Rattle.axml_reader.specs.Sound.{IsSound}
-use Rattle.axml_reader.specs.View.{reading}
+use Rattle.axml_reader.specs.Meaning.{reading}
 use Rattle.axml_reader.proofs.reading.Reading.finish.Goals as goal
 
 pub invariant_of-result : goal.invariant_of-result

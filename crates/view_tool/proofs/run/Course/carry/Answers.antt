@@ -1,6 +1,6 @@
 use Rattle.std.proofs.Common.{arith, ap, subst, Option, List, ℕ}
 use Rattle.text_lines.specs.Prefix.{AppendsPrefix}
-use Rattle.view_model.specs.Refusals.{told}
+use Rattle.view_model.specs.Refusals.{plain_refusal}
 use Rattle.view_tool.specs.Refusals.{refused_line}
 use Rattle.view_tool.specs.Run.{line_now}
 use Rattle.view_tool.proofs.RunLaws.{after_lines-lines, carried_refused, carried_sink, done_prefix, not_done, refused_prefix}
@@ -11,9 +11,9 @@ returns-in-Err-Refused-clause-stopped g c first lines short at =
     let refusal = c.in-Err-Refused.refusal in
     let same = not_done c.in-Err-Refused.field-0 refusal c.in-Err-Refused.field-0-is c.in-Err-Refused.ensures.unchanged in
     let part =
-    subst (λ (gone : Option (List ℕ)). AppendsPrefix gone (g.K.Sink.state c.reply_refusal.new.sink).gone (refused_line c.saturating_add-self.result (told refusal)))
+    subst (λ (gone : Option (List ℕ)). AppendsPrefix gone (g.K.Sink.state c.reply_refusal.new.sink).gone (refused_line c.saturating_add-self.result (plain_refusal refusal)))
     (ap (λ sink. (g.K.Sink.state sink).gone) same.1) c.in-Err.ensures.prefix in
-    refused_prefix first (g.K.Sink.state c.args.sink.now).gone _ c.args.self.now lines (line_now c.args.line) c.saturating_add-self.result (told refusal) at
+    refused_prefix first (g.K.Sink.state c.args.sink.now).gone _ c.args.self.now lines (line_now c.args.line) c.saturating_add-self.result (plain_refusal refusal) at
     (carried_refused _ _ _ _ c.in-Err-Refused.field-0 refusal c.in-Err-Refused.field-0-is c.in-Err-Refused.ensures.carried)
     (omega (arith, c.saturating_add-self.ensures, at.lines, after_lines-lines lines, short)) part
 

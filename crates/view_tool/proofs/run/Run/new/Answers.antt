@@ -1,7 +1,7 @@
 use Rattle.std.proofs.Common.{refl, ap}
 use Rattle.text_lines.proofs.Prefixes.{appends_none}
 use Rattle.view_tool.specs.Transcript.{after_lines}
-use Rattle.view_world.specs.WorldView.{world_of}
+use Rattle.view_world.specs.KeyedWorld.{world_of}
 use Rattle.view_tool.proofs.run.Run.new.Goals as goal
 
 pub returns-clause-behind : goal.returns-clause-behind

@@ -1,7 +1,7 @@
 use Rattle.std.proofs.Common.{◌≡◌, ◌++◌, List, ℕ, sym, ap, ◌∙◌}
 use Rattle.std.specs.Prelude.{Err}
 use Rattle.std.proofs.lemmas.Result.{err_from_is_err_and}
-use Rattle.script_lines.specs.Held.{lines_at}
+use Rattle.script_lines.specs.LineBuffer.{lines_at}
 use Rattle.script_lines.specs.Lines.{Line, cut_of}
 use Rattle.view_tool.specs.Run.{line_now}
 use Rattle.view_tool.specs.Transcript.{after_lines}

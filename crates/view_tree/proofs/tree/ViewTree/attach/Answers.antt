@@ -1,5 +1,5 @@
 use Rattle.std.proofs.Common.{◌+◌, ◌∙◌, refl, subst}
-use Rattle.view_model.specs.PlainTree.{View}
+use Rattle.view_model.specs.PlainTree.{PlainView}
 use Rattle.view_tree.specs.Attached.{Attached}
 use Rattle.view_tree.specs.Nodes.{value_of}
 use Rattle.view_tree.specs.Views.{Views}
@@ -8,12 +8,12 @@ use Rattle.view_tree.proofs.HolderLaws.{noted_nothing}
 use Rattle.view_tree.proofs.NodeGrowth.{attached, last_child_there, parent_there, sound-attach, sound-room, value-room}
 use Rattle.view_tree.proofs.tree.ViewTree.attach.Goals as goal
 
-pub hang-key-requires-clause-parent : goal.hang-key-requires-clause-parent
-hang-key-requires-clause-parent c = λ k is.
+pub link_last-key-requires-clause-parent : goal.link_last-key-requires-clause-parent
+link_last-key-requires-clause-parent c = λ k is.
     rw c.make_room.ensures.nodes (parent_there c.self.inside c.args.self.now c.args.parent c.self.invariant c.self.view_is c.requires.live k is)
 
-pub hang-key-requires-clause-last : goal.hang-key-requires-clause-last
-hang-key-requires-clause-last c = λ l is.
+pub link_last-key-requires-clause-last : goal.link_last-key-requires-clause-last
+link_last-key-requires-clause-last c = λ l is.
     rw c.make_room.ensures.nodes
     (last_child_there c.self.inside c.args.self.now c.args.parent c.self.invariant c.self.view_is c.requires.live l (rw c.make_room.ensures.nodes at is))
 
@@ -25,25 +25,25 @@ invariant_of-self c =
 pub invariant_of-self-2 : goal.invariant_of-self-2
 invariant_of-self-2 c =
     let roomy : Inside = record c.self.inside { nodes = c.make_room.new.nodes; keys = c.make_room.new.keys; ids = c.make_room.new.ids } in
-    let grown : Inside = record { nodes = c.hang-key.new.nodes; keys = c.note_key.new.keys; ids = c.make_room.new.ids; root = c.root_with-self-inside.result; next = c.self.inside.next + 1 } in
-    let view : View = record { number = c.self.inside.next; class = c.args.class; facts = c.args.facts; text = c.args.text } in
-    sound-attach roomy grown c.args.self.now c.args.parent c.hang-key.result view
+    let grown : Inside = record { nodes = c.link_last-key.new.nodes; keys = c.note_key.new.keys; ids = c.make_room.new.ids; root = c.root_with-self-inside.result; next = c.self.inside.next + 1 } in
+    let view : PlainView = record { number = c.self.inside.next; class = c.args.class; facts = c.args.facts; text = c.args.text } in
+    sound-attach roomy grown c.args.self.now c.args.parent c.link_last-key.result view
     (sound-room c.self.inside roomy c.make_room.ensures.nodes c.make_room.ensures.keys c.make_room.ensures.ids refl refl c.self.invariant)
     (value-room c.self.inside roomy c.make_room.ensures.nodes c.make_room.ensures.keys c.make_room.ensures.ids refl refl ∙ c.self.view_is)
-    c.requires.live c.requires.root c.in_ok-may_grow.ensures c.hang-key.ensures.unused c.hang-key.ensures.said
-    c.root_with-self-inside.ensures refl refl c.hang-key.ensures.len c.note_key.ensures (λ id. noted_nothing _ view.facts.id c.hang-key.result id c.requires.unnamed.0) c.hang-key.type_inv
+    c.requires.live c.requires.root c.in_ok-may_grow.ensures c.link_last-key.ensures.unused c.link_last-key.ensures.links
+    c.root_with-self-inside.ensures refl refl c.link_last-key.ensures.len c.note_key.ensures (λ id. noted_nothing _ view.facts.id c.link_last-key.result id c.requires.unnamed.0) c.link_last-key.type_inv
 
 pub returns-clause-attached : goal.returns-clause-attached
 returns-clause-attached c =
     let roomy : Inside = record c.self.inside { nodes = c.make_room.new.nodes; keys = c.make_room.new.keys; ids = c.make_room.new.ids } in
-    let grown : Inside = record { nodes = c.hang-key.new.nodes; keys = c.note_key.new.keys; ids = c.make_room.new.ids; root = c.root_with-self-inside.result; next = c.self.inside.next + 1 } in
-    let view : View = record { number = c.self.inside.next; class = c.args.class; facts = c.args.facts; text = c.args.text } in
+    let grown : Inside = record { nodes = c.link_last-key.new.nodes; keys = c.note_key.new.keys; ids = c.make_room.new.ids; root = c.root_with-self-inside.result; next = c.self.inside.next + 1 } in
+    let view : PlainView = record { number = c.self.inside.next; class = c.args.class; facts = c.args.facts; text = c.args.text } in
     subst
-    (λ (v : Views). Attached c.args.self.now c.args.parent (record { number = v.next; class = c.args.class; facts = c.args.facts; text = c.args.text }) c.hang-key.result (value_of grown))
+    (λ (v : Views). Attached c.args.self.now c.args.parent (record { number = v.next; class = c.args.class; facts = c.args.facts; text = c.args.text }) c.link_last-key.result (value_of grown))
     c.self.view_is
-    (attached roomy grown c.args.self.now c.args.parent c.hang-key.result view
+    (attached roomy grown c.args.self.now c.args.parent c.link_last-key.result view
     (sound-room c.self.inside roomy c.make_room.ensures.nodes c.make_room.ensures.keys c.make_room.ensures.ids refl refl c.self.invariant)
     (value-room c.self.inside roomy c.make_room.ensures.nodes c.make_room.ensures.keys c.make_room.ensures.ids refl refl ∙ c.self.view_is)
-    c.requires.live c.requires.root c.in_ok-may_grow.ensures c.hang-key.ensures.unused c.hang-key.ensures.said
-    c.root_with-self-inside.ensures refl refl c.hang-key.ensures.len c.note_key.ensures (λ id. noted_nothing _ view.facts.id c.hang-key.result id c.requires.unnamed.0) c.hang-key.type_inv
-    c.hang-key.ensures.held c.hang-key.ensures.others)
+    c.requires.live c.requires.root c.in_ok-may_grow.ensures c.link_last-key.ensures.unused c.link_last-key.ensures.links
+    c.root_with-self-inside.ensures refl refl c.link_last-key.ensures.len c.note_key.ensures (λ id. noted_nothing _ view.facts.id c.link_last-key.result id c.requires.unnamed.0) c.link_last-key.type_inv
+    c.link_last-key.ensures.held c.link_last-key.ensures.others)

@@ -3,13 +3,13 @@ use Rattle.measure_pass.proofs.Parts.{count_few, count_one}
 use Rattle.view_model.specs.Facts.{is_shown, unscrolled_facts}
 use Rattle.view_model.specs.Forest.{count_of}
 use Rattle.view_tree.specs.declared.state.State.{State}
-use Rattle.view_tree.specs.Rows.{alone, below, from, head_view}
+use Rattle.view_tree.specs.Rows.{first_tree, children_of_first, part_from, head_view}
 use Rattle.view_tree.specs.Views.{held_of}
 use Rattle.view_tree.proofs.Forests.{count_alone, live_after, live_below}
 use Rattle.view_world.specs.Laying.{spot_of}
 use Rattle.view_world.specs.Placing.{LaidKids}
 use Rattle.view_world.proofs.LaidOwn.{below_ready, group_at, kid_at, kid_gone, outside_at, sides_at}
-use Rattle.view_world.proofs.LaidParts.{CanBeLaid-alone, CanBeLaid-along, kept_on}
+use Rattle.view_world.proofs.LaidParts.{CanBeLaid-first_tree, CanBeLaid-along, kept_on}
 use Rattle.view_world.proofs.LaidWalk.{walk_on, walk_start}
 use Rattle.view_world.proofs.laying.lay.+lay.Goals as goal
 
@@ -59,7 +59,7 @@ pub lay_kid-returns-clause-laid : goal.lay_kid-returns-clause-laid
 lay_kid-returns-clause-laid t c = λ spot before places few.
     let one = count_one c.args.tree.now.tree c.args.kid c.requires.live in
     let shown = sym (ap is_shown c.facts-facts.ensures.value) ∙ sym c.is_shown.ensures ∙ c.if-not-is_shown.false in
-    let facts_is : unscrolled_facts c.facts-facts.result.now ≡ unscrolled_facts (head_view (from c.args.kid c.args.tree.now.tree)).facts =
+    let facts_is : unscrolled_facts c.facts-facts.result.now ≡ unscrolled_facts (head_view (part_from c.args.kid c.args.tree.now.tree)).facts =
     ap unscrolled_facts c.facts-facts.ensures.value in
     kid_at c.args.tree.now.tree c.args.kid c.place-rect.new.self spot before c.state.result.measured c.place-rect.result
     (held_of c.args.tree.now) (held_of c.lay.new.tree) c.requires.live shown c.requires.ready.sized
@@ -70,15 +70,15 @@ pub lay_kids-lay_kid-requires : goal.lay_kids-lay_kid-requires
 lay_kids-lay_kid-requires t c =
     let tree = c.args.tree.now.tree in
     let walk = rw c.in-Some.is at c.loop-next.invariant.walked in
-    let few : count_of (from c.in-Some.kid tree) ≤ count_of (below (from c.args.view tree)) = walk.few in
+    let few : count_of (part_from c.in-Some.kid tree) ≤ count_of (children_of_first (part_from c.args.view tree)) = walk.few in
     let one = live_below c.args.view tree c.requires.live in
-    let two = count_alone (from c.in-Some.kid tree) in
+    let two = count_alone (part_from c.in-Some.kid tree) in
     rw c.loop-next.invariant.same.tree (
       omega arith,
       (
         walk.live,
-        CanBeLaid-alone (held_of c.loop-next.tree) (from c.in-Some.kid tree)
-            (CanBeLaid-along (held_of c.args.tree.now) (held_of c.loop-next.tree) (from c.in-Some.kid tree) walk.still walk.ready),
+        CanBeLaid-first_tree (held_of c.loop-next.tree) (part_from c.in-Some.kid tree)
+            (CanBeLaid-along (held_of c.args.tree.now) (held_of c.loop-next.tree) (part_from c.in-Some.kid tree) walk.still walk.ready),
       ),
     )
 
@@ -91,12 +91,12 @@ pub lay_kids-loop-next-init : goal.lay_kids-loop-next-init
 lay_kids-loop-next-init t c =
     let tree = c.args.tree.now.tree in
     let first = c.first-next.ensures in
-    let spot = spot_of (from c.args.view tree) (held_of c.args.tree.now c.args.view) c.args.size in
+    let spot = spot_of (part_from c.args.view tree) (held_of c.args.tree.now c.args.view) c.args.size in
     record {
       same = record { tree = refl; next = refl };
       kept = λ key. refl;
       walked =
-          walk_start tree (below (from c.args.view tree)) c.start-placer.result spot (held_of c.args.tree.now) c.first-next.result c.start-placer.ensures
+          walk_start tree (children_of_first (part_from c.args.view tree)) c.start-placer.result spot (held_of c.args.tree.now) c.first-next.result c.start-placer.ensures
           (count_few c.args.view tree c.requires.live first.is_tree.few) first.is_tree.keys first.part first.live c.requires.ready;
     }
 
@@ -105,18 +105,18 @@ lay_kids-loop-next-preserved t c =
     let tree = c.args.tree.now.tree in
     let before = c.loop-next.invariant in
     let kid = c.lay_kid.ensures in
-    let spot = spot_of (from c.args.view tree) (held_of c.args.tree.now c.args.view) c.args.size in
+    let spot = spot_of (part_from c.args.view tree) (held_of c.args.tree.now c.args.view) c.args.size in
     let walk = rw c.in-Some.is at before.walked in
-    let alone_few = count_alone (from c.in-Some.kid tree) in
+    let alone_few = count_alone (part_from c.in-Some.kid tree) in
     let short = walk.short in
-    let few : length walk.before + count_of (alone (from c.in-Some.kid tree)) ≤ 4096 = omega arith in
-    let laid : LaidKids c.lay_kid.new.placer spot walk.before (held_of c.loop-next.tree) (held_of c.lay_kid.new.tree) (alone (from c.in-Some.kid tree)) =
+    let few : length walk.before + count_of (first_tree (part_from c.in-Some.kid tree)) ≤ 4096 = omega arith in
+    let laid : LaidKids c.lay_kid.new.placer spot walk.before (held_of c.loop-next.tree) (held_of c.lay_kid.new.tree) (first_tree (part_from c.in-Some.kid tree)) =
     (rw before.same.tree at (kid.laid spot walk.before walk.places)) few in
     record {
       same = record { tree = kid.same.tree ∙ before.same.tree; next = kid.same.next ∙ before.same.next };
       kept = kept_on c.args.tree.now c.loop-next.tree c.lay_kid.new.tree before.kept kid.kept;
       walked =
-          walk_on tree (below (from c.args.view tree)) c.loop-next.placer c.lay_kid.new.placer spot (held_of c.args.tree.now) c.in-Some.kid
+          walk_on tree (children_of_first (part_from c.args.view tree)) c.loop-next.placer c.lay_kid.new.placer spot (held_of c.args.tree.now) c.in-Some.kid
           (held_of c.loop-next.tree) (held_of c.lay_kid.new.tree) walk laid (rw before.same.tree at kid.others) c.next-next.result
           (rw (kid.same.tree, before.same.tree) at c.next-next.ensures.part) (rw (kid.same.tree, before.same.tree) at c.next-next.ensures.live);
     }

@@ -6,7 +6,7 @@ use Rattle.view_model.specs.Facts.{is_shown}
 use Rattle.view_model.specs.Layout.{root_specs}
 use Rattle.view_model.specs.Measuring.{Specs}
 use Rattle.view_tree.specs.Hidden.{HidesGone}
-use Rattle.view_tree.specs.Rows.{alone, from}
+use Rattle.view_tree.specs.Rows.{first_tree, part_from}
 use Rattle.view_tree.specs.Views.{held_of, specs_of, state_of}
 use Rattle.view_tree.proofs.KeptLaws.{is_tree-same}
 use Rattle.view_world.proofs.LaidWhole.{calls_whole, gone_whole, laid_whole, no_calls, root_alone, whole_ready}
@@ -32,7 +32,7 @@ returns-clause-geometry c =
     let laid = rw m.same.tree at c.lay.ensures.laid in
     let pair = ap (λ (p : Spec × Spec). let specs : Specs = record { across = p.0; down = p.1 } in specs) c.specs_in.ensures in
     let under = m.measured.last ∙ pair ∙ ap (λ (facts : FactsValue). root_specs c.args.window facts) c.facts-facts.ensures.value in
-    let size = m.size ∙ ap (λ (specs : Specs). size_under (from c.args.root c.args.tree.now.tree) specs) (sym m.measured.last) in
+    let size = m.size ∙ ap (λ (specs : Specs). size_under (part_from c.args.root c.args.tree.now.tree) specs) (sym m.measured.last) in
     rw tree
     (laid_whole c.args.tree.now.tree c.args.root (held_of c.args.tree.now) (held_of c.lay.new.tree) c.args.window (specs_of (state_of c.measure-size.new.tree c.args.root))
     c.rect_at.result c.measure-size.result c.requires.root c.facts-facts.ensures.is_tree.root laid under c.rect_at.ensures size)
@@ -41,7 +41,7 @@ pub returns-clause-consistent : goal.returns-clause-consistent
 returns-clause-consistent c =
     let m = c.measure-size.ensures in
     let tree : c.lay.new.tree.tree ≡ c.args.tree.now.tree = c.lay.ensures.same.tree ∙ m.same.tree in
-    let hidden : HidesGone (held_of c.lay.new.tree) (alone (from c.args.root c.args.tree.now.tree)) = rw m.same.tree at c.lay.ensures.laid.hidden in
+    let hidden : HidesGone (held_of c.lay.new.tree) (first_tree (part_from c.args.root c.args.tree.now.tree)) = rw m.same.tree at c.lay.ensures.laid.hidden in
     record { hidden = rw tree (rw (root_alone c.args.tree.now.tree c.args.root c.requires.root c.facts-facts.ensures.is_tree.root) at hidden) }
 
 pub returns-clause-counted : goal.returns-clause-counted

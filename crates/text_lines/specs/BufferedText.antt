@@ -6,7 +6,7 @@ use Rattle.tool_io.specs.Counts.{raised}
 use Rattle.tool_io.specs.SinkState.{SinkState}
 
 -- the bytes that have not gone yet, and whether a write has failed
-pub record Held : Type 0 where
+pub record BufferedText : Type 0 where
   pub bytes : List ℕ
   pub failed : Bool
 
@@ -24,7 +24,7 @@ pub record Breaks (old new : SinkState) (text : List ℕ) : Type 0 where
 
 -- A text was sent, from one moment of a sink and a buffer to a later one. Either it went on its way behind what was held,
 -- or a write failed and a prefix of both has gone, or one had failed before and nothing was asked of the sink.
-pub record Sends (old new : SinkState) (before after : Held) (text : List ℕ) : Type 0 where
+pub record Sends (old new : SinkState) (before after : BufferedText) (text : List ℕ) : Type 0 where
   pub moves : after.failed ≡ false → (before.failed ≡ false) × Moves old new before.bytes after.bytes text
   pub breaks : before.failed ≡ false → after.failed ≡ true → Breaks old new (before.bytes ++ text)
   pub silent : before.failed ≡ true → new ≡ old

@@ -7,7 +7,7 @@ use Rattle.script_lines.specs.declared.cutting.LinePlace.{LinePlace}
 use Rattle.script_lines.specs.declared.cutting.LinePlace.TheVariants as place
 
 -- what has come of a line, as far as it is held, and the line that has just ended
-pub record Held : Type 0 where
+pub record LineBuffer : Type 0 where
   pub begun : List ℕ
   pub line : List ℕ
 
@@ -36,5 +36,5 @@ IsLent place.Held size = Unit {0}
 IsLent place.Long size = Unit {0}
 
 -- what is held once these bytes have come
-pub record Stands (held : Held) (bytes : List ℕ) : Type 0 where
+pub record IsAfter (held : LineBuffer) (bytes : List ℕ) : Type 0 where
   pub begun : held.begun ≡ held_of (cut_of bytes).rest
