@@ -1,4 +1,4 @@
-pub mod CutLaws
+pub mod LongScriptLaws
 pub mod NameLaws
 mod RefusalExamples
 pub mod RunLaws

@@ -8,11 +8,11 @@ use Rattle.script_lines.specs.LineBuffer.{LineBuffer, IsAfter}
 use Rattle.script_lines.specs.Lines.{Line, Text, LongLine, cut_of, last_of, lines_of}
 use Rattle.text_lines.specs.Prefix.{AppendsPrefix}
 use Rattle.text_lines.proofs.Prefixes.{prefix_of_first, prefix_of_second}
-use Rattle.view_tool.specs.declared.run.Course.{Course}
+use Rattle.view_tool.specs.declared.run.LineRunner.{LineRunner}
 use Rattle.view_tool.specs.declared.run.Stop.{Stop}
 use Rattle.view_tool.specs.declared.run.Stop.TheVariants as stop
 use Rattle.view_tool.specs.Refusals.{refused_line}
-use Rattle.view_tool.specs.Run.{IsAt, IsBehind, StopsIn}
+use Rattle.view_tool.specs.Run.{HasCarriedOut, HasReadUpTo, StopsIn}
 use Rattle.view_tool.specs.Transcript.{Progress, after_line, after_lines, after_reply, at_start, is_idle, reply_to_line}
 use Rattle.tool_io.specs.Counts.{raised}
 use Rattle.tool_io.specs.SinkState.{SinkState}
@@ -24,7 +24,7 @@ use Rattle.view_world.specs.declared.fault.StepFault.TheVariants as step
 use Rattle.view_world.specs.Carried.{WritesReply, IsDone}
 use Rattle.view_world.specs.Step.{Reply, Done, Refused}
 use Rattle.view_world.specs.KeyedWorld.{world_of}
-use Rattle.view_tool.proofs.CutLaws.{cut_count, cut_more}
+use Rattle.view_tool.proofs.LongScriptLaws.{cut_count, cut_more}
 
 pub after_lines-push : (lines : List Line) (line : Line) → after_lines (lines ++ line ∷ []) ≡ after_line (after_lines lines) line
 unfolding after_lines
@@ -94,9 +94,9 @@ unfolding reply_to_line
 passed_reply world LongLine e = absurd (cc)
 passed_reply world (Text bytes) e = rw e refl
 
-pub passed_line : (first now : Option (List ℕ)) (course : Course) (progress : Progress) (line : Line) (number : ℕ) → is_idle line ≡ true → number ≡ progress.lines + 1 → IsAt first now course progress
-    → IsAt first now (record course { lines = number }) (after_line progress line)
-passed_line first now course progress line number passed counted at =
+pub passed_line : (first now : Option (List ℕ)) (runner : LineRunner) (progress : Progress) (line : Line) (number : ℕ) → is_idle line ≡ true → number ≡ progress.lines + 1 → HasCarriedOut first now runner progress
+    → HasCarriedOut first now (record runner { lines = number }) (after_line progress line)
+passed_line first now runner progress line number passed counted at =
     let reply = passed_reply progress.world line passed in
     rw reply (record { lines = counted; world = at.world; refused = at.refused; gone = subst (Appends first now) (sym (append-nil progress.text)) at.gone })
 
@@ -115,10 +115,10 @@ pub carried_sink : (reply : Reply) (new : World) (before after : SinkState) (fau
 carried_sink reply new before after fault e carried = subst (λ (f : StepFault). WritesReply reply new before after (Err f)) e carried
 
 -- a line was refused, and to tell of it failed
-pub refused_prefix : (first mid now : Option (List ℕ)) (course : Course) (lines : List Line) (line : Line) (number : ℕ) (refusal : PlainRefusal) → IsAt first mid course (after_lines lines)
-    → reply_to_line (world_of course.world) line ≡ Refused refusal → number ≡ (after_lines lines).lines + 1 → AppendsPrefix mid now (refused_line number refusal)
+pub refused_prefix : (first mid now : Option (List ℕ)) (runner : LineRunner) (lines : List Line) (line : Line) (number : ℕ) (refusal : PlainRefusal) → HasCarriedOut first mid runner (after_lines lines)
+    → reply_to_line (world_of runner.world) line ≡ Refused refusal → number ≡ (after_lines lines).lines + 1 → AppendsPrefix mid now (refused_line number refusal)
     → AppendsPrefix first now (after_lines (lines ++ line ∷ [])).text
-refused_prefix first mid now course lines line number refusal at refused counted part =
+refused_prefix first mid now runner lines line number refusal at refused counted part =
     let so_far = after_lines lines in
     subst (AppendsPrefix first now) (
     sym (
@@ -130,9 +130,9 @@ refused_prefix first mid now course lines line number refusal at refused counted
     (prefix_of_second first mid now so_far.text (refused_line number refusal) at.gone part)
 
 -- a line was carried out, and to write its text failed
-pub done_prefix : (first mid now : Option (List ℕ)) (course : Course) (lines : List Line) (line : Line) (world : World) (text : List ℕ) → IsAt first mid course (after_lines lines)
-    → reply_to_line (world_of course.world) line ≡ Done world text → AppendsPrefix mid now text → AppendsPrefix first now (after_lines (lines ++ line ∷ [])).text
-done_prefix first mid now course lines line world text at done part =
+pub done_prefix : (first mid now : Option (List ℕ)) (runner : LineRunner) (lines : List Line) (line : Line) (world : World) (text : List ℕ) → HasCarriedOut first mid runner (after_lines lines)
+    → reply_to_line (world_of runner.world) line ≡ Done world text → AppendsPrefix mid now text → AppendsPrefix first now (after_lines (lines ++ line ∷ [])).text
+done_prefix first mid now runner lines line world text at done part =
     let so_far = after_lines lines in
     subst (AppendsPrefix first now) (
     sym (
@@ -152,19 +152,19 @@ stops_in_piece first now before piece n line stop e stops =
     (ap (λ (l : List Line). l ++ more.0) (sym e) ∙ sym more.1 ∙ ap (λ (l : List ℕ). (cut_of l).lines) all) stops
 
 -- no line ended
-pub behind_same : (first now : Option (List ℕ)) (held : LineBuffer) (course : Course) (before bytes : List ℕ) → IsAt first now course (after_lines (cut_of before).lines) → IsAfter held bytes
-    → (cut_of bytes).lines ≡ (cut_of before).lines ++ [] → IsBehind first now (record { lines = held; course = course }) bytes
-behind_same first now held course before bytes at stands e = record {
+pub behind_same : (first now : Option (List ℕ)) (held : LineBuffer) (runner : LineRunner) (before bytes : List ℕ) → HasCarriedOut first now runner (after_lines (cut_of before).lines) → IsAfter held bytes
+    → (cut_of bytes).lines ≡ (cut_of before).lines ++ [] → HasReadUpTo first now (record { lines = held; runner = runner }) bytes
+behind_same first now held runner before bytes at stands e = record {
   held = stands;
-  course = subst (λ (l : List Line). IsAt first now course (after_lines l)) (sym (e ∙ append-nil (cut_of before).lines)) at;
+  runner = subst (λ (l : List Line). HasCarriedOut first now runner (after_lines l)) (sym (e ∙ append-nil (cut_of before).lines)) at;
 }
 
 -- one line ended, and was carried out
-pub behind_more : (first now : Option (List ℕ)) (held : LineBuffer) (course : Course) (before bytes : List ℕ) (line : Line) → IsAt first now course (after_line (after_lines (cut_of before).lines) line)
-    → IsAfter held bytes → (cut_of bytes).lines ≡ (cut_of before).lines ++ line ∷ [] → IsBehind first now (record { lines = held; course = course }) bytes
-behind_more first now held course before bytes line at stands e = record {
+pub behind_more : (first now : Option (List ℕ)) (held : LineBuffer) (runner : LineRunner) (before bytes : List ℕ) (line : Line) → HasCarriedOut first now runner (after_line (after_lines (cut_of before).lines) line)
+    → IsAfter held bytes → (cut_of bytes).lines ≡ (cut_of before).lines ++ line ∷ [] → HasReadUpTo first now (record { lines = held; runner = runner }) bytes
+behind_more first now held runner before bytes line at stands e = record {
   held = stands;
-  course = subst (IsAt first now course) (sym (ap after_lines e ∙ after_lines-push (cut_of before).lines line)) at;
+  runner = subst (HasCarriedOut first now runner) (sym (ap after_lines e ∙ after_lines-push (cut_of before).lines line)) at;
 }
 
 -- the last line, where there is none, and where there is one

@@ -5,15 +5,15 @@ use Rattle.std.specs.Io.KnownBytes.{Appends, Consumes, IsAtEnd}
 use Rattle.std.proofs.lemmas.List.{append-nil, take-append-drop, take-append-le}
 use Rattle.std.proofs.Math.Seq.{take-append-add}
 use Rattle.script_lines.specs.Lines.{Line, cut_of, lines_of}
-use Rattle.view_tool.specs.declared.run.Course.{Course}
+use Rattle.view_tool.specs.declared.run.LineRunner.{LineRunner}
 use Rattle.view_tool.specs.declared.run.Run.{Run}
 use Rattle.view_tool.specs.declared.run.Stop.{Stop}
 use Rattle.view_tool.specs.declared.script.End.{End}
 use Rattle.view_tool.specs.declared.script.End.TheVariants as end
-use Rattle.view_tool.specs.Run.{IsAt, IsBehind, StopsIn}
-use Rattle.view_tool.specs.Script.{Pulls, RunsTo, WritesTaken}
+use Rattle.view_tool.specs.Run.{HasCarriedOut, HasReadUpTo, StopsIn}
+use Rattle.view_tool.specs.Script.{ReadsPiece, RunsTo, WritesTaken}
 use Rattle.view_tool.specs.Transcript.{after_lines, carried_lines, max_script}
-use Rattle.view_tool.proofs.CutLaws.{carried_front, carried_long, carried_short}
+use Rattle.view_tool.proofs.LongScriptLaws.{carried_front, carried_long, carried_short}
 use Rattle.view_tool.proofs.RunLaws.{stops_further}
 
 pub Consumes-nil : (left : Option (List ℕ)) → Consumes left left []
@@ -79,11 +79,11 @@ pub record HasTaken (before after first now : Option (List ℕ)) (run : Run) (le
   pub bytes : List ℕ
   pub consumed : Consumes before after bytes
   pub count : length bytes + left ≡ max_script
-  pub behind : IsBehind first now run bytes
+  pub behind : HasReadUpTo first now run bytes
 
 -- and once one piece more was read and carried out
 pub taken_on : (before mid new first last now : Option (List ℕ)) (old run : Run) (left n : ℕ) (t : HasTaken before mid first last old left) → n ≤ left
-    → Pulls first t.bytes left mid new now run (Ok n) → HasTaken before new first now run (left - n)
+    → ReadsPiece first t.bytes left mid new now run (Ok n) → HasTaken before new first now run (left - n)
 taken_on before mid new first last now old run left n t within p = record {
   bytes = t.bytes ++ p.bytes;
   consumed = Consumes-Consumes before mid new t.bytes p.bytes t.consumed p.consumed;
@@ -93,7 +93,7 @@ taken_on before mid new first last now old run left n t within p = record {
 
 -- how a run ends that does not come to the end of its script
 pub ends_early : (first last old mid new : Option (List ℕ)) (run : Run) (script taken : List ℕ) (left : ℕ) (early : End) → old ≡ Some script → Consumes old mid taken
-    → length taken + left ≡ max_script → Pulls first taken left mid new last run (Err early) → RunsTo script new first last (Err early)
+    → length taken + left ≡ max_script → ReadsPiece first taken left mid new last run (Err early) → RunsTo script new first last (Err early)
 ends_early first last old mid new run script taken left end.Source told lost count p =
     let all = Consumes-Consumes (Some script) mid new taken p.bytes (subst (λ l. Consumes l mid taken) told lost) p.consumed in
     let none : taken ++ p.bytes ≡ taken = ap (λ l. taken ++ l) p.comes.0 ∙ append-nil taken in
@@ -114,9 +114,9 @@ ends_last first last old new script taken stop told lost end short stops =
     subst (λ (l : List Line). StopsIn first last l stop) (ap lines_of all ∙ sym (carried_short script fits)) stops
 
 -- the run came to the end of its script
-pub ends_well : (first last old new : Option (List ℕ)) (script taken : List ℕ) (course : Course) → old ≡ Some script → Consumes old new taken → IsAtEnd new → length taken ≤ max_script
-    → IsAt first last course (after_lines (lines_of taken)) → RunsTo script new first last (Ok course.refused)
-ends_well first last old new script taken course told lost end short at =
+pub ends_well : (first last old new : Option (List ℕ)) (script taken : List ℕ) (runner : LineRunner) → old ≡ Some script → Consumes old new taken → IsAtEnd new → length taken ≤ max_script
+    → HasCarriedOut first last runner (after_lines (lines_of taken)) → RunsTo script new first last (Ok runner.refused)
+ends_well first last old new script taken runner told lost end short at =
     let all = taken_whole new script taken (subst (λ l. Consumes l new taken) told lost) end in (
       subst (λ (l : List ℕ). length l ≤ max_script) all short,
       subst (λ (l : List ℕ). Appends first last (after_lines (lines_of l)).text) all at.gone,

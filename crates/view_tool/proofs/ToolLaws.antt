@@ -10,25 +10,25 @@ use Rattle.view_tool.specs.declared.script.End.{End}
 use Rattle.view_tool.specs.declared.script.End.TheVariants as end
 use Rattle.view_tool.specs.Run.{StopsBefore}
 use Rattle.view_tool.specs.Script.{RunsTo, WritesTaken, ends_counted, reads_counted}
-use Rattle.view_tool.specs.Tool.{Ended, RunsWith, status_of}
+use Rattle.view_tool.specs.Tool.{IsComplete, RunsWith, status_of}
 use Rattle.tool_io.specs.Counts.{raised}
 use Rattle.tool_io.specs.Fetched.{CountsFetch}
 use Rattle.tool_io.specs.declared.shelf.ShelfFault.{ShelfFault}
 use Rattle.tool_io.specs.declared.shelf.ShelfFault.TheVariants as fault
 use Rattle.tool_io.proofs.Counting.{raised_later}
 use Rattle.view_tool.specs.Transcript.{after_lines, carried_lines, max_script}
-use Rattle.view_tool.proofs.CutLaws.{carried_front, carried_short}
+use Rattle.view_tool.proofs.LongScriptLaws.{carried_front, carried_short}
 use Rattle.view_tool.proofs.RunLaws.{prefix_lines}
 
 whole_prefix : (old new : Option (List ℕ)) (text : List ℕ) → Appends old new text → AppendsPrefix old new text
 whole_prefix old new text gone = record { written = text; rest = []; whole = append-nil text; gone = gone }
 
-not_ended : (status : ℕ) → 2 ≤ status → Ended status → ⊥
+not_ended : (status : ℕ) → 2 ≤ status → IsComplete status → ⊥
 not_ended status big (inl e) = omega arith
 not_ended status big (inr e) = omega arith
 
 -- a run that came to the end of its script
-ended_with : (script : List ℕ) (left first last : Option (List ℕ)) (status : ℕ) → status ≤ 1 → Ended status → length script ≤ max_script
+ended_with : (script : List ℕ) (left first last : Option (List ℕ)) (status : ℕ) → status ≤ 1 → IsComplete status → length script ≤ max_script
     → Appends first last (after_lines (lines_of script)).text → status ≡ (if (after_lines (lines_of script)).refused then 1 else 0) → RunsWith script left first last status
 ended_with script left first last status small ended short gone told =
     let text = subst (λ (l : List Line). Appends first last (after_lines l).text) (sym (carried_short script short)) gone in

@@ -10,7 +10,7 @@ use Rattle.tool_io.specs.Fetched.{file_of}
 use Rattle.tool_io.specs.SinkState.{SinkState}
 use Rattle.view_tool.specs.Files.{Files}
 use Rattle.view_tool.specs.Refusals.{refused_text}
-use Rattle.view_tool.specs.Tool.{Ended, Writes}
+use Rattle.view_tool.specs.Tool.{IsComplete, Writes}
 
 -- the most bytes that a layout file may have
 abbrev pub max_file : ℕ
@@ -52,7 +52,7 @@ refuses_file files name = is_refused_file (file_of files name)
 -- how a print of this text ended with a status
 pub record Dumps (page : List ℕ) (refused : Bool) (before after : SinkState) (status : ℕ) : Type 0 where
   pub writes : Writes status before.gone after.gone page
-  pub ended : Ended status → status ≡ (if refused then 1 else 0)
+  pub ended : IsComplete status → status ≡ (if refused then 1 else 0)
 
 -- the status of a text that was delivered so, or of one that was not
 abbrev pub status_of_text : {E : Type 0} → ℕ → Result (Unit {0}) E → ℕ

@@ -6,7 +6,7 @@ use Rattle.script_lines.specs.LineBuffer.{IsAfter}
 use Rattle.script_lines.specs.Lines.{Line, Text, LongLine, cut_of}
 use Rattle.text_lines.specs.Prefix.{AppendsPrefix}
 use Rattle.tool_io.specs.Counts.{raised}
-use Rattle.view_tool.specs.declared.run.Course.{Course}
+use Rattle.view_tool.specs.declared.run.LineRunner.{LineRunner}
 use Rattle.view_tool.specs.declared.run.Run.{Run}
 use Rattle.view_tool.specs.declared.run.Stop.{Stop}
 use Rattle.view_tool.specs.declared.run.Stop.TheVariants as stop
@@ -24,16 +24,16 @@ lines_now None = []
 lines_now (Some line) = line_now line ∷ []
 
 -- a course has come so far, and since the sink was in the first state its text has gone
-pub record IsAt (first now : Option (List ℕ)) (course : Course) (progress : Progress) : Type 0 where
-  pub lines : course.lines ≡ progress.lines
-  pub world : world_of course.world ≡ progress.world
-  pub refused : course.refused ≡ progress.refused
+pub record HasCarriedOut (first now : Option (List ℕ)) (runner : LineRunner) (progress : Progress) : Type 0 where
+  pub lines : runner.lines ≡ progress.lines
+  pub world : world_of runner.world ≡ progress.world
+  pub refused : runner.refused ≡ progress.refused
   pub gone : Appends first now progress.text
 
 -- a run has carried out the lines whose line feed is among these bytes, and holds what came behind them
-pub record IsBehind (first now : Option (List ℕ)) (run : Run) (bytes : List ℕ) : Type 0 where
+pub record HasReadUpTo (first now : Option (List ℕ)) (run : Run) (bytes : List ℕ) : Type 0 where
   pub held : IsAfter run.lines bytes
-  pub course : IsAt first now run.course (after_lines (cut_of bytes).lines)
+  pub runner : HasCarriedOut first now run.runner (after_lines (cut_of bytes).lines)
 
 -- the texts of the lines before one of these, which may want memory, have gone
 pub record StopsBefore (first now : Option (List ℕ)) (lines : List Line) : Type 0 where

@@ -6,7 +6,7 @@ use Rattle.tool_io.specs.Counts.{raised}
 use Rattle.view_tool.specs.declared.run.Run.{Run}
 use Rattle.view_tool.specs.declared.script.End.{End}
 use Rattle.view_tool.specs.declared.script.End.TheVariants as ends
-use Rattle.view_tool.specs.Run.{IsBehind, StopsIn, stop_counted}
+use Rattle.view_tool.specs.Run.{HasReadUpTo, StopsIn, stop_counted}
 use Rattle.view_tool.specs.Transcript.{after_lines, carried_lines, max_script}
 
 -- the bytes that were taken of a script are at its front, and the rest is left
@@ -25,13 +25,13 @@ pub record WritesTaken (script : List ℕ) (left old new : Option (List ℕ)) : 
 -- After some bytes of a script, of which `left` more may come, these were read: they were carried out, or no read gave
 -- them, or they are one too many, or the run stopped in them.
 abbrev pub Comes : Option (List ℕ) → List ℕ → ℕ → List ℕ → Option (List ℕ) → Run → Result ℕ End → Type 0
-Comes first before left bytes now run (Ok n) = IsBehind first now run (before ++ bytes)
+Comes first before left bytes now run (Ok n) = HasReadUpTo first now run (before ++ bytes)
 Comes first before left bytes now run (Err ends.Source) = (bytes ≡ []) × Appends first now (after_lines (cut_of before).lines).text
 Comes first before left bytes now run (Err ends.Long) = (length bytes ≡ left + 1) × Appends first now (after_lines (cut_of (before ++ take left bytes)).lines).text
 Comes first before left bytes now run (Err (ends.Stopped stop)) = StopsIn first now (cut_of (before ++ take left bytes)).lines stop
 
 -- what a read and the bytes that it gave came to
-pub record Pulls (first : Option (List ℕ)) (before : List ℕ) (left : ℕ) (old new now : Option (List ℕ)) (run : Run) (result : Result ℕ End) : Type 0 where
+pub record ReadsPiece (first : Option (List ℕ)) (before : List ℕ) (left : ℕ) (old new now : Option (List ℕ)) (run : Run) (result : Result ℕ End) : Type 0 where
   pub bytes : List ℕ
   pub consumed : Consumes old new bytes
   pub within : length bytes ≤ left + 1

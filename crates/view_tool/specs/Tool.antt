@@ -26,8 +26,8 @@ pub record IsDumpOf (usage : Usage) (held : Option Files) (name : List ℕ) (fil
   pub shelf : held ≡ Some files
 
 -- a call that ended by itself: all was done, and nothing or something was refused
-abbrev pub Ended : ℕ → Type 0
-Ended status = (status ≡ 0) ⊎ (status ≡ 1)
+abbrev pub IsComplete : ℕ → Type 0
+IsComplete status = (status ≡ 0) ⊎ (status ≡ 1)
 
 -- the status of a run
 abbrev pub status_of : Result Bool End → ℕ
@@ -43,13 +43,13 @@ IsOneOf status statuses = list_any (λ s. s == status) statuses ≡ true
 
 -- what was written when a run ended with a status: the whole text where it ended by itself, and always a front part of it
 pub record Writes (status : ℕ) (old new : Option (List ℕ)) (text : List ℕ) : Type 0 where
-  pub whole : Ended status → Appends old new text
+  pub whole : IsComplete status → Appends old new text
   pub part : AppendsPrefix old new text
 
 -- how a run of a script ended with a status
 pub record RunsWith (script : List ℕ) (left first last : Option (List ℕ)) (status : ℕ) : Type 0 where
   pub writes : Writes status first last (after_lines (carried_lines script)).text
-  pub ended : Ended status → (length script ≤ max_script) × (status ≡ (if (after_lines (lines_of script)).refused then 1 else 0))
+  pub ended : IsComplete status → (length script ≤ max_script) × (status ≡ (if (after_lines (lines_of script)).refused then 1 else 0))
   pub taken : status ≡ 3 → WritesTaken script left first last
   pub no_memory : status ≡ 5 → StopsBefore first last (carried_lines script)
   pub long : status ≡ 7 → (max_script < length script) × Appends first last (after_lines (carried_lines script)).text

@@ -3,7 +3,7 @@
 ghost use Rattle.std.specs.Prelude.{◌≡◌, ◌⊎◌, ℕ, ◌+◌, ◌-◌, ◌*◌, ◌<◌, ◌≤◌, ◌^◌, min, false, List, ◌∷◌, [], ◌++◌, Option, Err, OnOk, IfOk, IfErr, length, take};
 ghost use Rattle.script_lines.specs.LineBuffer.{IsLent, lines_at};
 ghost use Rattle.script_lines.specs.Lines.{Line, cut_of, lines_of};
-ghost use Rattle.view_tool.specs.Run.{IsAt, IsBehind, StopsIn, line_now, lines_now, writes_counted};
+ghost use Rattle.view_tool.specs.Run.{HasCarriedOut, HasReadUpTo, StopsIn, line_now, lines_now, writes_counted};
 ghost use Rattle.view_tool.specs.Transcript.{MayWant, Progress, after_line, after_lines, is_idle, reply_to_line};
 ghost use Rattle.view_world.specs.Carried.{WritesReply, IsDone};
 ghost use Rattle.view_world.specs.KeyedWorld.{world_of};
@@ -32,7 +32,7 @@ pub enum Stop {
 
 /// How far a run has come, line by line.
 #[derive(Drop)]
-pub struct Course {
+pub struct LineRunner {
     world: World,
     /// How many lines were taken, those that are passed over too.
     lines: u64,
@@ -42,7 +42,7 @@ pub struct Course {
     text: TextBuffer,
 }
 
-impl Course {
+impl LineRunner {
     /// Takes the next line, which is carried out unless it is passed over. None is a line that is too long.
     #[inline]
     fn line<K: Sink, F: Shelf>(
@@ -56,11 +56,11 @@ impl Course {
         requires { self.old.world.views.next < 2 ^ 62 }
         ensures done { (first : Option (List ℕ)) (progress : Progress)
             → progress.lines < 2 ^ 63
-            → IsAt first (K.state sink.old).gone self.old progress
-            → OnOk result (IsAt first (K.state sink.new).gone self.new (after_line progress (line_now line.entry))) }
+            → HasCarriedOut first (K.state sink.old).gone self.old progress
+            → OnOk result (HasCarriedOut first (K.state sink.new).gone self.new (after_line progress (line_now line.entry))) }
         ensures stopped { (first : Option (List ℕ)) (lines : List Line)
             → length lines < 2 ^ 63
-            → IsAt first (K.state sink.old).gone self.old (after_lines lines)
+            → HasCarriedOut first (K.state sink.old).gone self.old (after_lines lines)
             → IfErr result (StopsIn first (K.state sink.new).gone (lines ++ line_now line.entry ∷ [])) }
         ensures numbers { self.new.world.views.next ≤ self.old.world.views.next + 4096 }
         ensures shelf { shelf.new ≡ shelf.old }
@@ -89,11 +89,11 @@ impl Course {
         requires counts { is_idle (line_now line) ≡ false }
         ensures done { (first : Option (List ℕ)) (progress : Progress)
             → progress.lines < 2 ^ 63
-            → IsAt first (K.state sink.old).gone self.old progress
-            → OnOk result (IsAt first (K.state sink.new).gone self.new (after_line progress (line_now line.entry))) }
+            → HasCarriedOut first (K.state sink.old).gone self.old progress
+            → OnOk result (HasCarriedOut first (K.state sink.new).gone self.new (after_line progress (line_now line.entry))) }
         ensures stopped { (first : Option (List ℕ)) (lines : List Line)
             → length lines < 2 ^ 63
-            → IsAt first (K.state sink.old).gone self.old (after_lines lines)
+            → HasCarriedOut first (K.state sink.old).gone self.old (after_lines lines)
             → IfErr result (StopsIn first (K.state sink.new).gone (lines ++ line_now line.entry ∷ [])) }
         ensures numbers { self.new.world.views.next ≤ self.old.world.views.next + 4096 }
         ensures shelf { shelf.new ≡ shelf.old }
@@ -178,17 +178,17 @@ fn ended_line<'a>(place: LinePlace, piece: &'a [u8], held: &'a [u8]) -> Option<O
 #[derive(Drop)]
 pub struct Run {
     lines: Lines,
-    course: Course,
+    runner: LineRunner,
 }
 
 impl Run {
     pub fn new(alloc: Global) -> Run
-        ensures behind { (first : Option (List ℕ)) → IsBehind first first result [] }
-        ensures numbers { result.course.world.views.next ≡ 1 }
+        ensures behind { (first : Option (List ℕ)) → HasReadUpTo first first result [] }
+        ensures numbers { result.runner.world.views.next ≡ 1 }
     {
         Run {
             lines: Lines::new(),
-            course: Course {
+            runner: LineRunner {
                 world: World::new(alloc),
                 lines: 0,
                 refused: false,
@@ -199,9 +199,9 @@ impl Run {
 
     /// Whether a line was refused so far.
     pub fn refused(&self) -> bool
-        ensures { result ≡ self.now.course.refused }
+        ensures { result ≡ self.now.runner.refused }
     {
-        self.course.refused
+        self.runner.refused
     }
 
     /// Takes the bytes of a piece up to its first line feed, or all of them, and carries out the line that they end.
@@ -213,18 +213,18 @@ impl Run {
         sink: &mut K,
         work: &mut Work,
     ) -> Result<usize, Stop>
-        requires { self.old.course.world.views.next < 2 ^ 62 }
+        requires { self.old.runner.world.views.next < 2 ^ 62 }
         ensures within { IfOk result (λ n. n ≤ length piece.now) }
         ensures some { 0 < length piece.now → IfOk result (λ n. 0 < n) }
         ensures done { (first : Option (List ℕ)) (before : List ℕ)
             → length before < 2 ^ 63
-            → IsBehind first (K.state sink.old).gone self.old before
-            → IfOk result (λ n. IsBehind first (K.state sink.new).gone self.new (before ++ take n piece.now)) }
+            → HasReadUpTo first (K.state sink.old).gone self.old before
+            → IfOk result (λ n. HasReadUpTo first (K.state sink.new).gone self.new (before ++ take n piece.now)) }
         ensures stopped { (first : Option (List ℕ)) (before : List ℕ)
             → length before < 2 ^ 63
-            → IsBehind first (K.state sink.old).gone self.old before
+            → HasReadUpTo first (K.state sink.old).gone self.old before
             → IfErr result (StopsIn first (K.state sink.new).gone (cut_of (before ++ piece.now)).lines) }
-        ensures numbers { self.new.course.world.views.next ≤ self.old.course.world.views.next + 4096 }
+        ensures numbers { self.new.runner.world.views.next ≤ self.old.runner.world.views.next + 4096 }
         ensures shelf { shelf.new ≡ shelf.old }
         ensures painted { work.new.painted ≡ work.old.painted }
         ensures measured { min work.old.measured (2 ^ 64 - 1) ≤ work.new.measured }
@@ -234,7 +234,7 @@ impl Run {
         let Some(line) = ended_line(place, piece, self.lines.bytes()) else {
             return Ok(used);
         };
-        self.course.line(alloc, line, shelf, sink, work)?;
+        self.runner.line(alloc, line, shelf, sink, work)?;
         Ok(used)
     }
 
@@ -247,16 +247,16 @@ impl Run {
         sink: &mut K,
         work: &mut Work,
     ) -> Result<(), Stop>
-        requires { self.old.course.world.views.next + 4096 * length piece.now < 2 ^ 62 }
+        requires { self.old.runner.world.views.next + 4096 * length piece.now < 2 ^ 62 }
         ensures done { (first : Option (List ℕ)) (before : List ℕ)
             → length (before ++ piece.now) < 2 ^ 63
-            → IsBehind first (K.state sink.old).gone self.old before
-            → OnOk result (IsBehind first (K.state sink.new).gone self.new (before ++ piece.now)) }
+            → HasReadUpTo first (K.state sink.old).gone self.old before
+            → OnOk result (HasReadUpTo first (K.state sink.new).gone self.new (before ++ piece.now)) }
         ensures stopped { (first : Option (List ℕ)) (before : List ℕ)
             → length (before ++ piece.now) < 2 ^ 63
-            → IsBehind first (K.state sink.old).gone self.old before
+            → HasReadUpTo first (K.state sink.old).gone self.old before
             → IfErr result (StopsIn first (K.state sink.new).gone (cut_of (before ++ piece.now)).lines) }
-        ensures numbers { self.new.course.world.views.next ≤ self.old.course.world.views.next + 4096 * length piece.now }
+        ensures numbers { self.new.runner.world.views.next ≤ self.old.runner.world.views.next + 4096 * length piece.now }
         ensures shelf { shelf.new ≡ shelf.old }
         ensures painted { work.new.painted ≡ work.old.painted }
         ensures measured { min work.old.measured (2 ^ 64 - 1) ≤ work.new.measured }
@@ -277,14 +277,14 @@ impl Run {
         sink: &mut K,
         work: &mut Work,
     ) -> Result<(), Stop>
-        requires { self.old.course.world.views.next < 2 ^ 62 }
+        requires { self.old.runner.world.views.next < 2 ^ 62 }
         ensures done { (first : Option (List ℕ)) (script : List ℕ)
             → length script < 2 ^ 63
-            → IsBehind first (K.state sink.old).gone self.old script
-            → OnOk result (IsAt first (K.state sink.new).gone self.new.course (after_lines (lines_of script))) }
+            → HasReadUpTo first (K.state sink.old).gone self.old script
+            → OnOk result (HasCarriedOut first (K.state sink.new).gone self.new.runner (after_lines (lines_of script))) }
         ensures stopped { (first : Option (List ℕ)) (script : List ℕ)
             → length script < 2 ^ 63
-            → IsBehind first (K.state sink.old).gone self.old script
+            → HasReadUpTo first (K.state sink.old).gone self.old script
             → IfErr result (StopsIn first (K.state sink.new).gone (lines_of script)) }
         ensures shelf { shelf.new ≡ shelf.old }
         ensures painted { work.new.painted ≡ work.old.painted }
@@ -295,9 +295,9 @@ impl Run {
             Ended::No => Ok(()),
             Ended::Line => {
                 let line = Some(self.lines.bytes());
-                self.course.line(alloc, line, shelf, sink, work)
+                self.runner.line(alloc, line, shelf, sink, work)
             }
-            Ended::Long => self.course.line(alloc, None, shelf, sink, work),
+            Ended::Long => self.runner.line(alloc, None, shelf, sink, work),
         }
     }
 }

@@ -2,8 +2,8 @@
 
 ghost use Rattle.std.specs.Prelude.{◌≡◌, ℕ, ◌+◌, ◌-◌, ◌*◌, ◌<◌, ◌≤◌, ◌^◌, List, [], Option, Ok, IfOk, length, min};
 ghost use Rattle.std.specs.Io.KnownBytes.{IsAtEnd};
-ghost use Rattle.view_tool.specs.Run.{IsBehind};
-ghost use Rattle.view_tool.specs.Script.{Comes, Pulls, RunsFrom, ends_counted, reads_counted};
+ghost use Rattle.view_tool.specs.Run.{HasReadUpTo};
+ghost use Rattle.view_tool.specs.Script.{Comes, ReadsPiece, RunsFrom, ends_counted, reads_counted};
 
 use crate::run::{Run, Stop};
 use std::alloc::Global;
@@ -48,13 +48,13 @@ fn carry_piece<K: Sink, F: Shelf>(
 ) -> Result<usize, End>
     requires most { length piece.now ≤ left + 1 }
     requires left { left ≤ 16777216 }
-    requires numbers { run.old.course.world.views.next + 4096 * left < 2 ^ 62 }
+    requires numbers { run.old.runner.world.views.next + 4096 * left < 2 ^ 62 }
     ensures comes { (first : Option (List ℕ)) (before : List ℕ)
         → length before + left ≡ 16777216
-        → IsBehind first (K.state sink.old).gone run.old before
+        → HasReadUpTo first (K.state sink.old).gone run.old before
         → Comes first before left piece.now (K.state sink.new).gone run.new result }
     ensures count { IfOk result (λ n. (n ≡ length piece.now) × (n ≤ left)) }
-    ensures numbers { IfOk result (λ n. run.new.course.world.views.next ≤ run.old.course.world.views.next + 4096 * n) }
+    ensures numbers { IfOk result (λ n. run.new.runner.world.views.next ≤ run.old.runner.world.views.next + 4096 * n) }
     ensures shelf { shelf.new ≡ shelf.old }
     ensures painted { work.new.painted ≡ work.old.painted }
     ensures measured { min work.old.measured (2 ^ 64 - 1) ≤ work.new.measured }
@@ -71,7 +71,7 @@ fn carry_piece<K: Sink, F: Shelf>(
 
 /// Reads the next piece of a source, of which `left` more bytes may come, and carries out each line that ends in it.
 /// Answers how many bytes came, and none only at the end.
-fn pull<S: Source, K: Sink, F: Shelf>(
+fn read_piece<S: Source, K: Sink, F: Shelf>(
     run: &mut Run,
     alloc: Global,
     buffer: &mut [u8],
@@ -84,14 +84,14 @@ fn pull<S: Source, K: Sink, F: Shelf>(
     requires some { 0 < length buffer.old }
     requires most { length buffer.old ≤ left + 1 }
     requires left { left ≤ 16777216 }
-    requires numbers { run.old.course.world.views.next + 4096 * left < 2 ^ 62 }
-    ensures pulls { (first : Option (List ℕ)) (before : List ℕ)
+    requires numbers { run.old.runner.world.views.next + 4096 * left < 2 ^ 62 }
+    ensures reads { (first : Option (List ℕ)) (before : List ℕ)
         → length before + left ≡ 16777216
-        → IsBehind first (K.state sink.old).gone run.old before
-        → Pulls first before left (S.left source.old) (S.left source.new) (K.state sink.new).gone run.new result }
+        → HasReadUpTo first (K.state sink.old).gone run.old before
+        → ReadsPiece first before left (S.left source.old) (S.left source.new) (K.state sink.new).gone run.new result }
     ensures end { result ≡ Ok 0 → IsAtEnd (S.left source.new) }
     ensures most { IfOk result (λ n. n ≤ left) }
-    ensures numbers { IfOk result (λ n. run.new.course.world.views.next ≤ run.old.course.world.views.next + 4096 * n) }
+    ensures numbers { IfOk result (λ n. run.new.runner.world.views.next ≤ run.old.runner.world.views.next + 4096 * n) }
     ensures shelf { shelf.new ≡ shelf.old }
     ensures painted { work.new.painted ≡ work.old.painted }
     ensures measured { min work.old.measured (2 ^ 64 - 1) ≤ work.new.measured }
@@ -105,7 +105,7 @@ fn pull<S: Source, K: Sink, F: Shelf>(
 }
 
 /// Carries out the script on a source by a run that has not begun.
-fn carry_through<S: Source, K: Sink, F: Shelf>(
+fn run_to_end<S: Source, K: Sink, F: Shelf>(
     run: &mut Run,
     alloc: Global,
     source: &mut S,
@@ -113,8 +113,8 @@ fn carry_through<S: Source, K: Sink, F: Shelf>(
     sink: &mut K,
     work: &mut Work,
 ) -> Result<bool, End>
-    requires behind { (first : Option (List ℕ)) → IsBehind first first run.old [] }
-    requires numbers { run.old.course.world.views.next ≡ 1 }
+    requires behind { (first : Option (List ℕ)) → HasReadUpTo first first run.old [] }
+    requires numbers { run.old.runner.world.views.next ≡ 1 }
     ensures runs { RunsFrom (S.left source.old) (S.left source.new) (K.state sink.old).gone (K.state sink.new).gone result }
     ensures shelf { shelf.new ≡ shelf.old }
     ensures painted { work.new.painted ≡ work.old.painted }
@@ -126,7 +126,7 @@ fn carry_through<S: Source, K: Sink, F: Shelf>(
     let mut left = MAX_SCRIPT;
     loop {
         let room = (left + 1).min(PIECE);
-        let n = pull(
+        let n = read_piece(
             run,
             alloc,
             &mut buffer[..room],
@@ -162,5 +162,5 @@ pub fn run_source<S: Source, K: Sink, F: Shelf>(
     ensures sink_failed { (K.state sink.new).faults ≡ ends_counted result (K.state sink.old).faults }
 {
     let mut run = Run::new(alloc);
-    carry_through(&mut run, alloc, source, shelf, sink, work)
+    run_to_end(&mut run, alloc, source, shelf, sink, work)
 }

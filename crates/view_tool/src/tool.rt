@@ -7,7 +7,7 @@ ghost use Rattle.view_tool.specs.Dump.{dump_page, refuses_file};
 ghost use Rattle.view_tool.specs.Files.{Files};
 ghost use Rattle.view_tool.specs.Run.{StopsBefore};
 ghost use Rattle.view_tool.specs.Script.{WritesTaken};
-ghost use Rattle.view_tool.specs.Tool.{Ended, IsDumpOf, IsOneOf, IsRunOf, RunsWith, Writes, status_of};
+ghost use Rattle.view_tool.specs.Tool.{IsComplete, IsDumpOf, IsOneOf, IsRunOf, RunsWith, Writes, status_of};
 ghost use Rattle.view_tool.specs.Transcript.{carried_lines, cut_transcript, has_refusal, max_script, transcript};
 ghost use Rattle.view_tool.specs.Usage.{Run, Dump, Unknown, usage};
 
@@ -45,9 +45,9 @@ pub fn tool<S: Source, K: Sink, F: Shelf>(
     ensures refused { (script : List ℕ) (files : Files)
         → IsRunOf (usage words.now) (S.left source.old) (F.files shelf.old) script files
         → length script ≤ max_script
-        → Ended result
+        → IsComplete result
         → result ≡ (if has_refusal script files then 1 else 0) }
-    ensures read_to_end { usage words.now ≡ Run → Ended result → IsAtEnd (S.left source.new) }
+    ensures read_to_end { usage words.now ≡ Run → IsComplete result → IsAtEnd (S.left source.new) }
 
     // The print of a file: the text of its document, or why it is refused.
     ensures dump { (name : List ℕ) (files : Files)
@@ -55,7 +55,7 @@ pub fn tool<S: Source, K: Sink, F: Shelf>(
         → Writes result (K.state sink.old).gone (K.state sink.new).gone (dump_page files name) }
     ensures dump_refused { (name : List ℕ) (files : Files)
         → IsDumpOf (usage words.now) (F.files shelf.old) name files
-        → Ended result
+        → IsComplete result
         → result ≡ (if refuses_file files name then 1 else 0) }
     ensures dump_reads_no_script { (name : List ℕ) → usage words.now ≡ Dump name → source.new ≡ source.old }
 
@@ -95,7 +95,7 @@ pub fn tool<S: Source, K: Sink, F: Shelf>(
     ensures long { (script : List ℕ) (files : Files)
         → IsRunOf (usage words.now) (S.left source.old) (F.files shelf.old) script files
         → max_script < length script
-        → (Ended result → ⊥)
+        → (IsComplete result → ⊥)
         × Writes result (K.state sink.old).gone (K.state sink.new).gone (cut_transcript script files)
         × (result ≡ 7 → Appends (K.state sink.old).gone (K.state sink.new).gone (cut_transcript script files)) }
     ensures long_only { (script : List ℕ) (files : Files)
@@ -113,12 +113,12 @@ pub fn tool<S: Source, K: Sink, F: Shelf>(
         → length script ≤ max_script
         → (Rose (S.faults source.old) (S.faults source.new) → ⊥)
         → (Rose (K.state sink.old).faults (K.state sink.new).faults → ⊥)
-        → Ended result ⊎ (result ≡ 5) }
+        → IsComplete result ⊎ (result ≡ 5) }
     ensures dump_complete { (name : List ℕ)
         → usage words.now ≡ Dump name
         → (Rose (K.state sink.old).faults (K.state sink.new).faults → ⊥)
         → (Rose (F.faults shelf.old) (F.faults shelf.new) → ⊥)
-        → Ended result ⊎ (result ≡ 5) }
+        → IsComplete result ⊎ (result ≡ 5) }
 
     // What is taken of the source, and what stays.
     ensures taken { (taken : List ℕ)
@@ -128,7 +128,7 @@ pub fn tool<S: Source, K: Sink, F: Shelf>(
     ensures run_asks_no_shelf { usage words.now ≡ Run → shelf.new ≡ shelf.old }
     ensures nothing_painted { work.new.painted ≡ work.old.painted }
     ensures measured_later { min work.old.measured (2 ^ 64 - 1) ≤ work.new.measured }
-    ensures dump_works_not { (name : List ℕ) → usage words.now ≡ Dump name → work.new ≡ work.old }
+    ensures dump_measures_nothing { (name : List ℕ) → usage words.now ≡ Dump name → work.new ≡ work.old }
 {
     match form_of(words) {
         Some(Form::Run) => run(alloc, shelf, source, sink, work),
@@ -149,7 +149,7 @@ fn run<S: Source, K: Sink, F: Shelf>(
         → S.left source.old ≡ Some script
         → RunsWith script (S.left source.new) (K.state sink.old).gone (K.state sink.new).gone result }
     ensures known { IsOneOf result (0 ∷ 1 ∷ 3 ∷ 4 ∷ 5 ∷ 7 ∷ []) }
-    ensures read_to_end { Ended result → IsAtEnd (S.left source.new) }
+    ensures read_to_end { IsComplete result → IsAtEnd (S.left source.new) }
     ensures taken { (taken : List ℕ)
         × Consumes (S.left source.old) (S.left source.new) taken
         × (length taken ≤ max_script + 1) }

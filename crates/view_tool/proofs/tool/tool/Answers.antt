@@ -3,7 +3,7 @@ use Rattle.std.specs.Io.KnownBytes.{Appends}
 use Rattle.script_lines.specs.Lines.{Line}
 use Rattle.view_tool.specs.Tool.{Writes}
 use Rattle.view_tool.specs.Transcript.{after_lines}
-use Rattle.view_tool.proofs.CutLaws.{carried_long, carried_short}
+use Rattle.view_tool.proofs.LongScriptLaws.{carried_long, carried_short}
 use Rattle.view_tool.proofs.tool.tool.Goals as goal
 
 pub returns-in-Some-Run-clause-headline : goal.returns-in-Some-Run-clause-headline

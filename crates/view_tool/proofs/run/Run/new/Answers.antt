@@ -8,5 +8,5 @@ pub returns-clause-behind : goal.returns-clause-behind
 unfolding after_lines
 returns-clause-behind c first = record {
   held = c.new.ensures.stands;
-  course = record { lines = refl; world = ap world_of c.new-2.ensures; refused = refl; gone = appends_none first };
+  runner = record { lines = refl; world = ap world_of c.new-2.ensures; refused = refl; gone = appends_none first };
 }

@@ -1,6 +1,6 @@
 use Rattle.std.proofs.Common.{◌<◌, ◌-◌, ◌++◌, ◌∙◌, ℕ, List, length, take, drop, subst, arith, length-take, length-drop}
-use Rattle.view_tool.specs.Run.{IsBehind}
-use Rattle.view_tool.proofs.CutLaws.{taken_more, taken_short}
+use Rattle.view_tool.specs.Run.{HasReadUpTo}
+use Rattle.view_tool.proofs.LongScriptLaws.{taken_more, taken_short}
 use Rattle.view_tool.proofs.run.Run.piece.Goals as goal
 
 pub loop-at-preserved : goal.loop-at-preserved
@@ -11,7 +11,7 @@ loop-at-preserved g c =
     let some = c.in_ok-at.ensures.some left in
     record {
       within = omega (arith, c.in_ok-at.ensures.within, length-take {A = ℕ}, length-drop {A = ℕ}, c.loop-at.invariant.within);
-      behind = λ first before short s. subst (λ (bytes : List ℕ). IsBehind first (g.K.Sink.state c.take.new.sink).gone c.take.new.self bytes)
+      behind = λ first before short s. subst (λ (bytes : List ℕ). HasReadUpTo first (g.K.Sink.state c.take.new.sink).gone c.take.new.self bytes)
           (taken_more before piece at c.in_ok-at.field-0 c.loop-at.invariant.within)
           (c.in_ok-at.ensures.done first (before ++ take at piece) (taken_short before piece at _ short) (c.loop-at.invariant.behind first before short s));
       numbers = omega (arith, c.loop-at.invariant.numbers, c.take.ensures.numbers, some);

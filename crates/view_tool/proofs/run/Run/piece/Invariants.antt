@@ -1,14 +1,14 @@
 use Rattle.std.proofs.Common.{◌≡◌, min, ◌≤◌, ◌<◌, ◌+◌, ◌-◌, ◌*◌, ◌++◌, ◌^◌, List, Option, ℕ, length, take}
-use Rattle.view_tool.specs.Run.{IsBehind}
+use Rattle.view_tool.specs.Run.{HasReadUpTo}
 use Rattle.view_tool.proofs.run.Run.piece.Given as goal
 
 -- from where the run stood, it stands behind the part of the piece that was taken
 abbrev pub invariant-loop-at : goal.invariant-loop-at
 invariant-loop-at g l = record {
   within : l.at ≤ length l.piece;
-  behind : (first : Option (List ℕ)) (before : List ℕ) → length (before ++ l.piece) < 2 ^ 63 → IsBehind first (g.K.Sink.state l.fn.sink).gone l.fn.self before
-      → IsBehind first (g.K.Sink.state l.sink).gone l.self (before ++ take l.at l.piece);
-  numbers : l.self.course.world.views.next ≤ l.fn.self.course.world.views.next + 4096 * l.at;
+  behind : (first : Option (List ℕ)) (before : List ℕ) → length (before ++ l.piece) < 2 ^ 63 → HasReadUpTo first (g.K.Sink.state l.fn.sink).gone l.fn.self before
+      → HasReadUpTo first (g.K.Sink.state l.sink).gone l.self (before ++ take l.at l.piece);
+  numbers : l.self.runner.world.views.next ≤ l.fn.self.runner.world.views.next + 4096 * l.at;
   shelf : l.shelf ≡ l.fn.shelf;
   painted : l.work.painted ≡ l.fn.work.painted;
   measured : min l.fn.work.measured (2 ^ 64 - 1) ≤ l.work.measured;

@@ -1,7 +1,7 @@
 use Rattle.std.proofs.Common.{arith, sym, ◌∙◌}
 use Rattle.view_tool.proofs.RunLaws.{passed_line}
 use Rattle.view_tool.specs.Run.{line_now}
-use Rattle.view_tool.proofs.run.Course.line.Goals as goal
+use Rattle.view_tool.proofs.run.LineRunner.line.Goals as goal
 
 pub returns-then-is_passed-clause-done : goal.returns-then-is_passed-clause-done
 returns-then-is_passed-clause-done g c first progress short at =

@@ -4,7 +4,7 @@ use Rattle.std.proofs.lemmas.Result.{err_from_is_err_and}
 use Rattle.view_tool.specs.declared.script.End.TheVariants as end
 use Rattle.view_tool.specs.Script.{end_reads, end_writes}
 use Rattle.view_tool.proofs.ScriptLaws.{Consumes-nil, Consumes-Consumes, ends_early, ends_last, ends_well, taken_on}
-use Rattle.view_tool.proofs.script.carry_through.Goals as goal
+use Rattle.view_tool.proofs.script.run_to_end.Goals as goal
 
 pub loop-n-init : goal.loop-n-init
 loop-n-init g c = record {
@@ -24,10 +24,10 @@ loop-n-preserved g c =
     record {
       bound = omega (arith, c.loop-n.invariant.bound);
       numbers = omega (arith, c.loop-n.invariant.numbers, c.in_ok-n.ensures.numbers, c.in_ok-n.ensures.most);
-      taken = taken_on _ _ _ _ _ _ _ _ c.loop-n.left c.in_ok-n.n t c.in_ok-n.ensures.most (c.in_ok-n.ensures.pulls _ t.bytes t.count t.behind);
-      shelf = c.pull.ensures.shelf ∙ c.loop-n.invariant.shelf;
-      painted = c.pull.ensures.painted ∙ c.loop-n.invariant.painted;
-      measured = omega (arith, c.loop-n.invariant.measured, c.pull.ensures.measured);
+      taken = taken_on _ _ _ _ _ _ _ _ c.loop-n.left c.in_ok-n.n t c.in_ok-n.ensures.most (c.in_ok-n.ensures.reads _ t.bytes t.count t.behind);
+      shelf = c.read_piece.ensures.shelf ∙ c.loop-n.invariant.shelf;
+      painted = c.read_piece.ensures.painted ∙ c.loop-n.invariant.painted;
+      measured = omega (arith, c.loop-n.invariant.measured, c.read_piece.ensures.measured);
       reads = c.in_ok-n.ensures.source_failed ∙ c.loop-n.invariant.reads;
       writes = c.in_ok-n.ensures.sink_failed ∙ c.loop-n.invariant.writes;
     }
@@ -37,7 +37,7 @@ returns-in_err-n-clause-runs g c =
     let p = err_from_is_err_and c.from_residual.result c.from_residual.ensures.1 in
     let e : c.from_residual.result ≡ Err c.in_err-n.field-0.0 = cc (p.1, p.2) in
     let t = c.loop-n.invariant.taken in
-    let q = c.in_err-n.ensures.pulls _ t.bytes t.count t.behind in
+    let q = c.in_err-n.ensures.reads _ t.bytes t.count t.behind in
     rw e (record {
       runs = λ script told. ends_early _ _ _ _ _ _ script t.bytes c.loop-n.left c.in_err-n.field-0.0 told t.consumed t.count q;
       end = tt;
@@ -63,7 +63,7 @@ returns-in_err-finish-clause-runs g c =
     let p = err_from_is_err_and c.from_residual-in_err-finish.result c.from_residual-in_err-finish.ensures.1 in
     let e : c.from_residual-in_err-finish.result ≡ Err (end.Stopped c.in_err-finish.field-0.0) = cc (p.1, p.2) in
     let t = c.loop-n.invariant.taken in
-    let q = c.in_ok-n.ensures.pulls _ t.bytes t.count t.behind in
+    let q = c.in_ok-n.ensures.reads _ t.bytes t.count t.behind in
     let none : c.in_ok-n.n ≡ 0 = omega (arith, c.if-n-eq0.true) in
     let fits : length (t.bytes ++ q.bytes) ≤ 16777216 = omega (arith, length-append t.bytes q.bytes, t.count, q.count, none) in
     let lost = Consumes-Consumes _ _ _ t.bytes q.bytes t.consumed q.consumed in
@@ -92,14 +92,14 @@ returns-in_err-finish-clause-sink_failed g c =
 pub returns-clause-runs : goal.returns-clause-runs
 returns-clause-runs g c =
     let t = c.loop-n.invariant.taken in
-    let q = c.in_ok-n.ensures.pulls _ t.bytes t.count t.behind in
+    let q = c.in_ok-n.ensures.reads _ t.bytes t.count t.behind in
     let none : c.in_ok-n.n ≡ 0 = omega (arith, c.if-n-eq0.true) in
     let fits : length (t.bytes ++ q.bytes) ≤ 16777216 = omega (arith, length-append t.bytes q.bytes, t.count, q.count, none) in
     let lost = Consumes-Consumes _ _ _ t.bytes q.bytes t.consumed q.consumed in
     let ended = c.in_ok-n.ensures.end (ap Ok none) in
     let at = c.in_ok-finish.ensures.done _ (t.bytes ++ q.bytes) (omega (arith, fits)) q.comes in
     rw c.refused.ensures (record {
-      runs = λ script told. ends_well _ _ _ _ script (t.bytes ++ q.bytes) c.finish.new.self.course told lost ended fits at;
+      runs = λ script told. ends_well _ _ _ _ script (t.bytes ++ q.bytes) c.finish.new.self.runner told lost ended fits at;
       end = ended;
       taken = t.bytes ++ q.bytes;
       consumed = lost;

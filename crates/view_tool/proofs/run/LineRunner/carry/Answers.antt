@@ -4,7 +4,7 @@ use Rattle.view_model.specs.Refusals.{plain_refusal}
 use Rattle.view_tool.specs.Refusals.{refused_line}
 use Rattle.view_tool.specs.Run.{line_now}
 use Rattle.view_tool.proofs.RunLaws.{after_lines-lines, carried_refused, carried_sink, done_prefix, not_done, refused_prefix}
-use Rattle.view_tool.proofs.run.Course.carry.Goals as goal
+use Rattle.view_tool.proofs.run.LineRunner.carry.Goals as goal
 
 pub returns-in-Err-Refused-clause-stopped : goal.returns-in-Err-Refused-clause-stopped
 returns-in-Err-Refused-clause-stopped g c first lines short at =
