@@ -167,7 +167,3 @@ ended_by false opened closed v e = absurd (let q = rw v at e in cc)
 ended_is : (o : Option Stack) → is_ended o ≡ true → o ≡ Some (nothing_open true)
 ended_is None e = absurd cc
 ended_is (Some s) e = ended_by (eqb (length s.opened) 0) s.opened s.closed refl e
-
--- and of no other words
-pub test_rooted : (same : ℕ → ℕ → Bool) (word : List Token) → is_rooted same word ≡ true → IsRooted same word
-test_rooted same word e = passes_rooted same word (ended_is (brackets same (nothing_open false) word) e)

@@ -297,7 +297,3 @@ decoded_again bytes doc is =
     let pool : t.pool ≡ Some doc.pool = only_one t.pool doc.pool (sym (pools_with start is.parts c.turns) ∙ is.pool_is) in
     let same : made t doc.pool ≡ doc = same_document t doc (map_with start is.parts ∙ sym is.map_is) (nodes_with start is.parts ∙ sym is.nodes_are) (attrs_with start is.parts ∙ sym is.attrs_are) in
     rw (whole_again bytes is.whole is.whole_at is.is_xml, chunks, finished_again is.whole.size t doc.pool c.stack_is pool) (ap (λ (d : Document). done d) same)
-
--- a call that gives what is decoded gives no other document than the file's
-pub only_this : (bytes : List ℕ) (doc : Document) (view : Result Document Fault → Type 0) → view (decoded bytes) → IsDocument bytes doc → view (Ok doc)
-only_this bytes doc view given is = subst view (decoded_again bytes doc is) given

@@ -15,7 +15,7 @@ use Rattle.text_lines.specs.Joined.{◌⧺◌, texts_of}
 use Rattle.axml_reader.specs.declared.doc.Node.TheVariants.{NsStart, NsEnd, Start, End}
 use Rattle.axml_reader.specs.Decoding.{document_of, one_chunk, chunks_from, finished, decoded}
 use Rattle.axml_reader.specs.Document.{Document}
-use Rattle.axml_reader.specs.Dump.{string_mark, string_name, name_field, number_field, hex_field, value_fields, escaped, control_escape, encoding, pool_line, string_line, id_line, namespace_line, attr_line, start_line, end_line, node_lines, string_lines, dump_text}
+use Rattle.axml_reader.specs.Dump.{string_name, escaped, encoding, dump_text}
 use Rattle.axml_reader.specs.Fields.{reference_at, name_at, word_at, attr_at, same_text}
 use Rattle.axml_reader.specs.Nodes.{pair_at, names_at, start_at, pool_part, map_part, namespace_start_part, namespace_end_part, start_part, end_part, part_at}
 
@@ -82,5 +82,5 @@ layout_text : List ℕ
 layout_text = codes "pool utf8 6\ns0 \"layout_width\"\ns1 \"layout_height\"\ns2 \"android\"\ns3 \"http://schemas.android.com/apk/res/android\"\ns4 \"View\"\ns5 \"style\"\nmap 010100f4\nmap 010100f5\nns s2 s3\nstart 2 - s4 3\nattr s3 s0 - 10 ffffffff\nattr s3 s1 - 05 00001001\nattr - s5 - 01 7f030000\nend 2 - s4\nendns s2 s3\n"
 
 layout_dump : dump_text layout ≡ layout_text
-unfolding layout layout_text dump_text string_lines node_lines end_line start_line attr_line namespace_line id_line string_line pool_line encoding escaped control_escape value_fields hex_field number_field name_field string_name string_mark ◌⧺◌ texts_of hex_text eight_digits digits
+unfolding layout layout_text encoding escaped string_name ◌⧺◌ texts_of hex_text eight_digits digits
 layout_dump = refl

@@ -10,7 +10,7 @@ use Rattle.axml_reader.specs.declared.doc.Node.TheVariants.{NsStart, NsEnd, Star
 use Rattle.axml_reader.specs.Document.{Document}
 
 -- the name of string k
-unfoldable pub string_mark : ℕ → List ℕ
+abbrev pub string_mark : ℕ → List ℕ
 string_mark k = codes "s" ⧺ decimal k
 
 -- a string number, `-` where it means none
@@ -18,21 +18,21 @@ unfoldable pub string_name : ℕ → List ℕ
 string_name n = if n == 4294967295 then codes "-" else string_mark n
 
 -- fields of a line, each behind a space
-unfoldable pub name_field : ℕ → List ℕ
+abbrev pub name_field : ℕ → List ℕ
 name_field n = codes " " ⧺ string_name n
 
-unfoldable pub number_field : ℕ → List ℕ
+abbrev pub number_field : ℕ → List ℕ
 number_field n = codes " " ⧺ decimal n
 
-unfoldable pub hex_field : ℕ → ℕ → List ℕ
+abbrev pub hex_field : ℕ → ℕ → List ℕ
 hex_field n digits = codes " " ⧺ hex_text n digits
 
 -- the type and the word of a value, and the line's end
-unfoldable pub value_fields : ℕ → ℕ → List ℕ
+abbrev pub value_fields : ℕ → ℕ → List ℕ
 value_fields kind word = hex_field kind 2 ⧺ hex_field word 8 ⧺ codes "\n"
 
 -- a byte below a space
-unfoldable pub control_escape : ℕ → List ℕ
+abbrev pub control_escape : ℕ → List ℕ
 control_escape byte = codes "\\x" ⧺ hex_text byte 2
 
 -- a byte of a string: a backslash, a quote, a newline and all below a space are escaped
@@ -49,48 +49,48 @@ unfoldable pub encoding : Bool → List ℕ
 encoding utf8 = if utf8 then codes "utf8" else codes "utf16"
 
 -- the pool's line
-unfoldable pub pool_line : Bool → ℕ → List ℕ
+abbrev pub pool_line : Bool → ℕ → List ℕ
 pool_line utf8 count = codes "pool " ⧺ encoding utf8 ⧺ number_field count ⧺ codes "\n"
 
 -- a string's line
-unfoldable pub string_line : ℕ × List ℕ → List ℕ
+abbrev pub string_line : ℕ × List ℕ → List ℕ
 string_line (k, text) = string_mark k ⧺ codes " \"" ⧺ texts_of escaped text ⧺ codes "\"\n"
 
 -- an id's line
-unfoldable pub id_line : ℕ → List ℕ
+abbrev pub id_line : ℕ → List ℕ
 id_line id = codes "map" ⧺ hex_field id 8 ⧺ codes "\n"
 
 -- a namespace's line
-unfoldable pub namespace_line : List ℕ → ℕ → ℕ → List ℕ
+abbrev pub namespace_line : List ℕ → ℕ → ℕ → List ℕ
 namespace_line word prefix uri = word ⧺ name_field prefix ⧺ name_field uri ⧺ codes "\n"
 
 -- an attribute's line
-unfoldable pub attr_line : Attr → List ℕ
+abbrev pub attr_line : Attr → List ℕ
 attr_line attr = codes "attr" ⧺ name_field attr.ns ⧺ name_field attr.name ⧺ name_field attr.raw ⧺ value_fields attr.kind attr.word
 
 -- the line of an element that begins
-unfoldable pub start_line : ℕ → ℕ → ℕ → ℕ → List ℕ
+abbrev pub start_line : ℕ → ℕ → ℕ → ℕ → List ℕ
 start_line line ns name count = codes "start" ⧺ number_field line ⧺ name_field ns ⧺ name_field name ⧺ number_field count ⧺ codes "\n"
 
 -- the line of an element that ends
-unfoldable pub end_line : ℕ → ℕ → ℕ → List ℕ
+abbrev pub end_line : ℕ → ℕ → ℕ → List ℕ
 end_line line ns name = codes "end" ⧺ number_field line ⧺ name_field ns ⧺ name_field name ⧺ codes "\n"
 
 -- the line of character data
-unfoldable pub chars_line : ℕ → ℕ → ℕ → ℕ → List ℕ
+abbrev pub chars_line : ℕ → ℕ → ℕ → ℕ → List ℕ
 chars_line line text kind word = codes "text" ⧺ number_field line ⧺ name_field text ⧺ value_fields kind word
 
 -- a node's line, with those of its attributes among all
-unfoldable pub node_lines : List Attr → Node → List ℕ
+abbrev pub node_lines : List Attr → Node → List ℕ
 node_lines attrs (NsStart prefix uri) = namespace_line (codes "ns") prefix uri
 node_lines attrs (NsEnd prefix uri) = namespace_line (codes "endns") prefix uri
 node_lines attrs (Start line ns name first n) = start_line line ns name n ⧺ texts_of attr_line (slice_range attrs first (first + n))
 node_lines attrs (End line ns name) = end_line line ns name
 node_lines attrs (Chars line text kind word) = chars_line line text kind word
 
-unfoldable pub string_lines : StringPool → List ℕ
+abbrev pub string_lines : StringPool → List ℕ
 string_lines pool = pool_line pool.utf8 (length pool.texts) ⧺ texts_of string_line (enumerate_from 0 pool.texts)
 
 -- the whole text
-unfoldable pub dump_text : Document → List ℕ
+abbrev pub dump_text : Document → List ℕ
 dump_text doc = string_lines doc.pool ⧺ texts_of id_line doc.map ⧺ texts_of (node_lines doc.attrs) doc.nodes

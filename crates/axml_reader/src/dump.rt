@@ -1,4 +1,5 @@
 //! The text of a document.
+#![tactic(auto, using(text_lines::proofs::Sending::sends_both))]
 
 ghost use Rattle.std.specs.Prelude.{◌≡◌, ◌+◌, ◌<◌, ◌≤◌, decimal, length, slice_index_or, [], true};
 ghost use Rattle.std.specs.List.{enumerate_from};
@@ -277,7 +278,6 @@ fn put_chars_line<K: Sink>(
 }
 
 /// Sends a node's line, with those of its attributes.
-#[tactic(auto, unfolding(crate::specs::Dump::node_lines))]
 fn put_node_lines<K: Sink>(text: &mut TextBuffer, sink: &mut K, attrs: &[Attr], node: &Node)
     requires { is_within (length attrs.now) node.now ≡ true }
     ensures { Sends (K.state sink.old) (K.state sink.new) text.old text.new (node_lines attrs.now node.now) }

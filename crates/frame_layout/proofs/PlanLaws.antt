@@ -9,7 +9,7 @@ use Rattle.frame_layout.specs.declared.plan.FramePlan.{FramePlan}
 use Rattle.frame_layout.specs.FramePlan.{IsAxis, HasMeasured, StandsFrame}
 use Rattle.geom_core.specs.declared.geometry.Size.{Size}
 use Rattle.geom_core.specs.declared.measuring.Spec.{Spec}
-use Rattle.view_model.specs.declared.attributes.Facts.{Facts}
+use Rattle.view_model.specs.declared.facts.Facts.{Facts}
 use Rattle.view_model.specs.Facts.{matches_parent}
 use Rattle.view_model.specs.FrameLayout.{first_specs, frame_rule, frame_size, greatest_by, need_across, need_down, second_specs}
 use Rattle.view_model.specs.Measuring.{Specs, Measured, pair_of, taken_as}

@@ -3,7 +3,7 @@ use Rattle.std.specs.Prelude.{◌≡◌, ℤ, Bool, true, false, List, [], ◌�
 use Rattle.frame_layout.specs.declared.axis.Axis.{Axis}
 use Rattle.frame_layout.specs.declared.plan.FramePlan.{FramePlan}
 use Rattle.geom_core.specs.declared.measuring.Spec.{Spec}
-use Rattle.view_model.specs.declared.attributes.Facts.{Facts}
+use Rattle.view_model.specs.declared.facts.Facts.{Facts}
 use Rattle.view_model.specs.Facts.{matches_parent, padding_across, padding_down}
 use Rattle.view_model.specs.FrameLayout.{greatest_by, need_across, need_down, frame_rule, frame_size}
 use Rattle.view_model.specs.Measuring.{Specs, Measured}

@@ -2,7 +2,7 @@
 ghost use Rattle.std.specs.Prelude.{◌≡◌, ◌+◌, [], ◌∷◌, ◌++◌, List, None, if◌then◌else◌, min};
 ghost use Rattle.std.specs.Option.{option_map};
 ghost use Rattle.geom_core.specs.Limits.{IsSide};
-ghost use Rattle.view_model.specs.declared.attributes.Facts.{Facts as FactsValue};
+ghost use Rattle.view_model.specs.declared.facts.Facts.{Facts as FactsValue};
 ghost use Rattle.view_model.specs.Facts.{unscrolled_facts};
 ghost use Rattle.view_model.specs.FrameLayout.{first_specs, frame_rule, has_second_phase, second_specs};
 ghost use Rattle.view_model.specs.Measuring.{Specs, Measured, pair_of, taken_as};

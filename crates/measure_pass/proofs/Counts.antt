@@ -1,10 +1,9 @@
 -- The costs of measuring: of nothing, of one part of a list behind another, and of one measuring behind another.
 use Rattle.std.proofs.Common.{◌≡◌, ◌≤◌, ℕ, ◌+◌, ◌-◌, ◌^◌, min, arith, ap, ◌∙◌, sym}
 use Rattle.measure_pass.specs.Measured.{Costs}
-use Rattle.measure_pass.proofs.Parts.{Agree}
 use Rattle.view_model.specs.Forest.{Forest}
 use Rattle.view_tree.specs.Rows.{Row, later_siblings, first_tree, count_of_key}
-use Rattle.view_tree.specs.Views.{Held}
+use Rattle.view_tree.specs.Views.{Held, KeepsOutside}
 
 stays : (count top : ℕ) → min count top ≡ min (count + 0) top
 stays count top = omega arith
@@ -45,7 +44,7 @@ costs_twice list a b c old mid new calls more first second =
     record { counted = twice old mid new calls more (2 ^ 64 - 1) first.counted second.counted }
 
 -- the first tree of a list and then the others
-pub costs_parts : (list : Forest Row) (a b c : ℕ → Held) (old mid new calls more : ℕ) → ((key : ℕ) → count_of_key key list ≤ 1) → Agree a b (first_tree list) → Agree b c (later_siblings list)
+pub costs_parts : (list : Forest Row) (a b c : ℕ → Held) (old mid new calls more : ℕ) → ((key : ℕ) → count_of_key key list ≤ 1) → KeepsOutside a b (first_tree list) → KeepsOutside b c (later_siblings list)
     → Costs (first_tree list) a b old calls mid → Costs (later_siblings list) b c mid more new → Costs list a c old (calls + more) new
 costs_parts list a b c old mid new calls more once one rest first second =
     record { counted = twice old mid new calls more (2 ^ 64 - 1) first.counted second.counted }

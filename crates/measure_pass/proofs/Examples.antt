@@ -3,7 +3,7 @@ use Rattle.std.specs.Prelude.{◌≡◌, ℕ, ℤ, pos, negsuc, refl, [], ◌∷
 use Rattle.geom_core.specs.declared.measuring.Mode.TheVariants.{Exactly, AtMost}
 use Rattle.geom_core.specs.Spec.{child_spec_of, default_size_of, remaining_of, resolve_of}
 use Rattle.measure_pass.specs.Measured.{calls_under, finals_under, last_specs, size_under}
-use Rattle.view_model.specs.declared.attributes.Facts.{Facts}
+use Rattle.view_model.specs.declared.facts.Facts.{Facts}
 use Rattle.view_model.specs.declared.kinds.Class.{Class}
 use Rattle.view_model.specs.declared.kinds.Class.TheVariants as class
 use Rattle.view_model.specs.declared.kinds.Visibility.TheVariants.{Gone}

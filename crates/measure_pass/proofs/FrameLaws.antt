@@ -4,7 +4,7 @@ use Rattle.geom_core.specs.Limits.{IsSide}
 use Rattle.geom_core.proofs.Sides.{resolve_of-is_side}
 use Rattle.measure_pass.proofs.Lawful.{IsLawful, all_asked, begun_ready, later_ready}
 use Rattle.measure_pass.proofs.Whole.{asked_through}
-use Rattle.view_model.specs.declared.attributes.Facts.{Facts}
+use Rattle.view_model.specs.declared.facts.Facts.{Facts}
 use Rattle.view_model.specs.Course.{Child, begun, one_phase}
 use Rattle.view_model.specs.FrameLayout.{frame_rule}
 use Rattle.view_model.specs.Measuring.{Measured, Specs}

@@ -7,7 +7,7 @@ use Rattle.geom_core.specs.Limits.{IsSide}
 use Rattle.geom_core.specs.declared.geometry.Size.{Size}
 use Rattle.measure_pass.specs.Courses.{CanTurn, StaysReady, has_requests}
 use Rattle.measure_pass.proofs.Whole.{AllAsked, has-push, no_true}
-use Rattle.view_model.specs.declared.attributes.Facts.{Facts}
+use Rattle.view_model.specs.declared.facts.Facts.{Facts}
 use Rattle.view_model.specs.Course.{Child, Requested, after_phase, after_turn, asked_for, begun, course_of, measured_of, size_in}
 use Rattle.view_model.specs.Facts.{is_shown}
 use Rattle.view_model.specs.Measuring.{Measured, Rule, Specs, counted_as}

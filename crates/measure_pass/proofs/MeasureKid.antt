@@ -18,8 +18,8 @@ use Rattle.view_model.specs.Layout.{children_of, unscrolled}
 use Rattle.view_model.specs.Measuring.{Measured, Specs, pair_of, taken_as}
 use Rattle.view_tree.specs.Rows.{Row, first_tree, children_of_first, part_from, count_of_key, views_of}
 use Rattle.view_tree.specs.Views.{Held, IsLive, IsTree, Views, specs_of}
-use Rattle.view_tree.proofs.KeptLaws.{no_children_of}
-use Rattle.view_tree.proofs.KeyLaws.{located}
+use Rattle.view_tree.proofs.values.KeptLaws.{no_children_of}
+use Rattle.view_tree.proofs.forest.KeyLaws.{located}
 
 pub gone_kid : (plan : Plan) (group : Group) (past : List (List Measured)) (taken : List Measured) (tree : Forest Row) (kid : ℕ) (asked : List Requested) (held : ℕ → Held)
     (count : ℕ) → 0 < count_of_key kid tree → is_shown (facts_in (part_from kid tree)) ≡ false → Stands plan group past taken → InCourse held (first_tree (part_from kid tree)) asked

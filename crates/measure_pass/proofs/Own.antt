@@ -1,18 +1,18 @@
 -- What becomes of a view that is measured.
 use Rattle.std.proofs.Common.{◌≡◌, ◌≢◌, ℤ, ℕ, ◌+◌, ◌-◌, ◌^◌, ◌<◌, ◌≤◌, min, arith, ap, ◌∙◌, sym, refl, subst, inl, inr}
-use Rattle.std.proofs.lemmas.Bool.{cases_eq, eq-eqb}
+use Rattle.std.proofs.lemmas.Bool.{cases_eq}
 use Rattle.geom_core.specs.Limits.{IsSide}
 use Rattle.geom_core.specs.declared.geometry.Size.{Size}
 use Rattle.measure_pass.specs.Courses.{IsMeasuredBelow}
 use Rattle.measure_pass.specs.Measured.{Costs, IsMeasured, IsSized, Keeps, Sized, calls_under, done_with, size_under}
 use Rattle.measure_pass.proofs.Counts.{costs_stored}
-use Rattle.measure_pass.proofs.Parts.{Agree, Same, Sized-along, last_specs-along}
+use Rattle.measure_pass.proofs.Parts.{Sized-along, last_specs-along}
 use Rattle.view_model.specs.Forest.{Forest, Nothing, Branch}
 use Rattle.view_model.specs.Measuring.{Specs}
 use Rattle.view_tree.specs.Rows.{Row, first_tree, children_of_first, part_from, count_of_key}
-use Rattle.view_tree.specs.Views.{Held, Views, held_of, specs_of}
-use Rattle.view_tree.proofs.Forests.{times_from}
-use Rattle.view_tree.proofs.KeyLaws.{located}
+use Rattle.view_tree.specs.Views.{Held, KeepsOutside, Views, held_of, specs_of}
+use Rattle.view_tree.proofs.forest.KeyLaws.{located}
+use Rattle.view_tree.proofs.forest.Walks.{KeepsInside-below, not_own, once_from}
 
 -- what a measuring under these specs leaves with the first view of a list, and below it
 pub record Own (list : Forest Row) (view : ℕ) (specs : Specs) (before held : ℕ → Held) (old new : ℕ) (got : Size) : Type 0 where
@@ -23,7 +23,7 @@ pub record Own (list : Forest Row) (view : ℕ) (specs : Specs) (before held : �
   pub kept_size : (held view).state.measured ≡ size_under list specs
   pub sized : Sized held (first_tree list)
   pub keeps : Keeps before held
-  pub others : Agree before held (first_tree list)
+  pub others : KeepsOutside before held (first_tree list)
   pub costs : Costs (first_tree list) before held old (calls_under list specs) new
 
 -- a write to one view
@@ -51,28 +51,14 @@ keeps_by old new view own w bounds offset = record {
   ];
 }
 
-own_more : (row : Row) (kids siblings : Forest Row) (key : ℕ) → row.key ≡ key → count_of_key key kids + count_of_key key siblings < count_of_key key (Branch row kids siblings)
-own_more row kids siblings key e = rw (eq-eqb row.key key e) (omega arith)
-
-not_own : (row : Row) (kids : Forest Row) (key : ℕ) → count_of_key key (Branch row kids Nothing) ≡ 0 → key ≢ row.key
-not_own row kids key none e = let m = own_more row kids Nothing key (sym e) in absurd (omega arith)
-
-wrote_below : (old new : ℕ → Held) (row : Row) (kids : Forest Row) (own : Held) → ((key : ℕ) → count_of_key key (Branch row kids Nothing) ≤ 1) → Wrote old new row.key own
-    → Same old new kids
-wrote_below old new row kids own once w =
-    λ key here. w.others key (λ e. let m = own_more row kids Nothing key (sym e) in let o = once key in absurd (omega arith))
-
-no_own_below : (row : Row) (kids : Forest Row) → ((key : ℕ) → count_of_key key (Branch row kids Nothing) ≤ 1) → count_of_key row.key kids ≡ 0
-no_own_below row kids once = let m = own_more row kids Nothing row.key refl in let o = once row.key in omega arith
-
 -- measured through its children
 new_row : (held mid new : ℕ → Held) (row : Row) (kids siblings : Forest Row) (specs : Specs) (size : Size) (total : ℤ) (old between count : ℕ)
     → ((key : ℕ) → count_of_key key (Branch row kids Nothing) ≤ 1) → IsMeasuredBelow (Branch row kids siblings) specs held mid size total old between
-    → Keeps held mid → Agree held mid kids → Wrote mid new row.key (done_with (mid row.key) specs size total) → count ≡ min (between + 1) (2 ^ 64 - 1)
+    → Keeps held mid → KeepsOutside held mid kids → Wrote mid new row.key (done_with (mid row.key) specs size total) → count ≡ min (between + 1) (2 ^ 64 - 1)
     → Own (Branch row kids siblings) row.key specs held new old count size
 new_row held mid new row kids siblings specs size total old between count once m keeps others w more =
     let own = done_with (mid row.key) specs size total in
-    let same = wrote_below mid new row kids own once w in
+    let same = KeepsInside-below mid new row kids Nothing (once row.key) w.others in
     let is : IsSized new own row kids = record { size = m.size; finals = last_specs-along mid new kids same ∙ m.finals; total = m.length } in
     let sized : Sized new kids = Sized-along mid new kids same m.sized in
     record {
@@ -83,26 +69,23 @@ new_row held mid new row kids siblings specs size total old between count once m
       kept_size = rw w.at m.size;
       sized = (λ shown. (subst (λ own. IsSized new own row kids) (sym w.at) is, sized), tt);
       keeps = keeps_trans held mid new keeps (keeps_by mid new row.key own w refl refl);
-      others = λ key none. w.others key (not_own row kids key none) ∙ others key (omega arith);
+      others = λ key none. w.others key (not_own row kids Nothing key none) ∙ others key (omega arith);
       costs = costs_stored kids (Branch row kids Nothing) held mid new old between (calls_under (Branch row kids siblings) specs) count more m.costs;
     }
 
 -- the same at a view of a tree
-once_at : (tree : Forest Row) (view : ℕ) → ((key : ℕ) → count_of_key key tree ≤ 1) → 0 < count_of_key view tree → (key : ℕ) → count_of_key key (part_from view tree) ≤ 1
-once_at tree view once live key = let a = times_from view key tree live in let o = once key in omega arith
-
 alone_once : (row : Row) (kids siblings : Forest Row) → ((key : ℕ) → count_of_key key (Branch row kids siblings) ≤ 1) → (key : ℕ) → count_of_key key (Branch row kids Nothing) ≤ 1
 alone_once row kids siblings once key = let o = once key in omega arith
 
 pub new_at : (tree : Forest Row) (view : ℕ) (held mid new : ℕ → Held) (specs : Specs) (size : Size) (total : ℤ) (old between count : ℕ)
     → ((key : ℕ) → count_of_key key tree ≤ 1) → 0 < count_of_key view tree → IsMeasuredBelow (part_from view tree) specs held mid size total old between
-    → Keeps held mid → Agree held mid (children_of_first (part_from view tree)) → Wrote mid new view (done_with (mid view) specs size total) → count ≡ min (between + 1) (2 ^ 64 - 1)
+    → Keeps held mid → KeepsOutside held mid (children_of_first (part_from view tree)) → Wrote mid new view (done_with (mid view) specs size total) → count ≡ min (between + 1) (2 ^ 64 - 1)
     → Own (part_from view tree) view specs held new old count size
 new_at tree view held mid new specs size total old between count once live m keeps others w more =
     let x = located view tree live in
     let m : IsMeasuredBelow (Branch x.row x.kids x.siblings) specs held mid size total old between = rw x.is at m in
-    let others : Agree held mid x.kids = rw x.is at others in
-    let once : (key : ℕ) → count_of_key key (Branch x.row x.kids x.siblings) ≤ 1 = rw x.is at (once_at tree view once live) in
+    let others : KeepsOutside held mid x.kids = rw x.is at others in
+    let once : (key : ℕ) → count_of_key key (Branch x.row x.kids x.siblings) ≤ 1 = rw x.is at (once_from tree view once live) in
     let w : Wrote mid new x.row.key (done_with (mid x.row.key) specs size total) =
     subst (λ key. Wrote mid new key (done_with (mid key) specs size total)) (sym x.key_is) w in
     rw x.is (subst (λ key. Own (Branch x.row x.kids x.siblings) key specs held new old count size) x.key_is

@@ -1,80 +1,57 @@
 -- What is said of a list of views: it depends on these views alone, and is said of the first one and of the others.
-use Rattle.std.proofs.Common.{◌≡◌, ℕ, ◌+◌, ◌<◌, ◌≤◌, List, [], ◌∷◌, ◌++◌, append_assoc, arith, ap, ◌∙◌, sym, refl, subst}
+use Rattle.std.proofs.Common.{◌≡◌, ℕ, ◌+◌, List, [], ◌∷◌, ◌++◌, append_assoc, arith, ap, ◌∙◌, sym, refl, subst}
 use Rattle.std.specs.Prelude.{Option}
 use Rattle.std.proofs.lemmas.List.{append-nil}
 use Rattle.measure_pass.specs.Courses.{CanTurn, InCourse, MeasuredFor, phase_calls}
 use Rattle.measure_pass.specs.Measured.{IsSized, Sized, last_specs}
-use Rattle.view_model.specs.declared.attributes.Facts.{Facts}
+use Rattle.view_model.specs.declared.facts.Facts.{Facts}
 use Rattle.view_model.specs.Course.{Requested, after_phase, after_turn, last_of, size_in, sizes_of}
 use Rattle.view_model.specs.Facts.{unscrolled_facts}
-use Rattle.view_model.specs.Forest.{Forest, Nothing, Branch, count_of}
+use Rattle.view_model.specs.Forest.{Forest, Nothing, Branch}
 use Rattle.view_model.specs.Measuring.{Measured, Rule, Specs}
-use Rattle.view_tree.specs.Rows.{Row, later_siblings, first_tree, children_of_first, part_from, head_view, count_of_key}
-use Rattle.view_tree.specs.Views.{Held, specs_of}
-use Rattle.view_tree.proofs.Forests.{count-within}
-use Rattle.view_tree.proofs.KeyLaws.{located, times_self}
+use Rattle.view_tree.specs.Rows.{Row, later_siblings, first_tree, children_of_first, head_view}
+use Rattle.view_tree.specs.Views.{Held, KeepsInside, specs_of}
+use Rattle.view_tree.proofs.forest.Walks.{KeepsInside-kids, KeepsInside-self, KeepsInside-siblings}
 
 -- the facts of the first view of a list, as layout sees them
 abbrev pub facts_in : Forest Row → Facts
 facts_in list = unscrolled_facts (head_view list).facts
 
--- two trees keep the same of each of these views
-abbrev pub Same : (ℕ → Held) → (ℕ → Held) → Forest Row → Type 0
-Same old new list = (key : ℕ) → 0 < count_of_key key list → new key ≡ old key
-
--- two trees keep the same of each view that is not among these
-abbrev pub Agree : (ℕ → Held) → (ℕ → Held) → Forest Row → Type 0
-Agree old new list = (key : ℕ) → count_of_key key list ≡ 0 → new key ≡ old key
-
-pub same_self : (old new : ℕ → Held) (row : Row) (kids siblings : Forest Row) → Same old new (Branch row kids siblings) → new row.key ≡ old row.key
-same_self old new row kids siblings same = same row.key (times_self row kids siblings)
-
-pub same_kids : (old new : ℕ → Held) (row : Row) (kids siblings : Forest Row) → Same old new (Branch row kids siblings) → Same old new kids
-same_kids old new row kids siblings same = λ key h. same key (omega arith)
-
-pub same_siblings : (old new : ℕ → Held) (row : Row) (kids siblings : Forest Row) → Same old new (Branch row kids siblings) → Same old new siblings
-same_siblings old new row kids siblings same = λ key h. same key (omega arith)
-
-pub last_specs-along : (old new : ℕ → Held) (list : Forest Row) → Same old new list → last_specs new list ≡ last_specs old list
+pub last_specs-along : (old new : ℕ → Held) (list : Forest Row) → KeepsInside old new list → last_specs new list ≡ last_specs old list
 last_specs-along old new Nothing same = refl
 last_specs-along old new (Branch row kids siblings) same =
-    let own = same_self old new row kids siblings same in
-    let rest = last_specs-along old new siblings (same_siblings old new row kids siblings same) in
+    let own = KeepsInside-self old new row kids siblings same in
+    let rest = last_specs-along old new siblings (KeepsInside-siblings old new row kids siblings same) in
     rw (own, rest) refl
 
-pub IsSized-along : (old new : ℕ → Held) (own : Held) (row : Row) (kids : Forest Row) → Same old new kids → IsSized old own row kids → IsSized new own row kids
+pub IsSized-along : (old new : ℕ → Held) (own : Held) (row : Row) (kids : Forest Row) → KeepsInside old new kids → IsSized old own row kids → IsSized new own row kids
 IsSized-along old new own row kids same h = record { size = h.size; finals = last_specs-along old new kids same ∙ h.finals; total = h.total }
 
-pub Sized-along : (old new : ℕ → Held) (list : Forest Row) → Same old new list → Sized old list → Sized new list
+pub Sized-along : (old new : ℕ → Held) (list : Forest Row) → KeepsInside old new list → Sized old list → Sized new list
 Sized-along old new Nothing same h = tt
 Sized-along old new (Branch row kids siblings) same h =
-    let children_of_first = same_kids old new row kids siblings same in
-    let e : old row.key ≡ new row.key = sym (same_self old new row kids siblings same) in (
+    let children_of_first = KeepsInside-kids old new row kids siblings same in
+    let e : old row.key ≡ new row.key = sym (KeepsInside-self old new row kids siblings same) in (
       λ here. (subst (λ (own : Held). IsSized new own row kids) e (IsSized-along old new (old row.key) row kids children_of_first (h.0 here).0), Sized-along old new kids children_of_first (h.0 here).1),
-      Sized-along old new siblings (same_siblings old new row kids siblings same) h.1,
+      Sized-along old new siblings (KeepsInside-siblings old new row kids siblings same) h.1,
     )
 
-MeasuredFor-along : (old new : ℕ → Held) (row : Row) (kids : Forest Row) (requests : List Specs) → new row.key ≡ old row.key → Same old new kids
+MeasuredFor-along : (old new : ℕ → Held) (row : Row) (kids : Forest Row) (requests : List Specs) → new row.key ≡ old row.key → KeepsInside old new kids
     → MeasuredFor old row kids requests → MeasuredFor new row kids requests
 MeasuredFor-along old new row kids [] own same h = tt
 MeasuredFor-along old new row kids (specs ∷ more) own same h =
     subst (λ (own : Held). (specs_of own.state ≡ last_of specs more) × IsSized new own row kids × Sized new kids) (sym own)
     (h.0, IsSized-along old new (old row.key) row kids same h.1, Sized-along old new kids same h.2)
 
-pub InCourse-along : (old new : ℕ → Held) (list : Forest Row) (kids : List Requested) → Same old new list → InCourse old list kids → InCourse new list kids
+pub InCourse-along : (old new : ℕ → Held) (list : Forest Row) (kids : List Requested) → KeepsInside old new list → InCourse old list kids → InCourse new list kids
 InCourse-along old new Nothing [] same h = tt
 InCourse-along old new Nothing (kid ∷ more) same h = absurd h
 InCourse-along old new (Branch row children_of_first siblings) [] same h = absurd h
 InCourse-along old new (Branch row children_of_first siblings) (kid ∷ more) same h = (
   h.0,
-  MeasuredFor-along old new row children_of_first kid.requests (same_self old new row children_of_first siblings same) (same_kids old new row children_of_first siblings same) h.1,
-  InCourse-along old new siblings more (same_siblings old new row children_of_first siblings same) h.2,
+  MeasuredFor-along old new row children_of_first kid.requests (KeepsInside-self old new row children_of_first siblings same) (KeepsInside-kids old new row children_of_first siblings same) h.1,
+  InCourse-along old new siblings more (KeepsInside-siblings old new row children_of_first siblings same) h.2,
 )
-
--- how often a key occurs
-pub times_parts : (key : ℕ) (list : Forest Row) → count_of_key key list ≡ count_of_key key (first_tree list) + count_of_key key (later_siblings list)
-times_parts key Nothing = omega arith
-times_parts key (Branch row kids siblings) = omega arith
 
 -- the children of the first view of a list and of those behind it
 pub record Split (rule : Rule) (past : List (List Measured)) (held : ℕ → Held) (list : Forest Row) (kids : List Requested) : Type 0 where
@@ -124,15 +101,3 @@ phase_calls-append ask taken (kid ∷ kids) rest =
     let more = phase_calls-append ask (taken ++ size_in next) kids rest in
     let same = ap (λ taken. phase_calls ask taken rest) (append_assoc taken (size_in next) (sizes_of (after_phase ask (taken ++ size_in next) kids))) in
     omega arith
-
--- a view counts for at least one
-pub count_one : (tree : Forest Row) (kid : ℕ) → 0 < count_of_key kid tree → 0 < count_of (first_tree (part_from kid tree))
-count_one tree kid live = let x = located kid tree live in rw x.is (omega arith)
-
--- below a view there are no more views than in its tree
-pub count_few : (view : ℕ) (tree : Forest Row) → 0 < count_of_key view tree → count_of tree ≤ 4096 → count_of (children_of_first (part_from view tree)) ≤ 4096
-count_few view tree live few =
-    let x = located view tree live in
-    let all = count-within x.within in
-    let some : count_of x.kids ≤ 4096 = omega arith in
-    rw x.is some

@@ -10,7 +10,7 @@ use Rattle.measure_pass.specs.Courses.{AfterPhase, CanTurn, InCourse, MeasuredFo
 use Rattle.measure_pass.specs.Measured.{Costs, IsSized, Sized, calls_under, size_under}
 use Rattle.measure_pass.specs.Plans.{Group, Stands, rule_in}
 use Rattle.measure_pass.proofs.Counts.{costs_nothing, costs_same}
-use Rattle.view_model.specs.declared.attributes.Facts.{Facts}
+use Rattle.view_model.specs.declared.facts.Facts.{Facts}
 use Rattle.view_model.specs.Course.{Child, Requested, after_turn, asked_for, last_of, measured_of, size_after, size_in, sizes_of}
 use Rattle.view_model.specs.Facts.{is_shown}
 use Rattle.view_model.specs.Forest.{Forest, Nothing, Branch}

@@ -1,102 +1,46 @@
 -- A walk over the children of a view, in which each is measured as the plan of the group asks for it.
-use Rattle.std.proofs.Common.{◌≡◌, ℕ, ◌+◌, ◌<◌, ◌≤◌, Bool, true, false, Option, Some, List, [], ◌∷◌, ◌++◌, length, append_assoc, arith, ap, ◌∙◌, sym, refl, subst, length-append}
-use Rattle.std.specs.Prelude.{if◌then◌else◌, IfSome}
+use Rattle.std.proofs.Common.{◌≡◌, ℕ, ◌+◌, ◌≤◌, Bool, true, false, Option, List, [], ◌∷◌, ◌++◌, length, append_assoc, arith, ap, ◌∙◌, sym, refl, subst, length-append}
+use Rattle.std.specs.Prelude.{if◌then◌else◌}
 use Rattle.std.proofs.lemmas.List.{append-nil}
 use Rattle.measure_pass.specs.declared.plan.Plan.{Plan}
 use Rattle.measure_pass.specs.Courses.{AfterPhase, CanTurn, InCourse, phase_calls}
 use Rattle.measure_pass.specs.Measured.{Costs}
 use Rattle.measure_pass.specs.Plans.{Group, Stands, rule_in}
 use Rattle.measure_pass.proofs.Counts.{costs_nothing, costs_parts, costs_same}
-use Rattle.measure_pass.proofs.Parts.{Agree, InCourse-along, InCourse-join, Same, after_phase-append, phase_calls-append, sizes_of-append, split, times_parts}
+use Rattle.measure_pass.proofs.Parts.{InCourse-along, InCourse-join, after_phase-append, phase_calls-append, sizes_of-append, split}
+use Rattle.view_model.specs.declared.limits.TheConstants.{MAX_VIEWS}
 use Rattle.view_model.specs.Course.{Requested, after_phase, measured_of, sizes_of, size_in}
 use Rattle.view_model.specs.Facts.{is_shown}
 use Rattle.view_model.specs.Forest.{Forest, Nothing, Branch, count_of}
 use Rattle.view_model.specs.Measuring.{Measured, Specs}
-use Rattle.view_tree.specs.Rows.{Row, later_siblings, first_tree, part_from, rest_from, count_of_key}
-use Rattle.view_tree.specs.Views.{Held}
-use Rattle.view_tree.proofs.Forests.{live_after, times_from}
-
--- what was kept before a walk over these children and what is now, where the children from `next` on are left
-pub record Walked (tree kids : Forest Row) (start : ℕ → Held) (next : Option ℕ) (now : ℕ → Held) : Type 0 where
-  pub live : IfSome next (λ key. 0 < count_of_key key tree)
-  pub once : (key : ℕ) → count_of_key key tree ≤ 1
-  pub few : count_of (rest_from next tree) ≤ count_of kids
-  pub within : (key : ℕ) → count_of_key key (rest_from next tree) ≤ count_of_key key kids
-  pub others : Agree start now kids
-  pub still : Same start now (rest_from next tree)
+use Rattle.view_tree.specs.Rows.{Row, later_siblings, first_tree, count_of_key}
+use Rattle.view_tree.specs.Views.{Held, KeepsOutside}
+use Rattle.view_tree.proofs.forest.Walks.{KeepsInside-first, KeepsInside-rest, KeepsOutside-parts, count_of-parts}
 
 -- the plan of a group in a phase, where these children are left
 pub record Phasing (plan : Plan) (group : Group) (past : List (List Measured)) (asked : List Requested) (kids rest : Forest Row) (begin now : ℕ → Held) (start count : ℕ) : Type 0 where
   pub taken : List Measured
   pub ahead : List Requested
   pub plan_stands : Stands plan group past taken
-  pub few : length taken + count_of rest ≤ 4096
+  pub few : length taken + count_of rest ≤ MAX_VIEWS
   pub before : InCourse now rest ahead
   pub can : CanTurn (rule_in group) past ahead
   pub sizes : taken ++ sizes_of (after_phase ((rule_in group).ask past) taken ahead) ≡ sizes_of (after_phase ((rule_in group).ask past) [] asked)
-  pub done : (end : ℕ → Held) → Agree now end rest → InCourse end rest (after_phase ((rule_in group).ask past) taken ahead)
+  pub done : (end : ℕ → Held) → KeepsOutside now end rest → InCourse end rest (after_phase ((rule_in group).ask past) taken ahead)
       → InCourse end kids (after_phase ((rule_in group).ask past) [] asked)
-  pub costs : (end : ℕ → Held) (last : ℕ) → Agree now end rest → Costs rest now end count (phase_calls ((rule_in group).ask past) taken ahead) last
+  pub costs : (end : ℕ → Held) (last : ℕ) → KeepsOutside now end rest → Costs rest now end count (phase_calls ((rule_in group).ask past) taken ahead) last
       → Costs kids begin end start (phase_calls ((rule_in group).ask past) [] asked) last
 
--- a part with a first view, then that view alone, then the part behind it
-agree_on : (old mid end : ℕ → Held) (part : Forest Row) → Agree old mid (first_tree part) → Agree mid end (later_siblings part) → Agree old end part
-agree_on old mid end part first rest = λ key none. let p = times_parts key part in rest key (omega arith) ∙ first key (omega arith)
-
-after_same : (old mid : ℕ → Held) (part : Forest Row) → ((key : ℕ) → count_of_key key part ≤ 1) → Agree old mid (first_tree part) → Same old mid (later_siblings part)
-after_same old mid part once first = λ key here. let p = times_parts key part in let o = once key in first key (omega arith)
-
-alone_same : (mid end : ℕ → Held) (part : Forest Row) → ((key : ℕ) → count_of_key key part ≤ 1) → Agree mid end (later_siblings part) → Same mid end (first_tree part)
-alone_same mid end part once rest = λ key here. let p = times_parts key part in let o = once key in rest key (omega arith)
-
-pub walk_start : (tree kids : Forest Row) (start : ℕ → Held) (next : Option ℕ) → ((key : ℕ) → count_of_key key tree ≤ 1) → rest_from next tree ≡ kids
-    → IfSome next (λ key. 0 < count_of_key key tree)
-    → Walked tree kids start next start
-walk_start tree kids start next once is live = record {
-  live = live;
-  once = once;
-  few = rw is (omega arith);
-  within = λ key. rw is (omega arith);
-  others = λ key none. refl;
-  still = λ key here. refl;
-}
-
--- each view of the part that a live key begins occurs once
-pub once_from : (tree kids : Forest Row) (start : ℕ → Held) (kid : ℕ) (now : ℕ → Held) → Walked tree kids start (Some kid) now → (key : ℕ) → count_of_key key (part_from kid tree) ≤ 1
-once_from tree kids start kid now w key = let a = times_from kid key tree w.live in let o = w.once key in omega arith
-
-pub walk_on : (tree kids : Forest Row) (start : ℕ → Held) (kid : ℕ) (old mid : ℕ → Held) (next : Option ℕ) → Walked tree kids start (Some kid) old
-    → Agree old mid (first_tree (part_from kid tree)) → rest_from next tree ≡ later_siblings (part_from kid tree) → IfSome next (λ key. 0 < count_of_key key tree) → Walked tree kids start next mid
-walk_on tree kids start kid old mid next w others is live =
-    let fall = live_after kid tree w.live in
-    let few = w.few in
-    let once = once_from tree kids start kid old w in
-    record {
-      live = live;
-      once = w.once;
-      few = rw is (omega arith);
-      within = λ key. rw is (let a = w.within key in let p = times_parts key (part_from kid tree) in omega arith);
-      others = λ key none. others key (let a = w.within key in let p = times_parts key (part_from kid tree) in omega arith) ∙ w.others key none;
-      still = rw is (λ key here. after_same old mid (part_from kid tree) once others key here ∙ w.still key (let p = times_parts key (part_from kid tree) in omega arith));
-    }
-
 pub phase_start : (plan : Plan) (group : Group) (past : List (List Measured)) (asked : List Requested) (kids : Forest Row) (now : ℕ → Held) (count : ℕ)
-    → Stands plan group past [] → count_of kids ≤ 4096 → InCourse now kids asked → CanTurn (rule_in group) past asked
+    → Stands plan group past [] → count_of kids ≤ MAX_VIEWS → InCourse now kids asked → CanTurn (rule_in group) past asked
     → Phasing plan group past asked kids kids now now count count
 phase_start plan group past asked kids now count stands few course can =
     record { taken = []; ahead = asked; plan_stands = stands; few = omega arith; before = course; can = can; sizes = refl; done = λ end agree h. h; costs = λ end last agree h. h }
 
-count_parts : (list : Forest Row) → count_of list ≡ count_of (first_tree list) + count_of (later_siblings list)
-count_parts Nothing = omega arith
-count_parts (Branch row kids siblings) = omega arith
-
 -- no more sizes than views
-size_in-few : (kid : Requested) → length (size_in kid) ≤ 1
-size_in-few kid = by_test (is_shown kid.child.facts) (measured_of kid)
-  where
-    by_test : (v : Bool) (m : Measured) → length (if v then m ∷ [] else []) ≤ 1
-    by_test true m = omega arith
-    by_test false m = omega arith
+pub few_if : (v : Bool) (m : Measured) → length (if v then m ∷ [] else []) ≤ 1
+few_if true m = omega arith
+few_if false m = omega arith
 
 sizes_few : (now : ℕ → Held) (list : Forest Row) (kids : List Requested) → InCourse now list kids → length (sizes_of kids) ≤ count_of list
 sizes_few now Nothing [] h = omega arith
@@ -104,20 +48,20 @@ sizes_few now Nothing (kid ∷ more) h = absurd h
 sizes_few now (Branch row below siblings) [] h = absurd h
 sizes_few now (Branch row below siblings) (kid ∷ more) h =
     let rest = sizes_few now siblings more h.2 in
-    let one = size_in-few kid in
+    let one = few_if (is_shown kid.child.facts) (measured_of kid) in
     let both = length-append (size_in kid) (sizes_of more) in
     omega arith
 
 pub phase_on : (before plan : Plan) (group : Group) (past : List (List Measured)) (asked : List Requested) (kids part : Forest Row) (begin old mid : ℕ → Held) (start count new : ℕ)
     → ((key : ℕ) → count_of_key key part ≤ 1)
-    → Phasing before group past asked kids part begin old start count → Agree old mid (first_tree part)
-    → ((taken : List Measured) (first : List Requested) → Stands before group past taken → length taken + count_of (first_tree part) ≤ 4096 → InCourse old (first_tree part) first
+    → Phasing before group past asked kids part begin old start count → KeepsOutside old mid (first_tree part)
+    → ((taken : List Measured) (first : List Requested) → Stands before group past taken → length taken + count_of (first_tree part) ≤ MAX_VIEWS → InCourse old (first_tree part) first
     → CanTurn (rule_in group) past first → AfterPhase plan group past taken first old mid (first_tree part) count new)
     → Phasing plan group past asked kids (later_siblings part) begin mid start new
 phase_on before plan group past asked kids part begin old mid start count new once f others turn =
     let ask = (rule_in group).ask past in
     let s = split (rule_in group) past old part f.ahead f.before f.can in
-    let parts = count_parts part in
+    let parts = count_of-parts part in
     let few = f.few in
     let phase = turn f.taken s.first f.plan_stands (omega arith) s.alone s.turn in
     let first = after_phase ask f.taken s.first in
@@ -133,13 +77,13 @@ phase_on before plan group past asked kids part begin old mid start count new on
       ahead = s.rest;
       plan_stands = phase.plan_stands;
       few = omega arith;
-      before = InCourse-along old mid (later_siblings part) s.rest (after_same old mid part once others) s.behind;
+      before = InCourse-along old mid (later_siblings part) s.rest (KeepsInside-rest old mid part once others) s.behind;
       can = s.turns;
       sizes = append_assoc f.taken (sizes_of first) (sizes_of rest) ∙ ap (λ more. f.taken ++ more) (sym (sizes_of-append first rest) ∙ ap sizes_of (sym apart)) ∙ f.sizes;
-      done = λ end agree h. f.done end (agree_on old mid end part others agree)
+      done = λ end agree h. f.done end (KeepsOutside-parts old mid end part others agree)
           (subst (λ all. InCourse end part all) (sym apart)
-          (InCourse-join end part first rest (InCourse-along mid end (first_tree part) first (alone_same mid end part once agree) phase.course) h));
-      costs = λ end last agree h. f.costs end last (agree_on old mid end part others agree)
+          (InCourse-join end part first rest (InCourse-along mid end (first_tree part) first (KeepsInside-first mid end part once agree) phase.course) h));
+      costs = λ end last agree h. f.costs end last (KeepsOutside-parts old mid end part others agree)
           (costs_same part old end count (phase_calls ask f.taken s.first + phase_calls ask taken s.rest) (phase_calls ask f.taken f.ahead) last calls
           (costs_parts part old mid end count new last (phase_calls ask f.taken s.first) (phase_calls ask taken s.rest) once others agree phase.costs h));
     }
@@ -154,7 +98,7 @@ phase_end plan group past asked kids begin now start count f = ended f.ahead f.b
 
     ended : (ahead : List Requested) → InCourse now Nothing ahead
         → f.taken ++ sizes_of (after_phase ask f.taken ahead) ≡ sizes_of (after_phase ask [] asked)
-        → ((end : ℕ → Held) → Agree now end Nothing → InCourse end Nothing (after_phase ask f.taken ahead) → InCourse end kids (after_phase ask [] asked))
+        → ((end : ℕ → Held) → KeepsOutside now end Nothing → InCourse end Nothing (after_phase ask f.taken ahead) → InCourse end kids (after_phase ask [] asked))
         → (Costs Nothing now now count (phase_calls ask f.taken ahead) count → Costs kids begin now start (phase_calls ask [] asked) count)
         → AfterPhase plan group past [] asked begin now kids start count
     ended (kid ∷ more) none sizes done costs = absurd none

@@ -30,9 +30,6 @@ calls_push calls (first ∷ more) specs =
     let rest = calls_push calls more specs in
     omega arith
 
-own_calls : Requested → ℕ
-own_calls kid = sum_by kid.child.calls kid.requests
-
 calls_asked : (answer : Option Specs) (kid : Requested) → sum_by (asked_for answer kid).child.calls (asked_for answer kid).requests ≡ sum_by kid.child.calls kid.requests + calls_for answer kid.child
 calls_asked None kid = omega arith
 calls_asked (Some specs) kid = calls_push kid.child.calls kid.requests specs
@@ -146,15 +143,20 @@ pub asked_on : (ask : List Measured → Measured → Option Specs) (taken : List
 asked_on ask taken [] h = tt
 asked_on ask taken (kid ∷ kids) h = (asked_turn (is_shown kid.child.facts) (ask taken (measured_of kid)) kid h.0, asked_on ask (taken ++ size_in (after_turn ask taken kid)) kids h.1)
 
-pub asked_through : (left : ℕ) (rule : Rule) (progress : Progress) → AllAsked progress.kids → AllAsked (phases_on left rule progress).kids
-asked_through zero rule progress h = h
-asked_through (suc left) rule progress h =
-    by_test (rule.turns progress.past) (asked_through left rule (one_phase rule progress) (asked_on (rule.ask progress.past) [] progress.kids h)) h
+-- what each phase keeps of the children is so after all phases
+kept_through : (P : List Requested → Type 0)
+    → ((ask : List Measured → Measured → Option Specs) (taken : List Measured) (kids : List Requested) → P kids → P (after_phase ask taken kids))
+    → (left : ℕ) (rule : Rule) (progress : Progress) → P progress.kids → P (phases_on left rule progress).kids
+kept_through P keeps zero rule progress h = h
+kept_through P keeps (suc left) rule progress h =
+    by_test (rule.turns progress.past) (kept_through P keeps left rule (one_phase rule progress) (keeps (rule.ask progress.past) [] progress.kids h)) h
   where
-    by_test : (v : Bool) → AllAsked (phases_on left rule (one_phase rule progress)).kids → AllAsked progress.kids
-        → AllAsked (if v then phases_on left rule (one_phase rule progress) else progress).kids
+    by_test : (v : Bool) → P (phases_on left rule (one_phase rule progress)).kids → P progress.kids → P (if v then phases_on left rule (one_phase rule progress) else progress).kids
     by_test true go stop = go
     by_test false go stop = stop
+
+pub asked_through : (left : ℕ) (rule : Rule) (progress : Progress) → AllAsked progress.kids → AllAsked (phases_on left rule progress).kids
+asked_through = kept_through AllAsked asked_on
 
 gone_turn : (v : Bool) (answer : Option Specs) (kid : Requested) → v ≡ is_shown kid.child.facts → (is_shown kid.child.facts ≡ false → kid.requests ≡ [])
     → (let next = (if v then asked_for answer kid else kid) in is_shown next.child.facts ≡ false → next.requests ≡ [])
@@ -166,22 +168,12 @@ gone_on : (ask : List Measured → Measured → Option Specs) (taken : List Meas
 gone_on ask taken [] h = tt
 gone_on ask taken (kid ∷ kids) h = (gone_turn (is_shown kid.child.facts) (ask taken (measured_of kid)) kid refl h.0, gone_on ask (taken ++ size_in (after_turn ask taken kid)) kids h.1)
 
-gone_through : (left : ℕ) (rule : Rule) (progress : Progress) → GoneLeft progress.kids → GoneLeft (phases_on left rule progress).kids
-gone_through zero rule progress h = h
-gone_through (suc left) rule progress h =
-    by_test (rule.turns progress.past) (gone_through left rule (one_phase rule progress) (gone_on (rule.ask progress.past) [] progress.kids h)) h
-  where
-    by_test : (v : Bool) → GoneLeft (phases_on left rule (one_phase rule progress)).kids → GoneLeft progress.kids
-        → GoneLeft (if v then phases_on left rule (one_phase rule progress) else progress).kids
-    by_test true go stop = go
-    by_test false go stop = stop
-
 gone_begun : (kids : List Child) → GoneLeft (begun kids).kids
 gone_begun [] = tt
 gone_begun (kid ∷ kids) = (λ gone. refl, gone_begun kids)
 
 gone_course : (rule : Rule) (kids : List Child) → GoneLeft (course_of rule kids).kids
-gone_course rule kids = gone_through 2 rule (one_phase rule (begun kids)) (gone_on (rule.ask []) [] (begun kids).kids (gone_begun kids))
+gone_course rule kids = kept_through GoneLeft gone_on 2 rule (one_phase rule (begun kids)) (gone_on (rule.ask []) [] (begun kids).kids (gone_begun kids))
 
 -- children before anything is asked of them
 pub begun_course : (held : ℕ → Held) (list : Forest Row) → InCourse held list (begun (children_of (views_of list))).kids

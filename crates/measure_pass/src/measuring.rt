@@ -1,14 +1,15 @@
 //! Measuring a view through all views below it: the walk, which is the same for every class.
-ghost use Rattle.std.specs.Prelude.{◌≡◌, ◌≤◌, ℕ, ◌+◌, ◌-◌, ◌^◌, min, [], ◌∷◌, ◌++◌, List, length};
+ghost use Rattle.std.specs.Prelude.{◌≡◌, ◌≤◌, ◌+◌, ◌-◌, ◌^◌, min, [], ◌∷◌, ◌++◌, List, length};
 ghost use Rattle.geom_core.specs.Limits.{IsSide};
 ghost use Rattle.measure_pass.specs.Courses.{AfterAll, AfterPhase, CanTurn, InCourse, IsMeasuredBelow, StaysReady};
 ghost use Rattle.measure_pass.specs.Measured.{IsMeasured, IsReady, Keeps, calls_under, done_with, size_under};
 ghost use Rattle.measure_pass.specs.Plans.{Group, Stands, rule_in};
+ghost use Rattle.view_model.specs.declared.limits.TheConstants.{MAX_VIEWS};
 ghost use Rattle.view_model.specs.Course.{Requested};
 ghost use Rattle.view_model.specs.Forest.{count_of};
 ghost use Rattle.view_model.specs.Measuring.{Measured};
-ghost use Rattle.view_tree.specs.Rows.{first_tree, children_of_first, part_from, count_of_key};
-ghost use Rattle.view_tree.specs.Views.{IsLive, IsTree, KeepsOthers, SameTree, held_of};
+ghost use Rattle.view_tree.specs.Rows.{first_tree, children_of_first, part_from};
+ghost use Rattle.view_tree.specs.Views.{IsLive, IsTree, KeepsOthers, KeepsOutside, SameTree, held_of};
 
 use crate::plan::Plan;
 use geom_core::{Size, Spec};
@@ -26,7 +27,7 @@ pub fn measure(tree: &mut ViewTree, view: Key, ws: Spec, hs: Spec, work: &mut Wo
     ensures same { SameTree tree.old tree.new }
     ensures measured { IsMeasured tree.new view (record { across = ws; down = hs }) }
     ensures keeps { Keeps (held_of tree.old) (held_of tree.new) }
-    ensures others { (key : ℕ) → count_of_key key (first_tree (part_from view tree.old.tree)) ≡ 0 → held_of tree.new key ≡ held_of tree.old key }
+    ensures others { KeepsOutside (held_of tree.old) (held_of tree.new) (first_tree (part_from view tree.old.tree)) }
     ensures painted { work.new.painted ≡ work.old.painted }
     ensures counted { work.new.measured ≡ min (work.old.measured + calls_under (part_from view tree.old.tree) (record { across = ws; down = hs })) (2 ^ 64 - 1) }
 {
@@ -65,7 +66,7 @@ fn measure_below(tree: &mut ViewTree, view: Key, ws: Spec, hs: Spec, work: &mut 
         result.size result.total work.old.measured work.new.measured }
     ensures same { SameTree tree.old tree.new }
     ensures keeps { Keeps (held_of tree.old) (held_of tree.new) }
-    ensures others { (key : ℕ) → count_of_key key (children_of_first (part_from view tree.old.tree)) ≡ 0 → held_of tree.new key ≡ held_of tree.old key }
+    ensures others { KeepsOutside (held_of tree.old) (held_of tree.new) (children_of_first (part_from view tree.old.tree)) }
     ensures painted { work.new.painted ≡ work.old.painted }
 {
     let mut plan = Plan::start(tree, view, ws, hs);
@@ -92,7 +93,7 @@ fn measure_phases(
         result.size result.total work.old.measured work.new.measured }
     ensures same { SameTree tree.old tree.new }
     ensures keeps { Keeps (held_of tree.old) (held_of tree.new) }
-    ensures others { (key : ℕ) → count_of_key key (children_of_first (part_from view tree.old.tree)) ≡ 0 → held_of tree.new key ≡ held_of tree.old key }
+    ensures others { KeepsOutside (held_of tree.old) (held_of tree.new) (children_of_first (part_from view tree.old.tree)) }
     ensures painted { work.new.painted ≡ work.old.painted }
 {
     measure_kids(tree, view, plan, work);
@@ -132,7 +133,7 @@ fn measure_kids(tree: &mut ViewTree, view: Key, plan: &mut Plan, work: &mut Work
         → AfterPhase plan.new group past [] kids (held_of tree.old) (held_of tree.new) (children_of_first (part_from view tree.old.tree)) work.old.measured work.new.measured }
     ensures same { SameTree tree.old tree.new }
     ensures keeps { Keeps (held_of tree.old) (held_of tree.new) }
-    ensures others { (key : ℕ) → count_of_key key (children_of_first (part_from view tree.old.tree)) ≡ 0 → held_of tree.new key ≡ held_of tree.old key }
+    ensures others { KeepsOutside (held_of tree.old) (held_of tree.new) (children_of_first (part_from view tree.old.tree)) }
     ensures painted { work.new.painted ≡ work.old.painted }
 {
     let mut next = tree.first(view);
@@ -148,13 +149,13 @@ fn measure_kid(tree: &mut ViewTree, kid: Key, plan: &mut Plan, work: &mut Work)
     requires live { IsLive tree.old kid }
     ensures phase { (group : Group) (past : List (List Measured)) (taken : List Measured) (kids : List Requested)
         → Stands plan.old group past taken
-        → length taken + count_of (first_tree (part_from kid tree.old.tree)) ≤ 4096
+        → length taken + count_of (first_tree (part_from kid tree.old.tree)) ≤ MAX_VIEWS
         → InCourse (held_of tree.old) (first_tree (part_from kid tree.old.tree)) kids
         → CanTurn (rule_in group) past kids
         → AfterPhase plan.new group past taken kids (held_of tree.old) (held_of tree.new) (first_tree (part_from kid tree.old.tree)) work.old.measured work.new.measured }
     ensures same { SameTree tree.old tree.new }
     ensures keeps { Keeps (held_of tree.old) (held_of tree.new) }
-    ensures others { (key : ℕ) → count_of_key key (first_tree (part_from kid tree.old.tree)) ≡ 0 → held_of tree.new key ≡ held_of tree.old key }
+    ensures others { KeepsOutside (held_of tree.old) (held_of tree.new) (first_tree (part_from kid tree.old.tree)) }
     ensures painted { work.new.painted ≡ work.old.painted }
 {
     let facts = tree.facts(kid);

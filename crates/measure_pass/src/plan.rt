@@ -2,6 +2,7 @@
 ghost use Rattle.std.specs.Prelude.{◌≡◌, ◌<◌, [], ◌∷◌, ◌++◌, List, length};
 ghost use Rattle.std.specs.Option.{option_map};
 ghost use Rattle.measure_pass.specs.Plans.{Group, Stands, Turned, group_of, rule_in};
+ghost use Rattle.view_model.specs.declared.limits.TheConstants.{MAX_VIEWS};
 ghost use Rattle.view_model.specs.Facts.{unscrolled_facts};
 ghost use Rattle.view_model.specs.Leaf.{view_size};
 ghost use Rattle.view_model.specs.Measuring.{Measured, pair_of, taken_as};
@@ -50,7 +51,7 @@ impl Plan {
     pub fn take(&mut self, kid: &Facts, size: Size)
         ensures { (group : Group) (past : List (List Measured)) (taken : List Measured)
             → Stands self.old group past taken
-            → length taken < 4096
+            → length taken < MAX_VIEWS
             → Stands self.new group past (taken ++ taken_as (rule_in group) past taken (unscrolled_facts kid.now) size ∷ []) }
     {
         match self {

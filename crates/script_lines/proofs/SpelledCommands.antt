@@ -6,6 +6,7 @@ use Rattle.std.specs.Str.{bytes_eq}
 use Rattle.std.proofs.lemmas.Int.{ints}
 use Rattle.geom_core.specs.declared.geometry.Insets.{Insets}
 use Rattle.view_model.specs.Facts.{no_gravity}
+use Rattle.view_model.specs.declared.limits.TheConstants.{MAX_INSET, MAX_SIZE}
 use Rattle.view_model.specs.declared.changes.Act.{Act}
 use Rattle.view_model.specs.declared.changes.Act.TheVariants as act
 use Rattle.view_model.specs.declared.changes.Change.{Change}
@@ -25,6 +26,7 @@ use Rattle.script_lines.specs.Dimensions.{IsExtent, dimension_of, extent_of, ext
 use Rattle.script_lines.specs.Gravities.{across_of, down_of, gravity_of, is_set_across, is_set_down, one_across, one_down, with_word, with_words}
 use Rattle.script_lines.specs.Numbers.{IsWithin}
 use Rattle.script_lines.specs.Spelled.{ActHasLine, ChangeHasLine, HasLine, HasWord, act_head, act_words, change_head, change_words, class_text, extent_text, gravity_text, insets_words, name_text, parent_text, spelled, visibility_text}
+use Rattle.script_lines.specs.declared.commands.TheConstants.{MAX_WINDOW}
 use Rattle.script_lines.specs.declared.commands.Command.{Command}
 use Rattle.script_lines.specs.declared.commands.Command.TheVariants as command
 use Rattle.script_lines.specs.declared.changes.Sides.{Sides}
@@ -59,7 +61,7 @@ dimension_of-text (negsuc zero) h = refl
 dimension_of-text (negsuc (suc n)) h = refl
 
 extent_of-as : (z : ℤ) → IsExtent z → extent_of (dimension_as z) ≡ Ok z
-extent_of-as (pos n) h = within_of-within (pos 0) (pos 16777215) (pos n) (omega (arith, ints), h.1)
+extent_of-as (pos n) h = within_of-within (pos 0) MAX_SIZE (pos n) (omega (arith, ints), h.1)
 extent_of-as (negsuc zero) h = refl
 extent_of-as (negsuc (suc zero)) h = refl
 extent_of-as (negsuc (suc (suc n))) h = absurd (omega (arith, ints, h.0))
@@ -141,7 +143,7 @@ gravity_back gravity (inr h) =
     subst P (sym h.0) (given_back gravity.across gravity.down h.1)
 
 -- sides
-side_short : (low : ℕ) (z : ℤ) → low < 2 ^ 31 → IsWithin (negsuc low) (pos 1048575) z → IsShort z
+side_short : (low : ℕ) (z : ℤ) → low < 2 ^ 31 → IsWithin (negsuc low) MAX_INSET z → IsShort z
 side_short low z l h = short_within low 1048575 z h.0 h.1 l (omega arith)
 
 abbrev sides_as : Insets → Sides
@@ -153,29 +155,29 @@ record AreShort (sides : Insets) : Type 0 where
   right : IsShort sides.right
   bottom : IsShort sides.bottom
 
-sides_short : (low : ℕ) (sides : Insets) → low < 2 ^ 31 → AreWithin (negsuc low) (pos 1048575) sides → AreShort sides
+sides_short : (low : ℕ) (sides : Insets) → low < 2 ^ 31 → AreWithin (negsuc low) MAX_INSET sides → AreShort sides
 sides_short low sides l h = record { left = side_short low sides.left l h.0; top = side_short low sides.top l h.1; right = side_short low sides.right l h.2; bottom = side_short low sides.bottom l h.3 }
 
 sides_of-text : (sides : Insets) → AreShort sides → sides_of (insets_words sides) ≡ Ok (sides_as sides)
 unfolding sides_of
 sides_of-text sides h = rw (integer_of-signed sides.left h.left, integer_of-signed sides.top h.top, integer_of-signed sides.right h.right, integer_of-signed sides.bottom h.bottom) refl
 
-insets_of-as : (low : ℤ) (sides : Insets) → AreWithin low (pos 1048575) sides → insets_of low (sides_as sides) ≡ Ok sides
+insets_of-as : (low : ℤ) (sides : Insets) → AreWithin low MAX_INSET sides → insets_of low (sides_as sides) ≡ Ok sides
 unfolding insets_of
 insets_of-as low sides h =
-    rw (within_of-within low (pos 1048575) sides.left h.0, within_of-within low (pos 1048575) sides.top h.1, within_of-within low (pos 1048575) sides.right h.2, within_of-within low (pos 1048575) sides.bottom h.3) refl
+    rw (within_of-within low MAX_INSET sides.left h.0, within_of-within low MAX_INSET sides.top h.1, within_of-within low MAX_INSET sides.right h.2, within_of-within low MAX_INSET sides.bottom h.3) refl
 
 sides_words : (sides : Insets) → AreShort sides → AreWords (insets_words sides)
 sides_words sides h = (signed_word sides.left h.left, (signed_word sides.top h.top, (signed_word sides.right h.right, (signed_word sides.bottom h.bottom, tt))))
 
 -- from 0 upward is from -1 upward
-from_0 : (z : ℤ) → IsWithin (pos 0) (pos 1048575) z → IsWithin (negsuc 0) (pos 1048575) z
+from_0 : (z : ℤ) → IsWithin (pos 0) MAX_INSET z → IsWithin (negsuc 0) MAX_INSET z
 from_0 z h = (omega (arith, ints, h.0), h.1)
 
-padding_short : (sides : Insets) → AreWithin (pos 0) (pos 1048575) sides → AreShort sides
+padding_short : (sides : Insets) → AreWithin (pos 0) MAX_INSET sides → AreShort sides
 padding_short sides h = sides_short 0 sides (omega arith) (from_0 sides.left h.0, from_0 sides.top h.1, from_0 sides.right h.2, from_0 sides.bottom h.3)
 
-size_short : (z : ℤ) → IsWithin (pos 0) (pos 16777215) z → IsShort z
+size_short : (z : ℤ) → IsWithin (pos 0) MAX_SIZE z → IsShort z
 size_short z h = short_within 0 16777215 z (omega (arith, ints, h.0)) h.1 (omega arith) (omega arith)
 
 -- what a change says behind the view, and what that is read as
@@ -194,7 +196,7 @@ change_reads (change.Size width height) b l = record {
 change_reads (change.Min size) b l = record {
   head = word_by (codes "min") refl;
   words = (signed_word size.w (size_short size.w b.0), (signed_word size.h (size_short size.h b.1), tt));
-  value = rw (pair_of-signed (pos 0) (pos 16777215) size.w size.h (size_short size.w b.0) (size_short size.h b.1) b.0 b.1) refl;
+  value = rw (pair_of-signed (pos 0) MAX_SIZE size.w size.h (size_short size.w b.0) (size_short size.h b.1) b.0 b.1) refl;
 }
 change_reads (change.Margins sides) b l =
     let h = sides_short 1048574 sides (omega arith) b in
@@ -272,7 +274,7 @@ command_by-act (act.Answer answer) ws l = absurd l
 command_by-act (act.Intercept actions) ws l = absurd l
 command_by-act (act.Scroll offset) ws l = absurd l
 
-side_of_window : (z : ℤ) → IsWithin (pos 1) (pos 4096) z → IsShort z
+side_of_window : (z : ℤ) → IsWithin (pos 1) MAX_WINDOW z → IsShort z
 side_of_window z h = short_within 0 4096 z (omega (arith, ints, h.0)) h.1 (omega arith) (omega arith)
 
 -- The command of the text of a command is that command.
@@ -280,7 +282,7 @@ pub command_of-spelled : (c : Command) → IsInBounds c → HasLine c → comman
 unfolding command_by add_of remove_of frame_of bounds_of set_of
 command_of-spelled (command.Window w h) b l =
     command_of-joined (codes "window") (signed_decimal w ∷ signed_decimal h ∷ []) (word_by (codes "window") refl, (signed_word w (side_of_window w b.0), (signed_word h (side_of_window h b.1), tt)))
-    ∙ rw (pair_of-signed (pos 1) (pos 4096) w h (side_of_window w b.0) (side_of_window h b.1) b.0 b.1) refl
+    ∙ rw (pair_of-signed (pos 1) MAX_WINDOW w h (side_of_window w b.0) (side_of_window h b.1) b.0 b.1) refl
 command_of-spelled (command.Add parent class width height) b l =
     command_of-joined (codes "add") (parent_text parent ∷ class_text class ∷ extent_text width ∷ extent_text height ∷ []) (word_by (codes "add") refl, (parent_word parent l, (class_word class, (extent_word width b.0, (extent_word height b.1, tt)))))
     ∙ rw (parent_of-text parent l, class_of-text class, extents_of-text width height b.0 b.1) refl

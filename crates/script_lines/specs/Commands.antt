@@ -8,6 +8,7 @@ use Rattle.script_lines.specs.Dimensions.{IsExtent, extents_of}
 use Rattle.script_lines.specs.Names.{name_in, parent_in}
 use Rattle.script_lines.specs.Numbers.{IsWithin, pair_of}
 use Rattle.script_lines.specs.Words.{◌>>=◌, map_ok, word_in, end_of, words}
+use Rattle.script_lines.specs.declared.commands.TheConstants.{MAX_WINDOW}
 use Rattle.script_lines.specs.declared.commands.Command.{Command}
 use Rattle.script_lines.specs.declared.commands.Command.TheVariants as command
 use Rattle.script_lines.specs.declared.fault.LineFault.{LineFault}
@@ -15,7 +16,7 @@ use Rattle.script_lines.specs.declared.fault.LineFault.TheVariants.{Syntax}
 
 -- `W H`, the sides of a window
 abbrev pub window_of : List (List ℕ) → Result Command LineFault
-window_of words = map_ok (λ pair. command.Window pair.0 pair.1) (pair_of (pos 1) (pos 4096) words)
+window_of words = map_ok (λ pair. command.Window pair.0 pair.1) (pair_of (pos 1) MAX_WINDOW words)
 
 unfoldable pub class_of : List ℕ → Result Class LineFault
 class_of word =
@@ -72,7 +73,7 @@ command_of line = if is_utf8 line then (word_in (words line) >>= λ head. comman
 
 -- the numbers of a command are within their bounds
 abbrev pub IsInBounds : Command → Type 0
-IsInBounds (command.Window w h) = IsWithin (pos 1) (pos 4096) w × IsWithin (pos 1) (pos 4096) h
+IsInBounds (command.Window w h) = IsWithin (pos 1) MAX_WINDOW w × IsWithin (pos 1) MAX_WINDOW h
 IsInBounds (command.Add parent class width height) = IsExtent width × IsExtent height
 IsInBounds (command.Remove view) = Unit {0}
 IsInBounds (command.Act view act) = IsActInBounds act

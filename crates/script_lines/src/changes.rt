@@ -12,6 +12,7 @@ use crate::naming::id_word;
 use crate::number::{number, pair, within};
 use crate::words::{end, is, literal, word};
 use geom_core::{Insets, Size};
+use view_model::limits::{MAX_INSET, MAX_SIZE, MIN_MARGIN};
 use view_model::{Act, Change, Visibility};
 
 /// The sides of a view as words give them, the numbers not yet within their bounds.
@@ -41,20 +42,20 @@ fn read_sides(bytes: &[u8]) -> Result<Sides, LineFault>
     })
 }
 
-/// Sides within their bounds, each from `low` to 1048575.
+/// Sides within their bounds, each from `low` to `MAX_INSET`.
 #[tactic(auto, unfolding(crate::specs::Changes::insets_of))]
 fn insets(low: i64, sides: Sides) -> Result<Insets, LineFault>
     requires { negsuc 2147483646 ≤ℤ low }
     ensures value { result ≡ insets_of low sides }
-    ensures left { IfOk result (λ r. IsWithin low (pos 1048575) r.left) }
-    ensures top { IfOk result (λ r. IsWithin low (pos 1048575) r.top) }
-    ensures right { IfOk result (λ r. IsWithin low (pos 1048575) r.right) }
-    ensures bottom { IfOk result (λ r. IsWithin low (pos 1048575) r.bottom) }
+    ensures left { IfOk result (λ r. IsWithin low MAX_INSET r.left) }
+    ensures top { IfOk result (λ r. IsWithin low MAX_INSET r.top) }
+    ensures right { IfOk result (λ r. IsWithin low MAX_INSET r.right) }
+    ensures bottom { IfOk result (λ r. IsWithin low MAX_INSET r.bottom) }
 {
-    let left = within(low, 1048575, sides.left)?;
-    let top = within(low, 1048575, sides.top)?;
-    let right = within(low, 1048575, sides.right)?;
-    let bottom = within(low, 1048575, sides.bottom)?;
+    let left = within(low, MAX_INSET, sides.left)?;
+    let top = within(low, MAX_INSET, sides.top)?;
+    let right = within(low, MAX_INSET, sides.right)?;
+    let bottom = within(low, MAX_INSET, sides.bottom)?;
     Ok(Insets {
         left,
         top,
@@ -75,7 +76,7 @@ fn min(bytes: &[u8]) -> Result<Change, LineFault>
     ensures value { result ≡ min_of (words bytes.now) }
     ensures bounds { IfOk result IsChangeInBounds }
 {
-    let (w, h) = pair(0, 16777215, bytes)?;
+    let (w, h) = pair(0, MAX_SIZE, bytes)?;
     Ok(Change::Min(Size { w, h }))
 }
 
@@ -83,7 +84,7 @@ fn margins(bytes: &[u8]) -> Result<Change, LineFault>
     ensures value { result ≡ margins_of (words bytes.now) }
     ensures bounds { IfOk result IsChangeInBounds }
 {
-    let insets = insets(-1048575, read_sides(bytes)?)?;
+    let insets = insets(MIN_MARGIN, read_sides(bytes)?)?;
     Ok(Change::Margins(insets))
 }
 

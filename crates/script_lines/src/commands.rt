@@ -3,10 +3,13 @@
 use crate::naming::Name;
 use view_model::{Act, Class};
 
-/// What a line asks for. A dimension is a number of pixels from 0 to 16777215, `MATCH` or `WRAP`.
+/// The greatest side of a window, in pixels.
+pub const MAX_WINDOW: i64 = 4096;
+
+/// What a line asks for. A dimension is a number of pixels from 0 to `MAX_SIZE`, `MATCH` or `WRAP`.
 #[derive(Clone, Copy, Debug, PartialEq, Eq)]
 pub enum Command {
-    /// A new window of this size, each side from 1 to 4096 pixels, without a frame.
+    /// A new window of this size, each side from 1 to `MAX_WINDOW` pixels, without a frame.
     Window {
         w: i32,
         h: i32,

@@ -16,7 +16,7 @@ const MAX_LINE: usize = 1024;
 #[derive(Clone, Copy, Debug, PartialEq, Eq)]
 pub enum Ended {
     No,
-    /// A line of at most 1024 bytes, a carriage return counted.
+    /// A line of at most `MAX_LINE` bytes, a carriage return counted.
     Line,
     /// A line that is too long. Its bytes are gone.
     Long,
@@ -38,7 +38,7 @@ pub enum LinePlace {
 #[derive(Drop)]
 pub struct Lines {
     /// What has come of a line, at most one byte more than a line may have; and in its place the line that has just ended.
-    buffer: [u8; 1025],
+    buffer: [u8; MAX_LINE + 1],
     /// How much of the buffer has come of the next line.
     begun: usize,
     /// How much of the buffer is the line that has just ended.
@@ -46,14 +46,15 @@ pub struct Lines {
 }
 
 impl Model for Lines {
-    ghost use Rattle.std.specs.Prelude.{◌≤◌, take};
+    ghost use Rattle.std.specs.Prelude.{◌+◌, ◌≤◌, take};
     ghost use Rattle.script_lines.specs.LineBuffer.{LineBuffer};
+    ghost use Rattle.script_lines.specs.Lines.{max_line};
 
     ghost Value = { LineBuffer };
 
     ghost view = { λ s. record { begun = take s.begun s.buffer; line = take s.line s.buffer } };
 
-    ghost invariant = { λ s. (s.begun ≤ 1025) × (s.line ≤ 1024) };
+    ghost invariant = { λ s. (s.begun ≤ max_line + 1) × (s.line ≤ max_line) };
 }
 
 impl Lines {
@@ -63,7 +64,7 @@ impl Lines {
         ensures line { result.line ≡ [] }
     {
         Lines {
-            buffer: [0; 1025],
+            buffer: [0; MAX_LINE + 1],
             begun: 0,
             line: 0,
         }
@@ -164,7 +165,7 @@ impl Lines {
     /// empty where none has, where it is too long, and where it lies in the piece.
     pub fn bytes(&self) -> &[u8]
         ensures line { result.now ≡ self.now.line }
-        ensures short { length result.now ≤ 1024 }
+        ensures short { length result.now ≤ MAX_LINE }
     {
         &self.buffer[..self.line]
     }

@@ -8,6 +8,7 @@ use crate::fault::LineFault;
 use crate::number::{integer, within};
 use crate::words::{end, is, word};
 use geom_core::{MATCH, WRAP};
+use view_model::limits::MAX_SIZE;
 
 /// A dimension as a word gives it, its number not yet within its bounds.
 #[derive(Clone, Copy, Debug, PartialEq, Eq)]
@@ -47,7 +48,7 @@ fn extent(dimension: Dimension) -> Result<i32, LineFault>
     match dimension {
         Dimension::Match => Ok(MATCH),
         Dimension::Wrap => Ok(WRAP),
-        Dimension::Pixels(n) => within(0, 16777215, n),
+        Dimension::Pixels(n) => within(0, MAX_SIZE, n),
     }
 }
 

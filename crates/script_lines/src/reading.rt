@@ -8,7 +8,7 @@ ghost use Rattle.script_lines.specs.Words.{words};
 ghost use Rattle.script_lines.specs.declared.commands.Command.{Command as CommandValue};
 
 use crate::changes::read_act;
-use crate::commands::Command;
+use crate::commands::{Command, MAX_WINDOW};
 use crate::dimension::extents;
 use crate::fault::LineFault;
 use crate::naming::{name_word, parent_word};
@@ -20,7 +20,7 @@ fn window(bytes: &[u8]) -> Result<Command, LineFault>
     ensures value { result ≡ window_of (words bytes.now) }
     ensures bounds { IfOk result IsInBounds }
 {
-    let (w, h) = pair(1, 4096, bytes)?;
+    let (w, h) = pair(1, MAX_WINDOW, bytes)?;
     Ok(Command::Window { w, h })
 }
 

@@ -58,11 +58,14 @@ both_by false old mid new before held after xs ys v s t = record {
   silent = λ e. absurd (differs (sym e ∙ (s.moves v).0));
 }
 
--- two texts, where what happens says between which moments
+-- two texts, where what happens says between which moments: to be named in `using`, and its notation for an answer
+pub sends_both : {old mid new : SinkState} {before held after : BufferedText} {xs ys : List ℕ} → Sends old mid before held xs → Sends mid new held after ys → Sends old new before after (xs ⧺ ys)
+unfolding ◌⧺◌
+sends_both {held = held} first second = both_by held.failed _ _ _ _ _ _ _ _ refl first second
+
 infixr 4 ◌⨾◌
 pub ◌⨾◌ : {old mid new : SinkState} {before held after : BufferedText} {xs ys : List ℕ} → Sends old mid before held xs → Sends mid new held after ys → Sends old new before after (xs ⧺ ys)
-unfolding ◌⧺◌
-◌⨾◌ {held = held} first second = both_by held.failed _ _ _ _ _ _ _ _ refl first second
+first ⨾ second = sends_both first second
 
 -- nothing more was sent
 pub sends_end : {old mid new : SinkState} {before held after : BufferedText} {text : List ℕ} → Sends old mid before held text → Sends mid new held after [] → Sends old new before after text

@@ -17,10 +17,6 @@ pub raised_later : (count : ℕ) → count ≤ raised count
 unfolding raised
 raised_later count = omega arith
 
--- a count that is one higher rose
-pub raised_rose : (before now : ℕ) → now ≡ raised before → Rose before now
-raised_rose before now one = omega (arith, one)
-
 -- a count of each failed call, also of one for want of memory
 pub counts_each : (before now : ℕ) (outcome : Result Found ShelfFault) → now ≡ faults_after before (is_ok outcome) → CountsFetch before now outcome
 counts_each before now (Ok found) counted = counted

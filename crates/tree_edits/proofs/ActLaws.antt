@@ -3,20 +3,20 @@ use Rattle.std.proofs.Common.{◌≡◌, ℕ, ◌<◌, Bool, true, false, List, 
 use Rattle.std.proofs.lemmas.Bool.{cases_Bool, cases_eq}
 use Rattle.std.specs.Prelude.{◌==◌, if◌then◌else◌, OnErr, OnOk, Result, Ok, Err}
 use Rattle.view_model.specs.Changes.{facts_after_act}
-use Rattle.view_model.specs.declared.attributes.Facts.{Facts}
+use Rattle.view_model.specs.declared.facts.Facts.{Facts}
 use Rattle.view_model.specs.declared.changes.Act.{Act}
-use Rattle.view_model.specs.Facts.{is_shown}
+use Rattle.view_model.specs.Facts.{is_shown, unscrolled_facts}
 use Rattle.view_model.specs.Forest.{Forest}
 use Rattle.view_model.specs.Geometry.{Laid}
 use Rattle.view_model.specs.PlainTree.{PlainView, with_facts}
 use Rattle.view_tree.specs.declared.fault.AttachFault.{AttachFault}
 use Rattle.view_tree.specs.Hidden.{HidesGone, IsConsistent, NoBounds}
-use Rattle.view_tree.specs.Rows.{Row, first_tree, part_from, head_view, changed_at_key, count_of_key, unscrolled_facts}
+use Rattle.view_tree.specs.Rows.{Row, first_tree, part_from, head_view, changed_at_key, count_of_key}
 use Rattle.view_tree.specs.Views.{Held, IsLive, IsTree, KeepsOthers, SameTree, Views, facts_of, geometry_of, held_of, laid_rows, number_of, plain_of, plain_rows}
-use Rattle.view_tree.proofs.GeometryLaws.{geometry-hidden, geometry-put, laid_along, no_bounds}
-use Rattle.view_tree.proofs.HiddenLaws.{hidden-part, hides-put, hides_along, no_bounds_along}
-use Rattle.view_tree.proofs.KeyLaws.{Within, here, in_below, in_after, located}
-use Rattle.view_tree.proofs.PlainLaws.{plain_along}
+use Rattle.view_tree.proofs.values.GeometryLaws.{geometry-hidden, geometry-put, laid_along, no_bounds}
+use Rattle.view_tree.proofs.values.HiddenLaws.{hidden-part, hides-put, hides_along, no_bounds_along}
+use Rattle.view_tree.proofs.forest.KeyLaws.{Within, here, in_below, in_after, located}
+use Rattle.view_tree.proofs.forest.PlainLaws.{plain_along}
 use Rattle.tree_edits.specs.Applied.{names_views}
 use Rattle.tree_edits.specs.Editing.{after_act, hidden, hides}
 use Rattle.tree_edits.specs.declared.edits.Edit.TheVariants as edit

@@ -3,7 +3,7 @@ use Rattle.std.proofs.Common.{◌≡◌, ℕ, ℤ, Bool, List, [], Option, Some,
 use Rattle.std.specs.Option.{option_map}
 use Rattle.std.specs.Prelude.{if◌then◌else◌}
 use Rattle.std.specs.Result.{IsErrAnd}
-use Rattle.view_model.specs.declared.attributes.Facts.{Facts}
+use Rattle.view_model.specs.declared.facts.Facts.{Facts}
 use Rattle.view_model.specs.declared.changes.Act.{Act}
 use Rattle.view_model.specs.declared.kinds.Class.{Class}
 use Rattle.view_model.specs.Facts.{new_facts}
@@ -11,16 +11,17 @@ use Rattle.view_model.specs.Forest.{Forest, Nothing}
 use Rattle.view_model.specs.Growth.{refusal_at}
 use Rattle.view_model.specs.PlainTree.{PlainView, pruned, view_in, with_text}
 use Rattle.view_model.specs.Refusals.{refusal_numbered}
+use Rattle.view_model.specs.declared.refusals.TheConstants.{WRONG_CLASS}
 use Rattle.view_tree.specs.Attached.{Attached}
 use Rattle.view_tree.specs.declared.fault.AttachFault.{AttachFault}
 use Rattle.view_tree.specs.declared.fault.AttachFault.TheVariants as attach
 use Rattle.view_tree.specs.Faults.{IsRefusedExactlyFor}
 use Rattle.view_tree.specs.Hidden.{HidesGone, IsConsistent}
-use Rattle.view_tree.specs.Rows.{Row, first_tree, pruned_at_key, part_from, changed_at_key, count_of_key}
-use Rattle.view_tree.specs.Views.{Held, IsLive, IsTree, Views, class_of, held_of, laid_rows, number_of, plain_of}
-use Rattle.view_tree.proofs.GeometryLaws.{geometry-pruned_at_key, geometry-with_child}
-use Rattle.view_tree.proofs.HiddenLaws.{hidden-pruned_at_key, hidden-with_child}
-use Rattle.view_tree.proofs.PlainLaws.{number_there}
+use Rattle.view_tree.specs.Rows.{Row, first_tree, pruned_at_key, part_from, changed_at_key}
+use Rattle.view_tree.specs.Views.{Held, IsLive, IsTree, KeepsOutside, Views, class_of, held_of, laid_rows, number_of, plain_of}
+use Rattle.view_tree.proofs.values.GeometryLaws.{geometry-pruned_at_key, geometry-with_child}
+use Rattle.view_tree.proofs.values.HiddenLaws.{hidden-pruned_at_key, hidden-with_child}
+use Rattle.view_tree.proofs.forest.PlainLaws.{number_there}
 use Rattle.tree_edits.specs.Applied.{AppliesEdit, IsAddable, fault_of}
 use Rattle.tree_edits.specs.declared.fault.EditFault.{EditFault}
 use Rattle.tree_edits.specs.declared.fault.EditFault.TheVariants as fault
@@ -85,7 +86,7 @@ pub detached_scene : (old new : Views) (view : ℕ) → IsTree old → IsLive ol
     → new.tree ≡ pruned_at_key view old.tree
     → plain_of new ≡ pruned (number_of old view) (plain_of old)
     → new.next ≡ old.next
-    → ((key : ℕ) → count_of_key key (first_tree (part_from view old.tree)) ≡ 0 → held_of new key ≡ held_of old key)
+    → KeepsOutside (held_of old) (held_of new) (first_tree (part_from view old.tree))
     → outcome_of_remove (scene_of old) (number_of old view) ≡ Ok (scene_of new, None)
 detached_scene old new view is live tree plain next others =
     ap (λ (scene : Scene). Ok (scene, None))
@@ -93,7 +94,7 @@ detached_scene old new view is live tree plain next others =
 
 pub detached_kept : (old new : Views) (view : ℕ) → IsTree old
     → new.tree ≡ pruned_at_key view old.tree
-    → ((key : ℕ) → count_of_key key (first_tree (part_from view old.tree)) ≡ 0 → held_of new key ≡ held_of old key)
+    → KeepsOutside (held_of old) (held_of new) (first_tree (part_from view old.tree))
     → IsConsistent old → IsConsistent new
 detached_kept old new view is tree others kept = record {
   hidden = subst (λ (t : Forest Row). HidesGone (held_of new) t) (sym tree) (hidden-pruned_at_key old (held_of new) view is kept.hidden others);
@@ -103,20 +104,20 @@ detached_kept old new view is tree others kept = record {
 pub done_by : (views : Views) (view : ℕ) (act : Act) (class : Class) (taken : Bool) → IsTree views → IsLive views view → class ≡ class_of views view
     → taken ≡ takes class act
     → outcome_of_act (scene_of views) (number_of views view) act (view_in (plain_of views) (number_of views view))
-    ≡ (if taken then Ok (after_act (scene_of views) (number_of views view) act, None) else Err (refusal_numbered 29))
+    ≡ (if taken then Ok (after_act (scene_of views) (number_of views view) act, None) else Err (refusal_numbered WRONG_CLASS))
 done_by views view act class taken is live class_is taken_is =
     ap (outcome_of_act (scene_of views) (number_of views view) act) (number_there views view is live)
-    ∙ ap (λ (b : Bool). if b then Ok (after_act (scene_of views) (number_of views view) act, None) else Err (refusal_numbered 29))
+    ∙ ap (λ (b : Bool). if b then Ok (after_act (scene_of views) (number_of views view) act, None) else Err (refusal_numbered WRONG_CLASS))
     (sym (taken_is ∙ ap (λ (k : Class). takes k act) class_is))
 
 -- a text is set or refused, by the class of its view
 pub written_by : (views : Views) (view : ℕ) (text : List ℕ) (class : Class) (has : Bool) → IsTree views → IsLive views view → class ≡ class_of views view
     → has ≡ has_text class
     → outcome_of_text (scene_of views) (number_of views view) text (view_in (plain_of views) (number_of views view))
-    ≡ (if has then Ok (record (scene_of views) { tree = with_text (number_of views view) text (plain_of views) }, None) else Err (refusal_numbered 29))
+    ≡ (if has then Ok (record (scene_of views) { tree = with_text (number_of views view) text (plain_of views) }, None) else Err (refusal_numbered WRONG_CLASS))
 written_by views view text class has is live class_is has_is =
     ap (outcome_of_text (scene_of views) (number_of views view) text) (number_there views view is live)
-    ∙ ap (λ (b : Bool). if b then Ok (record (scene_of views) { tree = with_text (number_of views view) text (plain_of views) }, None) else Err (refusal_numbered 29))
+    ∙ ap (λ (b : Bool). if b then Ok (record (scene_of views) { tree = with_text (number_of views view) text (plain_of views) }, None) else Err (refusal_numbered WRONG_CLASS))
     (sym (has_is ∙ ap has_text class_is))
 
 -- an act that is done, but for want of memory

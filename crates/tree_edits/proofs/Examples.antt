@@ -1,7 +1,7 @@
 -- Worked edits, by computation: what the definitions make of a small scene.
 use Rattle.std.specs.Prelude.{◌≡◌, ℕ, pos, refl, List, [], ◌∷◌, Some, None, Ok, Err, true}
 use Rattle.geom_core.specs.declared.geometry.Insets.{Insets}
-use Rattle.view_model.specs.declared.attributes.Facts.{Facts}
+use Rattle.view_model.specs.declared.facts.Facts.{Facts}
 use Rattle.view_model.specs.declared.changes.Act.TheVariants as act
 use Rattle.view_model.specs.declared.changes.Change.TheVariants as change
 use Rattle.view_model.specs.declared.changes.Flag.TheVariants as flag

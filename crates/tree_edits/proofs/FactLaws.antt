@@ -3,19 +3,19 @@ use Rattle.std.proofs.Common.{◌≡◌, ℕ, ℤ, pos, ◌≤◌, true, false, 
 use Rattle.std.proofs.lemmas.Bool.{cases_Bool}
 use Rattle.std.specs.Prelude.{◌==◌}
 use Rattle.view_model.specs.Changes.{facts_after_act}
-use Rattle.view_model.specs.declared.attributes.Facts.{Facts}
+use Rattle.view_model.specs.declared.facts.Facts.{Facts}
 use Rattle.view_model.specs.declared.changes.Act.{Act}
 use Rattle.view_model.specs.declared.changes.Act.TheVariants as act
 use Rattle.view_model.specs.declared.changes.Change.TheVariants as change
 use Rattle.view_model.specs.declared.changes.Flag.TheVariants as flag
 use Rattle.view_model.specs.declared.kinds.Visibility.TheVariants.{Visible, Invisible, Gone}
-use Rattle.view_model.specs.Facts.{is_shown}
+use Rattle.view_model.specs.Facts.{is_shown, unscrolled_facts}
 use Rattle.view_model.specs.Forest.{Forest, Nothing, Branch}
 use Rattle.view_model.specs.PlainTree.{with_facts}
-use Rattle.view_tree.specs.Rows.{Row, part_from, count_of_key, unscrolled_facts}
+use Rattle.view_tree.specs.Rows.{Row, part_from, count_of_key}
 use Rattle.view_tree.specs.Views.{Held, IsLive, IsTree, Views, facts_of, held_of, number_of, plain_of, plain_rows, scrolled}
-use Rattle.view_tree.proofs.KeyLaws.{Agree, absent, located, zero_or_more}
-use Rattle.view_tree.proofs.PlainLaws.{agree_live}
+use Rattle.view_tree.proofs.forest.KeyLaws.{Agree, absent, located, zero_or_more}
+use Rattle.view_tree.proofs.forest.PlainLaws.{agree_live}
 use Rattle.tree_edits.specs.Applied.{names_views}
 use Rattle.tree_edits.specs.Editing.{hides}
 

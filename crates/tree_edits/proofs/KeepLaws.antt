@@ -3,17 +3,17 @@ use Rattle.std.proofs.Common.{◌≡◌, ℕ, ℤ, ◌+◌, ◌<◌, ◌≤◌, 
 use Rattle.std.proofs.lemmas.Bool.{cases_Bool, cases_eq, eq-eqb, ne_eqb}
 use Rattle.std.specs.Prelude.{◌==◌, OnErr, OnOk, Result, Ok, Err}
 use Rattle.view_model.specs.Changes.{facts_after_act}
-use Rattle.view_model.specs.declared.attributes.Facts.{Facts}
+use Rattle.view_model.specs.declared.facts.Facts.{Facts}
 use Rattle.view_model.specs.declared.changes.Act.{Act}
 use Rattle.view_model.specs.declared.kinds.Class.{Class}
 use Rattle.view_model.specs.Forest.{Forest, Nothing, Branch}
 use Rattle.view_model.specs.PlainTree.{PlainView}
 use Rattle.view_tree.specs.Attached.{Attached}
-use Rattle.view_tree.specs.Rows.{Row, first_tree, pruned_at_key, part_from, head_view, changed_at_key, count_of_key, unscrolled_facts}
-use Rattle.view_tree.specs.Views.{Held, IsLive, IsTree, KeepsOthers, SameTree, Unscrolled, Views, facts_of, held_of, offset_of}
-use Rattle.view_tree.proofs.HiddenLaws.{put_absent}
-use Rattle.view_tree.proofs.KeyLaws.{absent, or_else_live, zero_or_more}
-use Rattle.view_tree.proofs.NumberLaws.{live-pruned_at_key, count_of_key-cut_le, count_of_key-put}
+use Rattle.view_model.specs.Facts.{unscrolled_facts}
+use Rattle.view_tree.specs.Rows.{Row, first_tree, pruned_at_key, part_from, head_view, changed_at_key, count_of_key}
+use Rattle.view_tree.specs.Views.{Held, IsLive, IsTree, KeepsOthers, KeepsOutside, SameTree, Unscrolled, Views, facts_of, held_of, offset_of}
+use Rattle.view_tree.proofs.forest.KeyLaws.{absent, or_else_live, zero_or_more}
+use Rattle.view_tree.proofs.forest.NumberLaws.{live-pruned_at_key, count_of_key-cut_le, count_of_key-put, put_absent}
 use Rattle.tree_edits.specs.Applied.{names_views}
 use Rattle.tree_edits.specs.declared.edits.Edit.{Edit}
 use Rattle.tree_edits.specs.declared.edits.Edit.TheVariants as edit
@@ -65,7 +65,7 @@ attached_keeps old new parent class width height key attached = record {
 }
 
 pub detached_keeps : (old new : Views) (view : ℕ) → IsTree old → new.tree ≡ pruned_at_key view old.tree → new.next ≡ old.next
-    → ((key : ℕ) → count_of_key key (first_tree (part_from view old.tree)) ≡ 0 → held_of new key ≡ held_of old key)
+    → KeepsOutside (held_of old) (held_of new) (first_tree (part_from view old.tree))
     → KeepsViews old new (edit.Remove view)
 detached_keeps old new view is tree next others =
     none_made old new (edit.Remove view) tree next

@@ -1,24 +1,19 @@
 -- A walk over the children of a view, while each goes out of the geometry with all below it.
-use Rattle.std.proofs.Common.{◌≡◌, ◌≢◌, ℕ, ◌+◌, ◌<◌, ◌≤◌, Option, Some, None, refl, sym, ◌∙◌, ap, arith, inl, inr}
+use Rattle.std.proofs.Common.{◌≡◌, ◌≢◌, ℕ, ◌+◌, ◌<◌, Option, Some, None, sym, ◌∙◌, ap, arith, inl, inr}
 use Rattle.std.proofs.lemmas.Bool.{cases_eq, eq-eqb, ne_eqb}
 use Rattle.std.specs.Prelude.{IfSome}
-use Rattle.view_model.specs.Forest.{Forest, Nothing, Branch, count_of}
+use Rattle.view_model.specs.Forest.{Forest, Nothing, Branch}
 use Rattle.view_tree.specs.Rows.{Row, later_siblings, first_tree, children_of_first, part_from, rest_from, count_of_key}
 use Rattle.view_tree.specs.Views.{Held}
-use Rattle.view_tree.proofs.KeyLaws.{located}
+use Rattle.view_tree.proofs.forest.KeyLaws.{located}
+use Rattle.view_tree.proofs.forest.Walks.{Walk, count_of_key-parts, walk_on}
 use Rattle.tree_edits.specs.Hiding.{hidden_at, unplaced}
 
 -- so far, the children before `next` went
-pub record Walked (tree kids : Forest Row) (start : ℕ → Held) (next : Option ℕ) (now : ℕ → Held) : Type 0 where
-  pub live : IfSome next (λ kid. 0 < count_of_key kid tree)
-  pub few : count_of (rest_from next tree) ≤ count_of kids
+pub record HidingWalk (tree kids : Forest Row) (start : ℕ → Held) (next : Option ℕ) (now : ℕ → Held) : Type 0 where
+  pub walk : Walk tree kids next
   -- once the rest goes too, all have gone
   pub rest : (key : ℕ) → hidden_at (count_of_key key (rest_from next tree)) (now key) ≡ hidden_at (count_of_key key kids) (start key)
-
--- a list is its first tree and the rest
-times_parts : (key : ℕ) (tree : Forest Row) → count_of_key key tree ≡ count_of_key key (first_tree tree) + count_of_key key (later_siblings tree)
-times_parts key Nothing = refl
-times_parts key (Branch row kids siblings) = omega arith
 
 -- what goes loses its bounds, once or more often
 pub hidden_more : (n : ℕ) (held : Held) → 0 < n → hidden_at n held ≡ unplaced held
@@ -34,36 +29,21 @@ hidden_twice m n held =
       ]
     ]
 
--- what is left of a walk falls
-pub live_below : (key : ℕ) (tree : Forest Row) → 0 < count_of_key key tree → count_of (children_of_first (part_from key tree)) < count_of (first_tree (part_from key tree))
-live_below key tree live = let f = located key tree live in rw f.is (omega arith)
-
-pub live_after : (key : ℕ) (tree : Forest Row) → 0 < count_of_key key tree → count_of (later_siblings (part_from key tree)) < count_of (part_from key tree)
-live_after key tree live = let f = located key tree live in rw f.is (omega arith)
-
-pub count_alone : (tree : Forest Row) → count_of (first_tree tree) ≤ count_of tree
-count_alone Nothing = omega arith
-count_alone (Branch row kids siblings) = omega arith
-
 -- one child more went
-pub walk_on : (tree kids : Forest Row) (start : ℕ → Held) (kid : ℕ) (old new : ℕ → Held) (next : Option ℕ)
-    → Walked tree kids start (Some kid) old
+pub hiding_on : (tree kids : Forest Row) (start : ℕ → Held) (kid : ℕ) (old new : ℕ → Held) (next : Option ℕ)
+    → HidingWalk tree kids start (Some kid) old
     → ((key : ℕ) → new key ≡ hidden_at (count_of_key key (first_tree (part_from kid tree))) (old key))
     → rest_from next tree ≡ later_siblings (part_from kid tree)
     → IfSome next (λ kid. 0 < count_of_key kid tree)
-    → Walked tree kids start next new
-walk_on tree kids start kid old new next walked hidden part live =
-    let fall = live_after kid tree walked.live in
-    let few = walked.few in
-    let count : count_of (rest_from next tree) ≡ count_of (later_siblings (part_from kid tree)) = ap count_of part in
+    → HidingWalk tree kids start next new
+hiding_on tree kids start kid old new next walked hidden part live =
     record {
-      live = live;
-      few = omega arith;
+      walk = walk_on tree kids kid next walked.walk part live;
       rest = λ key.
           ap (λ n. hidden_at n (new key)) (ap (count_of_key key) part)
           ∙ ap (hidden_at (count_of_key key (later_siblings (part_from kid tree)))) (hidden key)
           ∙ sym (hidden_twice (count_of_key key (first_tree (part_from kid tree))) (count_of_key key (later_siblings (part_from kid tree))) (old key))
-          ∙ ap (λ n. hidden_at n (old key)) (sym (times_parts key (part_from kid tree)))
+          ∙ ap (λ n. hidden_at n (old key)) (sym (count_of_key-parts key (part_from kid tree)))
           ∙ walked.rest key;
     }
 
@@ -86,12 +66,12 @@ own_first row kids view key start first is own others =
     ]
 
 -- all children went
-pub walk_end : (tree : Forest Row) (view : ℕ) (start first now : ℕ → Held) → 0 < count_of_key view tree
-    → Walked tree (children_of_first (part_from view tree)) first None now
+pub hiding_end : (tree : Forest Row) (view : ℕ) (start first now : ℕ → Held) → 0 < count_of_key view tree
+    → HidingWalk tree (children_of_first (part_from view tree)) first None now
     → first view ≡ unplaced (start view)
     → ((key : ℕ) → key ≢ view → first key ≡ start key)
     → (key : ℕ) → now key ≡ hidden_at (count_of_key key (first_tree (part_from view tree))) (start key)
-walk_end tree view start first now live walked own others key =
+hiding_end tree view start first now live walked own others key =
     let f = located view tree live in
     let rest : now key ≡ hidden_at (count_of_key key f.kids) (first key) = rw f.is at (walked.rest key) in
     rest ∙ own_first f.row f.kids view key start first f.key_is own others ∙ rw f.is

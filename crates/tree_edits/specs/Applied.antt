@@ -3,6 +3,7 @@ use Rattle.std.specs.Prelude.{◌≡◌, ℕ, ◌^◌, ◌<◌, Bool, true, fals
 use Rattle.std.specs.Option.{option_map}
 use Rattle.view_model.specs.declared.changes.Act.{Act}
 use Rattle.view_model.specs.declared.changes.Act.TheVariants as act
+use Rattle.view_model.specs.declared.limits.TheConstants.{NUMBERS_END}
 use Rattle.view_model.specs.Forest.{Nothing}
 use Rattle.view_model.specs.Refusals.{plain_refusal}
 use Rattle.view_tree.specs.declared.fault.AttachFault.{AttachFault}
@@ -24,8 +25,8 @@ numbered views (edit.Text view text) = SetText (number_of views view) (chars tex
 
 -- a root is added only where there is none
 abbrev pub IsAddable : Views → Option ℕ → Type 0
-IsAddable views None = (views.tree ≡ Nothing) × (views.next < 2 ^ 62)
-IsAddable views (Some parent) = IsLive views parent × (views.next < 2 ^ 62)
+IsAddable views None = (views.tree ≡ Nothing) × (views.next < NUMBERS_END)
+IsAddable views (Some parent) = IsLive views parent × (views.next < NUMBERS_END)
 
 -- the rule that an act sets is one of the 21
 abbrev pub IsVerb : Act → Type 0

@@ -14,6 +14,7 @@ use Rattle.view_model.specs.Geometry.{Laid, without}
 use Rattle.view_model.specs.Growth.{grown_at, is_group, refusal_at}
 use Rattle.view_model.specs.PlainTree.{PlainView, numbers_of, part_of, pruned, single, view_in, with_facts, with_text}
 use Rattle.view_model.specs.Refusals.{PlainRefusal, refusal_numbered}
+use Rattle.view_model.specs.declared.refusals.TheConstants.{WRONG_CLASS}
 use Rattle.tree_edits.specs.Scene.{Scene}
 
 -- an edit that names views by their numbers
@@ -102,13 +103,13 @@ after_act scene number act =
 -- an act on a view, by what is found under its number
 abbrev pub outcome_of_act : Scene → ℕ → Act → Option PlainView → Outcome
 outcome_of_act scene number act None = Ok (scene, None)
-outcome_of_act scene number act (Some view) = if takes view.class act then Ok (after_act scene number act, None) else Err (refusal_numbered 29)
+outcome_of_act scene number act (Some view) = if takes view.class act then Ok (after_act scene number act, None) else Err (refusal_numbered WRONG_CLASS)
 
 -- a text of a view, by what is found under its number
 abbrev pub outcome_of_text : Scene → ℕ → List ℕ → Option PlainView → Outcome
 outcome_of_text scene number text None = Ok (scene, None)
 outcome_of_text scene number text (Some view) =
-    if has_text view.class then Ok (record scene { tree = with_text number text scene.tree }, None) else Err (refusal_numbered 29)
+    if has_text view.class then Ok (record scene { tree = with_text number text scene.tree }, None) else Err (refusal_numbered WRONG_CLASS)
 
 -- what an edit of views that are there makes of a scene
 abbrev pub outcome_of_edit : Scene → NumberedEdit → Outcome

@@ -4,7 +4,8 @@ use Rattle.view_model.specs.Changes.{facts_after_act}
 use Rattle.view_model.specs.declared.changes.Act.{Act}
 use Rattle.view_model.specs.Forest.{Forest}
 use Rattle.view_model.specs.PlainTree.{PlainView}
-use Rattle.view_tree.specs.Rows.{Row, pruned_at_key, leaf, changed_at_key, count_of_key, unscrolled_facts, with_child}
+use Rattle.view_model.specs.Facts.{unscrolled_facts}
+use Rattle.view_tree.specs.Rows.{Row, pruned_at_key, leaf, changed_at_key, count_of_key, with_child}
 use Rattle.view_tree.specs.Views.{Held, IsLive, Views, facts_of, held_of, held_or}
 use Rattle.tree_edits.specs.declared.edits.Edit.{Edit}
 use Rattle.tree_edits.specs.declared.edits.Edit.TheVariants as edit

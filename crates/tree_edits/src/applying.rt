@@ -12,11 +12,9 @@ use crate::classes::{has_text, takes};
 use crate::edits::Edit;
 use crate::fault::EditFault;
 use std::alloc::Global;
+use view_model::refusals::WRONG_CLASS;
 use view_model::{Act, Class, Facts, Refusal, Text};
 use view_tree::{Key, ViewTree};
-
-/// The refusal of what a view's class does not have.
-const WRONG_CLASS: u8 = 29;
 
 /// Makes an edit, and answers the number of the view that it made.
 pub fn apply(alloc: Global, tree: &mut ViewTree, edit: Edit<'_>) -> Result<Option<u64>, EditFault>

@@ -1,7 +1,6 @@
 //! What a view has by its class.
 ghost use Rattle.std.specs.Prelude.{◌≡◌};
 ghost use Rattle.tree_edits.specs.Editing.{has_text, takes, takes_change, takes_flag};
-ghost use Rattle.view_model.specs.Growth.{is_group};
 
 use view_model::{Act, Change, Class, Flag};
 
@@ -12,7 +11,7 @@ pub fn takes(class: Class, act: Act) -> bool
     match act {
         Act::Change(change) => takes_change(change),
         Act::Flag { flag, on: _ } => takes_flag(class, flag),
-        Act::Intercept(_) => is_group(class),
+        Act::Intercept(_) => class.is_group(),
         Act::Visible(_) | Act::Id(_) | Act::Rule { .. } | Act::Answer(_) => true,
         Act::WeightSum(_) | Act::Orient { .. } | Act::Ink(_) | Act::Scroll(_) => false,
     }
@@ -45,16 +44,7 @@ fn takes_flag(class: Class, flag: Flag) -> bool
     ensures { result ≡ takes_flag class flag }
 {
     match flag {
-        Flag::Clip | Flag::Split => is_group(class),
+        Flag::Clip | Flag::Split => class.is_group(),
         Flag::Fill => false,
-    }
-}
-
-fn is_group(class: Class) -> bool
-    ensures { result ≡ is_group class }
-{
-    match class {
-        Class::View => false,
-        Class::FrameLayout => true,
     }
 }

@@ -7,7 +7,7 @@ use Rattle.std.specs.List.{flat_map}
 use Rattle.geom_core.specs.declared.geometry.Rect.{Rect}
 use Rattle.view_model.specs.Course.{Child, Course, Progress, Requested, after_phase, after_turn, asked_for, begun, course_of, last_of, measured_of, one_phase, phases_on, size_in, sizes_of}
 use Rattle.view_model.specs.Facts.{is_shown}
-use Rattle.view_model.specs.Geometry.{Laid, extent_of}
+use Rattle.view_model.specs.Geometry.{Laid, size_of_rect}
 use Rattle.view_model.specs.Layout.{Placed, calls_by, child_by, course_by, laid_by, measured_by, placed_from, requested_by, rule_of, total_by}
 use Rattle.view_model.specs.Measuring.{Measured, Rule, Specs}
 use Rattle.view_model.specs.PlainTree.{PlainView}
@@ -153,7 +153,7 @@ child_alike view some more h =
         if is_shown view.facts
         then record { number = view.number; rect = rect }
         ∷ flat_map (λ (kid : Placed). kid.child.lay kid.specs kid.rect)
-        (placed_from (record { view = view; specs = specs; room = extent_of rect; total = total }) []
+        (placed_from (record { view = view; specs = specs; room = size_of_rect rect; total = total }) []
         (map (λ (kid : Requested). record { child = kid.child; specs = last_of specs kid.requests; edges = kid.edges }) kids))
         else []
 

@@ -2,28 +2,24 @@
 use Rattle.std.specs.Prelude.{ℕ, nat_lt, Bool, true, false, not, if◌then◌else◌, Option, Some, None}
 use Rattle.view_model.specs.declared.kinds.Class.{Class}
 use Rattle.view_model.specs.declared.kinds.Class.TheVariants.{View, FrameLayout}
+use Rattle.view_model.specs.declared.limits.TheConstants.{MAX_DEPTH, MAX_VIEWS}
+use Rattle.view_model.specs.declared.refusals.TheConstants.{NOT_GROUP, TOO_DEEP, TOO_MANY_VIEWS}
 use Rattle.view_model.specs.Forest.{Forest, count_of}
 use Rattle.view_model.specs.PlainTree.{PlainView, depth_of, grown, view_in}
 use Rattle.view_model.specs.Refusals.{PlainRefusal, refusal_numbered}
-
--- the most views that a tree may have, and how deep the deepest may be
-abbrev pub max_views : ℕ
-max_views = 4096
-
-abbrev pub max_depth : ℕ
-max_depth = 32
 
 -- whether a view of this class may have children
 abbrev pub is_group : Class → Bool
 is_group View = false
 is_group FrameLayout = true
 
--- why a view of this class and depth, in a tree of so many views, takes no child: it is no group, too deep, or the tree is full
+-- why a view of this class and depth, in a tree of so many views, takes no child: it is no group, it is too deep, or
+-- the tree is full
 unfoldable pub growth_refusal : Class → ℕ → ℕ → Option PlainRefusal
 growth_refusal class depth count =
-    if not (is_group class) then Some (refusal_numbered 21)
-    else (if not (nat_lt depth max_depth) then Some (refusal_numbered 20)
-    else (if not (nat_lt count max_views) then Some (refusal_numbered 19)
+    if not (is_group class) then Some (refusal_numbered NOT_GROUP)
+    else (if not (nat_lt depth MAX_DEPTH) then Some (refusal_numbered TOO_DEEP)
+    else (if not (nat_lt count MAX_VIEWS) then Some (refusal_numbered TOO_MANY_VIEWS)
     else None))
 
 abbrev pub growth_refusal_of : Option PlainView → ℕ → ℕ → Option PlainRefusal

@@ -2,7 +2,7 @@
 use Rattle.std.specs.Prelude.{pos, false, None}
 use Rattle.geom_core.specs.Spec.{default_size_of}
 use Rattle.geom_core.specs.declared.geometry.Size.{Size}
-use Rattle.view_model.specs.declared.attributes.Facts.{Facts}
+use Rattle.view_model.specs.declared.facts.Facts.{Facts}
 use Rattle.view_model.specs.Measuring.{Rule, Specs}
 
 -- the rule of a view of this size

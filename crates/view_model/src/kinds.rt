@@ -1,3 +1,5 @@
+//! The class of a view, its visibility and how it answers events.
+
 /// The class of a view, by which it measures and lays out its children. A class joins the list together with its rules.
 #[derive(Clone, Copy, Debug, PartialEq, Eq)]
 pub enum Class {
@@ -5,6 +7,21 @@ pub enum Class {
     View,
     /// A group that lays its children over one another.
     FrameLayout,
+}
+
+impl Class {
+    ghost use Rattle.std.specs.Prelude.{◌≡◌};
+    ghost use Rattle.view_model.specs.Growth.{is_group};
+
+    /// Whether a view of this class may have children.
+    pub fn is_group(self) -> bool
+        ensures { result ≡ is_group self }
+    {
+        match self {
+            Class::View => false,
+            Class::FrameLayout => true,
+        }
+    }
 }
 
 /// Whether a view is drawn, and whether it takes part in layout.

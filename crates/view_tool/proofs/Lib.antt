@@ -1,4 +1,5 @@
 pub mod LongScriptLaws
+pub mod DumpLaws
 pub mod NameLaws
 mod RefusalExamples
 pub mod RunLaws

@@ -3,7 +3,7 @@ use Rattle.std.specs.Fmt.{digits}
 use Rattle.std.specs.Prelude.{◌≡◌, [], codes, refl}
 use Rattle.axml_chunks.specs.Faults.{truncated}
 use Rattle.text_lines.specs.Joined.{◌⧺◌}
-use Rattle.view_model.specs.Refusals.{Place, Element, refusal_numbered}
+use Rattle.view_model.specs.Refusals.{AtPlace, Element, refusal_numbered}
 use Rattle.view_tool.specs.Dump.{fault_text, refused_file_text}
 use Rattle.view_tool.specs.Names.{refusal_name, refusal_names}
 use Rattle.view_tool.specs.Refusals.{refused_line, refused_text}
@@ -16,7 +16,7 @@ tells_of_an_element : refused_line 12 (record { number = 20; reason = Element 2 
 unfolding digits refused_line refused_text ◌⧺◌ refusal_name refusal_names
 tells_of_an_element = refl
 
-tells_of_a_place : refused_line 1 (record { number = 26; reason = Place 5 }) ≡ codes "line 1: refused 26 BadState at 5\n"
+tells_of_a_place : refused_line 1 (record { number = 26; reason = AtPlace 5 }) ≡ codes "line 1: refused 26 BadState at 5\n"
 unfolding digits refused_line refused_text ◌⧺◌ refusal_name refusal_names
 tells_of_a_place = refl
 

@@ -1,19 +1,23 @@
 -- What lines come to, one after another, and where a run stops in them.
-use Rattle.std.proofs.Common.{◌≡◌, ℕ, ◌+◌, ◌<◌, suc, true, length, take, drop, List, [], ◌∷◌, ◌++◌, refl, ap, sym, subst, ◌∙◌, arith, append_assoc, inl, inr}
-use Rattle.std.specs.Prelude.{◌⊎◌, Option, fold, Err}
+use Rattle.std.proofs.Common.{◌≡◌, ℕ, ◌+◌, ◌<◌, suc, true, length, take, drop, List, [], ◌∷◌, ◌++◌, refl, ap, sym, subst, ◌∙◌, arith, append_assoc, inl, inr, Err}
+use Rattle.std.specs.Prelude.{◌⊎◌, Option, Result, false, fold}
 use Rattle.std.specs.Io.KnownBytes.{Appends}
 use Rattle.std.proofs.lemmas.Grind.{fold-append}
 use Rattle.std.proofs.lemmas.List.{append-nil, take-append-drop}
 use Rattle.script_lines.specs.LineBuffer.{LineBuffer, IsAfter}
-use Rattle.script_lines.specs.Lines.{Line, Text, LongLine, cut_of, last_of, lines_of}
+use Rattle.script_lines.specs.Lines.{Line, Text, LongLine, cut_of, last_of, lines_of, is_passed_over}
+use Rattle.script_lines.specs.declared.commands.Command.{Command}
+use Rattle.script_lines.specs.declared.fault.LineFault.{LineFault}
+use Rattle.script_lines.specs.Commands.{command_of}
+use Rattle.text_lines.specs.BufferedText.{BufferedText as BufferedText}
 use Rattle.text_lines.specs.Prefix.{AppendsPrefix}
-use Rattle.text_lines.proofs.Prefixes.{prefix_of_first, prefix_of_second}
+use Rattle.text_lines.proofs.Prefixes.{appends_both, prefix_of_first, prefix_of_second}
 use Rattle.view_tool.specs.declared.run.LineRunner.{LineRunner}
 use Rattle.view_tool.specs.declared.run.Stop.{Stop}
 use Rattle.view_tool.specs.declared.run.Stop.TheVariants as stop
 use Rattle.view_tool.specs.Refusals.{refused_line}
 use Rattle.view_tool.specs.Run.{HasCarriedOut, HasReadUpTo, StopsIn}
-use Rattle.view_tool.specs.Transcript.{Progress, after_line, after_lines, after_reply, at_start, is_idle, reply_to_line}
+use Rattle.view_tool.specs.Transcript.{Progress, after_line, after_lines, after_reply, at_start, is_idle, reply_to_command, reply_to_line}
 use Rattle.tool_io.specs.Counts.{raised}
 use Rattle.tool_io.specs.SinkState.{SinkState}
 use Rattle.view_model.specs.declared.refusal.Refusal.{Refusal}
@@ -23,8 +27,8 @@ use Rattle.view_world.specs.declared.fault.StepFault.{StepFault}
 use Rattle.view_world.specs.declared.fault.StepFault.TheVariants as step
 use Rattle.view_world.specs.Carried.{WritesReply, IsDone}
 use Rattle.view_world.specs.Step.{Reply, Done, Refused}
-use Rattle.view_world.specs.KeyedWorld.{world_of}
-use Rattle.view_tool.proofs.LongScriptLaws.{cut_count, cut_more}
+use Rattle.view_world.specs.KeyedWorld.{KeyedWorld, world_of}
+use Rattle.script_lines.proofs.LineLaws.{cut_lines-append, cut_lines-length}
 
 pub after_lines-push : (lines : List Line) (line : Line) → after_lines (lines ++ line ∷ []) ≡ after_line (after_lines lines) line
 unfolding after_lines
@@ -47,10 +51,10 @@ unfolding after_lines
 after_lines-lines lines = counted_from at_start lines ∙ (let e : 0 + length lines ≡ length lines = omega arith in e)
 
 pub counted_short : (bytes : List ℕ) (most : ℕ) → length bytes < most → (after_lines (cut_of bytes).lines).lines < most
-counted_short bytes most short = omega (arith, short, after_lines-lines (cut_of bytes).lines, cut_count bytes)
+counted_short bytes most short = omega (arith, short, after_lines-lines (cut_of bytes).lines, cut_lines-length bytes)
 
 pub lines_short : (bytes : List ℕ) (most : ℕ) → length bytes < most → length (cut_of bytes).lines < most
-lines_short bytes most short = omega (arith, short, cut_count bytes)
+lines_short bytes most short = omega (arith, short, cut_lines-length bytes)
 
 text_of_reply : (progress : Progress) (reply : Reply) → (more : List ℕ) × ((after_reply progress reply).text ≡ progress.text ++ more)
 text_of_reply progress (Done world text) = (text, refl)
@@ -100,6 +104,12 @@ passed_line first now runner progress line number passed counted at =
     let reply = passed_reply progress.world line passed in
     rw reply (record { lines = counted; world = at.world; refused = at.refused; gone = subst (Appends first now) (sym (append-nil progress.text)) at.gone })
 
+-- a line that cannot be read is refused
+pub faulty_line : (world : World) (bytes : List ℕ) (fault : LineFault) (result : Result Command LineFault) → is_passed_over bytes ≡ false → result ≡ command_of bytes → result ≡ Err fault
+    → reply_to_line world (Text bytes) ≡ reply_to_command world (Err fault)
+unfolding reply_to_line
+faulty_line world bytes fault result passed read e = rw (passed, sym read ∙ e) refl
+
 -- what a refused line leaves
 pub not_done : {X : Type 0} (fault : StepFault) (refusal : Refusal) → fault ≡ step.Refused refusal → IsDone (Err fault) ⊎ X → X
 not_done fault refusal e (inl done) = absurd (subst (λ (f : StepFault). IsDone (Err f)) e done)
@@ -129,6 +139,19 @@ refused_prefix first mid now runner lines line number refusal at refused counted
     )
     (prefix_of_second first mid now so_far.text (refused_line number refusal) at.gone part)
 
+-- a line was refused, and that was told
+pub refused_at : (first mid now : Option (List ℕ)) (runner : LineRunner) (world : KeyedWorld) (text : BufferedText) (progress : Progress) (line : Line) (number : ℕ) (refusal : PlainRefusal)
+    → HasCarriedOut first mid runner progress → world ≡ runner.world → reply_to_line (world_of runner.world) line ≡ Refused refusal → number ≡ progress.lines + 1 → Appends mid now (refused_line number refusal)
+    → HasCarriedOut first now (record { world = world; lines = number; refused = true; text = text }) (after_line progress line)
+refused_at first mid now runner world text progress line number refusal at same refused counted plain_refusal =
+    let reply : reply_to_line progress.world line ≡ Refused refusal = ap (λ (w : World). reply_to_line w line) (sym at.world) ∙ refused in
+    rw reply (record {
+      lines = counted;
+      world = ap world_of same ∙ at.world;
+      refused = refl;
+      gone = appends_both first mid now progress.text (refused_line (progress.lines + 1) refusal) at.gone (subst (λ (n : ℕ). Appends mid now (refused_line n refusal)) counted plain_refusal);
+    })
+
 -- a line was carried out, and to write its text failed
 pub done_prefix : (first mid now : Option (List ℕ)) (runner : LineRunner) (lines : List Line) (line : Line) (world : World) (text : List ℕ) → HasCarriedOut first mid runner (after_lines lines)
     → reply_to_line (world_of runner.world) line ≡ Done world text → AppendsPrefix mid now text → AppendsPrefix first now (after_lines (lines ++ line ∷ [])).text
@@ -146,7 +169,7 @@ done_prefix first mid now runner lines line world text at done part =
 pub stops_in_piece : (first now : Option (List ℕ)) (before piece : List ℕ) (n : ℕ) (line : Line) (stop : Stop) → (cut_of (before ++ take n piece)).lines ≡ (cut_of before).lines ++ line ∷ []
     → StopsIn first now ((cut_of before).lines ++ line ∷ []) stop → StopsIn first now (cut_of (before ++ piece)).lines stop
 stops_in_piece first now before piece n line stop e stops =
-    let more = cut_more (before ++ take n piece) (drop n piece) in
+    let more = cut_lines-append (before ++ take n piece) (drop n piece) in
     let all : (before ++ take n piece) ++ drop n piece ≡ before ++ piece = append_assoc before (take n piece) (drop n piece) ∙ ap (λ l. before ++ l) (take-append-drop n piece) in
     stops_further first now ((cut_of before).lines ++ line ∷ []) more.0 (cut_of (before ++ piece)).lines stop
     (ap (λ (l : List Line). l ++ more.0) (sym e) ∙ sym more.1 ∙ ap (λ (l : List ℕ). (cut_of l).lines) all) stops

@@ -1,7 +1,7 @@
 -- What was taken of a script, and how its run ends.
 use Rattle.std.proofs.Common.{◌≡◌, ℕ, ◌+◌, ◌-◌, ◌<◌, ◌≤◌, length, take, drop, List, [], ◌++◌, refl, ap, sym, subst, ◌∙◌, arith, append_assoc, length-append, length-take}
 use Rattle.std.specs.Prelude.{Option, Some, None, Ok, Err}
-use Rattle.std.specs.Io.KnownBytes.{Appends, Consumes, IsAtEnd}
+use Rattle.std.specs.Io.KnownBytes.{Appends, Consumes, IsAtEnd, Keeps}
 use Rattle.std.proofs.lemmas.List.{append-nil, take-append-drop, take-append-le}
 use Rattle.std.proofs.Math.Seq.{take-append-add}
 use Rattle.script_lines.specs.Lines.{Line, cut_of, lines_of}
@@ -19,6 +19,12 @@ use Rattle.view_tool.proofs.RunLaws.{stops_further}
 pub Consumes-nil : (left : Option (List ℕ)) → Consumes left left []
 Consumes-nil None = tt
 Consumes-nil (Some left) = refl
+
+-- a read that failed took nothing
+pub Consumes-kept : (old new : Option (List ℕ)) → Keeps old new → Consumes old new []
+Consumes-kept None new kept = tt
+Consumes-kept (Some a) None kept = elim kept [ ]
+Consumes-kept (Some a) (Some b) kept = sym kept
 
 pub Consumes-Consumes : (old mid new : Option (List ℕ)) (xs ys : List ℕ) → Consumes old mid xs → Consumes mid new ys → Consumes old new (xs ++ ys)
 Consumes-Consumes None mid new xs ys first second = tt

@@ -8,6 +8,7 @@ use Rattle.axml_reader.specs.Dump.{dump_text}
 use Rattle.text_lines.specs.Joined.{◌⧺◌}
 use Rattle.tool_io.specs.Fetched.{file_of}
 use Rattle.tool_io.specs.SinkState.{SinkState}
+use Rattle.view_model.specs.declared.refusals.TheConstants.{LONG_FILE, MISSING_FILE}
 use Rattle.view_tool.specs.Files.{Files}
 use Rattle.view_tool.specs.Refusals.{refused_text}
 use Rattle.view_tool.specs.Tool.{IsComplete, Writes}
@@ -35,8 +36,8 @@ is_fault (Err fault) = true
 
 -- the text of a file, where there is one
 abbrev pub file_text : Option (List ℕ) → List ℕ
-file_text None = refused_file_text 39
-file_text (Some bytes) = if nat_lt max_file (length bytes) then refused_file_text 40 else decoded_text (decoded bytes)
+file_text None = refused_file_text MISSING_FILE
+file_text (Some bytes) = if nat_lt max_file (length bytes) then refused_file_text LONG_FILE else decoded_text (decoded bytes)
 
 abbrev pub is_refused_file : Option (List ℕ) → Bool
 is_refused_file None = true

@@ -3,7 +3,7 @@ use Rattle.std.specs.Prelude.{ℕ, List, [], Bool, if◌then◌else◌, codes, d
 use Rattle.text_lines.specs.Joined.{◌⧺◌, texts_of}
 use Rattle.view_model.specs.declared.refusal.Member.{Member}
 use Rattle.view_model.specs.declared.refusal.Member.TheVariants as member
-use Rattle.view_model.specs.Refusals.{Reason, NoDetail, Place, Element, Cycle, PlainRefusal}
+use Rattle.view_model.specs.Refusals.{Reason, NoDetail, AtPlace, Element, Cycle, PlainRefusal}
 use Rattle.view_tool.specs.Names.{refusal_name}
 
 -- the number and the name of a refusal
@@ -21,7 +21,7 @@ axis_text down = if down then codes " vertical" else codes " horizontal"
 -- what is told of a refusal after its name
 abbrev pub reason_text : Reason → List ℕ
 reason_text NoDetail = []
-reason_text (Place at) = codes " at " ⧺ decimal at
+reason_text (AtPlace at) = codes " at " ⧺ decimal at
 reason_text (Element number) = codes " element " ⧺ decimal number
 reason_text (Cycle down members) = axis_text down ⧺ texts_of member_text members
 

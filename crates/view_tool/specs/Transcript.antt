@@ -6,6 +6,7 @@ use Rattle.script_lines.specs.declared.fault.LineFault.TheVariants as fault
 use Rattle.script_lines.specs.Commands.{command_of}
 use Rattle.script_lines.specs.Lines.{Line, Text, LongLine, cut_of, is_passed_over, lines_of}
 use Rattle.view_model.specs.Refusals.{refusal_numbered}
+use Rattle.view_model.specs.declared.refusals.TheConstants.{LONG_LINE, OUT_OF_RANGE, SYNTAX}
 use Rattle.view_model.specs.World.{World, empty_world}
 use Rattle.view_tool.specs.Files.{Files}
 use Rattle.view_tool.specs.Refusals.{refused_line}
@@ -14,8 +15,8 @@ use Rattle.view_world.specs.Step.{Reply, Done, Refused, step}
 
 abbrev pub reply_to_command : World → Result Command LineFault → Reply
 reply_to_command world (Ok command) = step world command
-reply_to_command world (Err fault.Syntax) = Refused (refusal_numbered 31)
-reply_to_command world (Err fault.Range) = Refused (refusal_numbered 30)
+reply_to_command world (Err fault.Syntax) = Refused (refusal_numbered SYNTAX)
+reply_to_command world (Err fault.Range) = Refused (refusal_numbered OUT_OF_RANGE)
 
 -- a line that is passed over
 abbrev pub is_idle : Line → Bool
@@ -24,7 +25,7 @@ is_idle (Text bytes) = is_passed_over bytes
 
 -- what a line does: too long a line is refused whatever it begins with, and one that is passed over does nothing
 unfoldable pub reply_to_line : World → Line → Reply
-reply_to_line world LongLine = Refused (refusal_numbered 32)
+reply_to_line world LongLine = Refused (refusal_numbered LONG_LINE)
 reply_to_line world (Text bytes) = if is_passed_over bytes then Done world [] else reply_to_command world (command_of bytes)
 
 -- the lines so far: how many they are, the world they made, what was written for them, and whether one was refused

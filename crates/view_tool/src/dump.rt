@@ -8,20 +8,16 @@ ghost use Rattle.view_tool.specs.Dump.{Dumps, decoded_text, dump_page, is_fault,
 ghost use Rattle.view_tool.specs.Files.{Files};
 ghost use Rattle.view_tool.specs.Tool.{IsOneOf};
 
-use crate::file_replies::{reply_fault, reply_file};
+use crate::file_replies::{write_fault, write_refused_file};
 use crate::status::{ACCEPTED, NO_MEMORY, REFUSED, SHELF_FAILED, SINK_FAILED};
 use axml_chunks::ReadFault;
 use axml_reader::{print, read};
 use std::alloc::Global;
 use tool_io::{Failed, Found, Shelf, ShelfFault, Sink};
+use view_model::refusals::{LONG_FILE, MISSING_FILE};
 
 /// The most bytes that a layout file may have.
 const MAX_FILE: usize = 1048576;
-
-/// The numbers of the refusals of a file that is not read.
-const MISSING: u8 = 39;
-
-const LONG_FILE: u8 = 40;
 
 /// Prints the file of this name, or tells why it is refused.
 pub fn dump<K: Sink, F: Shelf>(alloc: Global, name: &str, shelf: &mut F, sink: &mut K) -> u8
@@ -57,8 +53,8 @@ fn dump_found<K: Sink>(alloc: Global, found: Found, bytes: &[u8], sink: &mut K) 
 {
     match found {
         Found::Whole => dump_bytes(alloc, bytes, sink),
-        Found::Missing => status_of(REFUSED, reply_file(sink, MISSING)),
-        Found::Long => status_of(REFUSED, reply_file(sink, LONG_FILE)),
+        Found::Missing => status_of(REFUSED, write_refused_file(sink, MISSING_FILE)),
+        Found::Long => status_of(REFUSED, write_refused_file(sink, LONG_FILE)),
     }
 }
 
@@ -72,7 +68,7 @@ fn dump_bytes<K: Sink>(alloc: Global, bytes: &[u8], sink: &mut K) -> u8
 {
     match read(alloc, bytes) {
         Ok(doc) => status_of(ACCEPTED, print(&doc, sink)),
-        Err(ReadFault::Bad(fault)) => status_of(REFUSED, reply_fault(sink, fault)),
+        Err(ReadFault::Bad(fault)) => status_of(REFUSED, write_fault(sink, fault)),
         Err(ReadFault::NoMemory) => NO_MEMORY,
     }
 }

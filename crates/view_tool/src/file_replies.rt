@@ -11,7 +11,7 @@ use text_lines::TextBuffer;
 use tool_io::{Failed, Sink};
 
 /// Tells that a file is refused, by the number of the refusal.
-pub fn reply_file<K: Sink>(sink: &mut K, number: u8) -> Result<(), Failed>
+pub fn write_refused_file<K: Sink>(sink: &mut K, number: u8) -> Result<(), Failed>
     requires first { 1 ≤ number }
     requires last { number ≤ 41 }
     ensures { Delivered (K.state sink.old) (K.state sink.new) result (refused_file_text number) }
@@ -32,7 +32,7 @@ fn put_file<K: Sink>(reply: &mut TextBuffer, sink: &mut K, number: u8)
 }
 
 /// Tells the first fault of a file.
-pub fn reply_fault<K: Sink>(sink: &mut K, fault: Fault) -> Result<(), Failed>
+pub fn write_fault<K: Sink>(sink: &mut K, fault: Fault) -> Result<(), Failed>
     ensures { Delivered (K.state sink.old) (K.state sink.new) result (fault_text fault) }
 {
     let mut reply = TextBuffer::new();

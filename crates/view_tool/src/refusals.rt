@@ -13,7 +13,7 @@ use tool_io::{Failed, Sink};
 use view_model::{Detail, Member, Refusal};
 
 /// Tells that the line of this number, counted from 1, is refused.
-pub fn reply_refusal<K: Sink>(
+pub fn write_refusal<K: Sink>(
     reply: &mut TextBuffer,
     sink: &mut K,
     line: u64,

@@ -3,25 +3,20 @@
 ghost use Rattle.std.specs.Prelude.{◌≡◌, ◌⊎◌, ℕ, ◌+◌, ◌-◌, ◌*◌, ◌<◌, ◌≤◌, ◌^◌, min, false, List, ◌∷◌, [], ◌++◌, Option, Err, OnOk, IfOk, IfErr, length, take};
 ghost use Rattle.script_lines.specs.LineBuffer.{IsLent, lines_at};
 ghost use Rattle.script_lines.specs.Lines.{Line, cut_of, lines_of};
+ghost use Rattle.view_model.specs.declared.limits.TheConstants.{MAX_VIEWS, NUMBERS_END};
 ghost use Rattle.view_tool.specs.Run.{HasCarriedOut, HasReadUpTo, StopsIn, line_now, lines_now, writes_counted};
 ghost use Rattle.view_tool.specs.Transcript.{MayWant, Progress, after_line, after_lines, is_idle, reply_to_line};
 ghost use Rattle.view_world.specs.Carried.{WritesReply, IsDone};
 ghost use Rattle.view_world.specs.KeyedWorld.{world_of};
 
-use crate::refusals::reply_refusal;
+use crate::refusals::write_refusal;
 use script_lines::{Ended, LineFault, LinePlace, Lines, line, passes_over};
 use std::alloc::Global;
 use text_lines::TextBuffer;
 use tool_io::{Shelf, Sink};
+use view_model::refusals::{LONG_LINE, OUT_OF_RANGE, SYNTAX};
 use view_model::{Refusal, Work};
 use view_world::{StepFault, World};
-
-/// The numbers of the refusals of a line that no world is asked about.
-const RANGE: u8 = 30;
-
-const SYNTAX: u8 = 31;
-
-const LONG_LINE: u8 = 32;
 
 /// What ends a run before its last line.
 #[derive(Clone, Copy, Debug, PartialEq, Eq)]
@@ -53,7 +48,7 @@ impl LineRunner {
         sink: &mut K,
         work: &mut Work,
     ) -> Result<(), Stop>
-        requires { self.old.world.views.next < 2 ^ 62 }
+        requires { self.old.world.views.next < NUMBERS_END }
         ensures done { (first : Option (List ℕ)) (progress : Progress)
             → progress.lines < 2 ^ 63
             → HasCarriedOut first (K.state sink.old).gone self.old progress
@@ -62,7 +57,7 @@ impl LineRunner {
             → length lines < 2 ^ 63
             → HasCarriedOut first (K.state sink.old).gone self.old (after_lines lines)
             → IfErr result (StopsIn first (K.state sink.new).gone (lines ++ line_now line.entry ∷ [])) }
-        ensures numbers { self.new.world.views.next ≤ self.old.world.views.next + 4096 }
+        ensures numbers { self.new.world.views.next ≤ self.old.world.views.next + MAX_VIEWS }
         ensures shelf { shelf.new ≡ shelf.old }
         ensures painted { work.new.painted ≡ work.old.painted }
         ensures measured { min work.old.measured (2 ^ 64 - 1) ≤ work.new.measured }
@@ -85,7 +80,7 @@ impl LineRunner {
         sink: &mut K,
         work: &mut Work,
     ) -> Result<(), Stop>
-        requires numbered { self.old.world.views.next < 2 ^ 62 }
+        requires numbered { self.old.world.views.next < NUMBERS_END }
         requires counts { is_idle (line_now line) ≡ false }
         ensures done { (first : Option (List ℕ)) (progress : Progress)
             → progress.lines < 2 ^ 63
@@ -95,7 +90,7 @@ impl LineRunner {
             → length lines < 2 ^ 63
             → HasCarriedOut first (K.state sink.old).gone self.old (after_lines lines)
             → IfErr result (StopsIn first (K.state sink.new).gone (lines ++ line_now line.entry ∷ [])) }
-        ensures numbers { self.new.world.views.next ≤ self.old.world.views.next + 4096 }
+        ensures numbers { self.new.world.views.next ≤ self.old.world.views.next + MAX_VIEWS }
         ensures shelf { shelf.new ≡ shelf.old }
         ensures painted { work.new.painted ≡ work.old.painted }
         ensures measured { min work.old.measured (2 ^ 64 - 1) ≤ work.new.measured }
@@ -106,7 +101,7 @@ impl LineRunner {
             Ok(()) => Ok(()),
             Err(StepFault::Refused(refusal)) => {
                 self.refused = true;
-                match reply_refusal(&mut self.text, sink, self.lines, &refusal) {
+                match write_refusal(&mut self.text, sink, self.lines, &refusal) {
                     Ok(()) => Ok(()),
                     Err(_) => Err(Stop::Sink),
                 }
@@ -140,12 +135,12 @@ fn carry_out<K: Sink, F: Shelf>(
     sink: &mut K,
     work: &mut Work,
 ) -> Result<(), StepFault>
-    requires numbered { world.old.views.next < 2 ^ 62 }
+    requires numbered { world.old.views.next < NUMBERS_END }
     requires counts { is_idle (line_now bytes) ≡ false }
     ensures carried { WritesReply (reply_to_line (world_of world.old) (line_now bytes.entry)) (world_of world.new) (K.state sink.old) (K.state sink.new) result }
     ensures unchanged { IsDone result ⊎ ((world.new ≡ world.old) × (sink.new ≡ sink.old)) }
     ensures memory { result ≡ Err StepFault.NoMemory → MayWant (line_now bytes.entry) }
-    ensures numbers { world.new.views.next ≤ world.old.views.next + 4096 }
+    ensures numbers { world.new.views.next ≤ world.old.views.next + MAX_VIEWS }
     ensures shelf { shelf.new ≡ shelf.old }
     ensures painted { work.new.painted ≡ work.old.painted }
     ensures measured { min work.old.measured (2 ^ 64 - 1) ≤ work.new.measured }
@@ -156,7 +151,7 @@ fn carry_out<K: Sink, F: Shelf>(
     match line(bytes) {
         Ok(command) => world.line(alloc, command, shelf, sink, work),
         Err(LineFault::Syntax) => Err(StepFault::Refused(Refusal::plain(SYNTAX))),
-        Err(LineFault::Range) => Err(StepFault::Refused(Refusal::plain(RANGE))),
+        Err(LineFault::Range) => Err(StepFault::Refused(Refusal::plain(OUT_OF_RANGE))),
     }
 }
 
@@ -213,7 +208,7 @@ impl Run {
         sink: &mut K,
         work: &mut Work,
     ) -> Result<usize, Stop>
-        requires { self.old.runner.world.views.next < 2 ^ 62 }
+        requires { self.old.runner.world.views.next < NUMBERS_END }
         ensures within { IfOk result (λ n. n ≤ length piece.now) }
         ensures some { 0 < length piece.now → IfOk result (λ n. 0 < n) }
         ensures done { (first : Option (List ℕ)) (before : List ℕ)
@@ -224,7 +219,7 @@ impl Run {
             → length before < 2 ^ 63
             → HasReadUpTo first (K.state sink.old).gone self.old before
             → IfErr result (StopsIn first (K.state sink.new).gone (cut_of (before ++ piece.now)).lines) }
-        ensures numbers { self.new.runner.world.views.next ≤ self.old.runner.world.views.next + 4096 }
+        ensures numbers { self.new.runner.world.views.next ≤ self.old.runner.world.views.next + MAX_VIEWS }
         ensures shelf { shelf.new ≡ shelf.old }
         ensures painted { work.new.painted ≡ work.old.painted }
         ensures measured { min work.old.measured (2 ^ 64 - 1) ≤ work.new.measured }
@@ -247,7 +242,7 @@ impl Run {
         sink: &mut K,
         work: &mut Work,
     ) -> Result<(), Stop>
-        requires { self.old.runner.world.views.next + 4096 * length piece.now < 2 ^ 62 }
+        requires { self.old.runner.world.views.next + MAX_VIEWS * length piece.now < NUMBERS_END }
         ensures done { (first : Option (List ℕ)) (before : List ℕ)
             → length (before ++ piece.now) < 2 ^ 63
             → HasReadUpTo first (K.state sink.old).gone self.old before
@@ -256,7 +251,7 @@ impl Run {
             → length (before ++ piece.now) < 2 ^ 63
             → HasReadUpTo first (K.state sink.old).gone self.old before
             → IfErr result (StopsIn first (K.state sink.new).gone (cut_of (before ++ piece.now)).lines) }
-        ensures numbers { self.new.runner.world.views.next ≤ self.old.runner.world.views.next + 4096 * length piece.now }
+        ensures numbers { self.new.runner.world.views.next ≤ self.old.runner.world.views.next + MAX_VIEWS * length piece.now }
         ensures shelf { shelf.new ≡ shelf.old }
         ensures painted { work.new.painted ≡ work.old.painted }
         ensures measured { min work.old.measured (2 ^ 64 - 1) ≤ work.new.measured }
@@ -277,7 +272,7 @@ impl Run {
         sink: &mut K,
         work: &mut Work,
     ) -> Result<(), Stop>
-        requires { self.old.runner.world.views.next < 2 ^ 62 }
+        requires { self.old.runner.world.views.next < NUMBERS_END }
         ensures done { (first : Option (List ℕ)) (script : List ℕ)
             → length script < 2 ^ 63
             → HasReadUpTo first (K.state sink.old).gone self.old script

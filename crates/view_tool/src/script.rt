@@ -2,6 +2,7 @@
 
 ghost use Rattle.std.specs.Prelude.{◌≡◌, ℕ, ◌+◌, ◌-◌, ◌*◌, ◌<◌, ◌≤◌, ◌^◌, List, [], Option, Ok, IfOk, length, min};
 ghost use Rattle.std.specs.Io.KnownBytes.{IsAtEnd};
+ghost use Rattle.view_model.specs.declared.limits.TheConstants.{MAX_VIEWS, NUMBERS_END};
 ghost use Rattle.view_tool.specs.Run.{HasReadUpTo};
 ghost use Rattle.view_tool.specs.Script.{Comes, ReadsPiece, RunsFrom, ends_counted, reads_counted};
 
@@ -47,14 +48,15 @@ fn carry_piece<K: Sink, F: Shelf>(
     work: &mut Work,
 ) -> Result<usize, End>
     requires most { length piece.now ≤ left + 1 }
-    requires left { left ≤ 16777216 }
-    requires numbers { run.old.runner.world.views.next + 4096 * left < 2 ^ 62 }
+    requires left { left ≤ MAX_SCRIPT }
+    requires numbers { run.old.runner.world.views.next + MAX_VIEWS * (left + 1) < NUMBERS_END }
     ensures comes { (first : Option (List ℕ)) (before : List ℕ)
-        → length before + left ≡ 16777216
+        → length before + left ≡ MAX_SCRIPT
         → HasReadUpTo first (K.state sink.old).gone run.old before
         → Comes first before left piece.now (K.state sink.new).gone run.new result }
-    ensures count { IfOk result (λ n. (n ≡ length piece.now) × (n ≤ left)) }
-    ensures numbers { IfOk result (λ n. run.new.runner.world.views.next ≤ run.old.runner.world.views.next + 4096 * n) }
+    ensures count { IfOk result (λ n. n ≡ length piece.now) }
+    ensures most { IfOk result (λ n. n ≤ left) }
+    ensures numbers { IfOk result (λ n. run.new.runner.world.views.next ≤ run.old.runner.world.views.next + MAX_VIEWS * n) }
     ensures shelf { shelf.new ≡ shelf.old }
     ensures painted { work.new.painted ≡ work.old.painted }
     ensures measured { min work.old.measured (2 ^ 64 - 1) ≤ work.new.measured }
@@ -83,15 +85,15 @@ fn read_piece<S: Source, K: Sink, F: Shelf>(
 ) -> Result<usize, End>
     requires some { 0 < length buffer.old }
     requires most { length buffer.old ≤ left + 1 }
-    requires left { left ≤ 16777216 }
-    requires numbers { run.old.runner.world.views.next + 4096 * left < 2 ^ 62 }
+    requires left { left ≤ MAX_SCRIPT }
+    requires numbers { run.old.runner.world.views.next + MAX_VIEWS * (left + 1) < NUMBERS_END }
     ensures reads { (first : Option (List ℕ)) (before : List ℕ)
-        → length before + left ≡ 16777216
+        → length before + left ≡ MAX_SCRIPT
         → HasReadUpTo first (K.state sink.old).gone run.old before
         → ReadsPiece first before left (S.left source.old) (S.left source.new) (K.state sink.new).gone run.new result }
     ensures end { result ≡ Ok 0 → IsAtEnd (S.left source.new) }
     ensures most { IfOk result (λ n. n ≤ left) }
-    ensures numbers { IfOk result (λ n. run.new.runner.world.views.next ≤ run.old.runner.world.views.next + 4096 * n) }
+    ensures numbers { IfOk result (λ n. run.new.runner.world.views.next ≤ run.old.runner.world.views.next + MAX_VIEWS * n) }
     ensures shelf { shelf.new ≡ shelf.old }
     ensures painted { work.new.painted ≡ work.old.painted }
     ensures measured { min work.old.measured (2 ^ 64 - 1) ≤ work.new.measured }

@@ -1,32 +1,5 @@
-pub mod Above
-pub mod Beside
-pub mod Changed
-pub mod Climbs
-pub mod Cut
-pub mod DepthLaws
-pub mod Edits
-pub mod Emptied
-pub mod Forests
-pub mod GeometryLaws
-pub mod Gone
-pub mod Growing
-pub mod Grown
-pub mod HiddenLaws
-pub mod HolderLaws
-pub mod IdLaws
-pub mod Hung
-pub mod KeptLaws
-pub mod KeyLaws
-pub mod LayoutLaws
-pub mod NodeGrowth
-pub mod NodeReads
-pub mod NodeRemoval
-pub mod NodeWrites
-pub mod NumberLaws
-pub mod Parts
-pub mod PlainLaws
-pub mod Planted
-pub mod Put
-pub mod Searches
-pub mod Unhung
-pub mod ViewsLaws
+-- What other crates cite is `pub`.
+pub mod forest
+pub mod values
+mod calls
+mod nodes

@@ -4,7 +4,8 @@ use Rattle.view_model.specs.Refusals.{PlainRefusal, plain_refusal}
 use Rattle.view_tree.specs.declared.fault.AttachFault.{AttachFault}
 use Rattle.view_tree.specs.declared.fault.AttachFault.TheVariants as fault
 
--- an answer is a refusal exactly where there is a reason, and then tells it; want of memory comes only where there is none
+-- an answer is a refusal exactly where there is a reason, and then tells it;
+-- memory can be wanting only where there is none
 abbrev pub IsRefusedExactlyFor : {A : Type 0} → Option PlainRefusal → Result A AttachFault → Type 0
 IsRefusedExactlyFor reason (Ok answer) = reason ≡ None
 IsRefusedExactlyFor reason (Err (fault.Refused refusal)) = reason ≡ Some (plain_refusal refusal)

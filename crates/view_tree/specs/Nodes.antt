@@ -3,9 +3,10 @@ use Rattle.std.specs.Prelude.{ℕ, zero, suc, ◌≡◌, ◌<◌, ◌≤◌, ◌
 use Rattle.slab.specs.Slab.{Slab, get, slab_len}
 use Rattle.indexmap.specs.IndexMap.{get as get_key}
 use Rattle.view_model.specs.Forest.{Forest, Nothing, Branch, count_of}
+use Rattle.view_model.specs.Layout.{unscrolled}
 use Rattle.view_model.specs.PlainTree.{PlainView}
 use Rattle.view_tree.specs.Holders.{holders}
-use Rattle.view_tree.specs.Rows.{Row, later_siblings, count_where, first_key, key_where, keys_where, last_key, count_of_key, unscrolled_facts}
+use Rattle.view_tree.specs.Rows.{Row, later_siblings, count_where, first_key, key_where, keys_where, last_key, count_of_key}
 use Rattle.view_tree.specs.Views.{Held, IsTree, Views}
 use Rattle.view_tree.specs.declared.ids.Holders.{Holders}
 use Rattle.view_tree.specs.declared.node.Node.{Node}
@@ -19,10 +20,6 @@ pub record Links : Type 0 where
   pub last : Option ℕ
   pub previous : Option ℕ
   pub next : Option ℕ
-
--- a view as if it was not scrolled
-abbrev pub unscrolled : PlainView → PlainView
-unscrolled view = record view { facts = unscrolled_facts view.facts }
 
 -- the view of a node, as it stands in a row
 abbrev pub view_of_node : Node → PlainView

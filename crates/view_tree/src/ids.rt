@@ -1,6 +1,7 @@
 //! The views that have each id, kept so that one that has an id alone is found without a walk.
 ghost use Rattle.std.specs.Prelude.{◌≡◌, ◌≤◌, ◌<◌, ◌+◌, ℕ, Some, None, IfSome, IsOk, OnErr, OnOk, nat_eq};
 ghost use Rattle.indexmap.specs.IndexMap.{get as holders_at, spare};
+ghost use Rattle.view_model.specs.declared.limits.TheConstants.{MAX_VIEWS};
 ghost use Rattle.view_tree.specs.Faults.{IsRefusedExactlyFor};
 ghost use Rattle.view_tree.specs.Holders.{dropped, noted, renamed, with_holder, without_holder};
 
@@ -15,7 +16,7 @@ pub struct Holders {
 }
 
 fn one_more(held: Option<Holders>, key: usize) -> Holders
-    requires { IfSome held (λ holders. holders.count ≤ 4096) }
+    requires { IfSome held (λ holders. holders.count ≤ MAX_VIEWS) }
     ensures { result ≡ with_holder held key }
 {
     match held {
@@ -41,7 +42,7 @@ fn one_less(holders: Holders, key: usize) -> Option<Holders>
 
 /// Notes that the view of this key has an id; 0 names nothing and has no entry.
 pub fn note_id(ids: &mut IndexMap<u32, Holders>, id: u32, key: usize) -> Result<(), AttachFault>
-    requires { IfSome (holders_at nat_eq ids.old id) (λ holders. holders.count ≤ 4096) }
+    requires { IfSome (holders_at nat_eq ids.old id) (λ holders. holders.count ≤ MAX_VIEWS) }
     ensures refused { IsRefusedExactlyFor None result }
     ensures noted { OnOk result ((i : ℕ) → holders_at nat_eq ids.new i ≡ noted (holders_at nat_eq ids.old i) id key i) }
     ensures unchanged { OnErr result (ids.new.entries ≡ ids.old.entries) }
@@ -86,7 +87,7 @@ pub fn rename(
     old: u32,
     new: u32,
 ) -> Result<(), AttachFault>
-    requires { IfSome (holders_at nat_eq ids.old new) (λ holders. holders.count ≤ 4096) }
+    requires { IfSome (holders_at nat_eq ids.old new) (λ holders. holders.count ≤ MAX_VIEWS) }
     ensures refused { IsRefusedExactlyFor None result }
     ensures renamed { OnOk result ((i : ℕ) → holders_at nat_eq ids.new i ≡ renamed (holders_at nat_eq ids.old i) old new key i) }
     ensures unchanged { OnErr result (ids.new.entries ≡ ids.old.entries) }

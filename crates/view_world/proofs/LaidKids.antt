@@ -10,7 +10,7 @@ use Rattle.measure_pass.specs.Measured.{last_specs}
 use Rattle.view_model.specs.Course.{Child, Requested, begun, course_of, last_of}
 use Rattle.view_model.specs.Facts.{is_shown}
 use Rattle.view_model.specs.Forest.{Forest, Nothing, Branch}
-use Rattle.view_model.specs.Geometry.{Laid, extent_of}
+use Rattle.view_model.specs.Geometry.{Laid, size_of_rect}
 use Rattle.view_model.specs.Layout.{Final, Placed, Spot, children_of, final_specs, laid_views, place_in, placed_from, rule_of, total_size, unscrolled}
 use Rattle.view_model.specs.Measuring.{Measured, Specs}
 use Rattle.view_model.proofs.CourseLaws.{unasked, unasked-course, unasked_all}
@@ -100,7 +100,7 @@ placed_kids spot before specs held (Branch row below siblings) (kid ∷ kids) sa
 -- the layout of a view whose children were last measured under their final specs
 pub laid_group : (held : ℕ → Held) (row : Row) (kids : Forest Row) (specs : Specs) (rect : Rect) (spot : Spot) → is_shown row.view.facts ≡ true
     → last_specs held kids ≡ final_specs row.view (views_of kids) specs
-    → spot ≡ record { view = unscrolled row.view; specs = specs; room = extent_of rect; total = total_size row.view (views_of kids) specs }
+    → spot ≡ record { view = unscrolled row.view; specs = specs; room = size_of_rect rect; total = total_size row.view (views_of kids) specs }
     → laid_views row.view (views_of kids) specs rect ≡ record { number = row.view.number; rect = rect } ∷ group_kids spot [] held kids
 laid_group held row kids specs rect spot here finals is =
     let rule = rule_of (unscrolled row.view) specs in

@@ -1,24 +1,22 @@
 -- A view that is laid, with all below it.
 use Rattle.std.proofs.Common.{◌≡◌, ◌≢◌, ℕ, ◌<◌, ◌≤◌, ℤ, Bool, true, false, List, [], ◌∷◌, ◌++◌, None, Some, refl, sym, ◌∙◌, ap, subst, arith}
-use Rattle.std.proofs.lemmas.Bool.{eq-eqb}
 use Rattle.std.proofs.lemmas.List.{append-nil}
 use Rattle.geom_core.specs.Limits.{IsSide}
 use Rattle.geom_core.specs.declared.geometry.Rect.{Rect}
 use Rattle.geom_core.specs.declared.geometry.Size.{Size}
 use Rattle.measure_pass.specs.Measured.{Sized}
 use Rattle.measure_pass.proofs.Laws.{lawful_of}
-use Rattle.measure_pass.proofs.Parts.{Agree, Same}
 use Rattle.view_model.specs.Facts.{is_shown, unscrolled_facts}
 use Rattle.view_model.specs.Forest.{Forest, Nothing, Branch}
-use Rattle.view_model.specs.Geometry.{Laid, extent_of}
+use Rattle.view_model.specs.Geometry.{Laid, size_of_rect}
 use Rattle.view_model.specs.Layout.{Spot, laid_views, measured_size, place_in, total_size, unscrolled}
 use Rattle.view_model.specs.Measuring.{Measured, Specs}
 use Rattle.view_tree.specs.Hidden.{HidesGone}
 use Rattle.view_tree.specs.Rows.{Row, first_tree, children_of_first, part_from, head_view, count_of_key, views_of}
-use Rattle.view_tree.specs.Views.{Held, laid_rows, specs_of}
-use Rattle.view_tree.proofs.Forests.{times_from}
-use Rattle.view_tree.proofs.GeometryLaws.{laid_nowhere}
-use Rattle.view_tree.proofs.KeyLaws.{located}
+use Rattle.view_tree.specs.Views.{Held, KeepsInside, KeepsOutside, laid_rows, specs_of}
+use Rattle.view_tree.proofs.values.GeometryLaws.{laid_nowhere}
+use Rattle.view_tree.proofs.forest.KeyLaws.{located}
+use Rattle.view_tree.proofs.forest.Walks.{KeepsInside-below, not_below, not_own, once_from}
 use Rattle.view_world.specs.declared.laying.placer.Placer.{Placer}
 use Rattle.view_world.specs.Laying.{CanBeLaid, IsLaid, group_kids, kid_under, last_sizes, layout_of, spot_of}
 use Rattle.view_world.specs.Placing.{LaidKids, PlacesAs}
@@ -30,38 +28,24 @@ pub record Wrote (old new : ℕ → Held) (view : ℕ) (rect : Rect) : Type 0 wh
   pub at : new view ≡ record (old view) { state = record (old view).state { bounds = Some rect } }
   pub others : (key : ℕ) → key ≢ view → new key ≡ old key
 
--- a view is not below itself
-not_below : (row : Row) (kids siblings : Forest Row) → count_of_key row.key (Branch row kids siblings) ≤ 1 → count_of_key row.key kids ≡ 0
-not_below row kids siblings once = let once = rw (eq-eqb row.key row.key refl) at once in omega arith
-
--- what is below a view, and what is outside of it, has another key
-apart : (row : Row) (kids : Forest Row) (view key : ℕ) → row.key ≡ view → count_of_key row.key kids ≡ 0 → 0 < count_of_key key kids → key ≢ view
-apart row kids view key is none live e =
-    let z : count_of_key key kids ≡ 0 = subst (λ k. count_of_key k kids ≡ 0) (is ∙ sym e) none in absurd (omega arith)
-
-outside : (row : Row) (kids : Forest Row) (view key : ℕ) → row.key ≡ view → count_of_key key (Branch row kids Nothing) ≡ 0 → key ≢ view
-outside row kids view key is none e =
-    let z : count_of_key row.key (Branch row kids Nothing) ≡ 0 = subst (λ k. count_of_key k (Branch row kids Nothing) ≡ 0) (e ∙ sym is) none in
-    let z = rw (eq-eqb row.key row.key refl) at z in absurd (omega arith)
-
 -- no answer is both
 never_both : {X : Type 0} {b : Bool} → b ≡ true → b ≡ false → X
 never_both t f = absurd (let e : true ≡ false = sym t ∙ f in cc)
 
 -- what the writing of a view's bounds leaves below it
 same_below : (row : Row) (kids siblings : Forest Row) (view : ℕ) (rect : Rect) (old new : ℕ → Held) → row.key ≡ view
-    → count_of_key row.key (Branch row kids siblings) ≤ 1 → Wrote old new view rect → Same old new kids
-same_below row kids siblings view rect old new is once wrote key live =
-    wrote.others key (apart row kids view key is (not_below row kids siblings once) live)
+    → count_of_key row.key (Branch row kids siblings) ≤ 1 → Wrote old new view rect → KeepsInside old new kids
+same_below row kids siblings view rect old new is once wrote =
+    KeepsInside-below old new row kids siblings once (λ key ne. wrote.others key (λ e. ne (e ∙ sym is)))
 
 -- the group that a view is which got bounds, by what is kept of it
 spot_is : (row : Row) (kids siblings : Forest Row) (view : ℕ) (rect : Rect) (old mid : ℕ → Held) → row.key ≡ view → is_shown row.view.facts ≡ true
     → Sized old (Branch row kids Nothing) → Wrote old mid view rect
     → (let specs = specs_of (old row.key).state in
-    spot_of (Branch row kids siblings) (mid view) (extent_of rect)
-    ≡ record { view = unscrolled row.view; specs = specs; room = extent_of rect; total = total_size row.view (views_of kids) specs })
+    spot_of (Branch row kids siblings) (mid view) (size_of_rect rect)
+    ≡ record { view = unscrolled row.view; specs = specs; room = size_of_rect rect; total = total_size row.view (views_of kids) specs })
 spot_is row kids siblings view rect old mid is shown sized wrote =
-    let room = extent_of rect in
+    let room = size_of_rect rect in
     ap (λ (own : Held). spot_of (Branch row kids siblings) own room) wrote.at
     ∙ ap (λ (key : ℕ). spot_of (Branch row kids siblings) (old key) room) (sym is)
     ∙ ap (λ (total : ℤ). let spot : Spot = record { view = unscrolled row.view; specs = specs_of (old row.key).state; room = room; total = total } in spot)
@@ -71,14 +55,14 @@ spot_is row kids siblings view rect old mid is shown sized wrote =
 group_laid : (row : Row) (kids siblings : Forest Row) (view : ℕ) (rect : Rect) (old mid new : ℕ → Held) → row.key ≡ view
     → count_of_key row.key (Branch row kids siblings) ≤ 1 → is_shown row.view.facts ≡ true
     → CanBeLaid old (Branch row kids Nothing) → Wrote old mid view rect
-    → IsLaid new kids (group_kids (spot_of (Branch row kids siblings) (mid view) (extent_of rect)) [] mid kids) → Agree mid new kids
+    → IsLaid new kids (group_kids (spot_of (Branch row kids siblings) (mid view) (size_of_rect rect)) [] mid kids) → KeepsOutside mid new kids
     → IsLaid new (Branch row kids Nothing) (laid_views row.view (views_of kids) (specs_of (old view).state) rect)
 group_laid row kids siblings view rect old mid new is once shown ready wrote laid others =
     let own : new row.key ≡ mid row.key = others row.key (not_below row kids siblings once) in
     let bounds : (new row.key).state.bounds ≡ Some rect =
     ap (λ (h : Held). h.state.bounds) own ∙ ap (λ (k : ℕ). (mid k).state.bounds) is ∙ ap (λ (h : Held). h.state.bounds) wrote.at in
     let entry : Laid = record { number = row.view.number; rect = rect } in
-    let spot = spot_of (Branch row kids siblings) (mid view) (extent_of rect) in
+    let spot = spot_of (Branch row kids siblings) (mid view) (size_of_rect rect) in
     let specs = specs_of (old row.key).state in
     let children : laid_rows new kids ++ [] ≡ group_kids spot [] old kids =
     append-nil (laid_rows new kids) ∙ laid.lies
@@ -95,13 +79,13 @@ group_laid row kids siblings view rect old mid new is once shown ready wrote lai
 pub group_at : (tree : Forest Row) (view : ℕ) (rect : Rect) (old mid new : ℕ → Held) → 0 < count_of_key view tree → ((key : ℕ) → count_of_key key tree ≤ 1)
     → is_shown (head_view (part_from view tree)).facts ≡ true
     → CanBeLaid old (first_tree (part_from view tree)) → Wrote old mid view rect
-    → IsLaid new (children_of_first (part_from view tree)) (group_kids (spot_of (part_from view tree) (mid view) (extent_of rect)) [] mid (children_of_first (part_from view tree)))
-    → Agree mid new (children_of_first (part_from view tree))
+    → IsLaid new (children_of_first (part_from view tree)) (group_kids (spot_of (part_from view tree) (mid view) (size_of_rect rect)) [] mid (children_of_first (part_from view tree)))
+    → KeepsOutside mid new (children_of_first (part_from view tree))
     → IsLaid new (first_tree (part_from view tree)) (layout_of (part_from view tree) (specs_of (old view).state) rect)
 group_at tree view rect old mid new live keys shown ready wrote laid others =
     let f = located view tree live in
     let once : count_of_key f.row.key (Branch f.row f.kids f.siblings) ≤ 1 =
-    rw f.is at (let a = times_from view f.row.key tree live in let b = keys f.row.key in let c : count_of_key f.row.key (part_from view tree) ≤ 1 = omega arith in c) in
+    rw f.is at (once_from tree view keys live f.row.key) in
     rw f.is
     (group_laid f.row f.kids f.siblings view rect old mid new f.key_is once (rw f.is at shown) (rw f.is at ready) wrote (rw f.is at laid) (rw f.is at others))
 
@@ -111,18 +95,18 @@ pub below_ready : (tree : Forest Row) (view : ℕ) (rect : Rect) (old mid : ℕ 
 below_ready tree view rect old mid live keys shown ready wrote =
     let f = located view tree live in
     let once : count_of_key f.row.key (Branch f.row f.kids f.siblings) ≤ 1 =
-    rw f.is at (let a = times_from view f.row.key tree live in let b = keys f.row.key in let c : count_of_key f.row.key (part_from view tree) ≤ 1 = omega arith in c) in
+    rw f.is at (once_from tree view keys live f.row.key) in
     let ready : CanBeLaid old (Branch f.row f.kids Nothing) = rw f.is at ready in
     let kids : CanBeLaid old f.kids = record { sized = (ready.sized.0 (rw f.is at shown)).1; hidden = ready.hidden.1 } in
     rw f.is (CanBeLaid-along old mid f.kids (same_below f.row f.kids f.siblings view rect old mid f.key_is once wrote) kids)
 
 -- what is kept of all views outside
 pub outside_at : (tree : Forest Row) (view : ℕ) (rect : Rect) (old mid new : ℕ → Held) → 0 < count_of_key view tree → Wrote old mid view rect
-    → Agree mid new (children_of_first (part_from view tree)) → Agree old new (first_tree (part_from view tree))
+    → KeepsOutside mid new (children_of_first (part_from view tree)) → KeepsOutside old new (first_tree (part_from view tree))
 outside_at tree view rect old mid new live wrote others =
     let f = located view tree live in
-    let others : Agree mid new f.kids = rw f.is at others in
-    rw f.is (λ key none. others key (omega arith) ∙ wrote.others key (outside f.row f.kids view key f.key_is none))
+    let others : KeepsOutside mid new f.kids = rw f.is at others in
+    rw f.is (λ key none. others key (omega arith) ∙ wrote.others key (λ e. not_own f.row f.kids Nothing key none (e ∙ sym f.key_is)))
 
 -- the sides of the size of a view that was measured
 pub record HasSides (size : Size) : Type 0 where

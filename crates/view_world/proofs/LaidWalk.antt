@@ -1,15 +1,15 @@
 -- A walk over the children of a view, while each is laid.
-use Rattle.std.proofs.Common.{◌≡◌, ℕ, ◌<◌, ◌≤◌, List, [], ◌++◌, ◌+◌, length, length-append, Option, Some, refl, sym, ◌∙◌, ap, append_assoc, subst, arith}
+use Rattle.std.proofs.Common.{◌≡◌, ℕ, ◌<◌, ◌≤◌, List, [], ◌++◌, ◌+◌, length, length-append, Option, Some, sym, ◌∙◌, ap, append_assoc, subst, arith}
 use Rattle.std.proofs.lemmas.List.{append-nil}
 use Rattle.std.specs.Prelude.{IfSome}
-use Rattle.measure_pass.proofs.Parts.{Agree, Same, times_parts}
+use Rattle.view_model.specs.declared.limits.TheConstants.{MAX_VIEWS}
 use Rattle.view_model.specs.Forest.{Forest, Nothing, Branch, count_of}
 use Rattle.view_model.specs.Geometry.{Laid}
 use Rattle.view_model.specs.Layout.{Spot}
 use Rattle.view_model.specs.Measuring.{Measured}
 use Rattle.view_tree.specs.Rows.{Row, later_siblings, first_tree, part_from, rest_from, count_of_key}
-use Rattle.view_tree.specs.Views.{Held, specs_of}
-use Rattle.view_tree.proofs.Forests.{live_after, times_from}
+use Rattle.view_tree.specs.Views.{Held, KeepsInside, KeepsOutside, specs_of}
+use Rattle.view_tree.proofs.forest.Walks.{KeepingWalk, KeepsInside-first, KeepsOutside-parts, count_of-parts, keeping_on, keeping_start, once_from, still_first}
 use Rattle.view_world.specs.declared.laying.placer.Placer.{Placer}
 use Rattle.view_world.specs.Laying.{CanBeLaid, IsLaid, group_kids, kid_sizes, last_sizes}
 use Rattle.view_world.specs.Placing.{LaidKids, PlacesAs}
@@ -19,21 +19,12 @@ use Rattle.view_world.proofs.LaidParts.{CanBeLaid-later_siblings, IsLaid-along, 
 pub record LaidWalk (tree kids : Forest Row) (placer : Placer) (spot : Spot) (start : ℕ → Held) (next : Option ℕ) (now : ℕ → Held) : Type 0 where
   pub before : List Measured
   pub places : PlacesAs placer spot before
-  pub short : length before + count_of (rest_from next tree) ≤ 4096
-  pub live : IfSome next (λ kid. 0 < count_of_key kid tree)
-  pub distinct : (key : ℕ) → count_of_key key tree ≤ 1
-  pub few : count_of (rest_from next tree) ≤ count_of kids
-  pub within : (key : ℕ) → count_of_key key (rest_from next tree) ≤ count_of_key key kids
-  pub others : Agree start now kids
-  pub still : Same start now (rest_from next tree)
+  pub short : length before + count_of (rest_from next tree) ≤ MAX_VIEWS
+  pub walked : KeepingWalk tree kids start next now
   pub ready : CanBeLaid start (rest_from next tree)
   -- once the rest is laid, and nothing else has changed since now, all are
-  pub laid : (end : ℕ → Held) → Agree now end (rest_from next tree)
+  pub laid : (end : ℕ → Held) → KeepsOutside now end (rest_from next tree)
       → IsLaid end (rest_from next tree) (group_kids spot before start (rest_from next tree)) → IsLaid end kids (group_kids spot [] start kids)
-
-count_parts : (list : Forest Row) → count_of list ≡ count_of (first_tree list) + count_of (later_siblings list)
-count_parts Nothing = omega arith
-count_parts (Branch row kids siblings) = omega arith
 
 lists_joined : (own below rest first more : List Laid) → own ++ (below ++ []) ≡ first ++ [] → rest ≡ more → own ++ (below ++ rest) ≡ first ++ more
 lists_joined own below rest first more e f =
@@ -55,63 +46,43 @@ laid_joined spot before start end (Branch row kids siblings) first rest =
 
 module _ (tree kids : Forest Row) (placer next_placer : Placer) (spot : Spot) (start : ℕ → Held) (kid : ℕ) (old mid : ℕ → Held)
     (walk : LaidWalk tree kids placer spot start (Some kid) old) (step : LaidKids next_placer spot walk.before old mid (first_tree (part_from kid tree)))
-    (apart : Agree old mid (first_tree (part_from kid tree))) where
+    (apart : KeepsOutside old mid (first_tree (part_from kid tree))) where
   once : (key : ℕ) → count_of_key key (part_from kid tree) ≤ 1
-  once key = let a = times_from kid key tree walk.live in let b = walk.distinct key in omega arith
+  once = once_from tree kid walk.walked.once walk.walked.walk.live
 
-  as_started : Same start old (first_tree (part_from kid tree))
-  as_started key live = walk.still key (let b = times_parts key (part_from kid tree) in omega arith)
+  as_started : KeepsInside start old (first_tree (part_from kid tree))
+  as_started = still_first tree kids start kid old walk.walked
 
   -- the first child of the rest stands at the end as it was left, and the others are as they were
-  kid_laid : (end : ℕ → Held) → Agree mid end (later_siblings (part_from kid tree))
+  kid_laid : (end : ℕ → Held) → KeepsOutside mid end (later_siblings (part_from kid tree))
       → IsLaid end (first_tree (part_from kid tree)) (group_kids spot walk.before start (first_tree (part_from kid tree)))
   kid_laid end same =
-      let as_left : Same mid end (first_tree (part_from kid tree)) = λ key live. same key (let a = once key in let b = times_parts key (part_from kid tree) in omega arith) in
-      IsLaid-along mid end (first_tree (part_from kid tree)) _ as_left
+      IsLaid-along mid end (first_tree (part_from kid tree)) _ (KeepsInside-first mid end (part_from kid tree) once same)
       (record { lies = step.laid.lies ∙ group_kids-along spot walk.before start old (first_tree (part_from kid tree)) as_started; hidden = step.laid.hidden })
 
-  rest_same : Same old mid (later_siblings (part_from kid tree))
-  rest_same key live = apart key (let a = once key in let b = times_parts key (part_from kid tree) in omega arith)
-
-  from_same : (end : ℕ → Held) → Agree mid end (later_siblings (part_from kid tree)) → Agree old end (part_from kid tree)
-  from_same end same key none =
-      let parts = times_parts key (part_from kid tree) in same key (omega arith) ∙ apart key (omega arith)
-
-  pub walk_on : (next : Option ℕ) → rest_from next tree ≡ later_siblings (part_from kid tree) → IfSome next (λ kid. 0 < count_of_key kid tree) → LaidWalk tree kids next_placer spot start next mid
-  walk_on next is live =
-      let fall = live_after kid tree walk.live in
-      let before = walk.few in
+  pub laid_on : (next : Option ℕ) → rest_from next tree ≡ later_siblings (part_from kid tree) → IfSome next (λ kid. 0 < count_of_key kid tree) → LaidWalk tree kids next_placer spot start next mid
+  laid_on next is live =
       let sizes = last_sizes-along start old (first_tree (part_from kid tree)) as_started in
       record {
         before = walk.before ++ last_sizes start (first_tree (part_from kid tree));
         places = subst (λ more. PlacesAs next_placer spot (walk.before ++ more)) sizes step.places;
         short = rw is (let few = last_sizes-few start (first_tree (part_from kid tree)) in
             let both = length-append walk.before (last_sizes start (first_tree (part_from kid tree))) in
-            let parts = count_parts (part_from kid tree) in
+            let parts = count_of-parts (part_from kid tree) in
             let short = walk.short in omega arith);
-        live = live;
-        distinct = walk.distinct;
-        few = rw is (omega arith);
-        within = λ key. rw is (let a = walk.within key in let b = times_parts key (part_from kid tree) in omega arith);
-        others = λ key none. apart key (let a = walk.within key in let b = times_parts key (part_from kid tree) in omega arith) ∙ walk.others key none;
-        still = rw is (λ key here. rest_same key here ∙ walk.still key (let b = times_parts key (part_from kid tree) in omega arith));
+        walked = keeping_on tree kids start kid old mid next walk.walked apart is live;
         ready = rw is (CanBeLaid-later_siblings start (part_from kid tree) walk.ready);
-        laid = rw is (λ end same rest. walk.laid end (from_same end same) (laid_joined spot walk.before start end (part_from kid tree) (kid_laid end same) rest));
+        laid = rw is (λ end same rest. walk.laid end (KeepsOutside-parts old mid end (part_from kid tree) apart same) (laid_joined spot walk.before start end (part_from kid tree) (kid_laid end same) rest));
       }
 
-pub walk_start : (tree kids : Forest Row) (placer : Placer) (spot : Spot) (start : ℕ → Held) (next : Option ℕ) → PlacesAs placer spot []
-    → count_of kids ≤ 4096 → ((key : ℕ) → count_of_key key tree ≤ 1) → rest_from next tree ≡ kids → IfSome next (λ kid. 0 < count_of_key kid tree) → CanBeLaid start kids
+pub laid_start : (tree kids : Forest Row) (placer : Placer) (spot : Spot) (start : ℕ → Held) (next : Option ℕ) → PlacesAs placer spot []
+    → count_of kids ≤ MAX_VIEWS → ((key : ℕ) → count_of_key key tree ≤ 1) → rest_from next tree ≡ kids → IfSome next (λ kid. 0 < count_of_key kid tree) → CanBeLaid start kids
     → LaidWalk tree kids placer spot start next start
-walk_start tree kids placer spot start next places short distinct is live ready = record {
+laid_start tree kids placer spot start next places short distinct is live ready = record {
   before = [];
   places = places;
   short = rw is (omega arith);
-  live = live;
-  distinct = distinct;
-  few = rw is (omega arith);
-  within = λ key. rw is (omega arith);
-  others = λ key none. refl;
-  still = λ key here. refl;
+  walked = keeping_start tree kids start next distinct is live;
   ready = rw is ready;
   laid = rw is (λ end same rest. rest);
 }

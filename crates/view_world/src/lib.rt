@@ -5,7 +5,6 @@ mod bounds;
 mod fault;
 mod laying;
 mod naming;
-mod refusals;
 mod replies;
 mod response;
 mod stage;

@@ -1,8 +1,9 @@
 //! Views that come into a tree.
-ghost use Rattle.std.specs.Prelude.{◌≡◌, ◌+◌, ◌^◌, ◌<◌, length, replicate, None, Some, IfOk, IfSome, OnErr};
+ghost use Rattle.std.specs.Prelude.{◌≡◌, ◌+◌, ◌<◌, length, replicate, None, Some, IfOk, IfSome, OnErr};
 ghost use Rattle.std.specs.Option.{option_map};
+ghost use Rattle.view_model.specs.declared.limits.TheConstants.{NUMBERS_END};
 ghost use Rattle.view_model.specs.Forest.{Nothing};
-ghost use Rattle.view_model.specs.Growth.{growth_refusal, is_group, refusal_at};
+ghost use Rattle.view_model.specs.Growth.{growth_refusal, refusal_at};
 ghost use Rattle.view_model.specs.PlainTree.{PlainView};
 ghost use Rattle.view_tree.specs.Attached.{Attached};
 ghost use Rattle.view_tree.specs.Faults.{IsRefusedExactlyFor};
@@ -14,19 +15,9 @@ use super::{Key, ViewTree};
 use crate::fault::AttachFault;
 use crate::links::link_last;
 use crate::table::{make_room, note_key};
+use view_model::limits::{MAX_DEPTH, MAX_VIEWS};
+use view_model::refusals::{NOT_GROUP, TOO_DEEP, TOO_MANY_VIEWS};
 use view_model::{Class, Facts, Refusal, Text};
-
-/// The most views that a tree may have, and how deep the deepest may be.
-const MAX_VIEWS: usize = 4096;
-
-const MAX_DEPTH: usize = 32;
-
-/// The numbers of the refusals.
-const VIEWS: u8 = 19;
-
-const DEPTH: u8 = 20;
-
-const NOT_GROUP: u8 = 21;
 
 impl ViewTree {
     /// Makes a view, the last child of its parent, or the root where there is none. It has the next number, no bounds,
@@ -41,7 +32,7 @@ impl ViewTree {
         requires live { IfSome parent (λ parent. IsLive self.old parent) }
         requires root { parent ≡ None → self.old.tree ≡ Nothing }
         requires unnamed { (facts.id ≡ 0) × (facts.rules.values ≡ replicate 21 0) }
-        requires numbers { self.old.next < 2 ^ 62 }
+        requires numbers { self.old.next < NUMBERS_END }
         ensures attached { let view : PlainView = record { number = self.old.next; class = class; facts = facts; text = text } in
             IfOk result (λ key. Attached self.old parent view key self.new) }
         ensures refused { IsRefusedExactlyFor (refusal_at (plain_of self.old) (option_map (number_of self.old) parent)) result }
@@ -74,7 +65,7 @@ impl ViewTree {
     /// How deep a view is: 1 for the root.
     fn depth(&self, view: Key) -> usize
         requires live { IsLive self.now view }
-        requires shallow { length (ancestors view self.now.tree) < 32 }
+        requires shallow { length (ancestors view self.now.tree) < MAX_DEPTH }
         ensures { result ≡ length (ancestors view self.now.tree) + 1 }
     {
         let mut depth = 1;
@@ -92,25 +83,16 @@ impl ViewTree {
 fn growth(class: Class, depth: usize, count: usize) -> Result<(), AttachFault>
     ensures { IsRefusedExactlyFor (growth_refusal class depth count) result }
 {
-    if !takes_children(class) {
+    if !class.is_group() {
         return Err(AttachFault::Refused(Refusal::plain(NOT_GROUP)));
     }
     if depth >= MAX_DEPTH {
-        return Err(AttachFault::Refused(Refusal::plain(DEPTH)));
+        return Err(AttachFault::Refused(Refusal::plain(TOO_DEEP)));
     }
     if count >= MAX_VIEWS {
-        return Err(AttachFault::Refused(Refusal::plain(VIEWS)));
+        return Err(AttachFault::Refused(Refusal::plain(TOO_MANY_VIEWS)));
     }
     Ok(())
-}
-
-fn takes_children(class: Class) -> bool
-    ensures { result ≡ is_group class }
-{
-    match class {
-        Class::View => false,
-        Class::FrameLayout => true,
-    }
 }
 
 /// The root once a view has come.

@@ -1,12 +1,13 @@
 //! Laying a measured view and all below it: the walk, which is the same for every class.
-ghost use Rattle.std.specs.Prelude.{◌≡◌, ◌+◌, ◌≤◌, ℕ, true, [], List, length};
+ghost use Rattle.std.specs.Prelude.{◌≡◌, ◌+◌, ◌≤◌, true, [], List, length};
+ghost use Rattle.view_model.specs.declared.limits.TheConstants.{MAX_VIEWS};
 ghost use Rattle.view_model.specs.Facts.{is_shown};
 ghost use Rattle.view_model.specs.Forest.{count_of};
-ghost use Rattle.view_model.specs.Geometry.{extent_of};
+ghost use Rattle.view_model.specs.Geometry.{size_of_rect};
 ghost use Rattle.view_model.specs.Layout.{Spot};
 ghost use Rattle.view_model.specs.Measuring.{Measured};
-ghost use Rattle.view_tree.specs.Rows.{first_tree, children_of_first, part_from, count_of_key};
-ghost use Rattle.view_tree.specs.Views.{IsLive, IsTree, SameTree, facts_of, held_of, specs_of, state_of};
+ghost use Rattle.view_tree.specs.Rows.{first_tree, children_of_first, part_from};
+ghost use Rattle.view_tree.specs.Views.{IsLive, IsTree, KeepsOutside, SameTree, facts_of, held_of, specs_of, state_of};
 ghost use Rattle.view_world.specs.Laying.{CanBeLaid, IsLaid, KeepsAllButBounds, group_kids, layout_of, spot_of};
 ghost use Rattle.view_world.specs.Placing.{LaidKids, PlacesAs};
 
@@ -21,11 +22,11 @@ pub fn lay(tree: &mut ViewTree, view: Key, rect: Rect, size: Size)
     requires live { IsLive tree.old view }
     requires shown { is_shown (facts_of tree.old view) ≡ true }
     requires ready { CanBeLaid (held_of tree.old) (first_tree (part_from view tree.old.tree)) }
-    requires extent { extent_of rect ≡ size }
+    requires extent { size_of_rect rect ≡ size }
     ensures same { SameTree tree.old tree.new }
     ensures laid { IsLaid (held_of tree.new) (first_tree (part_from view tree.old.tree)) (layout_of (part_from view tree.old.tree) (specs_of (state_of tree.old view)) rect) }
     ensures kept { KeepsAllButBounds tree.old tree.new }
-    ensures others { (key : ℕ) → count_of_key key (first_tree (part_from view tree.old.tree)) ≡ 0 → held_of tree.new key ≡ held_of tree.old key }
+    ensures others { KeepsOutside (held_of tree.old) (held_of tree.new) (first_tree (part_from view tree.old.tree)) }
 {
     tree.set_bounds(view, Some(rect));
     lay_kids(tree, view, size);
@@ -40,7 +41,7 @@ fn lay_kids(tree: &mut ViewTree, view: Key, size: Size)
     ensures laid { IsLaid (held_of tree.new) (children_of_first (part_from view tree.old.tree))
         (group_kids (spot_of (part_from view tree.old.tree) (held_of tree.old view) size) [] (held_of tree.old) (children_of_first (part_from view tree.old.tree))) }
     ensures kept { KeepsAllButBounds tree.old tree.new }
-    ensures others { (key : ℕ) → count_of_key key (children_of_first (part_from view tree.old.tree)) ≡ 0 → held_of tree.new key ≡ held_of tree.old key }
+    ensures others { KeepsOutside (held_of tree.old) (held_of tree.new) (children_of_first (part_from view tree.old.tree)) }
 {
     let mut next = tree.first(view);
     if next.is_none() {
@@ -61,10 +62,10 @@ fn lay_kid(tree: &mut ViewTree, placer: &mut Placer, kid: Key)
     ensures same { SameTree tree.old tree.new }
     ensures laid { (spot : Spot) (before : List Measured)
         → PlacesAs placer.old spot before
-        → length before + count_of (first_tree (part_from kid tree.old.tree)) ≤ 4096
+        → length before + count_of (first_tree (part_from kid tree.old.tree)) ≤ MAX_VIEWS
         → LaidKids placer.new spot before (held_of tree.old) (held_of tree.new) (first_tree (part_from kid tree.old.tree)) }
     ensures kept { KeepsAllButBounds tree.old tree.new }
-    ensures others { (key : ℕ) → count_of_key key (first_tree (part_from kid tree.old.tree)) ≡ 0 → held_of tree.new key ≡ held_of tree.old key }
+    ensures others { KeepsOutside (held_of tree.old) (held_of tree.new) (first_tree (part_from kid tree.old.tree)) }
 {
     let facts = tree.facts(kid);
     if !facts.is_shown() {

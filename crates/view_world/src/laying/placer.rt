@@ -1,8 +1,9 @@
 //! Where a group puts its children, one after the other. What is here has one arm a class.
 ghost use Rattle.std.specs.Prelude.{◌≡◌, ◌<◌, [], ◌∷◌, ◌++◌, List, None, length};
 ghost use Rattle.geom_core.specs.Limits.{IsSide};
+ghost use Rattle.view_model.specs.declared.limits.TheConstants.{MAX_VIEWS};
 ghost use Rattle.view_model.specs.Facts.{unscrolled_facts};
-ghost use Rattle.view_model.specs.Geometry.{extent_of};
+ghost use Rattle.view_model.specs.Geometry.{size_of_rect};
 ghost use Rattle.view_model.specs.Layout.{Spot, place_in};
 ghost use Rattle.view_model.specs.Measuring.{Measured};
 ghost use Rattle.view_tree.specs.Rows.{part_from};
@@ -40,13 +41,13 @@ impl Placer {
     pub fn place(&mut self, kid: &Facts, size: Size) -> Rect
         requires width { IsSide size.w }
         requires height { IsSide size.h }
-        ensures extent { extent_of result ≡ size }
+        ensures extent { size_of_rect result ≡ size }
         ensures place { (spot : Spot) (before : List Measured)
             → PlacesAs self.old spot before
             → result ≡ place_in spot before (record { facts = unscrolled_facts kid.now; size = size }) None }
         ensures next { (spot : Spot) (before : List Measured)
             → PlacesAs self.old spot before
-            → length before < 4096
+            → length before < MAX_VIEWS
             → PlacesAs self.new spot (before ++ record { facts = unscrolled_facts kid.now; size = size } ∷ []) }
     {
         match self {

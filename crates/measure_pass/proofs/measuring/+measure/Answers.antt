@@ -6,19 +6,21 @@ use Rattle.measure_pass.proofs.Counts.{costs_by, costs_counted}
 use Rattle.measure_pass.proofs.MeasureKid.{measured_kid, gone_kid, skipped_kid, measured_whole}
 use Rattle.measure_pass.proofs.Laws.{lawful_of}
 use Rattle.measure_pass.proofs.Own.{Own, keeps_self, keeps_trans, measured_at, new_at}
-use Rattle.measure_pass.proofs.Parts.{Agree, count_few, count_one, facts_in}
-use Rattle.measure_pass.proofs.Walk.{once_from, phase_end, phase_on, phase_start, walk_on, walk_start}
+use Rattle.measure_pass.proofs.Parts.{facts_in}
+use Rattle.measure_pass.proofs.Walk.{phase_end, phase_on, phase_start}
 use Rattle.measure_pass.proofs.Whole.{begun_course, ends_at_0, ends_here, phases_end, phases_more, ready_now, ready_then}
-use Rattle.view_model.specs.declared.counting.Work.{Work}
+use Rattle.view_model.specs.declared.work.Work.{Work}
+use Rattle.view_model.specs.declared.limits.TheConstants.{MAX_VIEWS}
 use Rattle.view_model.specs.Course.{Progress, Requested, begun, one_phase}
 use Rattle.view_model.specs.Facts.{is_shown, unscrolled_facts}
 use Rattle.view_model.specs.Forest.{count_of}
 use Rattle.view_model.specs.Layout.{children_of}
 use Rattle.view_model.specs.Measuring.{Measured, Specs}
 use Rattle.view_tree.specs.declared.state.State.{State}
-use Rattle.view_tree.proofs.Forests.{count_alone, live_after, live_below}
+use Rattle.view_tree.proofs.forest.Forests.{live_after}
 use Rattle.view_tree.specs.Rows.{later_siblings, first_tree, children_of_first, part_from, rest_from, views_of}
-use Rattle.view_tree.specs.Views.{held_of}
+use Rattle.view_tree.specs.Views.{KeepsOutside, held_of}
+use Rattle.view_tree.proofs.forest.Walks.{count_few, count_one, fewer_below, keeping_on, keeping_start, once_from}
 use Rattle.measure_pass.proofs.measuring.+measure.Goals as goal
 
 own_new : (t : ℕ) (c : goal.measure-After-result-1 t) → (let specs : Specs = record { across = c.args.ws; down = c.args.hs } in
@@ -128,7 +130,7 @@ measure_kids-loop-next-init t c =
     let few = count_few c.args.view tree c.requires.live first.is_tree.few in
     record {
       same = record { tree = refl; next = refl };
-      walked = walk_start tree kids (held_of c.args.tree.now) c.first-next.result first.is_tree.keys first.part first.live;
+      walked = keeping_start tree kids (held_of c.args.tree.now) c.first-next.result first.is_tree.keys first.part first.live;
       phase = λ group past asked stands course can. rw first.part (phase_start c.args.plan.now group past asked kids (held_of c.args.tree.now) c.args.work.now.measured stands few course can);
       keeps = keeps_self (held_of c.args.tree.now);
       painted = refl;
@@ -136,15 +138,13 @@ measure_kids-loop-next-init t c =
 
 pub measure_kids-measure_kid-requires : goal.measure_kids-measure_kid-requires
 measure_kids-measure_kid-requires t c =
-    let i = rw c.in-Some.is at c.loop-next.invariant.walked in
-    let few : count_of (part_from c.in-Some.kid c.args.tree.now.tree) ≤ count_of (children_of_first (part_from c.args.view c.args.tree.now.tree)) = i.few in
-    let one = live_below c.args.view c.args.tree.now.tree c.requires.live in
-    let two = count_alone (part_from c.in-Some.kid c.args.tree.now.tree) in
+    let i = rw c.in-Some.is at c.loop-next.invariant.walked.walk in
+    let fewer = fewer_below c.args.tree.now.tree c.args.view c.in-Some.kid c.requires.live i in
     rw c.loop-next.invariant.same.tree (omega arith, i.live)
 
 pub measure_kids-loop-next-smaller : goal.measure_kids-loop-next-smaller
 measure_kids-loop-next-smaller t c =
-    let i = rw c.in-Some.is at c.loop-next.invariant.walked in
+    let i = rw c.in-Some.is at c.loop-next.invariant.walked.walk in
     rw (c.next-next.ensures.part, c.measure_kid.ensures.same.tree, c.loop-next.invariant.same.tree, c.in-Some.is) (live_after c.in-Some.kid c.args.tree.now.tree i.live)
 
 pub measure_kids-loop-next-preserved : goal.measure_kids-loop-next-preserved
@@ -158,15 +158,15 @@ measure_kids-loop-next-preserved t c =
     let same = i.same.tree in
     let m = c.measure_kid.ensures in
     let walked = rw c.in-Some.is at i.walked in
-    let others : Agree old mid (first_tree (part_from kid tree)) = rw same at m.others in
+    let others : KeepsOutside old mid (first_tree (part_from kid tree)) = rw same at m.others in
     let part : rest_from c.next-next.result tree ≡ later_siblings (part_from kid tree) = rw (m.same.tree, same) at c.next-next.ensures.part in
-    let keys = once_from tree kids (held_of c.args.tree.now) kid old walked in
+    let keys = once_from tree kid walked.once walked.walk.live in
     record {
       same = record { tree = m.same.tree ∙ same; next = m.same.next ∙ i.same.next };
-      walked = walk_on tree kids (held_of c.args.tree.now) kid old mid c.next-next.result walked others part (rw (m.same.tree, same) at c.next-next.ensures.live);
+      walked = keeping_on tree kids (held_of c.args.tree.now) kid old mid c.next-next.result walked others part (rw (m.same.tree, same) at c.next-next.ensures.live);
       phase = λ group past asked started course can.
           let f = rw c.in-Some.is at (i.phase group past asked started course can) in
-          let turn : (taken : List Measured) (first : List Requested) → Stands c.loop-next.plan group past taken → length taken + count_of (first_tree (part_from kid tree)) ≤ 4096
+          let turn : (taken : List Measured) (first : List Requested) → Stands c.loop-next.plan group past taken → length taken + count_of (first_tree (part_from kid tree)) ≤ MAX_VIEWS
           → InCourse old (first_tree (part_from kid tree)) first → CanTurn (rule_in group) past first
           → AfterPhase c.measure_kid.new.plan group past taken first old mid (first_tree (part_from kid tree)) c.loop-next.work.measured c.measure_kid.new.work.measured =
           rw same at (m.phase group past) in

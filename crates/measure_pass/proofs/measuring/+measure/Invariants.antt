@@ -2,12 +2,13 @@ use Rattle.std.proofs.Common.{◌≡◌, ◌+◌, ◌*◌, [], List}
 use Rattle.measure_pass.specs.Courses.{CanTurn, InCourse}
 use Rattle.measure_pass.specs.Measured.{Keeps}
 use Rattle.measure_pass.specs.Plans.{Group, Stands, rule_in}
-use Rattle.measure_pass.proofs.Walk.{Phasing, Walked}
+use Rattle.measure_pass.proofs.Walk.{Phasing}
 use Rattle.view_model.specs.Course.{Requested}
 use Rattle.view_model.specs.Forest.{count_of}
 use Rattle.view_model.specs.Measuring.{Measured}
 use Rattle.view_tree.specs.Rows.{first_tree, children_of_first, part_from, rest_from}
 use Rattle.view_tree.specs.Views.{SameTree, held_of}
+use Rattle.view_tree.proofs.forest.Walks.{KeepingWalk}
 use Rattle.measure_pass.proofs.measuring.+measure.Given as goal
 
 -- one round from a view to its child goes through these functions
@@ -34,7 +35,7 @@ invariant-measure_kids-loop-next l =
     let now = held_of l.tree in
     record {
       same : SameTree l.fn.tree l.tree;
-      walked : Walked tree kids start l.next now;
+      walked : KeepingWalk tree kids start l.next now;
       phase : (group : Group) (past : List (List Measured)) (asked : List Requested) → Stands l.fn.plan group past [] → InCourse start kids asked → CanTurn (rule_in group) past asked
           → Phasing l.plan group past asked kids (rest_from l.next tree) start now l.fn.work.measured l.work.measured;
       keeps : Keeps start now;

@@ -2,7 +2,7 @@ use Rattle.std.proofs.Common.{◌≡◌}
 use Rattle.view_model.specs.Forest.{count_of}
 use Rattle.view_tree.specs.Rows.{first_tree, children_of_first, part_from, rest_from}
 use Rattle.view_tree.specs.Views.{held_of}
-use Rattle.tree_edits.proofs.Walk.{Walked}
+use Rattle.tree_edits.proofs.Walk.{HidingWalk}
 use Rattle.tree_edits.proofs.hiding.+hide.Given as goal
 
 -- the views from this one down
@@ -19,5 +19,5 @@ invariant-loop-next l =
     record {
       same : l.tree.tree ≡ tree;
       numbers : l.tree.next ≡ l.fn.tree.next;
-      walked : Walked tree (children_of_first (part_from l.view tree)) (held_of l.initial.tree) l.next (held_of l.tree);
+      walked : HidingWalk tree (children_of_first (part_from l.view tree)) (held_of l.initial.tree) l.next (held_of l.tree);
     }

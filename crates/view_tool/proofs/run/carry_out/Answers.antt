@@ -1,6 +1,17 @@
+use Rattle.std.proofs.Common.{ap, sym, ◌∙◌}
+use Rattle.std.specs.Prelude.{Err}
+use Rattle.script_lines.specs.declared.fault.LineFault.TheVariants as fault
+use Rattle.view_world.specs.Step.{Refused}
+use Rattle.view_tool.proofs.RunLaws.{faulty_line}
 use Rattle.view_tool.proofs.WorkLaws.{measured_later}
 use Rattle.view_tool.proofs.run.carry_out.Goals as goal
 
 pub returns-in-Ok-clause-measured : goal.returns-in-Ok-clause-measured
 returns-in-Ok-clause-measured g c =
     measured_later c.in-Ok.command c.line-in-Ok.result c.args.work.now c.line-in-Ok.new.work _ c.line-in-Ok.ensures.work c.line-in-Ok.ensures.idle c.line-in-Ok.ensures.counted
+
+pub returns-in-Err-Range-clause-carried : goal.returns-in-Err-Range-clause-carried
+returns-in-Err-Range-clause-carried g c =
+    rw c.in-Some.is
+    (faulty_line _ c.in-Some.bytes.now fault.Range c.line.result (rw c.in-Some.is at c.requires.counts) c.line.ensures.value (c.in-Err-Range.is ∙ ap Err c.in-Err-Range.field-0-is)
+    ∙ ap Refused (sym c.plain-in-Err-Range.ensures))

@@ -3,6 +3,7 @@ use Rattle.std.specs.Prelude.{Ok, Err}
 use Rattle.std.proofs.lemmas.Result.{err_from_is_err_and}
 use Rattle.view_tool.specs.declared.script.End.TheVariants as end
 use Rattle.view_tool.specs.Script.{end_reads, end_writes}
+use Rattle.view_tool.specs.Transcript.{max_script}
 use Rattle.view_tool.proofs.ScriptLaws.{Consumes-nil, Consumes-Consumes, ends_early, ends_last, ends_well, taken_on}
 use Rattle.view_tool.proofs.script.run_to_end.Goals as goal
 
@@ -65,7 +66,7 @@ returns-in_err-finish-clause-runs g c =
     let t = c.loop-n.invariant.taken in
     let q = c.in_ok-n.ensures.reads _ t.bytes t.count t.behind in
     let none : c.in_ok-n.n ≡ 0 = omega (arith, c.if-n-eq0.true) in
-    let fits : length (t.bytes ++ q.bytes) ≤ 16777216 = omega (arith, length-append t.bytes q.bytes, t.count, q.count, none) in
+    let fits : length (t.bytes ++ q.bytes) ≤ max_script = omega (arith, length-append t.bytes q.bytes, t.count, q.count, none) in
     let lost = Consumes-Consumes _ _ _ t.bytes q.bytes t.consumed q.consumed in
     rw e (record {
       runs = λ script told. ends_last _ _ _ _ script (t.bytes ++ q.bytes) c.in_err-finish.field-0.0 told lost (c.in_ok-n.ensures.end (ap Ok none)) fits
@@ -94,7 +95,7 @@ returns-clause-runs g c =
     let t = c.loop-n.invariant.taken in
     let q = c.in_ok-n.ensures.reads _ t.bytes t.count t.behind in
     let none : c.in_ok-n.n ≡ 0 = omega (arith, c.if-n-eq0.true) in
-    let fits : length (t.bytes ++ q.bytes) ≤ 16777216 = omega (arith, length-append t.bytes q.bytes, t.count, q.count, none) in
+    let fits : length (t.bytes ++ q.bytes) ≤ max_script = omega (arith, length-append t.bytes q.bytes, t.count, q.count, none) in
     let lost = Consumes-Consumes _ _ _ t.bytes q.bytes t.consumed q.consumed in
     let ended = c.in_ok-n.ensures.end (ap Ok none) in
     let at = c.in_ok-finish.ensures.done _ (t.bytes ++ q.bytes) (omega (arith, fits)) q.comes in

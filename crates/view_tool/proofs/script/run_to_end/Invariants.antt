@@ -1,12 +1,14 @@
 use Rattle.std.proofs.Common.{◌≡◌, ◌≤◌, ◌+◌, ◌-◌, ◌*◌, ◌^◌, min}
+use Rattle.view_model.specs.declared.limits.TheConstants.{MAX_VIEWS}
+use Rattle.view_tool.specs.Transcript.{max_script}
 use Rattle.view_tool.proofs.ScriptLaws.{HasTaken}
 use Rattle.view_tool.proofs.script.run_to_end.Given as goal
 
 -- the run stands behind the bytes that were taken, and no call has failed
 abbrev pub invariant-loop-n : goal.invariant-loop-n
 invariant-loop-n g l = record {
-  bound : l.left ≤ 16777216;
-  numbers : l.run.runner.world.views.next + 4096 * l.left ≤ 4096 * 16777216 + 1;
+  bound : l.left ≤ max_script;
+  numbers : l.run.runner.world.views.next + MAX_VIEWS * l.left ≤ MAX_VIEWS * max_script + 1;
   taken : HasTaken (g.S.Source.left l.fn.source) (g.S.Source.left l.source) (g.K.Sink.state l.fn.sink).gone (g.K.Sink.state l.sink).gone l.run l.left;
   shelf : l.shelf ≡ l.fn.shelf;
   painted : l.work.painted ≡ l.fn.work.painted;

@@ -1,6 +1,6 @@
 use Rattle.std.proofs.Common.{ap, inl, inr}
 use Rattle.view_tree.specs.Nodes.{links_in}
-use Rattle.view_tree.proofs.Unhung.{still, unhung_is}
+use Rattle.view_tree.proofs.nodes.UnlinkedNodes.{still, unhung_is}
 use Rattle.view_tree.proofs.links.unlink.Goals as goal
 
 pub set_next-requires : goal.set_next-requires

@@ -1,4 +1,5 @@
 use Rattle.std.proofs.Common.{◌≡◌, min, ◌≤◌, ◌<◌, ◌+◌, ◌-◌, ◌*◌, ◌++◌, ◌^◌, List, Option, ℕ, length, take}
+use Rattle.view_model.specs.declared.limits.TheConstants.{MAX_VIEWS}
 use Rattle.view_tool.specs.Run.{HasReadUpTo}
 use Rattle.view_tool.proofs.run.Run.piece.Given as goal
 
@@ -8,7 +9,7 @@ invariant-loop-at g l = record {
   within : l.at ≤ length l.piece;
   behind : (first : Option (List ℕ)) (before : List ℕ) → length (before ++ l.piece) < 2 ^ 63 → HasReadUpTo first (g.K.Sink.state l.fn.sink).gone l.fn.self before
       → HasReadUpTo first (g.K.Sink.state l.sink).gone l.self (before ++ take l.at l.piece);
-  numbers : l.self.runner.world.views.next ≤ l.fn.self.runner.world.views.next + 4096 * l.at;
+  numbers : l.self.runner.world.views.next ≤ l.fn.self.runner.world.views.next + MAX_VIEWS * l.at;
   shelf : l.shelf ≡ l.fn.shelf;
   painted : l.work.painted ≡ l.fn.work.painted;
   measured : min l.fn.work.measured (2 ^ 64 - 1) ≤ l.work.measured;

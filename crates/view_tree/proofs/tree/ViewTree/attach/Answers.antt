@@ -4,8 +4,8 @@ use Rattle.view_tree.specs.Attached.{Attached}
 use Rattle.view_tree.specs.Nodes.{value_of}
 use Rattle.view_tree.specs.Views.{Views}
 use Rattle.view_tree.specs.declared.tree.ViewTree.TheInside.{Inside}
-use Rattle.view_tree.proofs.HolderLaws.{noted_nothing}
-use Rattle.view_tree.proofs.NodeGrowth.{attached, last_child_there, parent_there, sound-attach, sound-room, value-room}
+use Rattle.view_tree.proofs.nodes.HolderLaws.{noted_nothing}
+use Rattle.view_tree.proofs.nodes.NodeGrowth.{attached, last_child_there, parent_there, sound-attach, sound-room, value-room}
 use Rattle.view_tree.proofs.tree.ViewTree.attach.Goals as goal
 
 pub link_last-key-requires-clause-parent : goal.link_last-key-requires-clause-parent

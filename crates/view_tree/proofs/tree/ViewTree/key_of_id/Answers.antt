@@ -1,7 +1,7 @@
 use Rattle.std.proofs.Common.{◌∙◌, ap, sym}
 use Rattle.std.specs.Option.{option_copied}
-use Rattle.view_tree.proofs.IdLaws.{search_none, search_one}
-use Rattle.view_tree.proofs.NodeReads.{is_tree, named_for, small_for}
+use Rattle.view_tree.proofs.forest.IdLaws.{search_none, search_one}
+use Rattle.view_tree.proofs.nodes.NodeReads.{is_tree, named_for, small_for}
 use Rattle.view_tree.proofs.tree.ViewTree.key_of_id.Goals as goal
 
 pub returns-in-None : goal.returns-in-None

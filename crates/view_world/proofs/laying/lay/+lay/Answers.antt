@@ -1,16 +1,17 @@
 use Rattle.std.proofs.Common.{◌≡◌, ◌+◌, ◌≤◌, length, refl, sym, ◌∙◌, ap, arith}
-use Rattle.measure_pass.proofs.Parts.{count_few, count_one}
+use Rattle.view_model.specs.declared.limits.TheConstants.{MAX_VIEWS}
 use Rattle.view_model.specs.Facts.{is_shown, unscrolled_facts}
 use Rattle.view_model.specs.Forest.{count_of}
 use Rattle.view_tree.specs.declared.state.State.{State}
 use Rattle.view_tree.specs.Rows.{first_tree, children_of_first, part_from, head_view}
 use Rattle.view_tree.specs.Views.{held_of}
-use Rattle.view_tree.proofs.Forests.{count_alone, live_after, live_below}
+use Rattle.view_tree.proofs.forest.Walks.{count_few, count_one, fewer_below}
+use Rattle.view_tree.proofs.forest.Forests.{count_alone, live_after}
 use Rattle.view_world.specs.Laying.{spot_of}
 use Rattle.view_world.specs.Placing.{LaidKids}
 use Rattle.view_world.proofs.LaidOwn.{below_ready, group_at, kid_at, kid_gone, outside_at, sides_at}
 use Rattle.view_world.proofs.LaidParts.{CanBeLaid-first_tree, CanBeLaid-along, kept_on}
-use Rattle.view_world.proofs.LaidWalk.{walk_on, walk_start}
+use Rattle.view_world.proofs.LaidWalk.{laid_on, laid_start}
 use Rattle.view_world.proofs.laying.lay.+lay.Goals as goal
 
 pub lay-lay_kids-requires : goal.lay-lay_kids-requires
@@ -70,22 +71,20 @@ pub lay_kids-lay_kid-requires : goal.lay_kids-lay_kid-requires
 lay_kids-lay_kid-requires t c =
     let tree = c.args.tree.now.tree in
     let walk = rw c.in-Some.is at c.loop-next.invariant.walked in
-    let few : count_of (part_from c.in-Some.kid tree) ≤ count_of (children_of_first (part_from c.args.view tree)) = walk.few in
-    let one = live_below c.args.view tree c.requires.live in
-    let two = count_alone (part_from c.in-Some.kid tree) in
+    let fewer = fewer_below tree c.args.view c.in-Some.kid c.requires.live walk.walked.walk in
     rw c.loop-next.invariant.same.tree (
       omega arith,
       (
-        walk.live,
+        walk.walked.walk.live,
         CanBeLaid-first_tree (held_of c.loop-next.tree) (part_from c.in-Some.kid tree)
-            (CanBeLaid-along (held_of c.args.tree.now) (held_of c.loop-next.tree) (part_from c.in-Some.kid tree) walk.still walk.ready),
+            (CanBeLaid-along (held_of c.args.tree.now) (held_of c.loop-next.tree) (part_from c.in-Some.kid tree) walk.walked.still walk.ready),
       ),
     )
 
 pub lay_kids-loop-next-smaller : goal.lay_kids-loop-next-smaller
 lay_kids-loop-next-smaller t c =
     let walk = rw c.in-Some.is at c.loop-next.invariant.walked in
-    rw (c.next-next.ensures.part, c.lay_kid.ensures.same.tree, c.loop-next.invariant.same.tree, c.in-Some.is) (live_after c.in-Some.kid c.args.tree.now.tree walk.live)
+    rw (c.next-next.ensures.part, c.lay_kid.ensures.same.tree, c.loop-next.invariant.same.tree, c.in-Some.is) (live_after c.in-Some.kid c.args.tree.now.tree walk.walked.walk.live)
 
 pub lay_kids-loop-next-init : goal.lay_kids-loop-next-init
 lay_kids-loop-next-init t c =
@@ -96,7 +95,7 @@ lay_kids-loop-next-init t c =
       same = record { tree = refl; next = refl };
       kept = λ key. refl;
       walked =
-          walk_start tree (children_of_first (part_from c.args.view tree)) c.start-placer.result spot (held_of c.args.tree.now) c.first-next.result c.start-placer.ensures
+          laid_start tree (children_of_first (part_from c.args.view tree)) c.start-placer.result spot (held_of c.args.tree.now) c.first-next.result c.start-placer.ensures
           (count_few c.args.view tree c.requires.live first.is_tree.few) first.is_tree.keys first.part first.live c.requires.ready;
     }
 
@@ -109,14 +108,14 @@ lay_kids-loop-next-preserved t c =
     let walk = rw c.in-Some.is at before.walked in
     let alone_few = count_alone (part_from c.in-Some.kid tree) in
     let short = walk.short in
-    let few : length walk.before + count_of (first_tree (part_from c.in-Some.kid tree)) ≤ 4096 = omega arith in
+    let few : length walk.before + count_of (first_tree (part_from c.in-Some.kid tree)) ≤ MAX_VIEWS = omega arith in
     let laid : LaidKids c.lay_kid.new.placer spot walk.before (held_of c.loop-next.tree) (held_of c.lay_kid.new.tree) (first_tree (part_from c.in-Some.kid tree)) =
     (rw before.same.tree at (kid.laid spot walk.before walk.places)) few in
     record {
       same = record { tree = kid.same.tree ∙ before.same.tree; next = kid.same.next ∙ before.same.next };
       kept = kept_on c.args.tree.now c.loop-next.tree c.lay_kid.new.tree before.kept kid.kept;
       walked =
-          walk_on tree (children_of_first (part_from c.args.view tree)) c.loop-next.placer c.lay_kid.new.placer spot (held_of c.args.tree.now) c.in-Some.kid
+          laid_on tree (children_of_first (part_from c.args.view tree)) c.loop-next.placer c.lay_kid.new.placer spot (held_of c.args.tree.now) c.in-Some.kid
           (held_of c.loop-next.tree) (held_of c.lay_kid.new.tree) walk laid (rw before.same.tree at kid.others) c.next-next.result
           (rw (kid.same.tree, before.same.tree) at c.next-next.ensures.part) (rw (kid.same.tree, before.same.tree) at c.next-next.ensures.live);
     }

@@ -1,14 +1,14 @@
 use Rattle.std.proofs.Common.{◌≡◌, ◌+◌, ◌-◌, ◌^◌, min, ℕ, arith, sym, ◌∙◌, ap}
 use Rattle.geom_core.specs.declared.measuring.Spec.{Spec}
 use Rattle.measure_pass.specs.Measured.{size_under}
-use Rattle.view_model.specs.declared.attributes.Facts.{Facts as FactsValue}
+use Rattle.view_model.specs.declared.facts.Facts.{Facts as FactsValue}
 use Rattle.view_model.specs.Facts.{is_shown}
 use Rattle.view_model.specs.Layout.{root_specs}
 use Rattle.view_model.specs.Measuring.{Specs}
 use Rattle.view_tree.specs.Hidden.{HidesGone}
 use Rattle.view_tree.specs.Rows.{first_tree, part_from}
 use Rattle.view_tree.specs.Views.{held_of, specs_of, state_of}
-use Rattle.view_tree.proofs.KeptLaws.{is_tree-same}
+use Rattle.view_tree.proofs.values.KeptLaws.{is_tree-same}
 use Rattle.view_world.proofs.LaidWhole.{calls_whole, gone_whole, laid_whole, no_calls, root_alone, whole_ready}
 use Rattle.view_world.proofs.laying.pass.lay_root.Goals as goal
 

@@ -1,7 +1,0 @@
-use Rattle.text_lines.proofs.Sending.{◌⨾◌}
-use Rattle.axml_reader.specs.Dump.{number_field}
-use Rattle.axml_reader.proofs.dump.put_number_field.Goals as goal
-
-pub returns : goal.returns
-unfolding number_field
-returns g c = c.put.ensures ⨾ c.put_number.ensures

@@ -1,7 +1,0 @@
-use Rattle.text_lines.proofs.Sending.{◌⨾◌}
-use Rattle.axml_reader.specs.Dump.{pool_line}
-use Rattle.axml_reader.proofs.dump.put_pool_line.Goals as goal
-
-pub returns : goal.returns
-unfolding pool_line
-returns g c = c.put.ensures ⨾ c.put_encoding.ensures ⨾ c.put_number_field.ensures ⨾ c.put-2.ensures

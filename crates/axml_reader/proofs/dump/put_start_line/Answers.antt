@@ -1,7 +1,0 @@
-use Rattle.text_lines.proofs.Sending.{◌⨾◌}
-use Rattle.axml_reader.specs.Dump.{start_line}
-use Rattle.axml_reader.proofs.dump.put_start_line.Goals as goal
-
-pub returns : goal.returns
-unfolding start_line
-returns g c = c.put.ensures ⨾ c.put_number_field.ensures ⨾ c.put_name_field.ensures ⨾ c.put_name_field-2.ensures ⨾ c.put_number_field-2.ensures ⨾ c.put-2.ensures

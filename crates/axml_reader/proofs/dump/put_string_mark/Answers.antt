@@ -1,7 +1,0 @@
-use Rattle.text_lines.proofs.Sending.{◌⨾◌}
-use Rattle.axml_reader.specs.Dump.{string_mark}
-use Rattle.axml_reader.proofs.dump.put_string_mark.Goals as goal
-
-pub returns : goal.returns
-unfolding string_mark
-returns g c = c.put.ensures ⨾ c.put_number.ensures

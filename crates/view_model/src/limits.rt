@@ -1,0 +1,16 @@
+//! The limits of a tree, and of what may be set of a view.
+
+/// The most views that a tree may have.
+pub const MAX_VIEWS: usize = 4096;
+/// How deep the deepest view of a tree may be: a root is 1 deep.
+pub const MAX_DEPTH: usize = 32;
+/// No view has this number or a greater one.
+pub const NUMBERS_END: u64 = 1 << 62;
+/// The greatest width, height or offset that may be set, in pixels.
+pub const MAX_SIZE: i64 = 16777215;
+/// The greatest margin or padding that may be set on a side, in pixels.
+pub const MAX_INSET: i64 = 1048575;
+/// The least margin that may be set on a side, in pixels.
+pub const MIN_MARGIN: i64 = -1048575;
+/// The greatest weight and the greatest sum of weights that may be set, in 256ths.
+pub const MAX_WEIGHT: u32 = 16776960;

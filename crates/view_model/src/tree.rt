@@ -1,0 +1,16 @@
+//! Plain trees.
+
+use crate::facts::Facts;
+use crate::kinds::Class;
+use crate::text::Text;
+
+/// A plain tree: a view and the trees of its children, in order.
+#[derive(Debug, Drop)]
+pub struct Tree {
+    /// The number that the view was given when it was made, from 1.
+    pub number: u64,
+    pub class: Class,
+    pub facts: Facts,
+    pub text: Text,
+    pub kids: Vec<Tree>,
+}

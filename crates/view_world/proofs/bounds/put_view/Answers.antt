@@ -1,0 +1,13 @@
+use Rattle.std.proofs.Common.{ap, sym, ◌∙◌}
+use Rattle.view_tree.specs.Views.{number_of}
+use Rattle.view_tree.specs.declared.state.State.{State}
+use Rattle.view_tree.proofs.values.GeometryLaws.{rect_live}
+use Rattle.view_world.specs.Replies.{bounds_line}
+use Rattle.text_lines.proofs.Sending.{sends_as}
+use Rattle.view_world.proofs.bounds.put_view.Goals as goal
+
+pub returns : goal.returns
+returns g c =
+    let views = c.args.tree.now in
+    let lies = ap (λ (state : State). state.bounds) c.state-bounds.ensures.value ∙ sym (rect_live views c.args.view c.state-bounds.ensures.is_tree c.requires) in
+    sends_as (ap (λ n. bounds_line n c.state-bounds.result.bounds) c.number.ensures.value ∙ ap (bounds_line (number_of views c.args.view)) lies) c.put_bounds.ensures
