@@ -7,13 +7,17 @@ use Rattle.tool_io.specs.declared.shelf.Found.TheVariants.{Whole, Missing, Long}
 use Rattle.tool_io.specs.declared.shelf.ShelfFault.{ShelfFault}
 use Rattle.tool_io.specs.declared.shelf.ShelfFault.TheVariants.{Failed, NoMemory}
 
+-- the files that a shelf holds, by the bytes of their names
+abbrev pub Files : Type 0
+Files = List (List ℕ × List ℕ)
+
 -- the file of this name: the first of equal names
-abbrev pub file_of : List (List ℕ × List ℕ) → List ℕ → Option (List ℕ)
+abbrev pub file_of : Files → List ℕ → Option (List ℕ)
 file_of [] name = None
 file_of (file ∷ files) name = if bytes_eq file.0 name then Some file.1 else file_of files name
 
 -- what a fetch of a name answers and leaves, with a limit
-abbrev pub Fetched : List (List ℕ × List ℕ) → List ℕ → ℕ → Found → List ℕ → Type 0
+abbrev pub Fetched : Files → List ℕ → ℕ → Found → List ℕ → Type 0
 Fetched files name limit Whole bytes = (file_of files name ≡ Some bytes) × (length bytes ≤ limit)
 Fetched files name limit Missing bytes = file_of files name ≡ None
 Fetched files name limit Long bytes = IsSomeAnd (file_of files name) (λ file. limit < length file)

@@ -1,6 +1,7 @@
 -- Lines of more bytes, and how many they are.
-use Rattle.std.proofs.Common.{◌≡◌, ℕ, ◌+◌, ◌-◌, ◌<◌, ◌≤◌, cond, length, take, drop, List, ◌++◌, ap, sym, ◌∙◌, arith, append_assoc, length-append, length-take, inl, inr}
+use Rattle.std.proofs.Common.{◌≡◌, ℕ, ◌+◌, ◌-◌, ◌<◌, ◌≤◌, cond, length, take, drop, List, ◌++◌, ap, sym, ◌∙◌, arith, append_assoc, length-append, length-take, length-drop, inl, inr}
 use Rattle.std.proofs.lemmas.Bool.{cases_lt, lt-ltb, le-ltb}
+use Rattle.std.proofs.lemmas.List.{take-append-drop, take_all}
 use Rattle.std.proofs.Math.Seq.{take-append-add}
 use Rattle.script_lines.proofs.LineLaws.{cut_lines-append}
 use Rattle.script_lines.specs.Lines.{Line, cut_of, last_of, lines_of}
@@ -10,6 +11,12 @@ use Rattle.view_tool.specs.Transcript.{carried_lines, max_script}
 pub taken_more : (before piece : List ℕ) (at n : ℕ) → at ≤ length piece → (before ++ take at piece) ++ take n (take (length piece - at) (drop at piece)) ≡ before ++ take (at + n) piece
 taken_more before piece at n within =
     append_assoc before (take at piece) (take n (take (length piece - at) (drop at piece))) ∙ ap (λ l. before ++ l) (take_further at n piece within)
+
+pub taken_rest : (before piece : List ℕ) (at : ℕ) → (before ++ take at piece) ++ take (length piece - at) (drop at piece) ≡ before ++ piece
+taken_rest before piece at =
+    append_assoc before (take at piece) (take (length piece - at) (drop at piece))
+    ∙ ap (λ l. before ++ (take at piece ++ l)) (take_all (length piece - at) (drop at piece) (omega (arith, length-drop at piece)))
+    ∙ ap (λ l. before ++ l) (take-append-drop at piece)
 
 pub taken_short : (before piece : List ℕ) (at most : ℕ) → length (before ++ piece) < most → length (before ++ take at piece) < most
 taken_short before piece at most short =

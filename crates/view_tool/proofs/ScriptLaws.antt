@@ -5,6 +5,7 @@ use Rattle.std.specs.Io.KnownBytes.{Appends, Consumes, IsAtEnd, Keeps}
 use Rattle.std.proofs.lemmas.List.{append-nil, take-append-drop, take-append-le}
 use Rattle.std.proofs.Math.Seq.{take-append-add}
 use Rattle.script_lines.specs.Lines.{Line, cut_of, lines_of}
+use Rattle.tool_io.specs.Fetched.{Files}
 use Rattle.view_tool.specs.declared.run.LineRunner.{LineRunner}
 use Rattle.view_tool.specs.declared.run.Run.{Run}
 use Rattle.view_tool.specs.declared.run.Stop.{Stop}
@@ -52,25 +53,25 @@ take_front script taken bytes rest left e count enough =
     ∙ ap (λ l. taken ++ l) (take-append-le left bytes rest enough)
 
 -- a read failed
-pub ends_source : (first last new : Option (List ℕ)) (script taken : List ℕ) → Consumes (Some script) new taken → length taken ≤ max_script → Appends first last (after_lines (cut_of taken).lines).text
-    → WritesTaken script new first last
-ends_source first last new script taken lost within gone =
+pub ends_source : (files : Files) (first last new : Option (List ℕ)) (script taken : List ℕ) → Consumes (Some script) new taken → length taken ≤ max_script → Appends first last (after_lines files (cut_of taken).lines).text
+    → WritesTaken files script new first last
+ends_source files first last new script taken lost within gone =
     let c = consumed new script taken lost in
     record { taken = taken; takes = record { rest = c.0; front = c.1; left = c.2 }; within = within; text = gone }
 
 -- one byte too many came
-pub ends_long : (first last new : Option (List ℕ)) (script taken bytes : List ℕ) (left : ℕ) → Consumes (Some script) new (taken ++ bytes) → length taken + left ≡ max_script
-    → length bytes ≡ left + 1 → Appends first last (after_lines (cut_of (taken ++ take left bytes)).lines).text → RunsTo script new first last (Err end.Long)
-ends_long first last new script taken bytes left lost count many gone =
+pub ends_long : (files : Files) (first last new : Option (List ℕ)) (script taken bytes : List ℕ) (left : ℕ) → Consumes (Some script) new (taken ++ bytes) → length taken + left ≡ max_script
+    → length bytes ≡ left + 1 → Appends first last (after_lines files (cut_of (taken ++ take left bytes)).lines).text → RunsTo files script new first last (Err end.Long)
+ends_long files first last new script taken bytes left lost count many gone =
     let c = consumed new script (taken ++ bytes) lost in
     let long : max_script < length script = omega (arith, ap length c.1, length-append (taken ++ bytes) c.0, length-append taken bytes, count, many) in
     let front = take_front script taken bytes c.0 left c.1 count (omega (arith, many)) in
-    (long, subst (λ (l : List Line). Appends first last (after_lines l).text) (sym (carried_long script long ∙ ap (λ (l : List ℕ). (cut_of l).lines) front)) gone)
+    (long, subst (λ (l : List Line). Appends first last (after_lines files l).text) (sym (carried_long script long ∙ ap (λ (l : List ℕ). (cut_of l).lines) front)) gone)
 
 -- the run stopped in a line that ended
-pub ends_stopped : (first last new : Option (List ℕ)) (script taken bytes : List ℕ) (left : ℕ) (stop : Stop) → Consumes (Some script) new (taken ++ bytes)
-    → length taken + left ≡ max_script → StopsIn first last (cut_of (taken ++ take left bytes)).lines stop → StopsIn first last (carried_lines script) stop
-ends_stopped first last new script taken bytes left stop lost count stops =
+pub ends_stopped : (files : Files) (first last new : Option (List ℕ)) (script taken bytes : List ℕ) (left : ℕ) (stop : Stop) → Consumes (Some script) new (taken ++ bytes)
+    → length taken + left ≡ max_script → StopsIn files first last (cut_of (taken ++ take left bytes)).lines stop → StopsIn files first last (carried_lines script) stop
+ends_stopped files first last new script taken bytes left stop lost count stops =
     let c = consumed new script (taken ++ bytes) lost in
     let split : script ≡ (taken ++ take left bytes) ++ (drop left bytes ++ c.0) =
     c.1 ∙ ap (λ l. (taken ++ l) ++ c.0) (sym (take-append-drop left bytes))
@@ -78,19 +79,19 @@ ends_stopped first last new script taken bytes left stop lost count stops =
     ∙ append_assoc (taken ++ take left bytes) (drop left bytes) c.0 in
     let short : length (taken ++ take left bytes) ≤ max_script = omega (arith, length-append taken (take left bytes), length-take left bytes, count) in
     let more = carried_front script (taken ++ take left bytes) (drop left bytes ++ c.0) split short in
-    stops_further first last (cut_of (taken ++ take left bytes)).lines more.0 (carried_lines script) stop more.1 stops
+    stops_further files first last (cut_of (taken ++ take left bytes)).lines more.0 (carried_lines script) stop more.1 stops
 
 -- what a run has taken of a source, of which so many bytes more may come
-pub record HasTaken (before after first now : Option (List ℕ)) (run : Run) (left : ℕ) : Type 0 where
+pub record HasTaken (shelf : Option Files) (before after first now : Option (List ℕ)) (run : Run) (left : ℕ) : Type 0 where
   pub bytes : List ℕ
   pub consumed : Consumes before after bytes
   pub count : length bytes + left ≡ max_script
-  pub behind : HasReadUpTo first now run bytes
+  pub behind : HasReadUpTo shelf first now run bytes
 
 -- and once one piece more was read and carried out
-pub taken_on : (before mid new first last now : Option (List ℕ)) (old run : Run) (left n : ℕ) (t : HasTaken before mid first last old left) → n ≤ left
-    → ReadsPiece first t.bytes left mid new now run (Ok n) → HasTaken before new first now run (left - n)
-taken_on before mid new first last now old run left n t within p = record {
+pub taken_on : (shelf : Option Files) (before mid new first last now : Option (List ℕ)) (old run : Run) (left n : ℕ) (t : HasTaken shelf before mid first last old left) → n ≤ left
+    → ReadsPiece shelf first t.bytes left mid new now run (Ok n) → HasTaken shelf before new first now run (left - n)
+taken_on shelf before mid new first last now old run left n t within p = record {
   bytes = t.bytes ++ p.bytes;
   consumed = Consumes-Consumes before mid new t.bytes p.bytes t.consumed p.consumed;
   count = omega (arith, length-append t.bytes p.bytes, t.count, p.count, within);
@@ -98,33 +99,33 @@ taken_on before mid new first last now old run left n t within p = record {
 }
 
 -- how a run ends that does not come to the end of its script
-pub ends_early : (first last old mid new : Option (List ℕ)) (run : Run) (script taken : List ℕ) (left : ℕ) (early : End) → old ≡ Some script → Consumes old mid taken
-    → length taken + left ≡ max_script → ReadsPiece first taken left mid new last run (Err early) → RunsTo script new first last (Err early)
-ends_early first last old mid new run script taken left end.Source told lost count p =
+pub ends_early : (files : Files) (shelf : Option Files) (first last old mid new : Option (List ℕ)) (run : Run) (script taken : List ℕ) (left : ℕ) (early : End) → shelf ≡ Some files
+    → old ≡ Some script → Consumes old mid taken → length taken + left ≡ max_script → ReadsPiece shelf first taken left mid new last run (Err early) → RunsTo files script new first last (Err early)
+ends_early files shelf first last old mid new run script taken left end.Source at_hand told lost count p =
     let all = Consumes-Consumes (Some script) mid new taken p.bytes (subst (λ l. Consumes l mid taken) told lost) p.consumed in
     let none : taken ++ p.bytes ≡ taken = ap (λ l. taken ++ l) p.comes.0 ∙ append-nil taken in
-    ends_source first last new script taken (subst (Consumes (Some script) new) none all) (omega (arith, count)) p.comes.1
-ends_early first last old mid new run script taken left end.Long told lost count p =
+    ends_source files first last new script taken (subst (Consumes (Some script) new) none all) (omega (arith, count)) (p.comes.1 files at_hand)
+ends_early files shelf first last old mid new run script taken left end.Long at_hand told lost count p =
     let all = Consumes-Consumes (Some script) mid new taken p.bytes (subst (λ l. Consumes l mid taken) told lost) p.consumed in
-    ends_long first last new script taken p.bytes left all count p.comes.0 p.comes.1
-ends_early first last old mid new run script taken left (end.Stopped stop) told lost count p =
+    ends_long files first last new script taken p.bytes left all count p.comes.0 (p.comes.1 files at_hand)
+ends_early files shelf first last old mid new run script taken left (end.Stopped stop) at_hand told lost count p =
     let all = Consumes-Consumes (Some script) mid new taken p.bytes (subst (λ l. Consumes l mid taken) told lost) p.consumed in
-    ends_stopped first last new script taken p.bytes left stop all count p.comes
+    ends_stopped files first last new script taken p.bytes left stop all count (p.comes files at_hand)
 
 -- the run came to the end of its script, and stopped in the last line
-pub ends_last : (first last old new : Option (List ℕ)) (script taken : List ℕ) (stop : Stop) → old ≡ Some script → Consumes old new taken → IsAtEnd new → length taken ≤ max_script
-    → StopsIn first last (lines_of taken) stop → StopsIn first last (carried_lines script) stop
-ends_last first last old new script taken stop told lost end short stops =
+pub ends_last : (files : Files) (first last old new : Option (List ℕ)) (script taken : List ℕ) (stop : Stop) → old ≡ Some script → Consumes old new taken → IsAtEnd new → length taken ≤ max_script
+    → StopsIn files first last (lines_of taken) stop → StopsIn files first last (carried_lines script) stop
+ends_last files first last old new script taken stop told lost end short stops =
     let all = taken_whole new script taken (subst (λ l. Consumes l new taken) told lost) end in
     let fits : length script ≤ max_script = subst (λ (l : List ℕ). length l ≤ max_script) all short in
-    subst (λ (l : List Line). StopsIn first last l stop) (ap lines_of all ∙ sym (carried_short script fits)) stops
+    subst (λ (l : List Line). StopsIn files first last l stop) (ap lines_of all ∙ sym (carried_short script fits)) stops
 
 -- the run came to the end of its script
-pub ends_well : (first last old new : Option (List ℕ)) (script taken : List ℕ) (runner : LineRunner) → old ≡ Some script → Consumes old new taken → IsAtEnd new → length taken ≤ max_script
-    → HasCarriedOut first last runner (after_lines (lines_of taken)) → RunsTo script new first last (Ok runner.refused)
-ends_well first last old new script taken runner told lost end short at =
+pub ends_well : (files : Files) (first last old new : Option (List ℕ)) (script taken : List ℕ) (runner : LineRunner) → old ≡ Some script → Consumes old new taken → IsAtEnd new → length taken ≤ max_script
+    → HasCarriedOut first last runner (after_lines files (lines_of taken)) → RunsTo files script new first last (Ok runner.refused)
+ends_well files first last old new script taken runner told lost end short at =
     let all = taken_whole new script taken (subst (λ l. Consumes l new taken) told lost) end in (
       subst (λ (l : List ℕ). length l ≤ max_script) all short,
-      subst (λ (l : List ℕ). Appends first last (after_lines (lines_of l)).text) all at.gone,
-      at.refused ∙ ap (λ (l : List ℕ). (after_lines (lines_of l)).refused) all,
+      subst (λ (l : List ℕ). Appends first last (after_lines files (lines_of l)).text) all at.gone,
+      at.refused ∙ ap (λ (l : List ℕ). (after_lines files (lines_of l)).refused) all,
     )

@@ -1,6 +1,6 @@
 -- How a run ends with a status.
 use Rattle.std.proofs.Common.{◌≡◌, ℕ, ◌≤◌, cond, length, List, [], ◌∷◌, refl, ap, sym, subst, arith, inl, inr, ◌∙◌}
-use Rattle.std.specs.Prelude.{Bool, true, false, ◌==◌, if◌then◌else◌, Option, Result, Ok, Err}
+use Rattle.std.specs.Prelude.{◌⊎◌, Bool, true, false, ◌==◌, if◌then◌else◌, Option, Result, Ok, Err}
 use Rattle.std.specs.Io.KnownBytes.{Appends}
 use Rattle.std.specs.List.{list_any}
 use Rattle.std.proofs.lemmas.Bool.{cases_Bool}
@@ -11,11 +11,11 @@ use Rattle.text_lines.specs.Prefix.{AppendsPrefix}
 use Rattle.view_tool.specs.declared.run.Stop.TheVariants as stop
 use Rattle.view_tool.specs.declared.script.End.{End}
 use Rattle.view_tool.specs.declared.script.End.TheVariants as end
-use Rattle.view_tool.specs.Run.{StopsBefore}
-use Rattle.view_tool.specs.Script.{RunsTo, WritesTaken, ends_counted, reads_counted}
+use Rattle.view_tool.specs.Run.{StopsAtFetch, StopsBefore}
+use Rattle.view_tool.specs.Script.{CountsEnd, RunsTo, WritesTaken, ends_counted, reads_counted}
 use Rattle.view_tool.specs.Tool.{IsComplete, IsOneOf, RunsWith, status_of}
 use Rattle.tool_io.specs.Counts.{raised}
-use Rattle.tool_io.specs.Fetched.{CountsFetch}
+use Rattle.tool_io.specs.Fetched.{CountsFetch, Files}
 use Rattle.tool_io.specs.declared.shelf.ShelfFault.{ShelfFault}
 use Rattle.tool_io.specs.declared.shelf.ShelfFault.TheVariants as fault
 use Rattle.tool_io.proofs.Counting.{raised_later}
@@ -33,55 +33,72 @@ not_ended status big (inl e) = omega arith
 not_ended status big (inr e) = omega arith
 
 -- a run that came to the end of its script
-ended_with : (script : List ℕ) (left first last : Option (List ℕ)) (status : ℕ) → status ≤ 1 → IsComplete status → length script ≤ max_script
-    → Appends first last (after_lines (lines_of script)).text → status ≡ (if (after_lines (lines_of script)).refused then 1 else 0) → RunsWith script left first last status
-ended_with script left first last status small ended short gone told =
-    let text = subst (λ (l : List Line). Appends first last (after_lines l).text) (sym (carried_short script short)) gone in
+ended_with : (files : Files) (script : List ℕ) (left first last : Option (List ℕ)) (status : ℕ) → status ≤ 1 → IsComplete status → length script ≤ max_script
+    → Appends first last (after_lines files (lines_of script)).text → status ≡ (if (after_lines files (lines_of script)).refused then 1 else 0) → RunsWith files script left first last status
+ended_with files script left first last status small ended short gone told =
+    let text = subst (λ (l : List Line). Appends first last (after_lines files l).text) (sym (carried_short script short)) gone in
     record {
-      writes = record { whole = λ _. text; part = whole_prefix first last (after_lines (carried_lines script)).text text };
+      writes = record { whole = λ _. text; part = whole_prefix first last (after_lines files (carried_lines script)).text text };
       ended = λ _. (short, told);
       taken = λ e. absurd (omega (arith, small, e));
       no_memory = λ e. absurd (omega (arith, small, e));
+      failed_fetch = λ e. absurd (omega (arith, small, e));
       long = λ e. absurd (omega (arith, small, e));
     }
 
-taken_prefix : (script : List ℕ) (left first last : Option (List ℕ)) → WritesTaken script left first last → AppendsPrefix first last (after_lines (carried_lines script)).text
-taken_prefix script left first last t =
+taken_prefix : (files : Files) (script : List ℕ) (left first last : Option (List ℕ)) → WritesTaken files script left first last → AppendsPrefix first last (after_lines files (carried_lines script)).text
+taken_prefix files script left first last t =
     let more = carried_front script t.taken t.takes.rest t.takes.front t.within in
-    prefix_lines first last (cut_of t.taken).lines more.0 (carried_lines script) more.1 (whole_prefix first last (after_lines (cut_of t.taken).lines).text t.text)
+    prefix_lines files first last (cut_of t.taken).lines more.0 (carried_lines script) more.1 (whole_prefix first last (after_lines files (cut_of t.taken).lines).text t.text)
 
-stopped_prefix : (lines : List Line) (first last : Option (List ℕ)) → StopsBefore first last lines → AppendsPrefix first last (after_lines lines).text
-stopped_prefix lines first last s = prefix_lines first last s.done (s.line ∷ s.left) lines s.all (whole_prefix first last (after_lines s.done).text s.gone)
+stopped_prefix : (files : Files) (lines : List Line) (first last : Option (List ℕ)) → StopsBefore files first last lines → AppendsPrefix first last (after_lines files lines).text
+stopped_prefix files lines first last s = prefix_lines files first last s.done (s.line ∷ s.left) lines s.all (whole_prefix first last (after_lines files s.done).text s.gone)
 
-pub runs_with : (script : List ℕ) (left first last : Option (List ℕ)) (outcome : Result Bool End) → RunsTo script left first last outcome → RunsWith script left first last (status_of outcome)
-runs_with script left first last (Ok true) r = ended_with script left first last 1 (omega arith) (inr refl) r.0 r.1 (ap (λ b. cond b 1 0) r.2)
-runs_with script left first last (Ok false) r = ended_with script left first last 0 (omega arith) (inl refl) r.0 r.1 (ap (λ b. cond b 1 0) r.2)
-runs_with script left first last (Err end.Source) r = record {
-  writes = record { whole = λ e. absurd (not_ended 3 (omega arith) e); part = taken_prefix script left first last r };
+fetch_prefix : (files : Files) (lines : List Line) (first last : Option (List ℕ)) → StopsAtFetch files first last lines → AppendsPrefix first last (after_lines files lines).text
+fetch_prefix files lines first last s =
+    prefix_lines files first last s.done (s.line ∷ s.left) lines s.all (whole_prefix first last (after_lines files s.done).text s.gone)
+
+pub runs_with : (files : Files) (script : List ℕ) (left first last : Option (List ℕ)) (outcome : Result Bool End) → RunsTo files script left first last outcome → RunsWith files script left first last (status_of outcome)
+runs_with files script left first last (Ok true) r = ended_with files script left first last 1 (omega arith) (inr refl) r.0 r.1 (ap (λ b. cond b 1 0) r.2)
+runs_with files script left first last (Ok false) r = ended_with files script left first last 0 (omega arith) (inl refl) r.0 r.1 (ap (λ b. cond b 1 0) r.2)
+runs_with files script left first last (Err end.Source) r = record {
+  writes = record { whole = λ e. absurd (not_ended 3 (omega arith) e); part = taken_prefix files script left first last r };
   ended = λ e. absurd (not_ended 3 (omega arith) e);
   taken = λ _. r;
   no_memory = λ e. absurd (omega arith);
+  failed_fetch = λ e. absurd (omega arith);
   long = λ e. absurd (omega arith);
 }
-runs_with script left first last (Err end.Long) r = record {
-  writes = record { whole = λ e. absurd (not_ended 7 (omega arith) e); part = whole_prefix first last (after_lines (carried_lines script)).text r.1 };
+runs_with files script left first last (Err end.Long) r = record {
+  writes = record { whole = λ e. absurd (not_ended 7 (omega arith) e); part = whole_prefix first last (after_lines files (carried_lines script)).text r.1 };
   ended = λ e. absurd (not_ended 7 (omega arith) e);
   taken = λ e. absurd (omega arith);
   no_memory = λ e. absurd (omega arith);
+  failed_fetch = λ e. absurd (omega arith);
   long = λ _. r;
 }
-runs_with script left first last (Err (end.Stopped stop.Sink)) r = record {
+runs_with files script left first last (Err (end.Stopped stop.Sink)) r = record {
   writes = record { whole = λ e. absurd (not_ended 4 (omega arith) e); part = r };
   ended = λ e. absurd (not_ended 4 (omega arith) e);
   taken = λ e. absurd (omega arith);
   no_memory = λ e. absurd (omega arith);
+  failed_fetch = λ e. absurd (omega arith);
   long = λ e. absurd (omega arith);
 }
-runs_with script left first last (Err (end.Stopped stop.NoMemory)) r = record {
-  writes = record { whole = λ e. absurd (not_ended 5 (omega arith) e); part = stopped_prefix (carried_lines script) first last r };
+runs_with files script left first last (Err (end.Stopped stop.NoMemory)) r = record {
+  writes = record { whole = λ e. absurd (not_ended 5 (omega arith) e); part = stopped_prefix files (carried_lines script) first last r };
   ended = λ e. absurd (not_ended 5 (omega arith) e);
   taken = λ e. absurd (omega arith);
   no_memory = λ _. r;
+  failed_fetch = λ e. absurd (omega arith);
+  long = λ e. absurd (omega arith);
+}
+runs_with files script left first last (Err (end.Stopped stop.Shelf)) r = record {
+  writes = record { whole = λ e. absurd (not_ended 6 (omega arith) e); part = fetch_prefix files (carried_lines script) first last r };
+  ended = λ e. absurd (not_ended 6 (omega arith) e);
+  taken = λ e. absurd (omega arith);
+  no_memory = λ e. absurd (omega arith);
+  failed_fetch = λ _. r;
   long = λ e. absurd (omega arith);
 }
 
@@ -93,6 +110,7 @@ source_by_status (Err end.Source) faults = refl
 source_by_status (Err end.Long) faults = refl
 source_by_status (Err (end.Stopped stop.Sink)) faults = refl
 source_by_status (Err (end.Stopped stop.NoMemory)) faults = refl
+source_by_status (Err (end.Stopped stop.Shelf)) faults = refl
 
 pub sink_by_status : (outcome : Result Bool End) (faults : ℕ) → ends_counted outcome faults ≡ (if status_of outcome == 4 then raised faults else faults)
 sink_by_status (Ok true) faults = refl
@@ -101,6 +119,26 @@ sink_by_status (Err end.Source) faults = refl
 sink_by_status (Err end.Long) faults = refl
 sink_by_status (Err (end.Stopped stop.Sink)) faults = refl
 sink_by_status (Err (end.Stopped stop.NoMemory)) faults = refl
+sink_by_status (Err (end.Stopped stop.Shelf)) faults = refl
+
+pub shelf_by_status : (outcome : Result Bool End) (before now : ℕ) → CountsEnd before now outcome → (status_of outcome ≡ 5 → ⊥)
+    → now ≡ (if status_of outcome == 6 then raised before else before)
+shelf_by_status (Ok true) before now counted not_5 = counted
+shelf_by_status (Ok false) before now counted not_5 = counted
+shelf_by_status (Err end.Source) before now counted not_5 = counted
+shelf_by_status (Err end.Long) before now counted not_5 = counted
+shelf_by_status (Err (end.Stopped stop.Sink)) before now counted not_5 = counted
+shelf_by_status (Err (end.Stopped stop.NoMemory)) before now counted not_5 = absurd (not_5 refl)
+shelf_by_status (Err (end.Stopped stop.Shelf)) before now counted not_5 = counted
+
+-- no run lowers the count of a shelf
+pub shelf_later : (outcome : Result Bool End) (before now : ℕ) → CountsEnd before now outcome → before ≤ now
+shelf_later (Ok refused) before now counted = omega (arith, counted)
+shelf_later (Err end.Source) before now counted = omega (arith, counted)
+shelf_later (Err end.Long) before now counted = omega (arith, counted)
+shelf_later (Err (end.Stopped stop.Sink)) before now counted = omega (arith, counted)
+shelf_later (Err (end.Stopped stop.NoMemory)) before now counted = counted
+shelf_later (Err (end.Stopped stop.Shelf)) before now counted = omega (arith, counted, raised_later before)
 
 -- a fetch that failed does not lower the count of failed calls
 pub failed_later : (before now : ℕ) (fault : ShelfFault) → CountsFetch before now (Err fault) → before ≤ now
@@ -119,3 +157,14 @@ other_status status other statuses x y known none = elim (cases_Bool (status == 
   | inl e ↦ absurd (not_status status other statuses known none (let same : status ≡ other = grind (arith, nat_tests) in same))
   | inr e ↦ ap (λ b. cond b x y) e
 ]
+
+-- a run that met no failed call and no long script has ended, unless there was no memory
+pub ends_whole : (outcome : Result Bool End) → (status_of outcome ≡ 3 → ⊥) → (status_of outcome ≡ 4 → ⊥) → (status_of outcome ≡ 6 → ⊥) → (status_of outcome ≡ 7 → ⊥)
+    → IsComplete (status_of outcome) ⊎ (status_of outcome ≡ 5)
+ends_whole (Ok true) no_3 no_4 no_6 no_7 = inl (inr refl)
+ends_whole (Ok false) no_3 no_4 no_6 no_7 = inl (inl refl)
+ends_whole (Err end.Source) no_3 no_4 no_6 no_7 = absurd (no_3 refl)
+ends_whole (Err end.Long) no_3 no_4 no_6 no_7 = absurd (no_7 refl)
+ends_whole (Err (end.Stopped stop.Sink)) no_3 no_4 no_6 no_7 = absurd (no_4 refl)
+ends_whole (Err (end.Stopped stop.NoMemory)) no_3 no_4 no_6 no_7 = inr refl
+ends_whole (Err (end.Stopped stop.Shelf)) no_3 no_4 no_6 no_7 = absurd (no_6 refl)

@@ -6,10 +6,9 @@ use Rattle.axml_reader.specs.Decoding.{decoded}
 use Rattle.axml_reader.specs.Document.{Document}
 use Rattle.axml_reader.specs.Dump.{dump_text}
 use Rattle.text_lines.specs.Joined.{◌⧺◌}
-use Rattle.tool_io.specs.Fetched.{file_of}
+use Rattle.tool_io.specs.Fetched.{Files, file_of}
 use Rattle.tool_io.specs.SinkState.{SinkState}
 use Rattle.view_model.specs.declared.refusals.TheConstants.{LONG_FILE, MISSING_FILE}
-use Rattle.view_tool.specs.Files.{Files}
 use Rattle.view_tool.specs.Refusals.{refused_text}
 use Rattle.view_tool.specs.Tool.{IsComplete, Writes}
 

@@ -1,5 +1,4 @@
 pub mod Dump
-pub mod Files
 pub mod Names
 pub mod Refusals
 pub mod Run

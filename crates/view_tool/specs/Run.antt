@@ -1,16 +1,17 @@
 -- The run of a script in the code.
-use Rattle.std.specs.Prelude.{◌≡◌, ℕ, List, [], ◌∷◌, ◌++◌, Option, Some, None, Result, Ok, Err}
+use Rattle.std.specs.Prelude.{◌≡◌, ◌≤◌, ℕ, List, [], ◌∷◌, ◌++◌, Option, Some, None, Result, Ok, Err}
 use Rattle.std.proofs.Common.{Bor}
 use Rattle.std.specs.Io.KnownBytes.{Appends}
 use Rattle.script_lines.specs.LineBuffer.{IsAfter}
 use Rattle.script_lines.specs.Lines.{Line, Text, LongLine, cut_of}
 use Rattle.text_lines.specs.Prefix.{AppendsPrefix}
 use Rattle.tool_io.specs.Counts.{raised}
+use Rattle.tool_io.specs.Fetched.{Files}
 use Rattle.view_tool.specs.declared.run.LineRunner.{LineRunner}
 use Rattle.view_tool.specs.declared.run.Run.{Run}
 use Rattle.view_tool.specs.declared.run.Stop.{Stop}
 use Rattle.view_tool.specs.declared.run.Stop.TheVariants as stop
-use Rattle.view_tool.specs.Transcript.{MayWant, Progress, after_lines}
+use Rattle.view_tool.specs.Transcript.{Asks, MayWant, Progress, after_lines}
 use Rattle.view_world.specs.KeyedWorld.{world_of}
 
 -- a line as the code has it: none is too long
@@ -30,31 +31,58 @@ pub record HasCarriedOut (first now : Option (List ℕ)) (runner : LineRunner) (
   pub refused : runner.refused ≡ progress.refused
   pub gone : Appends first now progress.text
 
+-- what holds with the files that a shelf tells, if it tells them
+abbrev pub WithFiles : Option Files → (Files → Type 0) → Type 0
+WithFiles shelf P = (files : Files) → shelf ≡ Some files → P files
+
 -- a run has carried out the lines whose line feed is among these bytes, and holds what came behind them
-pub record HasReadUpTo (first now : Option (List ℕ)) (run : Run) (bytes : List ℕ) : Type 0 where
+pub record HasReadUpTo (shelf : Option Files) (first now : Option (List ℕ)) (run : Run) (bytes : List ℕ) : Type 0 where
   pub held : IsAfter run.lines bytes
-  pub runner : HasCarriedOut first now run.runner (after_lines (cut_of bytes).lines)
+  pub runner : WithFiles shelf (λ files. HasCarriedOut first now run.runner (after_lines files (cut_of bytes).lines))
 
 -- the texts of the lines before one of these, which may want memory, have gone
-pub record StopsBefore (first now : Option (List ℕ)) (lines : List Line) : Type 0 where
+pub record StopsBefore (files : Files) (first now : Option (List ℕ)) (lines : List Line) : Type 0 where
   pub done : List Line
   pub line : Line
   pub left : List Line
   pub all : done ++ line ∷ left ≡ lines
   pub wants : MayWant line
-  pub gone : Appends first now (after_lines done).text
+  pub gone : Appends first now (after_lines files done).text
 
--- a run stopped in these lines: a write failed, and a front part of their texts has gone, or there was no memory
-abbrev pub StopsIn : Option (List ℕ) → Option (List ℕ) → List Line → Stop → Type 0
-StopsIn first now lines stop.Sink = AppendsPrefix first now (after_lines lines).text
-StopsIn first now lines stop.NoMemory = StopsBefore first now lines
+-- the texts of the lines before one of these, which asks the shelf for a file, have gone
+pub record StopsAtFetch (files : Files) (first now : Option (List ℕ)) (lines : List Line) : Type 0 where
+  pub done : List Line
+  pub line : Line
+  pub left : List Line
+  pub all : done ++ line ∷ left ≡ lines
+  pub asks : Asks (after_lines files done).world line
+  pub gone : Appends first now (after_lines files done).text
+
+-- a run stopped in these lines: a write failed, and a front part of their texts has gone, there was no memory, or a
+-- fetch failed
+abbrev pub StopsIn : Files → Option (List ℕ) → Option (List ℕ) → List Line → Stop → Type 0
+StopsIn files first now lines stop.Sink = AppendsPrefix first now (after_lines files lines).text
+StopsIn files first now lines stop.NoMemory = StopsBefore files first now lines
+StopsIn files first now lines stop.Shelf = StopsAtFetch files first now lines
 
 -- a sink's count of failed calls once a run stopped so: a failed write raises it by one
 abbrev pub stop_counted : Stop → ℕ → ℕ
 stop_counted stop.Sink faults = raised faults
 stop_counted stop.NoMemory faults = faults
+stop_counted stop.Shelf faults = faults
 
 -- and once lines were carried out
 abbrev pub writes_counted : {A : Type 0} → Result A Stop → ℕ → ℕ
 writes_counted (Ok _) faults = faults
 writes_counted (Err stop) faults = stop_counted stop faults
+
+-- a shelf's count of failed calls once a run stopped so: a failed fetch raised it by one, and want of memory may count as one
+abbrev pub CountsStop : ℕ → ℕ → Stop → Type 0
+CountsStop before now stop.Sink = now ≡ before
+CountsStop before now stop.NoMemory = before ≤ now
+CountsStop before now stop.Shelf = now ≡ raised before
+
+-- and once lines were carried out
+abbrev pub CountsFetches : {A : Type 0} → ℕ → ℕ → Result A Stop → Type 0
+CountsFetches before now (Ok _) = now ≡ before
+CountsFetches before now (Err stop) = CountsStop before now stop

@@ -3,10 +3,11 @@ use Rattle.std.specs.Prelude.{◌≡◌, ℕ, ◌+◌, ◌<◌, ◌≤◌, Bool,
 use Rattle.std.specs.Io.KnownBytes.{Appends, Consumes, IsAtEnd}
 use Rattle.script_lines.specs.Lines.{cut_of, lines_of}
 use Rattle.tool_io.specs.Counts.{raised}
+use Rattle.tool_io.specs.Fetched.{Files}
 use Rattle.view_tool.specs.declared.run.Run.{Run}
 use Rattle.view_tool.specs.declared.script.End.{End}
 use Rattle.view_tool.specs.declared.script.End.TheVariants as ends
-use Rattle.view_tool.specs.Run.{HasReadUpTo, StopsIn, stop_counted}
+use Rattle.view_tool.specs.Run.{CountsStop, HasReadUpTo, StopsIn, WithFiles, stop_counted}
 use Rattle.view_tool.specs.Transcript.{after_lines, carried_lines, max_script}
 
 -- the bytes that were taken of a script are at its front, and the rest is left
@@ -16,40 +17,40 @@ pub record Takes (script : List ℕ) (now : Option (List ℕ)) (taken : List ℕ
   pub left : now ≡ Some rest
 
 -- what was written is the transcript of the lines whose line feed was taken
-pub record WritesTaken (script : List ℕ) (left old new : Option (List ℕ)) : Type 0 where
+pub record WritesTaken (files : Files) (script : List ℕ) (left old new : Option (List ℕ)) : Type 0 where
   pub taken : List ℕ
   pub takes : Takes script left taken
   pub within : length taken ≤ max_script
-  pub text : Appends old new (after_lines (cut_of taken).lines).text
+  pub text : Appends old new (after_lines files (cut_of taken).lines).text
 
 -- After some bytes of a script, of which `left` more may come, these were read: they were carried out, or no read gave
 -- them, or they are one too many, or the run stopped in them.
-abbrev pub Comes : Option (List ℕ) → List ℕ → ℕ → List ℕ → Option (List ℕ) → Run → Result ℕ End → Type 0
-Comes first before left bytes now run (Ok n) = HasReadUpTo first now run (before ++ bytes)
-Comes first before left bytes now run (Err ends.Source) = (bytes ≡ []) × Appends first now (after_lines (cut_of before).lines).text
-Comes first before left bytes now run (Err ends.Long) = (length bytes ≡ left + 1) × Appends first now (after_lines (cut_of (before ++ take left bytes)).lines).text
-Comes first before left bytes now run (Err (ends.Stopped stop)) = StopsIn first now (cut_of (before ++ take left bytes)).lines stop
+abbrev pub Comes : Option Files → Option (List ℕ) → List ℕ → ℕ → List ℕ → Option (List ℕ) → Run → Result ℕ End → Type 0
+Comes shelf first before left bytes now run (Ok n) = HasReadUpTo shelf first now run (before ++ bytes)
+Comes shelf first before left bytes now run (Err ends.Source) = (bytes ≡ []) × WithFiles shelf (λ files. Appends first now (after_lines files (cut_of before).lines).text)
+Comes shelf first before left bytes now run (Err ends.Long) = (length bytes ≡ left + 1) × WithFiles shelf (λ files. Appends first now (after_lines files (cut_of (before ++ take left bytes)).lines).text)
+Comes shelf first before left bytes now run (Err (ends.Stopped stop)) = WithFiles shelf (λ files. StopsIn files first now (cut_of (before ++ take left bytes)).lines stop)
 
 -- what a read and the bytes that it gave came to
-pub record ReadsPiece (first : Option (List ℕ)) (before : List ℕ) (left : ℕ) (old new now : Option (List ℕ)) (run : Run) (result : Result ℕ End) : Type 0 where
+pub record ReadsPiece (shelf : Option Files) (first : Option (List ℕ)) (before : List ℕ) (left : ℕ) (old new now : Option (List ℕ)) (run : Run) (result : Result ℕ End) : Type 0 where
   pub bytes : List ℕ
   pub consumed : Consumes old new bytes
   pub within : length bytes ≤ left + 1
   pub count : IfOk result (λ n. n ≡ length bytes)
-  pub comes : Comes first before left bytes now run result
+  pub comes : Comes shelf first before left bytes now run result
 
 -- How the run of a script came to its end, where it has gone from the first state of the sink to the last, and this is left
 -- of the script.
-abbrev pub RunsTo : List ℕ → Option (List ℕ) → Option (List ℕ) → Option (List ℕ) → Result Bool End → Type 0
-RunsTo script left first last (Ok refused) =
-    (length script ≤ max_script) × Appends first last (after_lines (lines_of script)).text × (refused ≡ (after_lines (lines_of script)).refused)
-RunsTo script left first last (Err ends.Source) = WritesTaken script left first last
-RunsTo script left first last (Err ends.Long) = (max_script < length script) × Appends first last (after_lines (carried_lines script)).text
-RunsTo script left first last (Err (ends.Stopped stop)) = StopsIn first last (carried_lines script) stop
+abbrev pub RunsTo : Files → List ℕ → Option (List ℕ) → Option (List ℕ) → Option (List ℕ) → Result Bool End → Type 0
+RunsTo files script left first last (Ok refused) =
+    (length script ≤ max_script) × Appends first last (after_lines files (lines_of script)).text × (refused ≡ (after_lines files (lines_of script)).refused)
+RunsTo files script left first last (Err ends.Source) = WritesTaken files script left first last
+RunsTo files script left first last (Err ends.Long) = (max_script < length script) × Appends first last (after_lines files (carried_lines script)).text
+RunsTo files script left first last (Err (ends.Stopped stop)) = StopsIn files first last (carried_lines script) stop
 
 -- the run of a source from its first bytes to its end
-pub record RunsFrom (before after first last : Option (List ℕ)) (outcome : Result Bool End) : Type 0 where
-  pub runs : (script : List ℕ) → before ≡ Some script → RunsTo script after first last outcome
+pub record RunsFrom (shelf : Option Files) (before after first last : Option (List ℕ)) (outcome : Result Bool End) : Type 0 where
+  pub runs : (files : Files) (script : List ℕ) → shelf ≡ Some files → before ≡ Some script → RunsTo files script after first last outcome
   pub end : IfOk outcome (λ _. IsAtEnd after)
   pub taken : List ℕ
   pub consumed : Consumes before after taken
@@ -74,3 +75,10 @@ reads_counted (Err end) faults = end_reads end faults
 abbrev pub ends_counted : {A : Type 0} → Result A End → ℕ → ℕ
 ends_counted (Ok _) faults = faults
 ends_counted (Err end) faults = end_writes end faults
+
+-- a shelf's count of failed calls once a run ended so: a failed fetch raises it by one
+abbrev pub CountsEnd : {A : Type 0} → ℕ → ℕ → Result A End → Type 0
+CountsEnd before now (Ok _) = now ≡ before
+CountsEnd before now (Err ends.Source) = now ≡ before
+CountsEnd before now (Err ends.Long) = now ≡ before
+CountsEnd before now (Err (ends.Stopped stop)) = CountsStop before now stop

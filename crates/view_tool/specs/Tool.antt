@@ -7,8 +7,8 @@ use Rattle.text_lines.specs.Prefix.{AppendsPrefix}
 use Rattle.view_tool.specs.declared.run.Stop.TheVariants as stop
 use Rattle.view_tool.specs.declared.script.End.{End}
 use Rattle.view_tool.specs.declared.script.End.TheVariants as ends
-use Rattle.view_tool.specs.Files.{Files}
-use Rattle.view_tool.specs.Run.{StopsBefore}
+use Rattle.tool_io.specs.Fetched.{Files}
+use Rattle.view_tool.specs.Run.{StopsAtFetch, StopsBefore}
 use Rattle.view_tool.specs.Script.{WritesTaken}
 use Rattle.view_tool.specs.Transcript.{after_lines, carried_lines, max_script}
 use Rattle.view_tool.specs.Usage.{Usage, Run, Dump}
@@ -36,6 +36,7 @@ status_of (Err ends.Source) = 3
 status_of (Err ends.Long) = 7
 status_of (Err (ends.Stopped stop.Sink)) = 4
 status_of (Err (ends.Stopped stop.NoMemory)) = 5
+status_of (Err (ends.Stopped stop.Shelf)) = 6
 
 -- the status is one of these
 abbrev pub IsOneOf : ℕ → List ℕ → Type 0
@@ -47,9 +48,10 @@ pub record Writes (status : ℕ) (old new : Option (List ℕ)) (text : List ℕ)
   pub part : AppendsPrefix old new text
 
 -- how a run of a script ended with a status
-pub record RunsWith (script : List ℕ) (left first last : Option (List ℕ)) (status : ℕ) : Type 0 where
-  pub writes : Writes status first last (after_lines (carried_lines script)).text
-  pub ended : IsComplete status → (length script ≤ max_script) × (status ≡ (if (after_lines (lines_of script)).refused then 1 else 0))
-  pub taken : status ≡ 3 → WritesTaken script left first last
-  pub no_memory : status ≡ 5 → StopsBefore first last (carried_lines script)
-  pub long : status ≡ 7 → (max_script < length script) × Appends first last (after_lines (carried_lines script)).text
+pub record RunsWith (files : Files) (script : List ℕ) (left first last : Option (List ℕ)) (status : ℕ) : Type 0 where
+  pub writes : Writes status first last (after_lines files (carried_lines script)).text
+  pub ended : IsComplete status → (length script ≤ max_script) × (status ≡ (if (after_lines files (lines_of script)).refused then 1 else 0))
+  pub taken : status ≡ 3 → WritesTaken files script left first last
+  pub no_memory : status ≡ 5 → StopsBefore files first last (carried_lines script)
+  pub failed_fetch : status ≡ 6 → StopsAtFetch files first last (carried_lines script)
+  pub long : status ≡ 7 → (max_script < length script) × Appends first last (after_lines files (carried_lines script)).text

@@ -3,9 +3,8 @@
 ghost use Rattle.std.specs.Prelude.{◌≡◌, ◌≢◌, ◌≤◌, ◌⊎◌, ◌==◌, ℕ, List, [], ◌∷◌, Some, Result, if◌then◌else◌};
 ghost use Rattle.axml_reader.specs.Decoding.{decoded};
 ghost use Rattle.tool_io.specs.Counts.{raised};
-ghost use Rattle.tool_io.specs.Fetched.{Fetched};
+ghost use Rattle.tool_io.specs.Fetched.{Fetched, Files};
 ghost use Rattle.view_tool.specs.Dump.{Dumps, decoded_text, dump_page, is_fault, refuses_file, status_of_text};
-ghost use Rattle.view_tool.specs.Files.{Files};
 ghost use Rattle.view_tool.specs.Tool.{IsOneOf};
 
 use crate::file_replies::{write_fault, write_refused_file};

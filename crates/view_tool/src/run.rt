@@ -1,12 +1,13 @@
 //! A script that is carried out as its bytes come.
 
-ghost use Rattle.std.specs.Prelude.{◌≡◌, ◌⊎◌, ℕ, ◌+◌, ◌-◌, ◌*◌, ◌<◌, ◌≤◌, ◌^◌, min, false, List, ◌∷◌, [], ◌++◌, Option, Err, OnOk, IfOk, IfErr, length, take};
+ghost use Rattle.std.specs.Prelude.{◌≡◌, ◌⊎◌, ℕ, ◌+◌, ◌-◌, ◌*◌, ◌<◌, ◌≤◌, ◌^◌, min, false, List, ◌∷◌, [], ◌++◌, Option, Some, Err, OnOk, IfOk, IfErr, length, take};
 ghost use Rattle.script_lines.specs.LineBuffer.{IsLent, lines_at};
 ghost use Rattle.script_lines.specs.Lines.{Line, cut_of, lines_of};
+ghost use Rattle.tool_io.specs.Fetched.{Files};
 ghost use Rattle.view_model.specs.declared.limits.TheConstants.{MAX_VIEWS, NUMBERS_END};
-ghost use Rattle.view_tool.specs.Run.{HasCarriedOut, HasReadUpTo, StopsIn, line_now, lines_now, writes_counted};
-ghost use Rattle.view_tool.specs.Transcript.{MayWant, Progress, after_line, after_lines, is_idle, reply_to_line};
-ghost use Rattle.view_world.specs.Carried.{WritesReply, IsDone};
+ghost use Rattle.view_tool.specs.Run.{CountsFetches, HasCarriedOut, HasReadUpTo, StopsIn, WithFiles, line_now, lines_now, writes_counted};
+ghost use Rattle.view_tool.specs.Transcript.{Asks, MayWant, Progress, after_line, after_lines, is_idle, reply_to_line};
+ghost use Rattle.view_world.specs.Carried.{CountsShelf, IsDone, WritesReply, faults_after_line};
 ghost use Rattle.view_world.specs.KeyedWorld.{world_of};
 
 use crate::refusals::write_refusal;
@@ -23,6 +24,8 @@ use view_world::{StepFault, World};
 pub enum Stop {
     Sink,
     NoMemory,
+    /// A fetch failed.
+    Shelf,
 }
 
 /// How far a run has come, line by line.
@@ -49,16 +52,19 @@ impl LineRunner {
         work: &mut Work,
     ) -> Result<(), Stop>
         requires { self.old.world.views.next < NUMBERS_END }
-        ensures done { (first : Option (List ℕ)) (progress : Progress)
+        ensures done { (files : Files) (first : Option (List ℕ)) (progress : Progress)
+            → F.files shelf.old ≡ Some files
             → progress.lines < 2 ^ 63
             → HasCarriedOut first (K.state sink.old).gone self.old progress
-            → OnOk result (HasCarriedOut first (K.state sink.new).gone self.new (after_line progress (line_now line.entry))) }
-        ensures stopped { (first : Option (List ℕ)) (lines : List Line)
+            → OnOk result (HasCarriedOut first (K.state sink.new).gone self.new (after_line files progress (line_now line.entry))) }
+        ensures stopped { (files : Files) (first : Option (List ℕ)) (lines : List Line)
+            → F.files shelf.old ≡ Some files
             → length lines < 2 ^ 63
-            → HasCarriedOut first (K.state sink.old).gone self.old (after_lines lines)
-            → IfErr result (StopsIn first (K.state sink.new).gone (lines ++ line_now line.entry ∷ [])) }
+            → HasCarriedOut first (K.state sink.old).gone self.old (after_lines files lines)
+            → IfErr result (StopsIn files first (K.state sink.new).gone (lines ++ line_now line.entry ∷ [])) }
         ensures numbers { self.new.world.views.next ≤ self.old.world.views.next + MAX_VIEWS }
-        ensures shelf { shelf.new ≡ shelf.old }
+        ensures files_stay { F.files shelf.new ≡ F.files shelf.old }
+        ensures shelf_failed { CountsFetches (F.faults shelf.old) (F.faults shelf.new) result }
         ensures painted { work.new.painted ≡ work.old.painted }
         ensures measured { min work.old.measured (2 ^ 64 - 1) ≤ work.new.measured }
         ensures counted { (K.state sink.new).faults ≡ writes_counted result (K.state sink.old).faults }
@@ -82,16 +88,19 @@ impl LineRunner {
     ) -> Result<(), Stop>
         requires numbered { self.old.world.views.next < NUMBERS_END }
         requires counts { is_idle (line_now line) ≡ false }
-        ensures done { (first : Option (List ℕ)) (progress : Progress)
+        ensures done { (files : Files) (first : Option (List ℕ)) (progress : Progress)
+            → F.files shelf.old ≡ Some files
             → progress.lines < 2 ^ 63
             → HasCarriedOut first (K.state sink.old).gone self.old progress
-            → OnOk result (HasCarriedOut first (K.state sink.new).gone self.new (after_line progress (line_now line.entry))) }
-        ensures stopped { (first : Option (List ℕ)) (lines : List Line)
+            → OnOk result (HasCarriedOut first (K.state sink.new).gone self.new (after_line files progress (line_now line.entry))) }
+        ensures stopped { (files : Files) (first : Option (List ℕ)) (lines : List Line)
+            → F.files shelf.old ≡ Some files
             → length lines < 2 ^ 63
-            → HasCarriedOut first (K.state sink.old).gone self.old (after_lines lines)
-            → IfErr result (StopsIn first (K.state sink.new).gone (lines ++ line_now line.entry ∷ [])) }
+            → HasCarriedOut first (K.state sink.old).gone self.old (after_lines files lines)
+            → IfErr result (StopsIn files first (K.state sink.new).gone (lines ++ line_now line.entry ∷ [])) }
         ensures numbers { self.new.world.views.next ≤ self.old.world.views.next + MAX_VIEWS }
-        ensures shelf { shelf.new ≡ shelf.old }
+        ensures files_stay { F.files shelf.new ≡ F.files shelf.old }
+        ensures shelf_failed { CountsFetches (F.faults shelf.old) (F.faults shelf.new) result }
         ensures painted { work.new.painted ≡ work.old.painted }
         ensures measured { min work.old.measured (2 ^ 64 - 1) ≤ work.new.measured }
         ensures counted { (K.state sink.new).faults ≡ writes_counted result (K.state sink.old).faults }
@@ -108,8 +117,7 @@ impl LineRunner {
             }
             Err(StepFault::NoMemory) => Err(Stop::NoMemory),
             Err(StepFault::Sink) => Err(Stop::Sink),
-            // No line asks the shelf for a file.
-            Err(StepFault::Shelf) => unreachable!(),
+            Err(StepFault::Shelf) => Err(Stop::Shelf),
         }
     }
 }
@@ -137,11 +145,16 @@ fn carry_out<K: Sink, F: Shelf>(
 ) -> Result<(), StepFault>
     requires numbered { world.old.views.next < NUMBERS_END }
     requires counts { is_idle (line_now bytes) ≡ false }
-    ensures carried { WritesReply (reply_to_line (world_of world.old) (line_now bytes.entry)) (world_of world.new) (K.state sink.old) (K.state sink.new) result }
+    ensures carried { (files : Files)
+        → F.files shelf.old ≡ Some files
+        → WritesReply (reply_to_line files (world_of world.old) (line_now bytes.entry)) (world_of world.new) (K.state sink.old) (K.state sink.new) result }
     ensures unchanged { IsDone result ⊎ ((world.new ≡ world.old) × (sink.new ≡ sink.old)) }
     ensures memory { result ≡ Err StepFault.NoMemory → MayWant (line_now bytes.entry) }
     ensures numbers { world.new.views.next ≤ world.old.views.next + MAX_VIEWS }
-    ensures shelf { shelf.new ≡ shelf.old }
+    ensures sink_failed { (K.state sink.new).faults ≡ faults_after_line result (K.state sink.old).faults }
+    ensures files_stay { F.files shelf.new ≡ F.files shelf.old }
+    ensures shelf_failed { CountsShelf (F.faults shelf.old) (F.faults shelf.new) result }
+    ensures asked { result ≡ Err StepFault.Shelf → Asks (world_of world.old) (line_now bytes.entry) }
     ensures painted { work.new.painted ≡ work.old.painted }
     ensures measured { min work.old.measured (2 ^ 64 - 1) ≤ work.new.measured }
 {
@@ -178,7 +191,7 @@ pub struct Run {
 
 impl Run {
     pub fn new(alloc: Global) -> Run
-        ensures behind { (first : Option (List ℕ)) → HasReadUpTo first first result [] }
+        ensures behind { (shelf : Option Files) (first : Option (List ℕ)) → HasReadUpTo shelf first first result [] }
         ensures numbers { result.runner.world.views.next ≡ 1 }
     {
         Run {
@@ -213,14 +226,15 @@ impl Run {
         ensures some { 0 < length piece.now → IfOk result (λ n. 0 < n) }
         ensures done { (first : Option (List ℕ)) (before : List ℕ)
             → length before < 2 ^ 63
-            → HasReadUpTo first (K.state sink.old).gone self.old before
-            → IfOk result (λ n. HasReadUpTo first (K.state sink.new).gone self.new (before ++ take n piece.now)) }
+            → HasReadUpTo (F.files shelf.old) first (K.state sink.old).gone self.old before
+            → IfOk result (λ n. HasReadUpTo (F.files shelf.old) first (K.state sink.new).gone self.new (before ++ take n piece.now)) }
         ensures stopped { (first : Option (List ℕ)) (before : List ℕ)
             → length before < 2 ^ 63
-            → HasReadUpTo first (K.state sink.old).gone self.old before
-            → IfErr result (StopsIn first (K.state sink.new).gone (cut_of (before ++ piece.now)).lines) }
+            → HasReadUpTo (F.files shelf.old) first (K.state sink.old).gone self.old before
+            → IfErr result (λ stop. WithFiles (F.files shelf.old) (λ files. StopsIn files first (K.state sink.new).gone (cut_of (before ++ piece.now)).lines stop)) }
         ensures numbers { self.new.runner.world.views.next ≤ self.old.runner.world.views.next + MAX_VIEWS }
-        ensures shelf { shelf.new ≡ shelf.old }
+        ensures files_stay { F.files shelf.new ≡ F.files shelf.old }
+        ensures shelf_failed { CountsFetches (F.faults shelf.old) (F.faults shelf.new) result }
         ensures painted { work.new.painted ≡ work.old.painted }
         ensures measured { min work.old.measured (2 ^ 64 - 1) ≤ work.new.measured }
         ensures counted { (K.state sink.new).faults ≡ writes_counted result (K.state sink.old).faults }
@@ -245,14 +259,15 @@ impl Run {
         requires { self.old.runner.world.views.next + MAX_VIEWS * length piece.now < NUMBERS_END }
         ensures done { (first : Option (List ℕ)) (before : List ℕ)
             → length (before ++ piece.now) < 2 ^ 63
-            → HasReadUpTo first (K.state sink.old).gone self.old before
-            → OnOk result (HasReadUpTo first (K.state sink.new).gone self.new (before ++ piece.now)) }
+            → HasReadUpTo (F.files shelf.old) first (K.state sink.old).gone self.old before
+            → OnOk result (HasReadUpTo (F.files shelf.old) first (K.state sink.new).gone self.new (before ++ piece.now)) }
         ensures stopped { (first : Option (List ℕ)) (before : List ℕ)
             → length (before ++ piece.now) < 2 ^ 63
-            → HasReadUpTo first (K.state sink.old).gone self.old before
-            → IfErr result (StopsIn first (K.state sink.new).gone (cut_of (before ++ piece.now)).lines) }
+            → HasReadUpTo (F.files shelf.old) first (K.state sink.old).gone self.old before
+            → IfErr result (λ stop. WithFiles (F.files shelf.old) (λ files. StopsIn files first (K.state sink.new).gone (cut_of (before ++ piece.now)).lines stop)) }
         ensures numbers { self.new.runner.world.views.next ≤ self.old.runner.world.views.next + MAX_VIEWS * length piece.now }
-        ensures shelf { shelf.new ≡ shelf.old }
+        ensures files_stay { F.files shelf.new ≡ F.files shelf.old }
+        ensures shelf_failed { CountsFetches (F.faults shelf.old) (F.faults shelf.new) result }
         ensures painted { work.new.painted ≡ work.old.painted }
         ensures measured { min work.old.measured (2 ^ 64 - 1) ≤ work.new.measured }
         ensures counted { (K.state sink.new).faults ≡ writes_counted result (K.state sink.old).faults }
@@ -273,15 +288,18 @@ impl Run {
         work: &mut Work,
     ) -> Result<(), Stop>
         requires { self.old.runner.world.views.next < NUMBERS_END }
-        ensures done { (first : Option (List ℕ)) (script : List ℕ)
+        ensures done { (files : Files) (first : Option (List ℕ)) (script : List ℕ)
+            → F.files shelf.old ≡ Some files
             → length script < 2 ^ 63
-            → HasReadUpTo first (K.state sink.old).gone self.old script
-            → OnOk result (HasCarriedOut first (K.state sink.new).gone self.new.runner (after_lines (lines_of script))) }
-        ensures stopped { (first : Option (List ℕ)) (script : List ℕ)
+            → HasReadUpTo (F.files shelf.old) first (K.state sink.old).gone self.old script
+            → OnOk result (HasCarriedOut first (K.state sink.new).gone self.new.runner (after_lines files (lines_of script))) }
+        ensures stopped { (files : Files) (first : Option (List ℕ)) (script : List ℕ)
+            → F.files shelf.old ≡ Some files
             → length script < 2 ^ 63
-            → HasReadUpTo first (K.state sink.old).gone self.old script
-            → IfErr result (StopsIn first (K.state sink.new).gone (lines_of script)) }
-        ensures shelf { shelf.new ≡ shelf.old }
+            → HasReadUpTo (F.files shelf.old) first (K.state sink.old).gone self.old script
+            → IfErr result (StopsIn files first (K.state sink.new).gone (lines_of script)) }
+        ensures files_stay { F.files shelf.new ≡ F.files shelf.old }
+        ensures shelf_failed { CountsFetches (F.faults shelf.old) (F.faults shelf.new) result }
         ensures painted { work.new.painted ≡ work.old.painted }
         ensures measured { min work.old.measured (2 ^ 64 - 1) ≤ work.new.measured }
         ensures counted { (K.state sink.new).faults ≡ writes_counted result (K.state sink.old).faults }

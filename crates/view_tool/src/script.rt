@@ -2,9 +2,10 @@
 
 ghost use Rattle.std.specs.Prelude.{◌≡◌, ℕ, ◌+◌, ◌-◌, ◌*◌, ◌<◌, ◌≤◌, ◌^◌, List, [], Option, Ok, IfOk, length, min};
 ghost use Rattle.std.specs.Io.KnownBytes.{IsAtEnd};
+ghost use Rattle.tool_io.specs.Fetched.{Files};
 ghost use Rattle.view_model.specs.declared.limits.TheConstants.{MAX_VIEWS, NUMBERS_END};
 ghost use Rattle.view_tool.specs.Run.{HasReadUpTo};
-ghost use Rattle.view_tool.specs.Script.{Comes, ReadsPiece, RunsFrom, ends_counted, reads_counted};
+ghost use Rattle.view_tool.specs.Script.{Comes, CountsEnd, ReadsPiece, RunsFrom, ends_counted, reads_counted};
 
 use crate::run::{Run, Stop};
 use std::alloc::Global;
@@ -52,12 +53,13 @@ fn carry_piece<K: Sink, F: Shelf>(
     requires numbers { run.old.runner.world.views.next + MAX_VIEWS * (left + 1) < NUMBERS_END }
     ensures comes { (first : Option (List ℕ)) (before : List ℕ)
         → length before + left ≡ MAX_SCRIPT
-        → HasReadUpTo first (K.state sink.old).gone run.old before
-        → Comes first before left piece.now (K.state sink.new).gone run.new result }
+        → HasReadUpTo (F.files shelf.old) first (K.state sink.old).gone run.old before
+        → Comes (F.files shelf.old) first before left piece.now (K.state sink.new).gone run.new result }
     ensures count { IfOk result (λ n. n ≡ length piece.now) }
     ensures most { IfOk result (λ n. n ≤ left) }
     ensures numbers { IfOk result (λ n. run.new.runner.world.views.next ≤ run.old.runner.world.views.next + MAX_VIEWS * n) }
-    ensures shelf { shelf.new ≡ shelf.old }
+    ensures files_stay { F.files shelf.new ≡ F.files shelf.old }
+    ensures shelf_failed { CountsEnd (F.faults shelf.old) (F.faults shelf.new) result }
     ensures painted { work.new.painted ≡ work.old.painted }
     ensures measured { min work.old.measured (2 ^ 64 - 1) ≤ work.new.measured }
     ensures no_failed_read { (faults : ℕ) → reads_counted result faults ≡ faults }
@@ -89,12 +91,13 @@ fn read_piece<S: Source, K: Sink, F: Shelf>(
     requires numbers { run.old.runner.world.views.next + MAX_VIEWS * (left + 1) < NUMBERS_END }
     ensures reads { (first : Option (List ℕ)) (before : List ℕ)
         → length before + left ≡ MAX_SCRIPT
-        → HasReadUpTo first (K.state sink.old).gone run.old before
-        → ReadsPiece first before left (S.left source.old) (S.left source.new) (K.state sink.new).gone run.new result }
+        → HasReadUpTo (F.files shelf.old) first (K.state sink.old).gone run.old before
+        → ReadsPiece (F.files shelf.old) first before left (S.left source.old) (S.left source.new) (K.state sink.new).gone run.new result }
     ensures end { result ≡ Ok 0 → IsAtEnd (S.left source.new) }
     ensures most { IfOk result (λ n. n ≤ left) }
     ensures numbers { IfOk result (λ n. run.new.runner.world.views.next ≤ run.old.runner.world.views.next + MAX_VIEWS * n) }
-    ensures shelf { shelf.new ≡ shelf.old }
+    ensures files_stay { F.files shelf.new ≡ F.files shelf.old }
+    ensures shelf_failed { CountsEnd (F.faults shelf.old) (F.faults shelf.new) result }
     ensures painted { work.new.painted ≡ work.old.painted }
     ensures measured { min work.old.measured (2 ^ 64 - 1) ≤ work.new.measured }
     ensures source_failed { S.faults source.new ≡ reads_counted result (S.faults source.old) }
@@ -115,10 +118,11 @@ fn run_to_end<S: Source, K: Sink, F: Shelf>(
     sink: &mut K,
     work: &mut Work,
 ) -> Result<bool, End>
-    requires behind { (first : Option (List ℕ)) → HasReadUpTo first first run.old [] }
+    requires behind { (files : Option Files) (first : Option (List ℕ)) → HasReadUpTo files first first run.old [] }
     requires numbers { run.old.runner.world.views.next ≡ 1 }
-    ensures runs { RunsFrom (S.left source.old) (S.left source.new) (K.state sink.old).gone (K.state sink.new).gone result }
-    ensures shelf { shelf.new ≡ shelf.old }
+    ensures runs { RunsFrom (F.files shelf.old) (S.left source.old) (S.left source.new) (K.state sink.old).gone (K.state sink.new).gone result }
+    ensures files_stay { F.files shelf.new ≡ F.files shelf.old }
+    ensures shelf_failed { CountsEnd (F.faults shelf.old) (F.faults shelf.new) result }
     ensures painted { work.new.painted ≡ work.old.painted }
     ensures measured { min work.old.measured (2 ^ 64 - 1) ≤ work.new.measured }
     ensures source_failed { S.faults source.new ≡ reads_counted result (S.faults source.old) }
@@ -156,8 +160,9 @@ pub fn run_source<S: Source, K: Sink, F: Shelf>(
     sink: &mut K,
     work: &mut Work,
 ) -> Result<bool, End>
-    ensures runs { RunsFrom (S.left source.old) (S.left source.new) (K.state sink.old).gone (K.state sink.new).gone result }
-    ensures shelf { shelf.new ≡ shelf.old }
+    ensures runs { RunsFrom (F.files shelf.old) (S.left source.old) (S.left source.new) (K.state sink.old).gone (K.state sink.new).gone result }
+    ensures files_stay { F.files shelf.new ≡ F.files shelf.old }
+    ensures shelf_failed { CountsEnd (F.faults shelf.old) (F.faults shelf.new) result }
     ensures painted { work.new.painted ≡ work.old.painted }
     ensures measured { min work.old.measured (2 ^ 64 - 1) ≤ work.new.measured }
     ensures source_failed { S.faults source.new ≡ reads_counted result (S.faults source.old) }

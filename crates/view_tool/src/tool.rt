@@ -1,11 +1,11 @@
 //! The whole tool.
 
-ghost use Rattle.std.specs.Prelude.{◌≡◌, ◌≢◌, ℕ, ◌+◌, ◌-◌, ◌^◌, ◌<◌, ◌≤◌, ◌↔◌, ◌⊎◌, ◌==◌, List, [], ◌∷◌, length, min, if◌then◌else◌};
+ghost use Rattle.std.specs.Prelude.{◌≡◌, ◌≢◌, ℕ, ◌+◌, ◌-◌, ◌^◌, ◌<◌, ◌≤◌, ◌↔◌, ◌⊎◌, ◌==◌, List, [], ◌∷◌, Some, length, min, if◌then◌else◌};
 ghost use Rattle.std.specs.Io.KnownBytes.{Appends, Consumes, IsAtEnd};
 ghost use Rattle.tool_io.specs.Counts.{Rose, raised};
+ghost use Rattle.tool_io.specs.Fetched.{Files};
 ghost use Rattle.view_tool.specs.Dump.{dump_page, refuses_file};
-ghost use Rattle.view_tool.specs.Files.{Files};
-ghost use Rattle.view_tool.specs.Run.{StopsBefore};
+ghost use Rattle.view_tool.specs.Run.{StopsAtFetch, StopsBefore};
 ghost use Rattle.view_tool.specs.Script.{WritesTaken};
 ghost use Rattle.view_tool.specs.Tool.{IsComplete, IsDumpOf, IsOneOf, IsRunOf, RunsWith, Writes, status_of};
 ghost use Rattle.view_tool.specs.Transcript.{carried_lines, cut_transcript, has_refusal, max_script, transcript};
@@ -14,7 +14,7 @@ ghost use Rattle.view_tool.specs.Usage.{Run, Dump, Unknown, usage};
 use crate::dump::dump;
 use crate::run::Stop;
 use crate::script::{End, run_source};
-use crate::status::{ACCEPTED, LONG_SCRIPT, NO_MEMORY, REFUSED, SINK_FAILED, SOURCE_FAILED, USAGE};
+use crate::status::{ACCEPTED, LONG_SCRIPT, NO_MEMORY, REFUSED, SHELF_FAILED, SINK_FAILED, SOURCE_FAILED, USAGE};
 use crate::usage::{Form, form_of};
 use std::alloc::Global;
 use tool_io::{Shelf, Sink, Source};
@@ -34,8 +34,8 @@ pub fn tool<S: Source, K: Sink, F: Shelf>(
     // dispatch rules alone; where memory was wanting or a handed-in source, sink or shelf failed, they are a prefix of
     // these.
     //
-    // It covers the lines that there are: a tree of views is built, edited, measured and laid out, and bounds are told.
-    // There is no painting, there are no touches, and no line reads a layout file.
+    // It covers the lines that there are: a tree of views is built, edited, inflated from layout files, measured and laid
+    // out, and bounds are told. There is no painting, and there are no touches.
     ensures headline { (script : List ℕ) (files : Files)
         → IsRunOf (usage words.now) (S.left source.old) (F.files shelf.old) script files
         → length script ≤ max_script
@@ -65,12 +65,16 @@ pub fn tool<S: Source, K: Sink, F: Shelf>(
         → (source.new ≡ source.old) × (sink.new ≡ sink.old) × (shelf.new ≡ shelf.old) × (work.new ≡ work.old) }
 
     // A failed read: exactly the lines whose line feed was taken were carried out. A failed write: some prefix has gone. A
-    // failed fetch: nothing was written.
+    // failed fetch: exactly the texts of the lines before the one that asked for the file have gone; of a file, nothing.
     ensures lines_taken { (script : List ℕ) (files : Files)
         → IsRunOf (usage words.now) (S.left source.old) (F.files shelf.old) script files
         → result ≡ 3
-        → WritesTaken script (S.left source.new) (K.state sink.old).gone (K.state sink.new).gone }
-    ensures nothing_written { result ≡ 6 → sink.new ≡ sink.old }
+        → WritesTaken files script (S.left source.new) (K.state sink.old).gone (K.state sink.new).gone }
+    ensures failed_fetch { (script : List ℕ) (files : Files)
+        → IsRunOf (usage words.now) (S.left source.old) (F.files shelf.old) script files
+        → result ≡ 6
+        → StopsAtFetch files (K.state sink.old).gone (K.state sink.new).gone (carried_lines script) }
+    ensures dump_failed_fetch { (name : List ℕ) → usage words.now ≡ Dump name → result ≡ 6 → sink.new ≡ sink.old }
 
     // The call that failed is the one that the status tells of, and after it nothing more is asked of that object: its
     // count of failed calls is one higher, and each other count is as it was. Want of memory may count as a failed fetch.
@@ -85,7 +89,7 @@ pub fn tool<S: Source, K: Sink, F: Shelf>(
     ensures no_memory { (script : List ℕ) (files : Files)
         → IsRunOf (usage words.now) (S.left source.old) (F.files shelf.old) script files
         → result ≡ 5
-        → StopsBefore (K.state sink.old).gone (K.state sink.new).gone (carried_lines script) }
+        → StopsBefore files (K.state sink.old).gone (K.state sink.new).gone (carried_lines script) }
     ensures dump_no_memory { (name : List ℕ)
         → usage words.now ≡ Dump name
         → result ≡ 5
@@ -104,7 +108,7 @@ pub fn tool<S: Source, K: Sink, F: Shelf>(
         → max_script < length script }
 
     // There is no other status, and where no object failed, only want of memory keeps a call from its end.
-    ensures run_statuses { usage words.now ≡ Run → IsOneOf result (0 ∷ 1 ∷ 3 ∷ 4 ∷ 5 ∷ 7 ∷ []) }
+    ensures run_statuses { usage words.now ≡ Run → IsOneOf result (0 ∷ 1 ∷ 3 ∷ 4 ∷ 5 ∷ 6 ∷ 7 ∷ []) }
     ensures dump_statuses { (name : List ℕ)
         → usage words.now ≡ Dump name
         → IsOneOf result (0 ∷ 1 ∷ 4 ∷ 5 ∷ 6 ∷ []) }
@@ -113,6 +117,7 @@ pub fn tool<S: Source, K: Sink, F: Shelf>(
         → length script ≤ max_script
         → (Rose (S.faults source.old) (S.faults source.new) → ⊥)
         → (Rose (K.state sink.old).faults (K.state sink.new).faults → ⊥)
+        → (Rose (F.faults shelf.old) (F.faults shelf.new) → ⊥)
         → IsComplete result ⊎ (result ≡ 5) }
     ensures dump_complete { (name : List ℕ)
         → usage words.now ≡ Dump name
@@ -125,7 +130,6 @@ pub fn tool<S: Source, K: Sink, F: Shelf>(
         × Consumes (S.left source.old) (S.left source.new) taken
         × (length taken ≤ max_script + 1) }
     ensures files_stay { F.files shelf.new ≡ F.files shelf.old }
-    ensures run_asks_no_shelf { usage words.now ≡ Run → shelf.new ≡ shelf.old }
     ensures nothing_painted { work.new.painted ≡ work.old.painted }
     ensures measured_later { min work.old.measured (2 ^ 64 - 1) ≤ work.new.measured }
     ensures dump_measures_nothing { (name : List ℕ) → usage words.now ≡ Dump name → work.new ≡ work.old }
@@ -145,10 +149,12 @@ fn run<S: Source, K: Sink, F: Shelf>(
     sink: &mut K,
     work: &mut Work,
 ) -> u8
-    ensures runs { (script : List ℕ)
+    ensures runs { (files : Files) (script : List ℕ)
+        → F.files shelf.old ≡ Some files
         → S.left source.old ≡ Some script
-        → RunsWith script (S.left source.new) (K.state sink.old).gone (K.state sink.new).gone result }
-    ensures known { IsOneOf result (0 ∷ 1 ∷ 3 ∷ 4 ∷ 5 ∷ 7 ∷ []) }
+        → RunsWith files script (S.left source.new) (K.state sink.old).gone (K.state sink.new).gone result }
+    ensures known { IsOneOf result (0 ∷ 1 ∷ 3 ∷ 4 ∷ 5 ∷ 6 ∷ 7 ∷ []) }
+    ensures whole { result ≢ 3 → result ≢ 4 → result ≢ 6 → result ≢ 7 → IsComplete result ⊎ (result ≡ 5) }
     ensures read_to_end { IsComplete result → IsAtEnd (S.left source.new) }
     ensures taken { (taken : List ℕ)
         × Consumes (S.left source.old) (S.left source.new) taken
@@ -156,7 +162,10 @@ fn run<S: Source, K: Sink, F: Shelf>(
     ensures source_failed { S.faults source.new ≡ (if result == 3 then raised (S.faults source.old) else S.faults source.old) }
     ensures sink_failed { (K.state sink.new).faults
         ≡ (if result == 4 then raised (K.state sink.old).faults else (K.state sink.old).faults) }
-    ensures shelf { shelf.new ≡ shelf.old }
+    ensures shelf_failed { result ≢ 5
+        → F.faults shelf.new ≡ (if result == 6 then raised (F.faults shelf.old) else F.faults shelf.old) }
+    ensures shelf_later { F.faults shelf.old ≤ F.faults shelf.new }
+    ensures files_stay { F.files shelf.new ≡ F.files shelf.old }
     ensures painted { work.new.painted ≡ work.old.painted }
     ensures measured { min work.old.measured (2 ^ 64 - 1) ≤ work.new.measured }
 {
@@ -174,5 +183,6 @@ fn status(outcome: Result<bool, End>) -> u8
         Err(End::Long) => LONG_SCRIPT,
         Err(End::Stopped(Stop::Sink)) => SINK_FAILED,
         Err(End::Stopped(Stop::NoMemory)) => NO_MEMORY,
+        Err(End::Stopped(Stop::Shelf)) => SHELF_FAILED,
     }
 }

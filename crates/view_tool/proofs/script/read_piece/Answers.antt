@@ -8,7 +8,7 @@ returns-in-Err-clause-reads g c first before count behind = record {
   consumed = Consumes-kept _ _ c.in-Err.ensures.bytes;
   within = omega arith;
   count = tt;
-  comes = (refl, behind.runner.gone);
+  comes = (refl, λ files told. (behind.runner files told).gone);
 }
 
 pub returns-in-Err-clause-source_failed : goal.returns-in-Err-clause-source_failed

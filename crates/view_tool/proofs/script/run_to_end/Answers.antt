@@ -11,8 +11,9 @@ pub loop-n-init : goal.loop-n-init
 loop-n-init g c = record {
   bound = omega arith;
   numbers = omega (arith, c.requires.numbers);
-  taken = record { bytes = []; consumed = Consumes-nil (g.S.Source.left c.args.source.now); count = refl; behind = c.requires.behind (g.K.Sink.state c.args.sink.now).gone };
-  shelf = refl;
+  taken = record { bytes = []; consumed = Consumes-nil (g.S.Source.left c.args.source.now); count = refl; behind = c.requires.behind (g.F.Shelf.files c.args.shelf.now) (g.K.Sink.state c.args.sink.now).gone };
+  files = refl;
+  fetches = refl;
   painted = refl;
   measured = omega arith;
   reads = refl;
@@ -25,8 +26,9 @@ loop-n-preserved g c =
     record {
       bound = omega (arith, c.loop-n.invariant.bound);
       numbers = omega (arith, c.loop-n.invariant.numbers, c.in_ok-n.ensures.numbers, c.in_ok-n.ensures.most);
-      taken = taken_on _ _ _ _ _ _ _ _ c.loop-n.left c.in_ok-n.n t c.in_ok-n.ensures.most (c.in_ok-n.ensures.reads _ t.bytes t.count t.behind);
-      shelf = c.read_piece.ensures.shelf ∙ c.loop-n.invariant.shelf;
+      taken = rw c.read_piece.ensures.files_stay (taken_on _ _ _ _ _ _ _ _ _ c.loop-n.left c.in_ok-n.n t c.in_ok-n.ensures.most (c.in_ok-n.ensures.reads _ t.bytes t.count t.behind));
+      files = c.read_piece.ensures.files_stay ∙ c.loop-n.invariant.files;
+      fetches = c.in_ok-n.ensures.shelf_failed ∙ c.loop-n.invariant.fetches;
       painted = c.read_piece.ensures.painted ∙ c.loop-n.invariant.painted;
       measured = omega (arith, c.loop-n.invariant.measured, c.read_piece.ensures.measured);
       reads = c.in_ok-n.ensures.source_failed ∙ c.loop-n.invariant.reads;
@@ -40,7 +42,7 @@ returns-in_err-n-clause-runs g c =
     let t = c.loop-n.invariant.taken in
     let q = c.in_err-n.ensures.reads _ t.bytes t.count t.behind in
     rw e (record {
-      runs = λ script told. ends_early _ _ _ _ _ _ script t.bytes c.loop-n.left c.in_err-n.field-0.0 told t.consumed t.count q;
+      runs = λ files script at_hand told. ends_early files _ _ _ _ _ _ _ script t.bytes c.loop-n.left c.in_err-n.field-0.0 (c.loop-n.invariant.files ∙ at_hand) told t.consumed t.count q;
       end = tt;
       taken = t.bytes ++ q.bytes;
       consumed = Consumes-Consumes _ _ _ t.bytes q.bytes t.consumed q.consumed;
@@ -69,8 +71,8 @@ returns-in_err-finish-clause-runs g c =
     let fits : length (t.bytes ++ q.bytes) ≤ max_script = omega (arith, length-append t.bytes q.bytes, t.count, q.count, none) in
     let lost = Consumes-Consumes _ _ _ t.bytes q.bytes t.consumed q.consumed in
     rw e (record {
-      runs = λ script told. ends_last _ _ _ _ script (t.bytes ++ q.bytes) c.in_err-finish.field-0.0 told lost (c.in_ok-n.ensures.end (ap Ok none)) fits
-          (c.in_err-finish.ensures.stopped _ (t.bytes ++ q.bytes) (omega (arith, fits)) q.comes);
+      runs = λ files script at_hand told. ends_last files _ _ _ _ script (t.bytes ++ q.bytes) c.in_err-finish.field-0.0 told lost (c.in_ok-n.ensures.end (ap Ok none)) fits
+          (c.in_err-finish.ensures.stopped files _ (t.bytes ++ q.bytes) (c.read_piece.ensures.files_stay ∙ c.loop-n.invariant.files ∙ at_hand) (omega (arith, fits)) (rw c.read_piece.ensures.files_stay q.comes));
       end = tt;
       taken = t.bytes ++ q.bytes;
       consumed = lost;
@@ -98,9 +100,9 @@ returns-clause-runs g c =
     let fits : length (t.bytes ++ q.bytes) ≤ max_script = omega (arith, length-append t.bytes q.bytes, t.count, q.count, none) in
     let lost = Consumes-Consumes _ _ _ t.bytes q.bytes t.consumed q.consumed in
     let ended = c.in_ok-n.ensures.end (ap Ok none) in
-    let at = c.in_ok-finish.ensures.done _ (t.bytes ++ q.bytes) (omega (arith, fits)) q.comes in
     rw c.refused.ensures (record {
-      runs = λ script told. ends_well _ _ _ _ script (t.bytes ++ q.bytes) c.finish.new.self.runner told lost ended fits at;
+      runs = λ files script at_hand told. ends_well files _ _ _ _ script (t.bytes ++ q.bytes) c.finish.new.self.runner told lost ended fits 
+          (c.in_ok-finish.ensures.done files (g.K.Sink.state c.args.sink.now).gone (t.bytes ++ q.bytes) (c.read_piece.ensures.files_stay ∙ c.loop-n.invariant.files ∙ at_hand) (omega (arith, fits)) (rw c.read_piece.ensures.files_stay q.comes));
       end = ended;
       taken = t.bytes ++ q.bytes;
       consumed = lost;

@@ -9,8 +9,9 @@ abbrev pub invariant-loop-n : goal.invariant-loop-n
 invariant-loop-n g l = record {
   bound : l.left ≤ max_script;
   numbers : l.run.runner.world.views.next + MAX_VIEWS * l.left ≤ MAX_VIEWS * max_script + 1;
-  taken : HasTaken (g.S.Source.left l.fn.source) (g.S.Source.left l.source) (g.K.Sink.state l.fn.sink).gone (g.K.Sink.state l.sink).gone l.run l.left;
-  shelf : l.shelf ≡ l.fn.shelf;
+  taken : HasTaken (g.F.Shelf.files l.shelf) (g.S.Source.left l.fn.source) (g.S.Source.left l.source) (g.K.Sink.state l.fn.sink).gone (g.K.Sink.state l.sink).gone l.run l.left;
+  files : g.F.Shelf.files l.shelf ≡ g.F.Shelf.files l.fn.shelf;
+  fetches : g.F.Shelf.faults l.shelf ≡ g.F.Shelf.faults l.fn.shelf;
   painted : l.work.painted ≡ l.fn.work.painted;
   measured : min l.fn.work.measured (2 ^ 64 - 1) ≤ l.work.measured;
   reads : g.S.Source.faults l.source ≡ g.S.Source.faults l.fn.source;

@@ -1,11 +1,11 @@
 use Rattle.std.proofs.Common.{sym, subst, ◌∙◌}
 use Rattle.view_tool.specs.Tool.{RunsWith}
-use Rattle.view_tool.proofs.ToolLaws.{runs_with, sink_by_status, source_by_status}
+use Rattle.view_tool.proofs.ToolLaws.{ends_whole, runs_with, shelf_by_status, shelf_later, sink_by_status, source_by_status}
 use Rattle.view_tool.proofs.tool.run.Goals as goal
 
 pub returns-clause-runs : goal.returns-clause-runs
-returns-clause-runs g c script told =
-    subst (RunsWith script _ _ _) (sym c.status.ensures) (runs_with script _ _ _ c.run_source.result (c.run_source.ensures.runs.runs script told))
+returns-clause-runs g c files script at_hand told =
+    subst (RunsWith files script _ _ _) (sym c.status.ensures) (runs_with files script _ _ _ c.run_source.result (c.run_source.ensures.runs.runs files script at_hand told))
 
 pub returns-clause-source_failed : goal.returns-clause-source_failed
 returns-clause-source_failed g c =
@@ -16,3 +16,13 @@ pub returns-clause-sink_failed : goal.returns-clause-sink_failed
 returns-clause-sink_failed g c =
     let before = (g.K.Sink.state c.args.sink.now).faults in
     rw c.status.ensures (c.run_source.ensures.sink_failed ∙ sink_by_status c.run_source.result before)
+
+pub returns-clause-shelf_failed : goal.returns-clause-shelf_failed
+returns-clause-shelf_failed g c not_5 =
+    rw c.status.ensures (shelf_by_status c.run_source.result _ _ c.run_source.ensures.shelf_failed (λ e. not_5 (c.status.ensures ∙ e)))
+
+pub returns-clause-shelf_later : goal.returns-clause-shelf_later
+returns-clause-shelf_later g c = shelf_later c.run_source.result _ _ c.run_source.ensures.shelf_failed
+
+pub returns-clause-whole : goal.returns-clause-whole
+returns-clause-whole g c = rw c.status.ensures (ends_whole c.run_source.result)

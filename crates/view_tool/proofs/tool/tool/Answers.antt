@@ -8,16 +8,28 @@ use Rattle.view_tool.proofs.tool.tool.Goals as goal
 
 pub returns-in-Some-Run-clause-headline : goal.returns-in-Some-Run-clause-headline
 returns-in-Some-Run-clause-headline g c = λ script files run short.
-    subst (λ (lines : List Line). Writes c.run.result (g.K.Sink.state c.args.sink.now).gone (g.K.Sink.state c.run.new.sink).gone (after_lines lines).text)
-    (carried_short script short) (c.run.ensures.runs script run.source).writes
+    subst (λ (lines : List Line). Writes c.run.result (g.K.Sink.state c.args.sink.now).gone (g.K.Sink.state c.run.new.sink).gone (after_lines files lines).text)
+    (carried_short script short) (c.run.ensures.runs files script run.shelf run.source).writes
 
 pub returns-in-Some-Run-clause-long : goal.returns-in-Some-Run-clause-long
 returns-in-Some-Run-clause-long g c = λ script files run long.
-    let runs = c.run.ensures.runs script run.source in
+    let runs = c.run.ensures.runs files script run.shelf run.source in
     let lines = carried_long script long in
     let old = (g.K.Sink.state c.args.sink.now).gone in
     let new = (g.K.Sink.state c.run.new.sink).gone in (
       λ ended. (let short = (runs.ended ended).0 in omega (arith, short, long)),
-      subst (λ (ls : List Line). Writes c.run.result old new (after_lines ls).text) lines runs.writes,
-      λ cut. subst (λ (ls : List Line). Appends old new (after_lines ls).text) lines (runs.long cut).1,
+      subst (λ (ls : List Line). Writes c.run.result old new (after_lines files ls).text) lines runs.writes,
+      λ cut. subst (λ (ls : List Line). Appends old new (after_lines files ls).text) lines (runs.long cut).1,
     )
+
+pub returns-in-Some-Run-clause-long_only : goal.returns-in-Some-Run-clause-long_only
+returns-in-Some-Run-clause-long_only g c = λ script files run cut. ((c.run.ensures.runs files script run.shelf run.source).long cut).0
+
+pub returns-in-Some-Run-clause-complete : goal.returns-in-Some-Run-clause-complete
+returns-in-Some-Run-clause-complete g c = λ script files run short no_read no_write no_fetch.
+    let runs = c.run.ensures.runs files script run.shelf run.source in
+    c.run.ensures.whole
+    (λ e. no_read (let failed = rw e at c.run.ensures.source_failed in omega (arith, failed)))
+    (λ e. no_write (let failed = rw e at c.run.ensures.sink_failed in omega (arith, failed)))
+    (λ e. no_fetch (let failed = rw e at c.run.ensures.shelf_failed (λ five. omega (arith, five)) in omega (arith, failed)))
+    (λ e. (let long = (runs.long e).0 in omega (arith, short, long)))

@@ -6,7 +6,7 @@ use Rattle.view_tool.proofs.run.Run.new.Goals as goal
 
 pub returns-clause-behind : goal.returns-clause-behind
 unfolding after_lines
-returns-clause-behind c first = record {
+returns-clause-behind c shelf first = record {
   held = c.new.ensures.stands;
-  runner = record { lines = refl; world = ap world_of c.new-2.ensures; refused = refl; gone = appends_none first };
+  runner = λ files told. record { lines = refl; world = ap world_of c.new-2.ensures; refused = refl; gone = appends_none first };
 }

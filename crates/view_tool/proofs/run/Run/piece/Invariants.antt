@@ -7,10 +7,11 @@ use Rattle.view_tool.proofs.run.Run.piece.Given as goal
 abbrev pub invariant-loop-at : goal.invariant-loop-at
 invariant-loop-at g l = record {
   within : l.at ≤ length l.piece;
-  behind : (first : Option (List ℕ)) (before : List ℕ) → length (before ++ l.piece) < 2 ^ 63 → HasReadUpTo first (g.K.Sink.state l.fn.sink).gone l.fn.self before
-      → HasReadUpTo first (g.K.Sink.state l.sink).gone l.self (before ++ take l.at l.piece);
+  behind : (first : Option (List ℕ)) (before : List ℕ) → length (before ++ l.piece) < 2 ^ 63 → HasReadUpTo (g.F.Shelf.files l.fn.shelf) first (g.K.Sink.state l.fn.sink).gone l.fn.self before
+      → HasReadUpTo (g.F.Shelf.files l.fn.shelf) first (g.K.Sink.state l.sink).gone l.self (before ++ take l.at l.piece);
   numbers : l.self.runner.world.views.next ≤ l.fn.self.runner.world.views.next + MAX_VIEWS * l.at;
-  shelf : l.shelf ≡ l.fn.shelf;
+  files : g.F.Shelf.files l.shelf ≡ g.F.Shelf.files l.fn.shelf;
+  fetches : g.F.Shelf.faults l.shelf ≡ g.F.Shelf.faults l.fn.shelf;
   painted : l.work.painted ≡ l.fn.work.painted;
   measured : min l.fn.work.measured (2 ^ 64 - 1) ≤ l.work.measured;
   counted : (g.K.Sink.state l.sink).faults ≡ (g.K.Sink.state l.fn.sink).faults;
