@@ -22,6 +22,33 @@ def matching_frames(n):
     return matching(4096) + b"frame\n" * n
 
 
+def weighted_frames(n):
+    """One linear layout of 4095 views with weights, each of which is measured twice a frame."""
+    lines = [b"window 4096 100\nadd root LinearLayout match match\n"]
+    for number in range(2, 4097):
+        lines.append(b"add v1 View %d match\nweight v%d %d\n" % (number % 3, number, 1 + number % 7))
+    return b"".join(lines) + b"frame\n" * n
+
+
+def nested_weighted_frames(n):
+    """Linear layouts of four views with weights each, 4 levels deep and by turns across and down: what is deeper is measured
+    twice for each measuring of its group."""
+    lines = [b"window 1000 1000\nadd root LinearLayout match match\n"]
+    level, number = [1], 1
+    for deep in range(4):
+        below = []
+        for group in level:
+            if deep % 2:
+                lines.append(b"orient v%d vertical\n" % group)
+            for child in range(4):
+                number += 1
+                lines.append(b"add v%d %s 9 9\n" % (group, b"View" if deep == 3 else b"LinearLayout"))
+                lines.append(b"weight v%d %d\n" % (number, 1 + child))
+                below.append(number)
+        level = below
+    return b"".join(lines) + b"frame\n" * n
+
+
 def bounds(n):
     return tree(4096) + b"frame\n" + b"bounds\n" * n
 

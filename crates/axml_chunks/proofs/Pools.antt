@@ -7,7 +7,7 @@ use Rattle.std.proofs.lemmas.List.Sums.{sum_by-append, sum_by_more, sum_by_more_
 use Rattle.std.proofs.lemmas.Option.{slice_get-get_or, slice_get_within, get_or_from_slice_get}
 use Rattle.axml_chunks.specs.declared.chunk.Chunk.{Chunk}
 use Rattle.axml_chunks.specs.declared.fault.Fault.{Fault}
-use Rattle.axml_chunks.specs.declared.header.Header.{Header}
+use Rattle.axml_chunks.specs.declared.pool.Header.{Header}
 use Rattle.axml_chunks.specs.Faults.{bad_pool, too_big}
 use Rattle.axml_chunks.specs.Numbers.{number32}
 use Rattle.axml_chunks.specs.Pool.{StringPool, Gathered, IsPool, IsPoolIn, bytes_of, string_count, style_count, strings_start, is_in_utf8, string_at, text_at, header_of, gathered, one_more, no_strings, gathered_upto, pool_in, pool_of}

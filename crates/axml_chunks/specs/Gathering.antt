@@ -1,3 +1,4 @@
+-- A pool of the code that is being read, as that of the definitions.
 use Rattle.std.specs.Prelude.{map}
 use Rattle.std.specs.String.{string_bytes}
 use Rattle.axml_chunks.specs.declared.gathering.Gathering.{Gathering}

@@ -2,7 +2,7 @@
 use Rattle.std.specs.Prelude.{◌≡◌, ℕ, ◌≤◌, ◌<◌, ◌^◌, ◌+◌, ◌*◌, ◌/◌, ◌%◌, Bool, ◌||◌, List, [], ◌∷◌, ◌++◌, length, slice_range, slice_get, sum_by, Option, Some, None, Result, Ok, Err, nat_lt, ◌==◌, if◌then◌else◌}
 use Rattle.axml_chunks.specs.declared.chunk.Chunk.{Chunk}
 use Rattle.axml_chunks.specs.declared.fault.Fault.{Fault}
-use Rattle.axml_chunks.specs.declared.header.Header.{Header}
+use Rattle.axml_chunks.specs.declared.pool.Header.{Header}
 use Rattle.axml_chunks.specs.Faults.{bad_pool, bad_string, too_big}
 use Rattle.axml_chunks.specs.Numbers.{number32}
 use Rattle.axml_chunks.specs.Spelled.{IsString}

@@ -1,3 +1,4 @@
+//! Why a file is refused.
 ghost use Rattle.std.specs.Prelude.{◌≡◌, ◌≤◌};
 ghost use Rattle.axml_chunks.specs.Causes.{cause_number};
 

@@ -1,3 +1,4 @@
+//! Chunks, and numbers at a place.
 ghost use Rattle.std.specs.Prelude.{◌≡◌, ◌+◌, ◌≤◌, length, IfOk, Ok};
 ghost use Rattle.axml_chunks.specs.Chunks.{IsChunk, IsChunkAt, chunk_of};
 ghost use Rattle.axml_chunks.specs.Numbers.{number16, number32};

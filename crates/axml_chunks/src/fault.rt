@@ -1,3 +1,4 @@
+//! What is wrong with a file, and where.
 ghost use Rattle.std.specs.Prelude.{◌≡◌};
 
 use crate::cause::Cause;

@@ -5,7 +5,6 @@ mod cause;
 mod chunk;
 mod fault;
 mod gathering;
-mod header;
 mod pool;
 mod strings;
 

@@ -1,16 +1,17 @@
+//! The string pool, and how it is read from its chunk.
 ghost use Rattle.std.specs.Prelude.{◌≡◌, ◌+◌, ◌*◌, ◌^◌, ◌<◌, ◌≤◌, length, map, IfOk, IfSome, OnOk, Ok, slice_get};
 ghost use Rattle.std.specs.Option.{option_map};
 ghost use Rattle.std.specs.String.{string_bytes};
 ghost use Rattle.axml_chunks.specs.Chunks.{IsChunk};
 ghost use Rattle.axml_chunks.specs.Gathering.{gathering};
 ghost use Rattle.axml_chunks.specs.Pool.{StringPool, header_of, gathered, gathered_upto, one_more, pool_of, IsHeader, IsPool};
+ghost use Rattle.axml_chunks.specs.Short.{IsShort};
 ghost use Rattle.axml_chunks.specs.Steps.{Gives, Does};
 
 use crate::cause::Cause;
 use crate::chunk::{Chunk, u32_at};
 use crate::fault::{Fault, ReadFault};
 use crate::gathering::Gathering;
-use crate::header::Header;
 use crate::strings::text_at;
 use std::alloc::Global;
 use std::marker::Model;
@@ -20,6 +21,15 @@ const MAX_STRINGS: usize = 65536;
 
 /// The most bytes in UTF-8 that the strings of a pool may have together.
 const MAX_TEXT: usize = 4194304;
+
+/// What a pool's header says: whether its strings are in UTF-8, how many there are, and where in
+/// the chunk the first begins.
+#[derive(Clone, Copy, Debug, PartialEq, Eq)]
+pub(crate) struct Header {
+    pub(crate) utf8: bool,
+    pub(crate) count: usize,
+    pub(crate) first: usize,
+}
 
 /// The strings of a file. Each was found to be a text when the pool was read, and is kept in
 /// UTF-8.
@@ -40,7 +50,7 @@ impl Model for Pool {
 
     ghost view = { λ p. record { utf8 = p.utf8; texts = map string_bytes p.texts.items } };
 
-    ghost invariant = { λ p. (length p.texts.items ≤ 65536) × All IsShort p.texts.items };
+    ghost invariant = { λ p. (length p.texts.items ≤ 65536) × All (λ text. IsShort (string_bytes text)) p.texts.items };
 }
 
 impl Pool {
@@ -64,7 +74,7 @@ impl Pool {
     /// String `k`, counted from 0.
     pub fn text(&self, k: u32) -> Option<&str>
         ensures value { option_map (λ s. s.now) result ≡ slice_get self.now.texts k }
-        ensures short { IfSome result (λ s. length s.now ≤ 4194304) }
+        ensures short { IfSome result (λ s. IsShort s.now) }
     {
         match self.texts.get(k as usize) {
             Some(text) => Some(text.as_str()),

@@ -1,3 +1,4 @@
+//! One string of a pool, in UTF-8 or UTF-16.
 ghost use Rattle.std.specs.Prelude.{◌≡◌, ◌+◌, ◌*◌, ◌^◌, ◌<◌, ◌≤◌, length, IfSome, IfOk};
 ghost use Rattle.std.specs.Option.{option_map};
 ghost use Rattle.std.specs.String.{string_bytes};
@@ -5,7 +6,7 @@ ghost use Rattle.axml_chunks.specs.Pool.{string_at, text_at};
 ghost use Rattle.axml_chunks.specs.Strings.{utf8_length, utf16_length, text_of_bytes, ended_bytes, ended_units, utf8_text, utf16_text, text_of_units, units_at};
 
 use crate::chunk::{u16_at, u32_at};
-use crate::header::Header;
+use crate::pool::Header;
 use std::alloc::{AllocError, Global};
 
 /// A length in one byte or two, and the place behind it.

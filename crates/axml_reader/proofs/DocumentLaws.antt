@@ -19,8 +19,8 @@ use Rattle.axml_reader.specs.Brackets.{Token, Opens, Closes, Plain, Stack, allow
 use Rattle.axml_reader.specs.Document.{Document, State}
 use Rattle.axml_reader.specs.Decoding.{start, document_of, chunks_from, document_with, finished, decoded}
 use Rattle.axml_reader.specs.Fields.{strings, same_text}
-use Rattle.axml_reader.specs.Parts.{Part, Strings, Ids, Item, Other, token, starts_of, with_part}
-use Rattle.axml_reader.specs.Relation.{Place, AreParts, IsNode, pools_of, nodes_of, attrs_of, last_ids, starts_in, IsDocument}
+use Rattle.axml_reader.specs.Parts.{Part, Strings, Ids, Item, Other, token, starts_of, starts_in, with_part}
+use Rattle.axml_reader.specs.Relation.{Place, AreParts, IsNode, pools_of, nodes_of, attrs_of, last_ids, IsDocument}
 use Rattle.axml_reader.proofs.BracketLaws.{rooted_passes, passes_rooted}
 use Rattle.axml_reader.proofs.NodeLaws.{no_not}
 use Rattle.axml_reader.proofs.RunLaws.{with_parts, Turns, Read, chunks_found, chunks_again}

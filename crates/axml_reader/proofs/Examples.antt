@@ -17,7 +17,7 @@ use Rattle.axml_reader.specs.Decoding.{document_of, one_chunk, chunks_from, fini
 use Rattle.axml_reader.specs.Document.{Document}
 use Rattle.axml_reader.specs.Dump.{string_name, escaped, encoding, dump_text}
 use Rattle.axml_reader.specs.Fields.{reference_at, name_at, word_at, attr_at, same_text}
-use Rattle.axml_reader.specs.Nodes.{pair_at, names_at, start_at, pool_part, map_part, namespace_start_part, namespace_end_part, start_part, end_part, part_at}
+use Rattle.axml_reader.specs.Nodes.{body_at, pair_at, names_at, start_at, pool_part, map_part, namespace_start_part, namespace_end_part, start_part, end_part, part_at}
 
 -- a document with no chunk
 only_a_header : decoded (3 ∷ 0 ∷ 8 ∷ 0 ∷ 8 ∷ 0 ∷ 0 ∷ 0 ∷ []) ≡ Err (no_element 8)
@@ -31,7 +31,7 @@ no_strings =
     0 ∷ 1 ∷ 16 ∷ 0 ∷ 24 ∷ 0 ∷ 0 ∷ 0 ∷ 1 ∷ 0 ∷ 0 ∷ 0 ∷ 255 ∷ 255 ∷ 255 ∷ 255 ∷ 255 ∷ 255 ∷ 255 ∷ 255 ∷ 0 ∷ 0 ∷ 0 ∷ 0 ∷ []
 
 no_string : decoded no_strings ≡ Err (bad_reference 28)
-unfolding no_strings decoded document_of chunk_of number16 number32 chunks_from one_chunk part_at namespace_start_part pair_at reference_at finished
+unfolding no_strings decoded document_of chunk_of number16 number32 chunks_from one_chunk part_at namespace_start_part pair_at body_at reference_at finished
 no_string = refl
 
 -- a View with a width, a height and a style
@@ -75,7 +75,7 @@ layout = record {
 }
 
 layout_file : decoded layout_bytes ≡ Ok layout
-unfolding layout_bytes layout decoded document_of chunk_of number16 number32 chunks_from one_chunk part_at pool_part map_part namespace_start_part namespace_end_part start_part end_part pair_at names_at start_at same_text reference_at name_at word_at attr_at upto header_of string_at gathered utf8_text utf8_length ended_bytes text_of_bytes is_utf8 chars finished pool_in encode
+unfolding layout_bytes layout decoded document_of chunk_of number16 number32 chunks_from one_chunk part_at pool_part map_part namespace_start_part namespace_end_part start_part end_part pair_at names_at start_at body_at same_text reference_at name_at word_at attr_at upto header_of string_at gathered utf8_text utf8_length ended_bytes text_of_bytes is_utf8 chars finished pool_in encode
 layout_file = refl
 
 layout_text : List ℕ

@@ -10,11 +10,11 @@ use Rattle.axml_chunks.specs.Pool.{StringPool}
 use Rattle.axml_chunks.specs.Steps.{◌>>=◌}
 use Rattle.axml_chunks.proofs.Readings.{done, ok_is, bind_ok, guard_ok}
 use Rattle.axml_reader.specs.declared.doc.Attr.{Attr}
-use Rattle.axml_reader.specs.declared.head.StartHead.{StartHead}
+use Rattle.axml_reader.specs.declared.fields.StartHead.{StartHead}
 use Rattle.axml_reader.specs.Brackets.{Token, Plain, allows}
 use Rattle.axml_reader.specs.Document.{State}
 use Rattle.axml_reader.specs.Fields.{reference_at, name_at, strings, same_text}
-use Rattle.axml_reader.specs.Nodes.{is_short, line_at, pair_at, names_at, chars_at, is_outside, start_at}
+use Rattle.axml_reader.specs.Nodes.{is_short, body_at, line_at, pair_at, names_at, chars_at, is_outside, start_at}
 use Rattle.axml_reader.specs.Parts.{Part, Strings, Ids, Item, Other, token, starts_of}
 use Rattle.axml_reader.specs.Relation.{IsReferenceAt, IsNameAt, IsNamespace, IsStartNode, IsEndNode, IsCharsNode, IsPart}
 use Rattle.axml_reader.proofs.FieldLaws.{reference_found, reference_again, name_found, name_again}
@@ -75,6 +75,16 @@ long_enough chunk form e =
 not_short : (chunk : Chunk) (form : ℕ) → 16 ≤ chunk.head → form ≤ chunk.size - chunk.head → is_short chunk form ≡ false
 not_short chunk form header body = rw (le-ltb chunk.head 16 header, le-ltb (chunk.size - chunk.head) form body) refl
 
+-- what was read behind the place of a body
+in_body : {A : Type 0} (place : ℕ) (chunk : Chunk) (form : ℕ) (next : ℕ → Result A Fault) (a : A) → (body_at place chunk form >>= next) ≡ Ok a
+    → (is_short chunk form ≡ false) × (next (place + chunk.head) ≡ Ok a)
+unfolding body_at
+in_body place chunk form next a e =
+    elim (is_short chunk form) as (λ short. (cond short (Err (bad_chunk place)) (Ok (place + chunk.head)) >>= next) ≡ Ok a → (short ≡ false) × (next (place + chunk.head) ≡ Ok a)) [
+      | true ↦ λ e. absurd cc
+      | false ↦ λ e. (refl, e)
+    ] e
+
 -- namespaces
 
 pub pair_found : (bytes : List ℕ) (place kind : ℕ) (chunk : Chunk) (count : ℕ) (names : ℕ × ℕ) → chunk.kind ≡ kind → pair_at bytes place chunk count ≡ Ok names → IsNamespace bytes count place kind chunk names.0 names.1 []
@@ -82,7 +92,7 @@ unfolding pair_at
 pair_found bytes place kind chunk count names k e =
     let x = reference_at bytes count (place + chunk.head) in
     let y = reference_at bytes count (place + chunk.head + 4) in
-    let g = guard_ok (is_short chunk 8) (bad_chunk place) (x >>= λ prefix. y >>= λ uri. Ok (prefix, uri)) names e in
+    let g = in_body place chunk 8 (λ body. reference_at bytes count body >>= λ prefix. reference_at bytes count (body + 4) >>= λ uri. Ok (prefix, uri)) names e in
     let sizes = long_enough chunk 8 g.0 in
     let both = both_found x y names g.1 in
     record {
@@ -93,7 +103,7 @@ pair_found bytes place kind chunk count names k e =
     }
 
 pub pair_again : (bytes : List ℕ) (place kind : ℕ) (chunk : Chunk) (count prefix uri : ℕ) (attrs : List Attr) → IsNamespace bytes count place kind chunk prefix uri attrs → pair_at bytes place chunk count ≡ Ok (prefix, uri)
-unfolding pair_at
+unfolding pair_at body_at
 pair_again bytes place kind chunk count prefix uri attrs is =
     rw (not_short chunk 8 is.form.header is.form.body, reference_again bytes count (place + chunk.head) prefix is.prefix_at, reference_again bytes count (place + chunk.head + 4) uri is.uri_at) refl
 
@@ -104,7 +114,7 @@ unfolding names_at
 names_found bytes place chunk count names k e =
     let x = reference_at bytes count (place + chunk.head) in
     let y = name_at bytes count (place + chunk.head + 4) in
-    let g = guard_ok (is_short chunk 8) (bad_chunk place) (x >>= λ ns. y >>= λ name. Ok (ns, name)) names e in
+    let g = in_body place chunk 8 (λ body. reference_at bytes count body >>= λ ns. name_at bytes count (body + 4) >>= λ name. Ok (ns, name)) names e in
     let sizes = long_enough chunk 8 g.0 in
     let both = both_found x y names g.1 in
     record {
@@ -116,7 +126,7 @@ names_found bytes place chunk count names k e =
     }
 
 pub names_again : (bytes : List ℕ) (place : ℕ) (chunk : Chunk) (count line ns name : ℕ) (attrs : List Attr) → IsEndNode bytes count place chunk line ns name attrs → names_at bytes place chunk count ≡ Ok (ns, name)
-unfolding names_at
+unfolding names_at body_at
 names_again bytes place chunk count line ns name attrs is =
     rw (not_short chunk 8 is.form.header is.form.body, reference_again bytes count (place + chunk.head) ns is.ns_at, name_again bytes count (place + chunk.head + 4) name is.name_at) refl
 
@@ -126,7 +136,7 @@ pub chars_found : (bytes : List ℕ) (place : ℕ) (chunk : Chunk) (count text :
     → IsCharsNode bytes count place chunk (line_at bytes place) text (get_or bytes (place + chunk.head + 7) 0) (number32 bytes (place + chunk.head + 8)) []
 unfolding chars_at
 chars_found bytes place chunk count text k e =
-    let g = guard_ok (is_short chunk 12) (bad_chunk place) (reference_at bytes count (place + chunk.head)) text e in
+    let g = in_body place chunk 12 (λ body. reference_at bytes count body) text e in
     let sizes = long_enough chunk 12 g.0 in
     record {
       form = record { kind_is = k; header = sizes.0; body = sizes.1 };
@@ -138,7 +148,7 @@ chars_found bytes place chunk count text k e =
     }
 
 pub chars_again : (bytes : List ℕ) (place : ℕ) (chunk : Chunk) (count line text kind word : ℕ) (attrs : List Attr) → IsCharsNode bytes count place chunk line text kind word attrs → chars_at bytes place chunk count ≡ Ok text
-unfolding chars_at
+unfolding chars_at body_at
 chars_again bytes place chunk count line text kind word attrs is =
     rw (not_short chunk 12 is.form.header is.form.body) (reference_again bytes count (place + chunk.head) text is.text_at)
 
@@ -180,37 +190,36 @@ pub record IsHeadOf (bytes : List ℕ) (count place : ℕ) (chunk : Chunk) (head
   pub step_is : head.step ≡ number16 bytes (place + chunk.head + 10)
   pub count_is : head.count ≡ number16 bytes (place + chunk.head + 12)
 
-abbrev pub head_made : List ℕ → ℕ → Chunk → ℕ → ℕ → StartHead
-head_made bytes place chunk ns name = record {
+abbrev pub head_made : List ℕ → ℕ → ℕ → ℕ → StartHead
+head_made bytes body ns name = record {
   ns = ns;
   name = name;
-  place = place + chunk.head + number16 bytes (place + chunk.head + 8);
-  step = number16 bytes (place + chunk.head + 10);
-  count = number16 bytes (place + chunk.head + 12);
+  place = body + number16 bytes (body + 8);
+  step = number16 bytes (body + 10);
+  count = number16 bytes (body + 12);
 }
 
 abbrev outside_at : List ℕ → ℕ → Chunk → Bool
-outside_at bytes place chunk = is_outside (chunk.size - chunk.head) (number16 bytes (place + chunk.head + 8)) (number16 bytes (place + chunk.head + 10)) (number16 bytes (place + chunk.head + 12))
+outside_at bytes body chunk = is_outside (chunk.size - chunk.head) (number16 bytes (body + 8)) (number16 bytes (body + 10)) (number16 bytes (body + 12))
 
 pub start_found : (bytes : List ℕ) (place : ℕ) (chunk : Chunk) (count : ℕ) (closed : Bool) (starts : ℕ) (head : StartHead) → start_at bytes place chunk count closed starts ≡ Ok head
     → IsHeadOf bytes count place chunk head × (closed ≡ false) × (starts < 4096)
 unfolding start_at
 start_found bytes place chunk count closed starts head e =
-    let x = reference_at bytes count (place + chunk.head) in
-    let y = name_at bytes count (place + chunk.head + 4) in
     let attrs = number16 bytes (place + chunk.head + 12) in
-    let last : ℕ → ℕ → Result StartHead Fault = λ ns name. cond (outside_at bytes place chunk) (Err (bad_chunk place)) (Ok (head_made bytes place chunk ns name)) in
-    let fourth : Result StartHead Fault = x >>= λ ns. y >>= λ name. last ns name in
-    let third : Result StartHead Fault = cond (not (ltb starts 4096) || ltb 256 attrs) (Err (too_big place)) fourth in
-    let g = guard_ok (is_short chunk 20) (bad_chunk place) (cond closed (Err (two_roots place)) third) head e in
-    let h = guard_ok closed (two_roots place) third head g.1 in
-    let i = guard_ok (not (ltb starts 4096) || ltb 256 attrs) (too_big place) fourth head h.1 in
-    let a = bind_ok x (λ ns. y >>= λ name. last ns name) head i.1 in
-    let b = bind_ok y (λ name. last a.0 name) head a.2 in
-    let o = guard_ok (outside_at bytes place chunk) (bad_chunk place) (Ok (head_made bytes place chunk a.0 b.0)) head b.2 in
+    let last : ℕ → ℕ → ℕ → Result StartHead Fault = λ body ns name. cond (outside_at bytes body chunk) (Err (bad_chunk place)) (Ok (head_made bytes body ns name)) in
+    let fourth : ℕ → Result StartHead Fault = λ body. reference_at bytes count body >>= λ ns. name_at bytes count (body + 4) >>= λ name. last body ns name in
+    let third : ℕ → Result StartHead Fault = λ body. cond (not (ltb starts 4096) || ltb 256 (number16 bytes (body + 12))) (Err (too_big place)) (fourth body) in
+    let place_of_body = place + chunk.head in
+    let g = in_body place chunk 20 (λ body. cond closed (Err (two_roots place)) (third body)) head e in
+    let h = guard_ok closed (two_roots place) (third place_of_body) head g.1 in
+    let i = guard_ok (not (ltb starts 4096) || ltb 256 attrs) (too_big place) (fourth place_of_body) head h.1 in
+    let a = bind_ok (reference_at bytes count place_of_body) (λ ns. name_at bytes count (place_of_body + 4) >>= λ name. last place_of_body ns name) head i.1 in
+    let b = bind_ok (name_at bytes count (place_of_body + 4)) (λ name. last place_of_body a.0 name) head a.2 in
+    let o = guard_ok (outside_at bytes place_of_body chunk) (bad_chunk place) (Ok (head_made bytes place_of_body a.0 b.0)) head b.2 in
     let limits = no_or2 (not (ltb starts 4096)) (ltb 256 attrs) i.0 in
     let sizes = long_enough chunk 20 g.0 in (
-      subst (λ (v : StartHead). IsHeadOf bytes count place chunk v) (ok_is (head_made bytes place chunk a.0 b.0) head o.1) (record {
+      subst (λ (v : StartHead). IsHeadOf bytes count place chunk v) (ok_is (head_made bytes place_of_body a.0 b.0) head o.1) (record {
         header = sizes.0;
         body = sizes.1;
         few = ltb-false 256 attrs limits.1;
@@ -226,12 +235,12 @@ start_found bytes place chunk count closed starts head e =
     )
 
 pub start_again : (bytes : List ℕ) (place : ℕ) (chunk : Chunk) (count before : ℕ) (closed : Bool) (starts line ns name first n : ℕ) (attrs : List Attr)
-    → IsStartNode bytes count before place chunk line ns name first n attrs → closed ≡ false → starts < 4096 → start_at bytes place chunk count closed starts ≡ Ok (head_made bytes place chunk ns name)
-unfolding start_at
+    → IsStartNode bytes count before place chunk line ns name first n attrs → closed ≡ false → starts < 4096 → start_at bytes place chunk count closed starts ≡ Ok (head_made bytes (place + chunk.head) ns name)
+unfolding start_at body_at
 start_again bytes place chunk count before closed starts line ns name first n attrs is not_closed few =
     let limit : number16 bytes (place + chunk.head + 12) ≤ 256 = omega (arith, is.n_is, is.few) in
     let inside_n : AreInside (chunk.size - chunk.head) (number16 bytes (place + chunk.head + 8)) (number16 bytes (place + chunk.head + 10)) n = record { begin = is.begin; step_least = is.step; within = is.within } in
     let inside_at : AreInside (chunk.size - chunk.head) (number16 bytes (place + chunk.head + 8)) (number16 bytes (place + chunk.head + 10)) (number16 bytes (place + chunk.head + 12)) =
     subst (λ (m : ℕ). AreInside (chunk.size - chunk.head) (number16 bytes (place + chunk.head + 8)) (number16 bytes (place + chunk.head + 10)) m) is.n_is inside_n in
-    let out : outside_at bytes place chunk ≡ false = not_outside (chunk.size - chunk.head) (number16 bytes (place + chunk.head + 8)) (number16 bytes (place + chunk.head + 10)) (number16 bytes (place + chunk.head + 12)) inside_at in
+    let out : outside_at bytes (place + chunk.head) chunk ≡ false = not_outside (chunk.size - chunk.head) (number16 bytes (place + chunk.head + 8)) (number16 bytes (place + chunk.head + 10)) (number16 bytes (place + chunk.head + 12)) inside_at in
     rw (not_short chunk 20 is.form.header is.form.body, not_closed, lt-ltb starts 4096 few, le-ltb 256 (number16 bytes (place + chunk.head + 12)) limit, reference_again bytes count (place + chunk.head) ns is.ns_at, name_again bytes count (place + chunk.head + 4) name is.name_at, out) refl

@@ -13,7 +13,7 @@ use Rattle.axml_chunks.proofs.Readings.{done, ok_is, bind_ok, guard_ok}
 use Rattle.axml_reader.specs.declared.doc.Attr.{Attr}
 use Rattle.axml_reader.specs.declared.doc.Node.{Node}
 use Rattle.axml_reader.specs.declared.doc.Node.TheVariants.{NsStart, NsEnd, Start, End, Chars}
-use Rattle.axml_reader.specs.declared.head.StartHead.{StartHead}
+use Rattle.axml_reader.specs.declared.fields.StartHead.{StartHead}
 use Rattle.axml_reader.specs.Brackets.{is_closed_by}
 use Rattle.axml_reader.specs.Document.{State}
 use Rattle.axml_reader.specs.Fields.{attrs_upto, words_at, strings, same_text}

@@ -8,6 +8,7 @@ use Rattle.std.proofs.lemmas.List.Sums.{sum_by_more_le}
 use Rattle.std.proofs.lemmas.Option.{slice_get-get_or}
 use Rattle.axml_chunks.specs.declared.chunk.Chunk.{Chunk}
 use Rattle.axml_chunks.specs.Pool.{StringPool}
+use Rattle.axml_chunks.specs.Short.{IsShort}
 use Rattle.axml_reader.specs.declared.doc.Attr.{Attr}
 use Rattle.axml_reader.specs.declared.doc.Node.{Node}
 use Rattle.axml_reader.specs.declared.doc.Node.TheVariants.{NsStart, NsEnd, Start, End, Chars}
@@ -15,7 +16,7 @@ use Rattle.axml_reader.specs.Document.{Document}
 use Rattle.axml_reader.specs.Fields.{is_reference, strings, same_text}
 use Rattle.axml_reader.specs.Parts.{Part, Strings, Ids, Item, Other, token}
 use Rattle.axml_reader.specs.Relation.{IsReference, IsAttr, AreAttrs, IsNode, Place, AreParts, pools_of, nodes_of, attrs_of, IsDocument}
-use Rattle.axml_reader.specs.Sound.{IsShortText, AreShort, has_strings, attr_has_strings, is_within, IsSound}
+use Rattle.axml_reader.specs.Sound.{AreShort, has_strings, attr_has_strings, is_within, has_few_attrs, IsSound}
 use Rattle.axml_reader.proofs.BracketLaws.{rooted_test}
 use Rattle.axml_reader.proofs.DocumentLaws.{pools_before, first_is, not_two}
 use Rattle.axml_reader.proofs.FieldLaws.{test_by_reference}
@@ -94,24 +95,35 @@ node_within bytes count before place len chunk (Chars line text kind word) attrs
 abbrev Within : ℕ → Node → Type 0
 Within len node = is_within len node ≡ true
 
+node_few : (bytes : List ℕ) (count before place : ℕ) (chunk : Chunk) (node : Node) (attrs : List Attr) → IsNode bytes count before place chunk node attrs → has_few_attrs node ≡ true
+node_few bytes count before place chunk (NsStart prefix uri) attrs is = refl
+node_few bytes count before place chunk (NsEnd prefix uri) attrs is = refl
+node_few bytes count before place chunk (Start line ns name first n) attrs is = le-leb n 256 is.few
+node_few bytes count before place chunk (End line ns name) attrs is = refl
+node_few bytes count before place chunk (Chars line text kind word) attrs is = refl
+
+abbrev FewAttrs : Node → Type 0
+FewAttrs node = has_few_attrs node ≡ true
+
 -- what the parts from a place on keep
 pub record Keep (high len : ℕ) (parts : List Part) : Type 0 where
   pub node_names : All (NodeStrings high) (nodes_of parts)
   pub attr_names : All (AttrStrings high) (attrs_of parts)
   pub within : All (Within len) (nodes_of parts)
+  pub few_attrs : All FewAttrs (nodes_of parts)
 
 nothing : {A : Type 0} (P : A → Type 0) → All P []
 nothing P k d lt = absurd (omega (arith, lt))
 
 keep : (bytes : List ℕ) (o : Option StringPool) (before len : ℕ) (places : List Place) (parts : List Part) (only : StringPool) → AreParts bytes o before places parts
     → pools_before o ++ pools_of parts ≡ only ∷ [] → before + length (attrs_of parts) ≤ len → Keep (length only.texts) len parts
-keep bytes o before len [] [] only each e le = record { node_names = nothing (NodeStrings (length only.texts)); attr_names = nothing (AttrStrings (length only.texts)); within = nothing (Within len) }
+keep bytes o before len [] [] only each e le = record { node_names = nothing (NodeStrings (length only.texts)); attr_names = nothing (AttrStrings (length only.texts)); within = nothing (Within len); few_attrs = nothing FewAttrs }
 keep bytes o before len [] (x ∷ xs) only each e le = absurd each
 keep bytes o before len (p ∷ ps) [] only each e le = absurd each
 keep bytes o before len (p ∷ ps) (Strings pool ∷ rest) only each e le =
-    (let k = keep bytes (Some pool) (before + 0) len ps rest only each.1 (pool_first o pool only (pools_of rest) e) (omega (arith, le)) in record { node_names = k.node_names; attr_names = k.attr_names; within = k.within })
+    (let k = keep bytes (Some pool) (before + 0) len ps rest only each.1 (pool_first o pool only (pools_of rest) e) (omega (arith, le)) in record { node_names = k.node_names; attr_names = k.attr_names; within = k.within; few_attrs = k.few_attrs })
 keep bytes o before len (p ∷ ps) (Ids ids ∷ rest) only each e le =
-    (let k = keep bytes o (before + 0) len ps rest only each.1 e (omega (arith, le)) in record { node_names = k.node_names; attr_names = k.attr_names; within = k.within })
+    (let k = keep bytes o (before + 0) len ps rest only each.1 e (omega (arith, le)) in record { node_names = k.node_names; attr_names = k.attr_names; within = k.within; few_attrs = k.few_attrs })
 keep bytes o before len (p ∷ ps) (Item node attrs ∷ rest) only each e le =
     let high = length only.texts in
     let more : strings o ≤ high = fewer o (pools_of rest) only e in
@@ -121,13 +133,14 @@ keep bytes o before len (p ∷ ps) (Item node attrs ∷ rest) only each e le =
       node_names = All-cons (NodeStrings high) node (nodes_of rest) (node_strings bytes (strings o) high before p.at p.chunk node attrs more each.0) k.node_names;
       attr_names = All-append (AttrStrings high) attrs (attrs_of rest) (attrs_of_node bytes (strings o) high before p.at p.chunk node attrs more each.0) k.attr_names;
       within = All-cons (Within len) node (nodes_of rest) (node_within bytes (strings o) before p.at len p.chunk node attrs (omega (arith, le, sum)) each.0) k.within;
+      few_attrs = All-cons FewAttrs node (nodes_of rest) (node_few bytes (strings o) before p.at p.chunk node attrs each.0) k.few_attrs;
     }
 keep bytes o before len (p ∷ ps) (Other ∷ rest) only each e le =
-    (let k = keep bytes o (before + 0) len ps rest only each.1 e (omega (arith, le)) in record { node_names = k.node_names; attr_names = k.attr_names; within = k.within })
+    (let k = keep bytes o (before + 0) len ps rest only each.1 e (omega (arith, le)) in record { node_names = k.node_names; attr_names = k.attr_names; within = k.within; few_attrs = k.few_attrs })
 
 -- the strings
 
-short_texts : (texts : List (List ℕ)) → sum_by length texts ≤ 4194304 → All IsShortText texts
+short_texts : (texts : List (List ℕ)) → sum_by length texts ≤ 4194304 → All IsShort texts
 short_texts texts room k d lt = omega (arith, room, sum_by_more_le length texts k d lt)
 
 parts_short : (bytes : List ℕ) (o : Option StringPool) (before : ℕ) (places : List Place) (parts : List Part) (only : StringPool) → AreParts bytes o before places parts
@@ -148,5 +161,7 @@ document_sound bytes doc is =
       strings = subst (λ (ns : List Node). All (NodeStrings (length doc.pool.texts)) ns) (sym is.nodes_are) k.node_names;
       attr_strings = subst (λ (l : List Attr). All (AttrStrings (length doc.pool.texts)) l) (sym is.attrs_are) k.attr_names;
       within = subst (λ (l : List Attr). All (Within (length l)) doc.nodes) (sym is.attrs_are) (subst (λ (ns : List Node). All (Within (length (attrs_of is.parts))) ns) (sym is.nodes_are) k.within);
+      few = is.few;
+      few_attrs = subst (λ (ns : List Node). All FewAttrs ns) (sym is.nodes_are) k.few_attrs;
       rooted = rooted_test (same_text (Some doc.pool)) (map token doc.nodes) is.rooted;
     }

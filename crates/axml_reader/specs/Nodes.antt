@@ -1,5 +1,5 @@
 -- The parts of a document, each from its chunk, or the first fault in it.
-use Rattle.std.specs.Prelude.{ℕ, ◌^◌, ◌<◌, ◌≤◌, ◌+◌, ◌-◌, ◌*◌, ◌/◌, Bool, false, not, ◌||◌, List, [], slice_index, length, is_some, Result, Ok, Err, nat_lt, ◌==◌, if◌then◌else◌}
+use Rattle.std.specs.Prelude.{◌≡◌, ℕ, ◌^◌, ◌<◌, ◌≤◌, ◌+◌, ◌-◌, ◌*◌, ◌/◌, Bool, false, not, ◌||◌, List, [], slice_index, length, is_some, Result, Ok, Err, nat_lt, ◌==◌, if◌then◌else◌}
 use Rattle.axml_chunks.specs.declared.chunk.Chunk.{Chunk}
 use Rattle.axml_chunks.specs.declared.fault.Fault.{Fault}
 use Rattle.axml_chunks.specs.Faults.{bad_chunk, two_roots, too_big, unbalanced, second_pool}
@@ -7,7 +7,7 @@ use Rattle.axml_chunks.specs.Numbers.{number16, number32}
 use Rattle.axml_chunks.specs.Pool.{pool_of}
 use Rattle.axml_chunks.specs.Steps.{◌>>=◌}
 use Rattle.axml_reader.specs.declared.doc.Node.TheVariants.{NsStart, NsEnd, Start, End, Chars}
-use Rattle.axml_reader.specs.declared.head.StartHead.{StartHead}
+use Rattle.axml_reader.specs.declared.fields.StartHead.{StartHead}
 use Rattle.axml_reader.specs.Brackets.{is_closed_by}
 use Rattle.axml_reader.specs.Document.{State}
 use Rattle.axml_reader.specs.Fields.{reference_at, name_at, attrs_upto, words_at, strings, same_text}
@@ -17,33 +17,35 @@ use Rattle.axml_reader.specs.Parts.{Part, Strings, Ids, Item, Other, with_part}
 abbrev pub is_short : Chunk → ℕ → Bool
 is_short chunk form = nat_lt chunk.head 16 || nat_lt (chunk.size - chunk.head) form
 
+-- where the body of a node stands
+unfoldable pub body_at : ℕ → Chunk → ℕ → Result ℕ Fault
+body_at place chunk form = if is_short chunk form then Err (bad_chunk place) else Ok (place + chunk.head)
+
 -- the line of a node's source
 abbrev pub line_at : List ℕ → ℕ → ℕ
 line_at bytes place = number32 bytes (place + 8)
 
 -- the prefix and the address of a namespace
 unfoldable pub pair_at : List ℕ → ℕ → Chunk → ℕ → Result (ℕ × ℕ) Fault
-pair_at bytes place chunk count =
-    if is_short chunk 8 then Err (bad_chunk place)
-    else (do
-      prefix ← reference_at bytes count (place + chunk.head)
-      uri ← reference_at bytes count (place + chunk.head + 4)
-      Ok (prefix, uri))
+pair_at bytes place chunk count = do
+  body ← body_at place chunk 8
+  prefix ← reference_at bytes count body
+  uri ← reference_at bytes count (body + 4)
+  Ok (prefix, uri)
 
 -- the namespace and the name of an element that ends
 unfoldable pub names_at : List ℕ → ℕ → Chunk → ℕ → Result (ℕ × ℕ) Fault
-names_at bytes place chunk count =
-    if is_short chunk 8 then Err (bad_chunk place)
-    else (do
-      ns ← reference_at bytes count (place + chunk.head)
-      name ← name_at bytes count (place + chunk.head + 4)
-      Ok (ns, name))
+names_at bytes place chunk count = do
+  body ← body_at place chunk 8
+  ns ← reference_at bytes count body
+  name ← name_at bytes count (body + 4)
+  Ok (ns, name)
 
 -- the string of character data
 unfoldable pub chars_at : List ℕ → ℕ → Chunk → ℕ → Result ℕ Fault
-chars_at bytes place chunk count =
-    if is_short chunk 12 then Err (bad_chunk place)
-    else reference_at bytes count (place + chunk.head)
+chars_at bytes place chunk count = do
+  body ← body_at place chunk 12
+  reference_at bytes count body
 
 -- attributes leave a body of this length: where the first begins, how many bytes each has, and how many there are
 abbrev pub is_outside : ℕ → ℕ → ℕ → ℕ → Bool
@@ -53,22 +55,22 @@ is_outside body first step count =
 
 -- an element that begins, without its attributes: whether an outermost one has ended, and how many have begun, decide too
 unfoldable pub start_at : List ℕ → ℕ → Chunk → ℕ → Bool → ℕ → Result StartHead Fault
-start_at bytes place chunk count closed starts =
-    if is_short chunk 20 then Err (bad_chunk place)
-    else (if closed then Err (two_roots place)
-    else (if not (nat_lt starts 4096) || nat_lt 256 (number16 bytes (place + chunk.head + 12)) then Err (too_big place)
-    else (do
-      ns ← reference_at bytes count (place + chunk.head)
-      name ← name_at bytes count (place + chunk.head + 4)
-      if is_outside (chunk.size - chunk.head) (number16 bytes (place + chunk.head + 8)) (number16 bytes (place + chunk.head + 10)) (number16 bytes (place + chunk.head + 12))
-          then Err (bad_chunk place)
-          else Ok (record {
-            ns = ns;
-            name = name;
-            place = place + chunk.head + number16 bytes (place + chunk.head + 8);
-            step = number16 bytes (place + chunk.head + 10);
-            count = number16 bytes (place + chunk.head + 12);
-          }))))
+start_at bytes place chunk count closed starts = do
+  body ← body_at place chunk 20
+  if closed then Err (two_roots place)
+      else (if not (nat_lt starts 4096) || nat_lt 256 (number16 bytes (body + 12)) then Err (too_big place)
+      else (do
+        ns ← reference_at bytes count body
+        name ← name_at bytes count (body + 4)
+        if is_outside (chunk.size - chunk.head) (number16 bytes (body + 8)) (number16 bytes (body + 10)) (number16 bytes (body + 12))
+            then Err (bad_chunk place)
+            else Ok (record {
+              ns = ns;
+              name = name;
+              place = body + number16 bytes (body + 8);
+              step = number16 bytes (body + 10);
+              count = number16 bytes (body + 12);
+            })))
 
 unfoldable pub pool_part : List ℕ → ℕ → Chunk → State → Result Part Fault
 pool_part bytes place chunk s =
@@ -116,6 +118,12 @@ part_at bytes place chunk s =
 -- what was read, once a part is added to it
 abbrev pub joined : State → Result Part Fault → Result State Fault
 joined s part = part >>= λ p. Ok (with_part s p)
+
+-- a header and a body are long enough
+pub record IsBody (place : ℕ) (chunk : Chunk) (form body : ℕ) : Type 0 where
+  pub header : 16 ≤ chunk.head
+  pub room : chunk.head + form ≤ chunk.size
+  pub body_is : body ≡ place + chunk.head
 
 -- the attributes of an element lie in so many bytes, and it is not one too many
 pub record IsStart (len begun : ℕ) (chunk : Chunk) (head : StartHead) : Type 0 where

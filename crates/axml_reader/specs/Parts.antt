@@ -28,6 +28,11 @@ starts_of Plain = 0
 starts_of (Opens a) = 1
 starts_of (Closes b) = 0
 
+-- how many elements begin in a word
+abbrev pub starts_in : List Token → ℕ
+starts_in [] = 0
+starts_in (t ∷ rest) = starts_of t + starts_in rest
+
 -- what was read, with one part more
 abbrev pub with_part : State → Part → State
 with_part s (Strings pool) = record s { pool = Some pool }

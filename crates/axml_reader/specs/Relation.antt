@@ -7,10 +7,10 @@ use Rattle.axml_chunks.specs.Pool.{StringPool, IsPool}
 use Rattle.axml_reader.specs.declared.doc.Attr.{Attr}
 use Rattle.axml_reader.specs.declared.doc.Node.{Node}
 use Rattle.axml_reader.specs.declared.doc.Node.TheVariants.{NsStart, NsEnd, Start, End, Chars}
-use Rattle.axml_reader.specs.Brackets.{Token, IsRooted}
+use Rattle.axml_reader.specs.Brackets.{IsRooted}
 use Rattle.axml_reader.specs.Document.{Document}
 use Rattle.axml_reader.specs.Fields.{strings, same_text, words_at}
-use Rattle.axml_reader.specs.Parts.{Part, Strings, Ids, Item, Other, token, starts_of}
+use Rattle.axml_reader.specs.Parts.{Part, Strings, Ids, Item, Other, token, starts_in}
 
 -- a number names one of so many strings, or none
 abbrev pub IsReference : ℕ → ℕ → Type 0
@@ -168,11 +168,6 @@ last_ids before (Strings pool ∷ rest) = last_ids before rest
 last_ids before (Ids ids ∷ rest) = last_ids ids rest
 last_ids before (Item node attrs ∷ rest) = last_ids before rest
 last_ids before (Other ∷ rest) = last_ids before rest
-
--- how many elements begin in a word
-abbrev pub starts_in : List Token → ℕ
-starts_in [] = 0
-starts_in (t ∷ rest) = starts_of t + starts_in rest
 
 -- Bytes are the layout file of a document: one chunk holds it, other chunks fill that one to its end, and each is a
 -- part of the document. There is one string pool, the nodes are a word of brackets with one outermost pair, in which

@@ -2,20 +2,17 @@
 use Rattle.std.specs.Prelude.{◌≡◌, ℕ, ◌+◌, Bool, true, not, ◌&&◌, ◌||◌, nat_lt, nat_le, ◌==◌, ◌≤◌, List, length, map, Some}
 use Rattle.std.specs.List.{All}
 use Rattle.axml_chunks.specs.Pool.{StringPool}
+use Rattle.axml_chunks.specs.Short.{IsShort}
 use Rattle.axml_reader.specs.declared.doc.Attr.{Attr}
 use Rattle.axml_reader.specs.declared.doc.Node.{Node}
 use Rattle.axml_reader.specs.declared.doc.Node.TheVariants.{NsStart, NsEnd, Start, End, Chars}
 use Rattle.axml_reader.specs.Brackets.{is_rooted}
 use Rattle.axml_reader.specs.Document.{Document}
 use Rattle.axml_reader.specs.Fields.{is_reference, same_text}
-use Rattle.axml_reader.specs.Parts.{token}
-
--- a text is no longer than all strings of a pool together may be
-abbrev pub IsShortText : List ℕ → Type 0
-IsShortText text = length text ≤ 4194304
+use Rattle.axml_reader.specs.Parts.{token, starts_in}
 
 abbrev pub AreShort : StringPool → Type 0
-AreShort pool = All IsShortText pool.texts
+AreShort pool = All IsShort pool.texts
 
 -- the string numbers of a node are none or below a count, and an element's name is below it
 abbrev pub has_strings : ℕ → Node → Bool
@@ -46,6 +43,21 @@ is_within len (Chars line text kind word) = true
 abbrev pub AreWithin : List Attr → List Node → Type 0
 AreWithin attrs nodes = All (λ node. is_within (length attrs) node ≡ true) nodes
 
+-- an element has at most 256 attributes
+abbrev pub has_few_attrs : Node → Bool
+has_few_attrs (NsStart prefix uri) = true
+has_few_attrs (NsEnd prefix uri) = true
+has_few_attrs (Start line ns name first n) = nat_le n 256
+has_few_attrs (End line ns name) = true
+has_few_attrs (Chars line text kind word) = true
+
+abbrev pub HaveFewAttrs : List Node → Type 0
+HaveFewAttrs nodes = All (λ node. has_few_attrs node ≡ true) nodes
+
+-- at most 4096 elements begin
+abbrev pub AreFew : List Node → Type 0
+AreFew nodes = starts_in (map token nodes) ≤ 4096
+
 -- elements are a word of brackets with one outermost pair, in which both names of an element have the same text
 abbrev pub AreRooted : StringPool → List Node → Type 0
 AreRooted pool nodes = is_rooted (same_text (Some pool)) (map token nodes) ≡ true
@@ -55,4 +67,6 @@ pub record IsSound (doc : Document) : Type 0 where
   pub strings : HaveStrings doc.pool doc.nodes
   pub attr_strings : AttrsHaveStrings doc.pool doc.attrs
   pub within : AreWithin doc.attrs doc.nodes
+  pub few : AreFew doc.nodes
+  pub few_attrs : HaveFewAttrs doc.nodes
   pub rooted : AreRooted doc.pool doc.nodes

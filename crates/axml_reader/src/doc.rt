@@ -1,4 +1,5 @@
-ghost use Rattle.axml_reader.specs.Sound.{AreShort, HaveStrings, AttrsHaveStrings, AreWithin, AreRooted};
+//! A document: its nodes and attributes, and what is known of each.
+ghost use Rattle.axml_reader.specs.Sound.{AreShort, HaveStrings, AttrsHaveStrings, AreWithin, AreFew, HaveFewAttrs, AreRooted};
 
 use axml_chunks::Pool;
 
@@ -62,5 +63,7 @@ pub struct Doc {
     pub ghost strings: { HaveStrings pool nodes.items },
     pub ghost attr_strings: { AttrsHaveStrings pool attrs.items },
     pub ghost within: { AreWithin attrs.items nodes.items },
+    pub ghost few: { AreFew nodes.items },
+    pub ghost few_attrs: { HaveFewAttrs nodes.items },
     pub ghost rooted: { AreRooted pool nodes.items },
 }

@@ -1,14 +1,25 @@
+//! Fields that name strings, and attributes.
 ghost use Rattle.std.specs.Prelude.{◌≡◌, ◌+◌, ◌*◌, ◌^◌, ◌<◌, ◌≤◌, length, [], IfOk};
 ghost use Rattle.axml_chunks.specs.Steps.{Does};
 ghost use Rattle.axml_reader.specs.Fields.{reference_at, name_at, word_at, attr_at, attr_after, attrs_upto, words_at, same_text, strings};
 
 use crate::doc::{Attr, NO_STRING};
-use crate::head::StartHead;
 use axml_chunks::{Cause, Fault, Pool, ReadFault, u32_at};
 use std::alloc::{AllocError, Global};
 
 /// The type of a value that is a string.
 const STRING: u8 = 3;
+
+/// An element that begins, without its attributes: its string numbers, where in the file the first
+/// attribute stands, how many bytes each has, and how many there are.
+#[derive(Clone, Copy, Debug, PartialEq, Eq)]
+pub(crate) struct StartHead {
+    pub(crate) ns: u32,
+    pub(crate) name: u32,
+    pub(crate) place: usize,
+    pub(crate) step: usize,
+    pub(crate) count: usize,
+}
 
 /// How many strings there are; none before a pool was read.
 pub fn string_count(pool: &Option<Pool>) -> u32

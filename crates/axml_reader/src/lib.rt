@@ -7,7 +7,6 @@ mod decode;
 mod doc;
 mod dump;
 mod fields;
-mod head;
 mod nodes;
 mod reading;
 

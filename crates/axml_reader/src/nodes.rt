@@ -1,16 +1,16 @@
+//! What each kind of chunk adds to a document.
 ghost use Rattle.std.specs.Prelude.{◌≡◌, ◌+◌, ◌-◌, ◌*◌, ◌^◌, ◌<◌, ◌≤◌, length, IfOk};
 ghost use Rattle.axml_chunks.specs.Chunks.{IsChunk};
 ghost use Rattle.axml_chunks.specs.Steps.{Does};
 ghost use Rattle.axml_reader.specs.Alike.{AreAlike};
 ghost use Rattle.axml_reader.specs.Brackets.{is_closed_by};
 ghost use Rattle.axml_reader.specs.Fields.{same_text};
-ghost use Rattle.axml_reader.specs.Nodes.{IsStart, is_short, is_outside, pair_at, names_at, chars_at, start_at, pool_part, map_part, namespace_start_part, namespace_end_part, start_part, end_part, chars_part, part_at, joined};
+ghost use Rattle.axml_reader.specs.Nodes.{IsBody, IsStart, is_short, body_at, is_outside, pair_at, names_at, chars_at, start_at, pool_part, map_part, namespace_start_part, namespace_end_part, start_part, end_part, chars_part, part_at, joined};
 ghost use Rattle.axml_reader.specs.Meaning.{reading};
 
 use crate::alike::{are_alike, none_alike};
 use crate::doc::Node;
-use crate::fields::{name_at, push_attrs, reference_at, string_count, words_at};
-use crate::head::StartHead;
+use crate::fields::{StartHead, name_at, push_attrs, reference_at, string_count, words_at};
 use crate::reading::Reading;
 use axml_chunks::{Cause, Chunk, Fault, Pool, ReadFault, u16_at, u32_at};
 use std::alloc::Global;
@@ -29,20 +29,32 @@ fn is_short(chunk: Chunk, form: usize) -> bool
     chunk.head < 16 || chunk.size - chunk.head < form
 }
 
+/// Where the body of a node stands; a form is the least length of a body.
+#[tactic(auto, unfolding(crate::specs::Nodes::body_at))]
+fn body_at(at: usize, chunk: Chunk, form: usize) -> Result<usize, Fault>
+    requires head { chunk.head ≤ chunk.size }
+    requires fits { at + chunk.size < 2 ^ 63 }
+    ensures value { result ≡ body_at at chunk form }
+    ensures bounds { IfOk result (λ body. IsBody at chunk form body) }
+{
+    if is_short(chunk, form) {
+        return Err(Fault {
+            cause: Cause::BadChunk,
+            at,
+        });
+    }
+    Ok(at + chunk.head)
+}
+
 /// The prefix and the address of a namespace.
 #[tactic(auto, unfolding(crate::specs::Nodes::pair_at))]
 fn pair_at(bytes: &[u8], at: usize, chunk: Chunk, count: u32) -> Result<(u32, u32), Fault>
     requires { IsChunk at (length bytes.now) chunk }
     ensures { result ≡ pair_at bytes.now at chunk count }
 {
-    if is_short(chunk, 8) {
-        return Err(Fault {
-            cause: Cause::BadChunk,
-            at,
-        });
-    }
-    let prefix = reference_at(bytes, count, at + chunk.head)?;
-    let uri = reference_at(bytes, count, at + chunk.head + 4)?;
+    let body = body_at(at, chunk, 8)?;
+    let prefix = reference_at(bytes, count, body)?;
+    let uri = reference_at(bytes, count, body + 4)?;
     Ok((prefix, uri))
 }
 
@@ -53,14 +65,9 @@ fn names_at(bytes: &[u8], at: usize, chunk: Chunk, count: u32) -> Result<(u32, u
     ensures value { result ≡ names_at bytes.now at chunk count }
     ensures header { IfOk result (λ _. 16 ≤ chunk.head) }
 {
-    if is_short(chunk, 8) {
-        return Err(Fault {
-            cause: Cause::BadChunk,
-            at,
-        });
-    }
-    let ns = reference_at(bytes, count, at + chunk.head)?;
-    let name = name_at(bytes, count, at + chunk.head + 4)?;
+    let body = body_at(at, chunk, 8)?;
+    let ns = reference_at(bytes, count, body)?;
+    let name = name_at(bytes, count, body + 4)?;
     Ok((ns, name))
 }
 
@@ -71,13 +78,8 @@ fn chars_at(bytes: &[u8], at: usize, chunk: Chunk, count: u32) -> Result<u32, Fa
     ensures value { result ≡ chars_at bytes.now at chunk count }
     ensures body { IfOk result (λ _. chunk.head + 12 ≤ chunk.size) }
 {
-    if is_short(chunk, 12) {
-        return Err(Fault {
-            cause: Cause::BadChunk,
-            at,
-        });
-    }
-    reference_at(bytes, count, at + chunk.head)
+    let body = body_at(at, chunk, 12)?;
+    reference_at(bytes, count, body)
 }
 
 /// Whether attributes leave a body: `first` is where the first begins, `step` how many bytes each
@@ -105,20 +107,13 @@ fn start_at(
     ensures value { result ≡ start_at bytes.now at chunk count closed starts }
     ensures bounds { IfOk result (λ head. IsStart (length bytes.now) starts chunk head) }
 {
-    let bad = Fault {
-        cause: Cause::BadChunk,
-        at,
-    };
-    if is_short(chunk, 20) {
-        return Err(bad);
-    }
+    let body = body_at(at, chunk, 20)?;
     if closed {
         return Err(Fault {
             cause: Cause::TwoRoots,
             at,
         });
     }
-    let body = at + chunk.head;
     let attrs = u16_at(bytes, body + 12) as usize;
     if starts >= MAX_ELEMENTS || MAX_ATTRS < attrs {
         return Err(Fault {
@@ -131,7 +126,10 @@ fn start_at(
     let first = u16_at(bytes, body + 8) as usize;
     let step = u16_at(bytes, body + 10) as usize;
     if is_outside(chunk.size - chunk.head, first, step, attrs) {
-        return Err(bad);
+        return Err(Fault {
+            cause: Cause::BadChunk,
+            at,
+        });
     }
     Ok(StartHead {
         ns,

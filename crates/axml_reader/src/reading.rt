@@ -1,3 +1,4 @@
+//! A document while it is read.
 ghost use Rattle.std.specs.Prelude.{◌≤◌, ◌*◌, length};
 ghost use Rattle.axml_reader.specs.Alike.{AreAlike};
 

@@ -4,6 +4,7 @@ pub mod FrameLaws
 pub mod Lawful
 pub mod Laws
 pub mod LeafLaws
+pub mod LinearLaws
 pub mod MeasureKid
 pub mod Own
 pub mod Parts

@@ -1,9 +1,10 @@
 -- What a plan of any view stands for.
 use Rattle.std.specs.Prelude.{◌≡◌, true, false, Bool, List, [], ◌∷◌, ◌++◌}
 use Rattle.frame_layout.specs.FramePlan.{StandsFrame}
+use Rattle.linear_layout.specs.LinearPlan.{StandsLinear}
 use Rattle.measure_pass.specs.declared.plan.Plan.{Plan}
-use Rattle.measure_pass.specs.declared.plan.Plan.TheVariants.{Frame, Leaf}
-use Rattle.view_model.specs.declared.kinds.Class.TheVariants.{FrameLayout}
+use Rattle.measure_pass.specs.declared.plan.Plan.TheVariants.{Frame, Leaf, Linear}
+use Rattle.view_model.specs.declared.kinds.Class.TheVariants.{FrameLayout, LinearLayout}
 use Rattle.view_model.specs.Forest.{Forest}
 use Rattle.view_model.specs.Layout.{rule_of, unscrolled}
 use Rattle.view_model.specs.Leaf.{leaf_rule}
@@ -27,6 +28,7 @@ group_of list specs = record { view = unscrolled (head_view list); specs = specs
 abbrev pub Stands : Plan → Group → List (List Measured) → List Measured → Type 0
 Stands (Leaf size) group past taken = rule_in group ≡ leaf_rule size
 Stands (Frame plan) group past taken = (group.view.class ≡ FrameLayout) × StandsFrame plan group.view.facts group.specs past taken
+Stands (Linear plan) group past taken = (group.view.class ≡ LinearLayout) × StandsLinear plan group.view.facts group.specs past taken
 
 -- a plan at the end of a phase: whether another follows, and then the plan is at its begin
 pub record Turned (plan : Plan) (group : Group) (past : List (List Measured)) (taken : List Measured) (answer : Bool) : Type 0 where

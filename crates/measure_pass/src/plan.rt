@@ -11,6 +11,7 @@ ghost use Rattle.view_tree.specs.Views.{IsLive};
 
 use frame_layout::FramePlan;
 use geom_core::{Size, Spec, default_size};
+use linear_layout::LinearPlan;
 use view_model::{Class, Facts};
 use view_tree::{Key, ViewTree};
 
@@ -20,6 +21,7 @@ pub enum Plan {
     /// A view of this size, which measures no child.
     Leaf(Size),
     Frame(FramePlan),
+    Linear(LinearPlan),
 }
 
 impl Plan {
@@ -31,6 +33,7 @@ impl Plan {
         match tree.class(view) {
             Class::View => Plan::Leaf(minimal_size(tree.facts(view), ws, hs)),
             Class::FrameLayout => Plan::Frame(FramePlan::start(tree.facts(view), ws, hs)),
+            Class::LinearLayout => Plan::Linear(LinearPlan::start(tree.facts(view), ws, hs)),
         }
     }
 
@@ -44,6 +47,7 @@ impl Plan {
         match self {
             Plan::Leaf(_) => None,
             Plan::Frame(plan) => plan.ask(kid, size),
+            Plan::Linear(plan) => plan.ask(kid, size),
         }
     }
 
@@ -57,6 +61,7 @@ impl Plan {
         match self {
             Plan::Leaf(_) => (),
             Plan::Frame(plan) => plan.take(kid, size),
+            Plan::Linear(plan) => plan.take(kid, size),
         }
     }
 
@@ -69,6 +74,7 @@ impl Plan {
         match self {
             Plan::Leaf(_) => false,
             Plan::Frame(plan) => plan.turn(),
+            Plan::Linear(plan) => plan.turn(),
         }
     }
 
@@ -81,6 +87,7 @@ impl Plan {
         match self {
             Plan::Leaf(size) => *size,
             Plan::Frame(plan) => plan.finish(),
+            Plan::Linear(plan) => plan.finish(),
         }
     }
 
@@ -93,6 +100,7 @@ impl Plan {
     {
         match self {
             Plan::Leaf(_) | Plan::Frame(_) => 0,
+            Plan::Linear(plan) => plan.total(),
         }
     }
 }

@@ -1,18 +1,18 @@
 -- Lines that have no command.
-use Rattle.std.proofs.Common.{◌≡◌, ℕ, ◌+◌, ◌<◌, Bool, true, false, refl, ap, ◌∙◌, inl, inr, List, [], ◌∷◌, length, take, arith}
-use Rattle.std.specs.Prelude.{◌==◌, ◌&&◌, ◌||◌, suc, nat_lt, slice_index, drop, Option, Some, None, Result, Ok, Err}
+use Rattle.std.proofs.Common.{◌≡◌, ℕ, ◌<◌, Bool, true, false, refl, ap, ◌∙◌, inl, inr, List, [], ◌∷◌, length, take, arith}
+use Rattle.std.specs.Prelude.{◌==◌, ◌&&◌, ◌||◌, nat_lt, slice_index, drop, Option, Some, None, Result, Ok, Err}
 use Rattle.std.specs.List.{list_all, prefix_len}
 use Rattle.std.specs.Str.{is_utf8}
 use Rattle.std.proofs.lemmas.Bool.{cases_Bool}
 use Rattle.script_lines.specs.Changes.{act_of, change_of}
-use Rattle.script_lines.specs.Commands.{command_by, command_of, set_of}
+use Rattle.script_lines.specs.Commands.{command_by, command_in, command_of, set_of}
 use Rattle.script_lines.specs.Lines.{is_passed_over, is_space}
 use Rattle.script_lines.specs.Names.{begins_with, hex_of, id_of, known, name_in, name_of}
 use Rattle.script_lines.specs.Numbers.{natural_of}
 use Rattle.script_lines.specs.Words.{after_word, first_word, in_word, map_ok, ◌>>=◌, word_in, words}
 use Rattle.script_lines.specs.declared.fault.LineFault.{LineFault}
 use Rattle.script_lines.specs.declared.fault.LineFault.TheVariants.{Syntax}
-use Rattle.script_lines.proofs.WordLaws.{word_space, words_some}
+use Rattle.script_lines.proofs.WordLaws.{one_add, word_space, words_some}
 
 -- a line without words
 no_words : (line : List ℕ) → words line ≡ [] → command_of line ≡ Err Syntax
@@ -38,9 +38,6 @@ words-spaces : (line : List ℕ) → list_all is_space line ≡ true → words l
 unfolding words
 words-spaces [] h = refl
 words-spaces (b ∷ bs) h = word_space b bs (and-left (is_space b) (list_all is_space bs) h) ∙ words-spaces bs (and-right (is_space b) (list_all is_space bs) h)
-
-one_add : (n : ℕ) → 1 + n ≡ suc n
-one_add n = omega arith
 
 first_word-mark : (bs : List ℕ) → first_word (35 ∷ bs) ≡ 35 ∷ take (prefix_len in_word bs) bs
 unfolding first_word
@@ -82,14 +79,18 @@ command_by-mark : (word : List ℕ) (words : List (List ℕ)) → command_by (35
 unfolding command_by set_of act_of change_of
 command_by-mark word words = then-only_syntax (name_in words) _ (name_in-only_syntax words) (λ view. refl)
 
+command_in-mark : (word rest : List ℕ) → command_in (35 ∷ word) rest ≡ Err Syntax
+unfolding command_in
+command_in-mark word rest = command_by-mark word (words rest)
+
 comment : (bs : List ℕ) → command_of (35 ∷ bs) ≡ Err Syntax
 unfolding command_of
 comment bs = elim (cases_Bool (is_utf8 (35 ∷ bs))) [
   | inl t ↦ rw t (
       let mark = first_word-mark bs in
       let some : 0 < length (first_word (35 ∷ bs)) = omega (arith, ap length mark) in
-      ap (λ ws. word_in ws >>= λ head. command_by head.0 head.1) (words_some (35 ∷ bs) some ∙ ap (λ w. w ∷ words (after_word (35 ∷ bs))) mark)
-      ∙ command_by-mark _ _)
+      ap (λ ws. word_in ws >>= λ head. command_in head.0 (after_word (35 ∷ bs))) (words_some (35 ∷ bs) some ∙ ap (λ w. w ∷ words (after_word (35 ∷ bs))) mark)
+      ∙ command_in-mark _ _)
   | inr f ↦ rw f refl
 ]
 
@@ -103,3 +104,8 @@ passed_over line h = elim (cases_Bool (list_all is_space line)) [
   | inl e ↦ no_words line (words-spaces line e)
   | inr e ↦ marked line (or-right (list_all is_space line) _ e h)
 ]
+
+-- a reading of plain values that is a fault is that fault
+pub map_ok-fault : {A B : Type 0} (f : A → B) (r : Result A LineFault) (fault : LineFault) → map_ok f r ≡ Err fault → r ≡ Err fault
+map_ok-fault f (Ok a) fault h = absurd (cc)
+map_ok-fault f (Err other) fault h = ap Err (cc h)

@@ -2,15 +2,20 @@ mod BarLaws
 mod ChangeExamples
 mod CommandExamples
 pub mod CommandLaws
+mod EscapeLaws
 mod FeedLaws
+mod FileNameLaws
 mod LineExamples
 pub mod LineLaws
 pub mod PieceLaws
 mod PlaceLaws
+mod ResourceExamples
 pub mod SpelledCommands
 mod SpelledExamples
 mod SpelledNames
 mod SpelledNumbers
+mod SpelledResources
 mod SpelledWords
 mod TextLaws
+mod TextLengthLaws
 pub mod WordLaws

@@ -1,12 +1,12 @@
 -- Commands, read from their texts.
-use Rattle.std.proofs.Common.{◌≡◌, ◌≢◌, ℕ, suc, zero, ◌<◌, ◌^◌, Bool, true, false, refl, ap, sym, subst, ◌∙◌, inl, inr, List, [], ◌∷◌, arith}
-use Rattle.std.specs.Prelude.{◌||◌, IsTrue, ℤ, pos, negsuc, slice_index, codes, Some, None, Ok}
+use Rattle.std.proofs.Common.{◌≡◌, ◌≢◌, ℕ, suc, zero, ◌+◌, ◌*◌, ◌/◌, ◌%◌, ◌<◌, ◌≤◌, ◌^◌, Bool, true, false, refl, sym, subst, ◌∙◌, inl, inr, List, [], ◌∷◌, arith}
+use Rattle.std.specs.Prelude.{◌||◌, if◌then◌else◌, IsTrue, ℤ, pos, negsuc, slice_index, codes, Some, None, Ok}
 use Rattle.std.specs.Fmt.{decimal, signed_decimal}
 use Rattle.std.specs.Str.{bytes_eq}
 use Rattle.std.proofs.lemmas.Int.{ints}
 use Rattle.geom_core.specs.declared.geometry.Insets.{Insets}
 use Rattle.view_model.specs.Facts.{no_gravity}
-use Rattle.view_model.specs.declared.limits.TheConstants.{MAX_INSET, MAX_SIZE}
+use Rattle.view_model.specs.declared.limits.TheConstants.{MAX_INSET, MAX_SIZE, MAX_WEIGHT}
 use Rattle.view_model.specs.declared.changes.Act.{Act}
 use Rattle.view_model.specs.declared.changes.Act.TheVariants as act
 use Rattle.view_model.specs.declared.changes.Change.{Change}
@@ -20,21 +20,25 @@ use Rattle.view_model.specs.declared.placing.Across.TheVariants as across
 use Rattle.view_model.specs.declared.placing.Down.{Down}
 use Rattle.view_model.specs.declared.placing.Down.TheVariants as down
 use Rattle.view_model.specs.declared.placing.Gravity.{Gravity}
-use Rattle.script_lines.specs.Changes.{AreWithin, IsActInBounds, IsChangeInBounds, act_of, change_of, insets_of, new_id_of, own_gravity_of, sides_of, visibility_of, visible_of}
-use Rattle.script_lines.specs.Commands.{IsInBounds, add_of, bounds_of, class_of, command_by, command_of, frame_of, remove_of, set_of}
+use Rattle.script_lines.specs.Changes.{AreWithin, IsActInBounds, IsChangeInBounds, act_of, change_of, gravity_change_of, insets_of, kids_of, new_id_of, orient_of, sides_of, vertical_of, visibility_of, visible_of}
+use Rattle.script_lines.specs.Commands.{IsInBounds, add_of, bounds_of, class_of, command_by, command_of, dpi_of, frame_of, inflate_of, into_of, remove_of, set_of}
 use Rattle.script_lines.specs.Dimensions.{IsExtent, dimension_of, extent_of, extents_of}
 use Rattle.script_lines.specs.Gravities.{across_of, down_of, gravity_of, is_set_across, is_set_down, one_across, one_down, with_word, with_words}
 use Rattle.script_lines.specs.Numbers.{IsWithin}
-use Rattle.script_lines.specs.Spelled.{ActHasLine, ChangeHasLine, HasLine, HasWord, act_head, act_words, change_head, change_words, class_text, extent_text, gravity_text, insets_words, name_text, parent_text, spelled, visibility_text}
-use Rattle.script_lines.specs.declared.commands.TheConstants.{MAX_WINDOW}
-use Rattle.script_lines.specs.declared.commands.Command.{Command}
-use Rattle.script_lines.specs.declared.commands.Command.TheVariants as command
+use Rattle.script_lines.specs.Spelled.{ActHasLine, ChangeHasLine, HasLine, HasWord, act_head, act_words, change_head, change_words, class_text, extent_text, gravity_text, insets_words, name_text, parent_text, spelled, visibility_text, weight_words}
+use Rattle.script_lines.specs.Weights.{last_number, weight_of}
+use Rattle.script_lines.specs.declared.weights.TheConstants.{MAX_PARTS, MAX_WHOLE}
+use Rattle.script_lines.specs.declared.commands.TheConstants.{MAX_DPI, MAX_WINDOW, MIN_DPI}
+use Rattle.script_lines.specs.PlainCommands.{PlainCommand}
+use Rattle.script_lines.specs.PlainCommands as plain
 use Rattle.script_lines.specs.declared.changes.Sides.{Sides}
 use Rattle.script_lines.specs.declared.dimension.Dimension.{Dimension}
 use Rattle.script_lines.specs.declared.dimension.Dimension.TheVariants.{Match, Wrap, Pixels}
 use Rattle.script_lines.specs.declared.naming.Name.TheVariants.{Id}
+use Rattle.script_lines.proofs.FileNameLaws.{file_name_word}
+use Rattle.script_lines.proofs.SpelledResources.{command_of-resource}
 use Rattle.script_lines.proofs.SpelledNames.{id_of-text, name_of-text, name_word, parent_of-text, parent_word}
-use Rattle.script_lines.proofs.SpelledNumbers.{IsShort, decimal_first, decimal_word, differs, integer_of-signed, pair_of-signed, short_within, signed_word, within_of-within}
+use Rattle.script_lines.proofs.SpelledNumbers.{IsShort, decimal_first, decimal_word, differs, integer_of-signed, natural_within-within, pair_of-signed, short_within, signed_word, within_of-within}
 use Rattle.script_lines.proofs.SpelledWords.{AreWords, IsWord, command_of-joined, word_by}
 
 -- dimensions
@@ -80,10 +84,12 @@ class_of-text : (class : Class) → class_of (class_text class) ≡ Ok class
 unfolding class_of
 class_of-text class.View = refl
 class_of-text class.FrameLayout = refl
+class_of-text class.LinearLayout = refl
 
 class_word : (class : Class) → IsWord (class_text class)
 class_word class.View = word_by (codes "View") refl
 class_word class.FrameLayout = word_by (codes "FrameLayout") refl
+class_word class.LinearLayout = word_by (codes "LinearLayout") refl
 
 -- visibilities
 visibility_of-text : (visibility : Visibility) → visibility_of (visibility_text visibility) ≡ Ok visibility
@@ -180,6 +186,44 @@ padding_short sides h = sides_short 0 sides (omega arith) (from_0 sides.left h.0
 size_short : (z : ℤ) → IsWithin (pos 0) MAX_SIZE z → IsShort z
 size_short z h = short_within 0 16777215 z (omega (arith, ints, h.0)) h.1 (omega arith) (omega arith)
 
+-- weights
+whole_short : (weight : ℕ) → weight ≤ MAX_WEIGHT → weight / 256 ≤ MAX_WHOLE
+whole_short weight h = omega (arith, h)
+
+digits_short : (n : ℕ) → n ≤ 65535 → n < 10 ^ 10
+digits_short n h = omega (arith, h)
+
+weight_reads_words : (weight : ℕ) → weight ≤ MAX_WEIGHT → AreWords (weight_words weight)
+weight_reads_words weight h = (decimal_word (weight / 256) (digits_short _ (whole_short weight h)), (decimal_word (weight % 256) (digits_short _ (omega arith)), tt))
+
+weight_of-words : (weight : ℕ) → weight ≤ MAX_WEIGHT → weight_of (weight_words weight) ≡ Ok weight
+unfolding weight_of last_number
+weight_of-words weight h =
+    let whole = whole_short weight h in
+    let parts : weight % 256 ≤ MAX_PARTS = omega arith in
+    let same : weight / 256 * 256 + weight % 256 ≡ weight = omega arith in
+    rw (integer_of-signed (pos (weight / 256)) (digits_short _ whole), integer_of-signed (pos (weight % 256)) (digits_short _ (omega (arith, parts))), natural_within-within 0 MAX_WHOLE (weight / 256) (omega arith) whole, natural_within-within 0 MAX_PARTS (weight % 256) (omega arith) parts, same)
+    (natural_within-within 0 MAX_WEIGHT weight (omega arith) h)
+
+-- words of two
+kids_word : (kids : Bool) → IsWord (if kids then codes "kids" else codes "self")
+kids_word true = word_by (codes "kids") refl
+kids_word false = word_by (codes "self") refl
+
+kids_of-text : (kids : Bool) → kids_of (if kids then codes "kids" else codes "self") ≡ Ok kids
+unfolding kids_of
+kids_of-text true = refl
+kids_of-text false = refl
+
+vertical_word : (vertical : Bool) → IsWord (if vertical then codes "vertical" else codes "horizontal")
+vertical_word true = word_by (codes "vertical") refl
+vertical_word false = word_by (codes "horizontal") refl
+
+vertical_of-text : (vertical : Bool) → vertical_of (if vertical then codes "vertical" else codes "horizontal") ≡ Ok vertical
+unfolding vertical_of
+vertical_of-text true = refl
+vertical_of-text false = refl
+
 -- what a change says behind the view, and what that is read as
 record ChangeReads (c : Change) : Type 0 where
   head : IsWord (change_head c)
@@ -187,7 +231,7 @@ record ChangeReads (c : Change) : Type 0 where
   value : act_of (change_head c) (change_words c) ≡ Ok (act.Change c)
 
 change_reads : (c : Change) → IsChangeInBounds c → ChangeHasLine c → ChangeReads c
-unfolding act_of change_of own_gravity_of
+unfolding act_of change_of gravity_change_of
 change_reads (change.Size width height) b l = record {
   head = word_by (codes "size") refl;
   words = (extent_word width b.0, (extent_word height b.1, tt));
@@ -212,13 +256,17 @@ change_reads (change.Padding sides) b l =
       words = sides_words sides h;
       value = rw (sides_of-text sides h, insets_of-as (pos 0) sides b) refl;
     }
-change_reads (change.Weight weight) b l = absurd l
+change_reads (change.Weight weight) b l = record {
+  head = word_by (codes "weight") refl;
+  words = weight_reads_words weight b;
+  value = rw (weight_of-words weight b) refl;
+}
 change_reads (change.Gravity kids gravity) b l =
-    let back = gravity_back gravity l.1 in
+    let back = gravity_back gravity l in
     record {
       head = word_by (codes "gravity") refl;
-      words = (word_by (codes "self") refl, (back.word, tt));
-      value = rw back.value (ap (λ k. Ok (act.Change (change.Gravity k gravity))) (sym l.0));
+      words = (kids_word kids, (back.word, tt));
+      value = rw (kids_of-text kids, back.value) refl;
     }
 change_reads (change.Background color) b l = absurd l
 
@@ -228,7 +276,7 @@ record ActReads (a : Act) : Type 0 where
   value : act_of (act_head a) (act_words a) ≡ Ok a
 
 act_reads : (a : Act) → IsActInBounds a → ActHasLine a → ActReads a
-unfolding act_of visible_of new_id_of
+unfolding act_of visible_of new_id_of orient_of
 act_reads (act.Change change) b l = let r = change_reads change b l in record { head = r.head; words = r.words; value = r.value }
 act_reads (act.Visible visibility) b l = record {
   head = word_by (codes "visible") refl;
@@ -240,8 +288,16 @@ act_reads (act.Id id) b l = record {
   words = (name_word (Id id) l, tt);
   value = rw (id_of-text id l) refl;
 }
-act_reads (act.WeightSum sum) b l = absurd l
-act_reads (act.Orient vertical) b l = absurd l
+act_reads (act.WeightSum sum) b l = record {
+  head = word_by (codes "weightsum") refl;
+  words = weight_reads_words sum b;
+  value = rw (weight_of-words sum b) refl;
+}
+act_reads (act.Orient vertical) b l = record {
+  head = word_by (codes "orient") refl;
+  words = (vertical_word vertical, tt);
+  value = rw (vertical_of-text vertical) refl;
+}
 act_reads (act.Flag flag on) b l = absurd l
 act_reads (act.Ink color) b l = absurd l
 act_reads (act.Rule verb value) b l = absurd l
@@ -256,7 +312,7 @@ command_by-change (change.Size width height) ws l = refl
 command_by-change (change.Min size) ws l = refl
 command_by-change (change.Margins sides) ws l = refl
 command_by-change (change.Padding sides) ws l = refl
-command_by-change (change.Weight weight) ws l = absurd l
+command_by-change (change.Weight weight) ws l = refl
 command_by-change (change.Gravity kids gravity) ws l = refl
 command_by-change (change.Background color) ws l = absurd l
 
@@ -265,8 +321,8 @@ unfolding command_by
 command_by-act (act.Change change) ws l = command_by-change change ws l
 command_by-act (act.Visible visibility) ws l = refl
 command_by-act (act.Id id) ws l = refl
-command_by-act (act.WeightSum sum) ws l = absurd l
-command_by-act (act.Orient vertical) ws l = absurd l
+command_by-act (act.WeightSum sum) ws l = refl
+command_by-act (act.Orient vertical) ws l = refl
 command_by-act (act.Flag flag on) ws l = absurd l
 command_by-act (act.Ink color) ws l = absurd l
 command_by-act (act.Rule verb value) ws l = absurd l
@@ -274,28 +330,64 @@ command_by-act (act.Answer answer) ws l = absurd l
 command_by-act (act.Intercept actions) ws l = absurd l
 command_by-act (act.Scroll offset) ws l = absurd l
 
+change_no_resource : (c : Change) → ChangeHasLine c → bytes_eq (change_head c) (codes "res") ≡ false
+change_no_resource (change.Size width height) l = refl
+change_no_resource (change.Min size) l = refl
+change_no_resource (change.Margins sides) l = refl
+change_no_resource (change.Padding sides) l = refl
+change_no_resource (change.Weight weight) l = refl
+change_no_resource (change.Gravity kids gravity) l = refl
+change_no_resource (change.Background color) l = refl
+
+act_no_resource : (a : Act) → ActHasLine a → bytes_eq (act_head a) (codes "res") ≡ false
+act_no_resource (act.Change change) l = change_no_resource change l
+act_no_resource (act.Visible visibility) l = refl
+act_no_resource (act.Id id) l = refl
+act_no_resource (act.WeightSum sum) l = refl
+act_no_resource (act.Orient vertical) l = refl
+act_no_resource (act.Flag flag on) l = refl
+act_no_resource (act.Ink color) l = refl
+act_no_resource (act.Rule verb value) l = refl
+act_no_resource (act.Answer answer) l = refl
+act_no_resource (act.Intercept actions) l = refl
+act_no_resource (act.Scroll offset) l = refl
+
 side_of_window : (z : ℤ) → IsWithin (pos 1) MAX_WINDOW z → IsShort z
 side_of_window z h = short_within 0 4096 z (omega (arith, ints, h.0)) h.1 (omega arith) (omega arith)
 
--- The command of the text of a command is that command.
-pub command_of-spelled : (c : Command) → IsInBounds c → HasLine c → command_of (spelled c) ≡ Ok c
-unfolding command_by add_of remove_of frame_of bounds_of set_of
-command_of-spelled (command.Window w h) b l =
-    command_of-joined (codes "window") (signed_decimal w ∷ signed_decimal h ∷ []) (word_by (codes "window") refl, (signed_word w (side_of_window w b.0), (signed_word h (side_of_window h b.1), tt)))
+dpi_short : (dpi : ℕ) → dpi ≤ MAX_DPI → dpi < 10 ^ 10
+dpi_short dpi h = omega (arith, h)
+
+-- The command of the text of a command is that plain.
+pub command_of-spelled : (c : PlainCommand) → IsInBounds c → HasLine c → command_of (spelled c) ≡ Ok c
+unfolding command_by dpi_of inflate_of into_of add_of remove_of frame_of bounds_of set_of
+command_of-spelled (plain.Window w h) b l =
+    command_of-joined (codes "window") (signed_decimal w ∷ signed_decimal h ∷ []) refl (word_by (codes "window") refl, (signed_word w (side_of_window w b.0), (signed_word h (side_of_window h b.1), tt)))
     ∙ rw (pair_of-signed (pos 1) MAX_WINDOW w h (side_of_window w b.0) (side_of_window h b.1) b.0 b.1) refl
-command_of-spelled (command.Add parent class width height) b l =
-    command_of-joined (codes "add") (parent_text parent ∷ class_text class ∷ extent_text width ∷ extent_text height ∷ []) (word_by (codes "add") refl, (parent_word parent l, (class_word class, (extent_word width b.0, (extent_word height b.1, tt)))))
+command_of-spelled (plain.Dpi dpi) b l =
+    let short = dpi_short dpi b.1 in
+    command_of-joined (codes "dpi") (decimal dpi ∷ []) refl (word_by (codes "dpi") refl, (decimal_word dpi short, tt))
+    ∙ rw (integer_of-signed (pos dpi) short, natural_within-within MIN_DPI MAX_DPI dpi b.0 b.1) refl
+command_of-spelled (plain.Res id value) b l = command_of-resource id value b.0 l.0 b.1 l.1
+command_of-spelled (plain.Inflate name None) b l =
+    command_of-joined (codes "inflate") (name ∷ []) refl (word_by (codes "inflate") refl, (file_name_word name b, tt))
+    ∙ rw b refl
+command_of-spelled (plain.Inflate name (Some view)) b l =
+    command_of-joined (codes "inflate") (name ∷ codes "into" ∷ name_text view ∷ []) refl (word_by (codes "inflate") refl, (file_name_word name b, (word_by (codes "into") refl, (name_word view l, tt))))
+    ∙ rw (b, name_of-text view l) refl
+command_of-spelled (plain.Add parent class width height) b l =
+    command_of-joined (codes "add") (parent_text parent ∷ class_text class ∷ extent_text width ∷ extent_text height ∷ []) refl (word_by (codes "add") refl, (parent_word parent l, (class_word class, (extent_word width b.0, (extent_word height b.1, tt)))))
     ∙ rw (parent_of-text parent l, class_of-text class, extents_of-text width height b.0 b.1) refl
-command_of-spelled (command.Remove view) b l =
-    command_of-joined (codes "remove") (name_text view ∷ []) (word_by (codes "remove") refl, (name_word view l, tt))
+command_of-spelled (plain.Remove view) b l =
+    command_of-joined (codes "remove") (name_text view ∷ []) refl (word_by (codes "remove") refl, (name_word view l, tt))
     ∙ rw (name_of-text view l) refl
-command_of-spelled (command.Act view act) b l =
+command_of-spelled (plain.Act view act) b l =
     let r = act_reads act b l.1 in
-    command_of-joined (act_head act) (name_text view ∷ act_words act) (r.head, (name_word view l.0, r.words))
+    command_of-joined (act_head act) (name_text view ∷ act_words act) (act_no_resource act l.1) (r.head, (name_word view l.0, r.words))
     ∙ command_by-act act (name_text view ∷ act_words act) l.1
     ∙ rw (name_of-text view l.0, r.value) refl
-command_of-spelled command.Frame b l = command_of-joined (codes "frame") [] (word_by (codes "frame") refl, tt)
-command_of-spelled (command.Bounds None) b l = command_of-joined (codes "bounds") [] (word_by (codes "bounds") refl, tt)
-command_of-spelled (command.Bounds (Some view)) b l =
-    command_of-joined (codes "bounds") (name_text view ∷ []) (word_by (codes "bounds") refl, (name_word view l, tt))
+command_of-spelled plain.Frame b l = command_of-joined (codes "frame") [] refl (word_by (codes "frame") refl, tt)
+command_of-spelled (plain.Bounds None) b l = command_of-joined (codes "bounds") [] refl (word_by (codes "bounds") refl, tt)
+command_of-spelled (plain.Bounds (Some view)) b l =
+    command_of-joined (codes "bounds") (name_text view ∷ []) refl (word_by (codes "bounds") refl, (name_word view l, tt))
     ∙ rw (name_of-text view l) refl

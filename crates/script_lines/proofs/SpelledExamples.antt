@@ -2,6 +2,7 @@
 use Rattle.std.proofs.Common.{◌≡◌, refl}
 use Rattle.std.specs.Prelude.{codes, Some, None, pos, negsuc, true, false}
 use Rattle.std.specs.Fmt.{digits}
+use Rattle.view_model.specs.Dimensions.{mantissa}
 use Rattle.view_model.specs.Facts.{no_gravity}
 use Rattle.view_model.specs.declared.changes.Act.TheVariants as act
 use Rattle.view_model.specs.declared.changes.Change.TheVariants as change
@@ -9,7 +10,7 @@ use Rattle.view_model.specs.declared.kinds.Class.TheVariants as class
 use Rattle.view_model.specs.declared.placing.Across.TheVariants as across
 use Rattle.view_model.specs.declared.placing.Down.TheVariants as down
 use Rattle.script_lines.specs.Spelled.{spelled}
-use Rattle.script_lines.specs.declared.commands.Command.TheVariants.{Window, Add, Act, Bounds}
+use Rattle.script_lines.specs.PlainCommands.{Window, Add, Act, Bounds, Dpi, Res, Inflate, Color, Dimen, Text}
 use Rattle.script_lines.specs.declared.naming.Name.TheVariants.{Number, Id}
 
 pub a_window : spelled (Window (pos 100) (pos 4096)) ≡ codes "window 100 4096"
@@ -42,3 +43,31 @@ no_axis = refl
 
 pub all_bounds : spelled (Bounds None) ≡ codes "bounds"
 all_bounds = refl
+
+pub a_weight : spelled (Act (Number 3) (act.Change (change.Weight 300))) ≡ codes "weight v3 1 44"
+unfolding digits
+a_weight = refl
+
+pub a_way : spelled (Act (Number 3) (act.Orient true)) ≡ codes "orient v3 vertical"
+unfolding digits
+a_way = refl
+
+pub a_color : spelled (Res 127 (Color (record { 0 = 255 }))) ≡ codes "res @7f color #000000ff"
+unfolding digits
+a_color = refl
+
+pub a_dimension : spelled (Res 1 (Dimen 4294967041)) ≡ codes "res @1 dimen -1 dp"
+unfolding digits mantissa
+a_dimension = refl
+
+pub a_text : spelled (Res 1 (Text (codes " a "))) ≡ codes "res @1 text  a "
+unfolding digits
+a_text = refl
+
+pub a_file : spelled (Inflate (codes "a.xml") (Some (Number 1))) ≡ codes "inflate a.xml into v1"
+unfolding digits
+a_file = refl
+
+pub a_density : spelled (Dpi 240) ≡ codes "dpi 240"
+unfolding digits
+a_density = refl

@@ -19,14 +19,14 @@ use Rattle.script_lines.proofs.SpelledWords.{IsWord, word_by}
 hex_graphic : (b : ℕ) → is_ascii_hexdigit b ≡ true → is_ascii_graphic b ≡ true
 hex_graphic b h = grind (arith, nat_tests)
 
-all_graphic : (ds : List ℕ) → list_all is_ascii_hexdigit ds ≡ true → list_all is_ascii_graphic ds ≡ true
+pub all_graphic : (ds : List ℕ) → list_all is_ascii_hexdigit ds ≡ true → list_all is_ascii_graphic ds ≡ true
 all_graphic [] h = refl
 all_graphic (b ∷ bs) h = rw (hex_graphic b (and-left (is_ascii_hexdigit b) (list_all is_ascii_hexdigit bs) h)) (all_graphic bs (and-right (is_ascii_hexdigit b) (list_all is_ascii_hexdigit bs) h))
 
-glyph_digit : (d : ℕ) → d < 16 → is_ascii_hexdigit (digit_glyph false d) ≡ true
+pub glyph_digit : (d : ℕ) → d < 16 → is_ascii_hexdigit (digit_glyph false d) ≡ true
 glyph_digit d h = grind (arith, nat_tests)
 
-glyph_value : (d : ℕ) → d < 16 → hex_digit_of (digit_glyph false d) ≡ d
+pub glyph_value : (d : ℕ) → d < 16 → hex_digit_of (digit_glyph false d) ≡ d
 unfolding hex_digit_of
 glyph_value d h = grind (arith, nat_tests)
 
@@ -40,7 +40,7 @@ record HexOnto (k n : ℕ) (acc ds : List ℕ) : Type 0 where
   long : length acc ≤ length ds
   short : (j : ℕ) → 0 < j → n < 16 ^ j → length ds ≤ j + length acc
 
-shorter : (k n : ℕ) → n < 16 ^ suc k → n / 16 < 16 ^ k
+pub shorter : (k n : ℕ) → n < 16 ^ suc k → n / 16 < 16 ^ k
 shorter k n h = let e : 16 ^ suc k ≡ 16 ^ k * 16 = pow-suc 16 k in omega (arith, e, h)
 
 -- one digit less has a bound that is lower by one

@@ -1,5 +1,5 @@
 -- Numbers, read from their texts.
-use Rattle.std.proofs.Common.{◌≡◌, ◌≢◌, ℕ, suc, zero, ◌+◌, ◌*◌, ◌-◌, ◌<◌, ◌^◌, Bool, true, false, refl, ap, List, [], ◌∷◌, length, arith, rules}
+use Rattle.std.proofs.Common.{◌≡◌, ◌≢◌, ℕ, suc, zero, ◌+◌, ◌*◌, ◌-◌, ◌<◌, ◌≤◌, ◌^◌, Bool, true, false, refl, ap, List, [], ◌∷◌, length, arith, rules}
 use Rattle.std.specs.Prelude.{◌==◌, ◌&&◌, ◌||◌, not, nat_lt, nat_le, ℤ, pos, negsuc, ◌≤ℤ◌, slice_index, fold, Some, Ok}
 use Rattle.std.specs.Char.{is_ascii_digit, is_ascii_graphic}
 use Rattle.std.specs.Fmt.{decimal, signed_decimal}
@@ -9,7 +9,7 @@ use Rattle.std.proofs.lemmas.Bool.Decides.{nat_tests}
 use Rattle.std.proofs.lemmas.Fmt.{decimal_digit, decimal_nonempty, digits_decimal, digits_value-decimal, first_decimal, length-decimal-le}
 use Rattle.std.proofs.lemmas.Int.{ints}
 use Rattle.std.proofs.lemmas.Str.Parse.{IsNumeralModel, numerals_by_fold, not_in_digits}
-use Rattle.script_lines.specs.Numbers.{IsWithin, integer_of, is_natural, natural_of, pair_of, within_of}
+use Rattle.script_lines.specs.Numbers.{IsWithin, integer_of, is_natural, natural_of, natural_within, pair_of, within_of}
 use Rattle.script_lines.proofs.CommandLaws.{and-left, and-right}
 use Rattle.script_lines.proofs.SpelledWords.{IsWord}
 
@@ -104,3 +104,7 @@ short_within low high (negsuc n) h k l m = omega (arith, ints, h, l)
 pub pair_of-signed : (low high a b : ℤ) → IsShort a → IsShort b → IsWithin low high a → IsWithin low high b → pair_of low high (signed_decimal a ∷ signed_decimal b ∷ []) ≡ Ok (a, b)
 unfolding pair_of
 pair_of-signed low high a b ha hb wa wb = rw (integer_of-signed a ha, integer_of-signed b hb, within_of-within low high a wa, within_of-within low high b wb) refl
+
+pub natural_within-within : (low high n : ℕ) → low ≤ n → n ≤ high → natural_within low high (pos n) ≡ Ok n
+unfolding natural_within
+natural_within-within low high n h k = grind (arith, nat_tests)

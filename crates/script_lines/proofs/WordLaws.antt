@@ -7,17 +7,17 @@ use Rattle.std.proofs.lemmas.Bool.Decides.{nat_tests}
 use Rattle.script_lines.specs.Words.{words, first_word, after_word, after_spaces, in_word, is_word}
 use Rattle.script_lines.specs.Lines.{is_space}
 
-one_add : (n : ℕ) → 1 + n ≡ suc n
+pub one_add : (n : ℕ) → 1 + n ≡ suc n
 one_add n = omega arith
 
 pub word_space : (b : ℕ) (bs : List ℕ) → (b == 32) ≡ true → words (b ∷ bs) ≡ words bs
 unfolding words
 word_space b bs e = rw e refl
 
-spaces_more : (b : ℕ) (bs : List ℕ) → (b == 32) ≡ true → after_spaces (b ∷ bs) ≡ after_spaces bs
+pub spaces_more : (b : ℕ) (bs : List ℕ) → (b == 32) ≡ true → after_spaces (b ∷ bs) ≡ after_spaces bs
 spaces_more b bs e = ap (λ n. drop n (b ∷ bs)) (let q : prefix_len is_space (b ∷ bs) ≡ 1 + prefix_len is_space bs = rw e refl in q ∙ one_add (prefix_len is_space bs))
 
-spaces_done : (b : ℕ) (bs : List ℕ) → (b == 32) ≡ false → after_spaces (b ∷ bs) ≡ b ∷ bs
+pub spaces_done : (b : ℕ) (bs : List ℕ) → (b == 32) ≡ false → after_spaces (b ∷ bs) ≡ b ∷ bs
 spaces_done b bs e = ap (λ n. drop n (b ∷ bs)) (let q : prefix_len is_space (b ∷ bs) ≡ 0 = rw e refl in q)
 
 words_spaces : (bytes : List ℕ) → words (after_spaces bytes) ≡ words bytes

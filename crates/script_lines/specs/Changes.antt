@@ -1,5 +1,5 @@
 -- What a line sets of a view, behind the view's name.
-use Rattle.std.specs.Prelude.{ℕ, ◌≤◌, ◌<◌, if◌then◌else◌, false, ℤ, pos, List, codes, Result, Ok, Err}
+use Rattle.std.specs.Prelude.{ℕ, ◌≤◌, ◌<◌, if◌then◌else◌, Bool, true, false, ℤ, pos, List, codes, Result, Ok, Err}
 use Rattle.std.specs.Str.{bytes_eq}
 use Rattle.geom_core.specs.declared.geometry.Insets.{Insets}
 use Rattle.view_model.specs.declared.limits.TheConstants.{MAX_INSET, MAX_SIZE, MAX_WEIGHT, MIN_MARGIN}
@@ -13,7 +13,8 @@ use Rattle.script_lines.specs.Dimensions.{IsExtent, extents_of}
 use Rattle.script_lines.specs.Gravities.{gravity_of}
 use Rattle.script_lines.specs.Names.{id_in}
 use Rattle.script_lines.specs.Numbers.{IsWithin, integer_in, pair_of, within_of}
-use Rattle.script_lines.specs.Words.{◌>>=◌, map_ok, word_in, literal_in, end_of}
+use Rattle.script_lines.specs.Weights.{weight_of}
+use Rattle.script_lines.specs.Words.{◌>>=◌, map_ok, word_in, end_of}
 use Rattle.script_lines.specs.declared.changes.Sides.{Sides}
 use Rattle.script_lines.specs.declared.fault.LineFault.{LineFault}
 use Rattle.script_lines.specs.declared.fault.LineFault.TheVariants.{Syntax}
@@ -57,14 +58,26 @@ padding_of words = do
   sides ← sides_of words
   map_ok change.Padding (insets_of (pos 0) sides)
 
--- `self G`
-unfoldable pub own_gravity_of : List (List ℕ) → Result Change LineFault
-own_gravity_of words = do
-  words ← literal_in (codes "self") words
-  g ← word_in words
+-- `N`, or `N K`
+abbrev pub weight_change_of : List (List ℕ) → Result Change LineFault
+weight_change_of words = map_ok change.Weight (weight_of words)
+
+-- whether a gravity is that of a view's children, `kids`, and not its own, `self`
+unfoldable pub kids_of : List ℕ → Result Bool LineFault
+kids_of word =
+    if bytes_eq word (codes "self") then Ok false else (
+    if bytes_eq word (codes "kids") then Ok true else
+    Err Syntax)
+
+-- `self G` or `kids G`
+unfoldable pub gravity_change_of : List (List ℕ) → Result Change LineFault
+gravity_change_of words = do
+  whose ← word_in words
+  kids ← kids_of whose.0
+  g ← word_in whose.1
   gravity ← gravity_of g.0
   _ ← end_of g.1
-  Ok (change.Gravity false gravity)
+  Ok (change.Gravity kids gravity)
 
 -- a change by the first word of its line and the words behind the view
 unfoldable pub change_of : List ℕ → List (List ℕ) → Result Change LineFault
@@ -73,8 +86,9 @@ change_of head words =
     if bytes_eq head (codes "min") then min_of words else (
     if bytes_eq head (codes "margins") then margins_of words else (
     if bytes_eq head (codes "padding") then padding_of words else (
-    if bytes_eq head (codes "gravity") then own_gravity_of words else
-    Err Syntax))))
+    if bytes_eq head (codes "weight") then weight_change_of words else (
+    if bytes_eq head (codes "gravity") then gravity_change_of words else
+    Err Syntax)))))
 
 unfoldable pub visibility_of : List ℕ → Result Visibility LineFault
 visibility_of word =
@@ -98,12 +112,32 @@ new_id_of words = do
   _ ← end_of id.1
   Ok (act.Id id.0)
 
+-- `N`, or `N K`
+abbrev pub weight_sum_of : List (List ℕ) → Result Act LineFault
+weight_sum_of words = map_ok act.WeightSum (weight_of words)
+
+unfoldable pub vertical_of : List ℕ → Result Bool LineFault
+vertical_of word =
+    if bytes_eq word (codes "horizontal") then Ok false else (
+    if bytes_eq word (codes "vertical") then Ok true else
+    Err Syntax)
+
+-- `horizontal` or `vertical`
+unfoldable pub orient_of : List (List ℕ) → Result Act LineFault
+orient_of words = do
+  way ← word_in words
+  vertical ← vertical_of way.0
+  _ ← end_of way.1
+  Ok (act.Orient vertical)
+
 -- what a line sets, by its first word and the words behind the view
 unfoldable pub act_of : List ℕ → List (List ℕ) → Result Act LineFault
 act_of head words =
     if bytes_eq head (codes "visible") then visible_of words else (
-    if bytes_eq head (codes "id") then new_id_of words else
-    map_ok act.Change (change_of head words))
+    if bytes_eq head (codes "id") then new_id_of words else (
+    if bytes_eq head (codes "weightsum") then weight_sum_of words else (
+    if bytes_eq head (codes "orient") then orient_of words else
+    map_ok act.Change (change_of head words))))
 
 abbrev pub AreWithin : ℤ → ℤ → Insets → Type 0
 AreWithin low high sides = IsWithin low high sides.left × IsWithin low high sides.top × IsWithin low high sides.right × IsWithin low high sides.bottom

@@ -1,11 +1,16 @@
 pub mod Changes
 pub mod Commands
 pub mod Dimensions
+pub mod Escapes
+pub mod FileNames
 pub mod Gravities
 pub mod LineBuffer
 pub mod Lines
 pub mod Names
 pub mod Numbers
 pub mod Pieces
+pub mod PlainCommands
+pub mod Resources
 pub mod Spelled
+pub mod Weights
 pub mod Words

@@ -41,6 +41,11 @@ integer_in (word ∷ words) = integer_of word >>= λ n. Ok (n, words)
 unfoldable pub within_of : ℤ → ℤ → ℤ → Result ℤ LineFault
 within_of low high n = if int_le low n && int_le n high then Ok n else Err Range
 
+-- a number that is not negative, within its bounds
+unfoldable pub natural_within : ℕ → ℕ → ℤ → Result ℕ LineFault
+natural_within low high (pos n) = if nat_le low n && nat_le n high then Ok n else Err Range
+natural_within low high (negsuc n) = Err Range
+
 -- two numbers, and no words behind them; both are read before their bounds are looked at
 unfoldable pub pair_of : ℤ → ℤ → List (List ℕ) → Result (ℤ × ℤ) LineFault
 pair_of low high words = do

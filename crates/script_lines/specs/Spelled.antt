@@ -1,8 +1,10 @@
 -- The text of a command: one way to write it, of those that the grammar reads.
-use Rattle.std.specs.Prelude.{◌≡◌, ℕ, zero, suc, ◌<◌, ◌^◌, not, ◌&&◌, ◌||◌, true, false, IsTrue, if◌then◌else◌, ℤ, pos, negsuc, ◌⊎◌, List, [], ◌∷◌, ◌++◌, codes, Option, Some, None, IfSome}
-use Rattle.std.specs.Fmt.{decimal, signed_decimal, digits}
+use Rattle.std.specs.Prelude.{◌≡◌, ℕ, zero, suc, ◌<◌, ◌^◌, ◌/◌, ◌%◌, ◌==◌, not, ◌&&◌, ◌||◌, true, false, IsTrue, if◌then◌else◌, ℤ, pos, negsuc, ◌⊎◌, List, [], ◌∷◌, ◌++◌, codes, Option, Some, None, IfSome}
+use Rattle.std.specs.Fmt.{decimal, signed_decimal, digits, digit_glyph}
 use Rattle.std.specs.List.{join_with_byte}
+use Rattle.std.specs.Str.{is_utf8}
 use Rattle.geom_core.specs.declared.geometry.Insets.{Insets}
+use Rattle.view_model.specs.Dimensions.{mantissa}
 use Rattle.view_model.specs.Facts.{no_gravity}
 use Rattle.view_model.specs.declared.changes.Act.{Act}
 use Rattle.view_model.specs.declared.changes.Act.TheVariants as act
@@ -18,8 +20,8 @@ use Rattle.view_model.specs.declared.placing.Down.{Down}
 use Rattle.view_model.specs.declared.placing.Down.TheVariants as down
 use Rattle.view_model.specs.declared.placing.Gravity.{Gravity}
 use Rattle.script_lines.specs.Gravities.{is_set_across, is_set_down}
-use Rattle.script_lines.specs.declared.commands.Command.{Command}
-use Rattle.script_lines.specs.declared.commands.Command.TheVariants as command
+use Rattle.script_lines.specs.PlainCommands.{PlainCommand, PlainGiven}
+use Rattle.script_lines.specs.PlainCommands as plain
 use Rattle.script_lines.specs.declared.naming.Name.{Name}
 use Rattle.script_lines.specs.declared.naming.Name.TheVariants.{Number, Id}
 
@@ -35,6 +37,7 @@ parent_text (Some view) = name_text view
 abbrev pub class_text : Class → List ℕ
 class_text class.View = codes "View"
 class_text class.FrameLayout = codes "FrameLayout"
+class_text class.LinearLayout = codes "LinearLayout"
 
 -- a dimension as facts keep it
 abbrev pub extent_text : ℤ → List ℕ
@@ -72,13 +75,17 @@ visibility_text visibility.Visible = codes "visible"
 visibility_text visibility.Invisible = codes "invisible"
 visibility_text visibility.Gone = codes "gone"
 
--- the first word of the line that makes a change; no line gives a weight or a background
+-- whole ones, and 256ths
+abbrev pub weight_words : ℕ → List (List ℕ)
+weight_words weight = decimal (weight / 256) ∷ decimal (weight % 256) ∷ []
+
+-- the first word of the line that makes a change; no line gives a background
 abbrev pub change_head : Change → List ℕ
 change_head (change.Size width height) = codes "size"
 change_head (change.Min size) = codes "min"
 change_head (change.Margins sides) = codes "margins"
 change_head (change.Padding sides) = codes "padding"
-change_head (change.Weight weight) = []
+change_head (change.Weight weight) = codes "weight"
 change_head (change.Gravity kids gravity) = codes "gravity"
 change_head (change.Background color) = []
 
@@ -88,15 +95,15 @@ change_words (change.Size width height) = extent_text width ∷ extent_text heig
 change_words (change.Min size) = signed_decimal size.w ∷ signed_decimal size.h ∷ []
 change_words (change.Margins sides) = insets_words sides
 change_words (change.Padding sides) = insets_words sides
-change_words (change.Weight weight) = []
-change_words (change.Gravity kids gravity) = codes "self" ∷ gravity_text gravity ∷ []
+change_words (change.Weight weight) = weight_words weight
+change_words (change.Gravity kids gravity) = (if kids then codes "kids" else codes "self") ∷ gravity_text gravity ∷ []
 change_words (change.Background color) = []
 
 -- the first word of the line that sets this; some things no line sets
 abbrev pub act_head : Act → List ℕ
 act_head (act.Change change) = change_head change
-act_head (act.WeightSum sum) = []
-act_head (act.Orient vertical) = []
+act_head (act.WeightSum sum) = codes "weightsum"
+act_head (act.Orient vertical) = codes "orient"
 act_head (act.Flag flag on) = []
 act_head (act.Visible visibility) = codes "visible"
 act_head (act.Ink color) = []
@@ -109,8 +116,8 @@ act_head (act.Scroll offset) = []
 -- the words behind the view
 abbrev pub act_words : Act → List (List ℕ)
 act_words (act.Change change) = change_words change
-act_words (act.WeightSum sum) = []
-act_words (act.Orient vertical) = []
+act_words (act.WeightSum sum) = weight_words sum
+act_words (act.Orient vertical) = (if vertical then codes "vertical" else codes "horizontal") ∷ []
 act_words (act.Flag flag on) = []
 act_words (act.Visible visibility) = visibility_text visibility ∷ []
 act_words (act.Ink color) = []
@@ -120,18 +127,43 @@ act_words (act.Answer answer) = []
 act_words (act.Intercept actions) = []
 act_words (act.Scroll offset) = []
 
+-- the lowest hexadecimal digits of a number, so many of them
+abbrev pub hex_places : ℕ → ℕ → List ℕ
+hex_places zero n = []
+hex_places (suc places) n = hex_places places (n / 16) ++ digit_glyph false (n % 16) ∷ []
+
+-- a unit by its number in the word of a dimension
+abbrev pub unit_text : ℕ → List ℕ
+unit_text unit =
+    if unit == 0 then codes "px" else (
+    if unit == 1 then codes "dp" else (
+    if unit == 2 then codes "sp" else (
+    if unit == 3 then codes "pt" else (
+    if unit == 4 then codes "in" else
+    codes "mm"))))
+
+-- what is given to a resource: its kind, and the words behind that; a text stands as the last word, whatever it has
+abbrev pub given_words : PlainGiven → List (List ℕ)
+given_words (plain.Color color) = codes "color" ∷ (codes "#" ++ hex_places 8 color.0) ∷ []
+given_words (plain.Dimen word) = codes "dimen" ∷ signed_decimal (mantissa word) ∷ unit_text (word % 256) ∷ []
+given_words (plain.Text text) = codes "text" ∷ text ∷ []
+
 -- the words of a command
-abbrev pub command_words : Command → List (List ℕ)
-command_words (command.Window w h) = codes "window" ∷ signed_decimal w ∷ signed_decimal h ∷ []
-command_words (command.Add parent class width height) = codes "add" ∷ parent_text parent ∷ class_text class ∷ extent_text width ∷ extent_text height ∷ []
-command_words (command.Remove view) = codes "remove" ∷ name_text view ∷ []
-command_words (command.Act view act) = act_head act ∷ name_text view ∷ act_words act
-command_words command.Frame = codes "frame" ∷ []
-command_words (command.Bounds None) = codes "bounds" ∷ []
-command_words (command.Bounds (Some view)) = codes "bounds" ∷ name_text view ∷ []
+abbrev pub command_words : PlainCommand → List (List ℕ)
+command_words (plain.Window w h) = codes "window" ∷ signed_decimal w ∷ signed_decimal h ∷ []
+command_words (plain.Dpi dpi) = codes "dpi" ∷ decimal dpi ∷ []
+command_words (plain.Res id value) = codes "res" ∷ name_text (Id id) ∷ given_words value
+command_words (plain.Inflate name None) = codes "inflate" ∷ name ∷ []
+command_words (plain.Inflate name (Some view)) = codes "inflate" ∷ name ∷ codes "into" ∷ name_text view ∷ []
+command_words (plain.Add parent class width height) = codes "add" ∷ parent_text parent ∷ class_text class ∷ extent_text width ∷ extent_text height ∷ []
+command_words (plain.Remove view) = codes "remove" ∷ name_text view ∷ []
+command_words (plain.Act view act) = act_head act ∷ name_text view ∷ act_words act
+command_words plain.Frame = codes "frame" ∷ []
+command_words (plain.Bounds None) = codes "bounds" ∷ []
+command_words (plain.Bounds (Some view)) = codes "bounds" ∷ name_text view ∷ []
 
 -- the text of a command, with single spaces between its words
-abbrev pub spelled : Command → List ℕ
+abbrev pub spelled : PlainCommand → List ℕ
 spelled command = join_with_byte 32 (command_words command)
 
 -- a view that a line can name
@@ -149,15 +181,15 @@ ChangeHasLine (change.Size width height) = Unit {0}
 ChangeHasLine (change.Min size) = Unit {0}
 ChangeHasLine (change.Margins sides) = Unit {0}
 ChangeHasLine (change.Padding sides) = Unit {0}
-ChangeHasLine (change.Weight weight) = ⊥
-ChangeHasLine (change.Gravity kids gravity) = (kids ≡ false) × HasWord gravity
+ChangeHasLine (change.Weight weight) = Unit {0}
+ChangeHasLine (change.Gravity kids gravity) = HasWord gravity
 ChangeHasLine (change.Background color) = ⊥
 
 -- what a line can set
 abbrev pub ActHasLine : Act → Type 0
 ActHasLine (act.Change change) = ChangeHasLine change
-ActHasLine (act.WeightSum sum) = ⊥
-ActHasLine (act.Orient vertical) = ⊥
+ActHasLine (act.WeightSum sum) = Unit {0}
+ActHasLine (act.Orient vertical) = Unit {0}
 ActHasLine (act.Flag flag on) = ⊥
 ActHasLine (act.Visible visibility) = Unit {0}
 ActHasLine (act.Ink color) = ⊥
@@ -167,11 +199,20 @@ ActHasLine (act.Answer answer) = ⊥
 ActHasLine (act.Intercept actions) = ⊥
 ActHasLine (act.Scroll offset) = ⊥
 
+-- a value that a line can give a resource
+abbrev pub GivenHasLine : PlainGiven → Type 0
+GivenHasLine (plain.Color color) = color.0 < 2 ^ 32
+GivenHasLine (plain.Dimen word) = Unit {0}
+GivenHasLine (plain.Text text) = IsTrue (is_utf8 text)
+
 -- a command that a line can give, if its numbers are within their bounds
-abbrev pub HasLine : Command → Type 0
-HasLine (command.Window w h) = Unit {0}
-HasLine (command.Add parent class width height) = IfSome parent HasText
-HasLine (command.Remove view) = HasText view
-HasLine (command.Act view act) = HasText view × ActHasLine act
-HasLine command.Frame = Unit {0}
-HasLine (command.Bounds view) = IfSome view HasText
+abbrev pub HasLine : PlainCommand → Type 0
+HasLine (plain.Window w h) = Unit {0}
+HasLine (plain.Dpi dpi) = Unit {0}
+HasLine (plain.Res id value) = HasText (Id id) × GivenHasLine value
+HasLine (plain.Inflate name into) = IfSome into HasText
+HasLine (plain.Add parent class width height) = IfSome parent HasText
+HasLine (plain.Remove view) = HasText view
+HasLine (plain.Act view act) = HasText view × ActHasLine act
+HasLine plain.Frame = Unit {0}
+HasLine (plain.Bounds view) = IfSome view HasText

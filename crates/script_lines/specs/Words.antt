@@ -1,7 +1,7 @@
 -- The words of a line, and how readings follow each other.
 use Rattle.std.specs.Prelude.{ℕ, nat_lt, Bool, not, List, [], ◌∷◌, if◌then◌else◌, length, take, drop, filter, Result, Ok, Err}
 use Rattle.std.specs.List.{slice_split, prefix_len}
-use Rattle.std.specs.Str.{bytes_eq}
+use Rattle.std.specs.Str.{bytes_eq, is_utf8}
 use Rattle.script_lines.specs.Lines.{is_space}
 use Rattle.script_lines.specs.declared.fault.LineFault.{LineFault}
 use Rattle.script_lines.specs.declared.fault.LineFault.TheVariants.{Syntax}
@@ -51,3 +51,7 @@ literal_in name (word ∷ words) = if bytes_eq word name then Ok words else Err 
 abbrev pub end_of : List (List ℕ) → Result (Unit {0}) LineFault
 end_of [] = Ok tt
 end_of (word ∷ words) = Err Syntax
+
+-- bytes as a text, if they are valid UTF-8
+unfoldable pub text_of : List ℕ → Result (List ℕ) LineFault
+text_of bytes = if is_utf8 bytes then Ok bytes else Err Syntax

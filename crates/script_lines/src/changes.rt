@@ -1,7 +1,7 @@
 //! What a line sets of a view.
 
 ghost use Rattle.std.specs.Prelude.{◌≡◌, pos, negsuc, ◌≤ℤ◌, IfOk};
-ghost use Rattle.script_lines.specs.Changes.{IsActInBounds, IsChangeInBounds, act_of, change_of, insets_of, margins_of, min_of, new_id_of, own_gravity_of, padding_of, sides_of, size_of, visibility_of, visible_of};
+ghost use Rattle.script_lines.specs.Changes.{IsActInBounds, IsChangeInBounds, act_of, change_of, gravity_change_of, insets_of, kids_of, margins_of, min_of, new_id_of, orient_of, padding_of, sides_of, size_of, vertical_of, visibility_of, visible_of, weight_change_of, weight_sum_of};
 ghost use Rattle.script_lines.specs.Numbers.{IsWithin};
 ghost use Rattle.script_lines.specs.Words.{words};
 
@@ -10,7 +10,8 @@ use crate::fault::LineFault;
 use crate::gravity::read_gravity;
 use crate::naming::id_word;
 use crate::number::{number, pair, within};
-use crate::words::{end, is, literal, word};
+use crate::weights::read_weight;
+use crate::words::{end, is, word};
 use geom_core::{Insets, Size};
 use view_model::limits::{MAX_INSET, MAX_SIZE, MIN_MARGIN};
 use view_model::{Act, Change, Visibility};
@@ -96,20 +97,39 @@ fn padding(bytes: &[u8]) -> Result<Change, LineFault>
     Ok(Change::Padding(insets))
 }
 
-/// The gravity of a view in its parent.
-#[tactic(auto, unfolding(crate::specs::Changes::own_gravity_of))]
-fn own_gravity(bytes: &[u8]) -> Result<Change, LineFault>
-    ensures value { result ≡ own_gravity_of (words bytes.now) }
+fn weight(bytes: &[u8]) -> Result<Change, LineFault>
+    ensures value { result ≡ weight_change_of (words bytes.now) }
     ensures bounds { IfOk result IsChangeInBounds }
 {
-    let rest = literal(b"self", bytes)?;
+    let weight = read_weight(bytes)?;
+    Ok(Change::Weight(weight))
+}
+
+/// Whether a gravity is that of a view's children and not its own.
+#[tactic(auto, unfolding(crate::specs::Changes::kids_of))]
+fn read_kids(word: &[u8]) -> Result<bool, LineFault>
+    ensures { result ≡ kids_of word.now }
+{
+    if is(word, b"self") {
+        return Ok(false);
+    }
+    if is(word, b"kids") {
+        return Ok(true);
+    }
+    Err(LineFault::Syntax)
+}
+
+#[tactic(auto, unfolding(crate::specs::Changes::gravity_change_of))]
+fn gravity(bytes: &[u8]) -> Result<Change, LineFault>
+    ensures value { result ≡ gravity_change_of (words bytes.now) }
+    ensures bounds { IfOk result IsChangeInBounds }
+{
+    let (whose, rest) = word(bytes)?;
+    let kids = read_kids(whose)?;
     let (word, rest) = word(rest)?;
     let gravity = read_gravity(word)?;
     end(rest)?;
-    Ok(Change::Gravity {
-        kids: false,
-        gravity,
-    })
+    Ok(Change::Gravity { kids, gravity })
 }
 
 /// A change by the first word of its line and what stands behind the view.
@@ -130,8 +150,11 @@ fn read_change(head: &[u8], bytes: &[u8]) -> Result<Change, LineFault>
     if is(head, b"padding") {
         return padding(bytes);
     }
+    if is(head, b"weight") {
+        return weight(bytes);
+    }
     if is(head, b"gravity") {
-        return own_gravity(bytes);
+        return gravity(bytes);
     }
     Err(LineFault::Syntax)
 }
@@ -173,6 +196,38 @@ fn new_id(bytes: &[u8]) -> Result<Act, LineFault>
     Ok(Act::Id(id))
 }
 
+fn weight_sum(bytes: &[u8]) -> Result<Act, LineFault>
+    ensures value { result ≡ weight_sum_of (words bytes.now) }
+    ensures bounds { IfOk result IsActInBounds }
+{
+    let sum = read_weight(bytes)?;
+    Ok(Act::WeightSum(sum))
+}
+
+#[tactic(auto, unfolding(crate::specs::Changes::vertical_of))]
+fn read_vertical(word: &[u8]) -> Result<bool, LineFault>
+    ensures { result ≡ vertical_of word.now }
+{
+    if is(word, b"horizontal") {
+        return Ok(false);
+    }
+    if is(word, b"vertical") {
+        return Ok(true);
+    }
+    Err(LineFault::Syntax)
+}
+
+#[tactic(auto, unfolding(crate::specs::Changes::orient_of))]
+fn orient(bytes: &[u8]) -> Result<Act, LineFault>
+    ensures value { result ≡ orient_of (words bytes.now) }
+    ensures bounds { IfOk result IsActInBounds }
+{
+    let (word, rest) = word(bytes)?;
+    let vertical = read_vertical(word)?;
+    end(rest)?;
+    Ok(Act::Orient { vertical })
+}
+
 /// What a line sets, by its first word and what stands behind the view.
 #[tactic(auto, unfolding(crate::specs::Changes::act_of))]
 pub fn read_act(head: &[u8], bytes: &[u8]) -> Result<Act, LineFault>
@@ -184,6 +239,12 @@ pub fn read_act(head: &[u8], bytes: &[u8]) -> Result<Act, LineFault>
     }
     if is(head, b"id") {
         return new_id(bytes);
+    }
+    if is(head, b"weightsum") {
+        return weight_sum(bytes);
+    }
+    if is(head, b"orient") {
+        return orient(bytes);
     }
     let change = read_change(head, bytes)?;
     Ok(Act::Change(change))

@@ -1,18 +1,45 @@
 //! What a line asks for.
 
 use crate::naming::Name;
+use geom_core::Argb;
 use view_model::{Act, Class};
 
 /// The greatest side of a window, in pixels.
 pub const MAX_WINDOW: i64 = 4096;
+/// The least density, in dots an inch.
+pub const MIN_DPI: u32 = 40;
+/// The greatest density, in dots an inch.
+pub const MAX_DPI: u32 = 1000;
+
+/// What a line gives a resource.
+#[derive(Clone, Copy, Debug, PartialEq, Eq)]
+pub enum Given<'a> {
+    Color(Argb),
+    /// The word of a dimension, as a layout file has it.
+    Dimen(u32),
+    /// Its escapes stand as written, each of them valid.
+    Text(&'a str),
+}
 
 /// What a line asks for. A dimension is a number of pixels from 0 to `MAX_SIZE`, `MATCH` or `WRAP`.
 #[derive(Clone, Copy, Debug, PartialEq, Eq)]
-pub enum Command {
+pub enum Command<'a> {
     /// A new window of this size, each side from 1 to `MAX_WINDOW` pixels, without a frame.
     Window {
         w: i32,
         h: i32,
+    },
+    /// The density of the screen, in dots an inch, from `MIN_DPI` to `MAX_DPI`.
+    Dpi(u32),
+    /// The value of the resource of this id, which is not 0.
+    Res {
+        id: u32,
+        value: Given<'a>,
+    },
+    /// The tree of a layout file, below a view or as the whole tree.
+    Inflate {
+        name: &'a str,
+        into: Option<Name>,
     },
     /// A view as the last child of its parent, or as the root where that is none.
     Add {

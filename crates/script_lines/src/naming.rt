@@ -1,10 +1,10 @@
 //! How a line names a view.
 
-ghost use Rattle.std.specs.Prelude.{◌≡◌, ◌<◌, ◌≤◌, length};
+ghost use Rattle.std.specs.Prelude.{◌≡◌, ◌<◌, ◌≤◌, length, IfOk};
 ghost use Rattle.std.specs.Char.{is_ascii_hexdigit};
 ghost use Rattle.std.specs.List.{list_all};
 ghost use Rattle.script_lines.specs.Names.{hex_digit_of, hex_of, hex_value, id_in, id_of, name_in, name_of, parent_in, parent_of};
-ghost use Rattle.script_lines.specs.Words.{map_ok, words};
+ghost use Rattle.script_lines.specs.Words.{after_word, map_ok, words};
 
 use crate::fault::LineFault;
 use crate::number::natural;
@@ -53,7 +53,7 @@ fn all_hex(word: &[u8]) -> bool
 
 /// The number of one to eight hexadecimal digits.
 #[tactic(auto, unfolding(crate::specs::Names::hex_of))]
-fn hex(word: &[u8]) -> Option<u32>
+pub fn hex(word: &[u8]) -> Option<u32>
     ensures { result ≡ hex_of word.now }
 {
     if !word.is_empty() && word.len() <= 8 && all_hex(word) {
@@ -79,7 +79,8 @@ fn read_id(word: &[u8]) -> Result<u32, LineFault>
 
 /// The id that the first word gives, and what stands behind it.
 pub fn id_word(bytes: &[u8]) -> Result<(u32, &[u8]), LineFault>
-    ensures { map_ok (λ r. (r.0, words r.1.now)) result ≡ id_in (words bytes.now) }
+    ensures value { map_ok (λ r. (r.0, words r.1.now)) result ≡ id_in (words bytes.now) }
+    ensures rest { IfOk result (λ r. r.1.now ≡ after_word bytes.now) }
 {
     let (word, rest) = word(bytes)?;
     Ok((read_id(word)?, rest))

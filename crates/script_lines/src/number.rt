@@ -3,7 +3,7 @@
 ghost use Rattle.std.specs.Prelude.{◌≡◌, ◌<◌, ◌≤◌, ◌^◌, pos, negsuc, ◌≤ℤ◌, length, IfSome, IfOk, IsTrue};
 ghost use Rattle.std.specs.Char.{is_ascii_digit};
 ghost use Rattle.std.specs.List.{list_all};
-ghost use Rattle.script_lines.specs.Numbers.{IsWithin, digits_value, integer_in, integer_of, natural_of, pair_of, within_of};
+ghost use Rattle.script_lines.specs.Numbers.{IsWithin, digits_value, integer_in, integer_of, natural_of, pair_of, natural_within, within_of};
 ghost use Rattle.script_lines.specs.Words.{map_ok, words};
 
 use crate::fault::LineFault;
@@ -81,6 +81,20 @@ pub fn within(low: i64, high: i64, n: i64) -> Result<i32, LineFault>
 {
     if low <= n && n <= high {
         Ok(n as i32)
+    } else {
+        Err(LineFault::Range)
+    }
+}
+
+/// A number that is not negative, within its bounds.
+#[tactic(auto, unfolding(crate::specs::Numbers::natural_within))]
+pub fn natural_within(low: u32, high: u32, n: i64) -> Result<u32, LineFault>
+    ensures value { result ≡ natural_within low high n }
+    ensures low { IfOk result (λ n. low ≤ n) }
+    ensures high { IfOk result (λ n. n ≤ high) }
+{
+    if i64::from(low) <= n && n <= i64::from(high) {
+        Ok(n as u32)
     } else {
         Err(LineFault::Range)
     }

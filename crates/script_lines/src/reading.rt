@@ -1,27 +1,65 @@
 //! The command of a line.
 
-ghost use Rattle.std.specs.Prelude.{◌≡◌, true, Ok, Err, IfOk};
-ghost use Rattle.script_lines.specs.Commands.{IsInBounds, add_of, bounds_of, class_of, command_by, command_of, frame_of, remove_of, set_of, window_of};
+ghost use Rattle.std.specs.Prelude.{◌≡◌, ◌≤◌, true, length, Ok, Err, IfOk};
+ghost use Rattle.script_lines.specs.Commands.{IsInBounds, add_of, bounds_of, class_of, command_by, command_in, command_of, dpi_of, frame_of, inflate_of, into_of, remove_of, set_of, window_of};
 ghost use Rattle.script_lines.specs.Lines.{is_passed_over};
+ghost use Rattle.script_lines.specs.PlainCommands.{PlainCommand, plain_command, text_length};
 ghost use Rattle.script_lines.specs.Spelled.{HasLine, spelled};
-ghost use Rattle.script_lines.specs.Words.{words};
-ghost use Rattle.script_lines.specs.declared.commands.Command.{Command as CommandValue};
+ghost use Rattle.script_lines.specs.Words.{map_ok, words};
 
 use crate::changes::read_act;
-use crate::commands::{Command, MAX_WINDOW};
+use crate::commands::{Command, MAX_DPI, MAX_WINDOW, MIN_DPI};
 use crate::dimension::extents;
 use crate::fault::LineFault;
-use crate::naming::{name_word, parent_word};
-use crate::number::pair;
-use crate::words::{end, is, is_text, word};
+use crate::file_name::file_name_word;
+use crate::naming::{Name, name_word, parent_word};
+use crate::number::{natural_within, number, pair};
+use crate::resources::res;
+use crate::words::{end, is, is_text, literal, word};
 use view_model::Class;
 
-fn window(bytes: &[u8]) -> Result<Command, LineFault>
-    ensures value { result ≡ window_of (words bytes.now) }
-    ensures bounds { IfOk result IsInBounds }
+fn window(bytes: &[u8]) -> Result<Command<'_>, LineFault>
+    ensures value { map_ok plain_command result ≡ window_of (words bytes.now) }
+    ensures bounds { IfOk result (λ command. IsInBounds (plain_command command)) }
 {
     let (w, h) = pair(1, MAX_WINDOW, bytes)?;
     Ok(Command::Window { w, h })
+}
+
+/// A density.
+#[tactic(auto, unfolding(crate::specs::Commands::dpi_of))]
+fn dpi(bytes: &[u8]) -> Result<Command<'_>, LineFault>
+    ensures value { map_ok plain_command result ≡ dpi_of (words bytes.now) }
+    ensures bounds { IfOk result (λ command. IsInBounds (plain_command command)) }
+{
+    let (n, rest) = number(bytes)?;
+    end(rest)?;
+    let dpi = natural_within(MIN_DPI, MAX_DPI, n)?;
+    Ok(Command::Dpi(dpi))
+}
+
+/// The view below which a tree goes, where one is named.
+#[tactic(auto, unfolding(crate::specs::Commands::into_of))]
+fn into(bytes: &[u8]) -> Result<Option<Name>, LineFault>
+    ensures { result ≡ into_of (words bytes.now) }
+{
+    if end(bytes).is_ok() {
+        return Ok(None);
+    }
+    let rest = literal(b"into", bytes)?;
+    let (view, rest) = name_word(rest)?;
+    end(rest)?;
+    Ok(Some(view))
+}
+
+#[tactic(auto, unfolding(crate::specs::Commands::inflate_of))]
+fn inflate(bytes: &[u8]) -> Result<Command<'_>, LineFault>
+    ensures value { map_ok plain_command result ≡ inflate_of (words bytes.now) }
+    ensures bounds { IfOk result (λ command. IsInBounds (plain_command command)) }
+{
+    let (name, rest) = file_name_word(bytes)?;
+    let into = into(rest)?;
+    Ok(Command::Inflate { name, into })
 }
 
 /// The class that a word names.
@@ -35,13 +73,16 @@ fn read_class(word: &[u8]) -> Result<Class, LineFault>
     if is(word, b"FrameLayout") {
         return Ok(Class::FrameLayout);
     }
+    if is(word, b"LinearLayout") {
+        return Ok(Class::LinearLayout);
+    }
     Err(LineFault::Syntax)
 }
 
 #[tactic(auto, unfolding(crate::specs::Commands::add_of))]
-fn add(bytes: &[u8]) -> Result<Command, LineFault>
-    ensures value { result ≡ add_of (words bytes.now) }
-    ensures bounds { IfOk result IsInBounds }
+fn add(bytes: &[u8]) -> Result<Command<'_>, LineFault>
+    ensures value { map_ok plain_command result ≡ add_of (words bytes.now) }
+    ensures bounds { IfOk result (λ command. IsInBounds (plain_command command)) }
 {
     let (parent, rest) = parent_word(bytes)?;
     let (word, rest) = word(rest)?;
@@ -56,9 +97,9 @@ fn add(bytes: &[u8]) -> Result<Command, LineFault>
 }
 
 #[tactic(auto, unfolding(crate::specs::Commands::remove_of))]
-fn remove(bytes: &[u8]) -> Result<Command, LineFault>
-    ensures value { result ≡ remove_of (words bytes.now) }
-    ensures bounds { IfOk result IsInBounds }
+fn remove(bytes: &[u8]) -> Result<Command<'_>, LineFault>
+    ensures value { map_ok plain_command result ≡ remove_of (words bytes.now) }
+    ensures bounds { IfOk result (λ command. IsInBounds (plain_command command)) }
 {
     let (view, rest) = name_word(bytes)?;
     end(rest)?;
@@ -66,18 +107,18 @@ fn remove(bytes: &[u8]) -> Result<Command, LineFault>
 }
 
 #[tactic(auto, unfolding(crate::specs::Commands::frame_of))]
-fn frame(bytes: &[u8]) -> Result<Command, LineFault>
-    ensures value { result ≡ frame_of (words bytes.now) }
-    ensures bounds { IfOk result IsInBounds }
+fn frame(bytes: &[u8]) -> Result<Command<'_>, LineFault>
+    ensures value { map_ok plain_command result ≡ frame_of (words bytes.now) }
+    ensures bounds { IfOk result (λ command. IsInBounds (plain_command command)) }
 {
     end(bytes)?;
     Ok(Command::Frame)
 }
 
 #[tactic(auto, unfolding(crate::specs::Commands::bounds_of))]
-fn bounds(bytes: &[u8]) -> Result<Command, LineFault>
-    ensures value { result ≡ bounds_of (words bytes.now) }
-    ensures bounds { IfOk result IsInBounds }
+fn bounds(bytes: &[u8]) -> Result<Command<'_>, LineFault>
+    ensures value { map_ok plain_command result ≡ bounds_of (words bytes.now) }
+    ensures bounds { IfOk result (λ command. IsInBounds (plain_command command)) }
 {
     if end(bytes).is_ok() {
         return Ok(Command::Bounds(None));
@@ -89,9 +130,9 @@ fn bounds(bytes: &[u8]) -> Result<Command, LineFault>
 
 /// A line that sets something of a view.
 #[tactic(auto, unfolding(crate::specs::Commands::set_of))]
-fn set(head: &[u8], bytes: &[u8]) -> Result<Command, LineFault>
-    ensures value { result ≡ set_of head.now (words bytes.now) }
-    ensures bounds { IfOk result IsInBounds }
+fn set<'a>(head: &[u8], bytes: &'a [u8]) -> Result<Command<'a>, LineFault>
+    ensures value { map_ok plain_command result ≡ set_of head.now (words bytes.now) }
+    ensures bounds { IfOk result (λ command. IsInBounds (plain_command command)) }
 {
     let (view, rest) = name_word(bytes)?;
     let act = read_act(head, rest)?;
@@ -100,12 +141,18 @@ fn set(head: &[u8], bytes: &[u8]) -> Result<Command, LineFault>
 
 /// The command of a line by its first word and what stands behind that.
 #[tactic(auto, unfolding(crate::specs::Commands::command_by))]
-fn read_command(head: &[u8], bytes: &[u8]) -> Result<Command, LineFault>
-    ensures value { result ≡ command_by head.now (words bytes.now) }
-    ensures bounds { IfOk result IsInBounds }
+fn read_command<'a>(head: &[u8], bytes: &'a [u8]) -> Result<Command<'a>, LineFault>
+    ensures value { map_ok plain_command result ≡ command_by head.now (words bytes.now) }
+    ensures bounds { IfOk result (λ command. IsInBounds (plain_command command)) }
 {
     if is(head, b"window") {
         return window(bytes);
+    }
+    if is(head, b"dpi") {
+        return dpi(bytes);
+    }
+    if is(head, b"inflate") {
+        return inflate(bytes);
     }
     if is(head, b"add") {
         return add(bytes);
@@ -122,30 +169,43 @@ fn read_command(head: &[u8], bytes: &[u8]) -> Result<Command, LineFault>
     set(head, bytes)
 }
 
+/// The command of a line by its first word and what stands behind that: the spaces in a text count.
+#[tactic(auto, unfolding(crate::specs::Commands::command_in))]
+fn read_rest<'a>(head: &[u8], bytes: &'a [u8]) -> Result<Command<'a>, LineFault>
+    ensures value { map_ok plain_command result ≡ command_in head.now bytes.now }
+    ensures bounds { IfOk result (λ command. IsInBounds (plain_command command)) }
+{
+    if is(head, b"res") {
+        return res(bytes);
+    }
+    read_command(head, bytes)
+}
+
 /// The command of a line.
 #[tactic(auto, unfolding(crate::specs::Commands::command_of))]
-fn read_line(bytes: &[u8]) -> Result<Command, LineFault>
-    ensures value { result ≡ command_of bytes.now }
-    ensures bounds { IfOk result IsInBounds }
+fn read_line(bytes: &[u8]) -> Result<Command<'_>, LineFault>
+    ensures value { map_ok plain_command result ≡ command_of bytes.now }
+    ensures bounds { IfOk result (λ command. IsInBounds (plain_command command)) }
 {
     if !is_text(bytes) {
         return Err(LineFault::Syntax);
     }
     let (head, rest) = word(bytes)?;
-    read_command(head, rest)
+    read_rest(head, rest)
 }
 
 /// The command of a line. A fault of the grammar counts before a number outside its bounds, wherever the two stand.
 /// A line that is passed over has no command. The text of a command is read as that command.
-pub fn line(bytes: &[u8]) -> Result<Command, LineFault>
-    ensures value { result ≡ command_of bytes.now }
-    ensures bounds { IfOk result IsInBounds }
+pub fn line(bytes: &[u8]) -> Result<Command<'_>, LineFault>
+    ensures value { map_ok plain_command result ≡ command_of bytes.now }
+    ensures bounds { IfOk result (λ command. IsInBounds (plain_command command)) }
     ensures passed { is_passed_over bytes.now ≡ true → result ≡ Err LineFault.Syntax }
-    ensures spelled { (command : CommandValue)
+    ensures short { IfOk result (λ command. text_length (plain_command command) ≤ length bytes.now) }
+    ensures spelled { (command : PlainCommand)
         → IsInBounds command
         → HasLine command
         → bytes.now ≡ spelled command
-        → result ≡ Ok command }
+        → map_ok plain_command result ≡ Ok command }
 {
     read_line(bytes)
 }

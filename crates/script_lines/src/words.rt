@@ -1,10 +1,10 @@
 //! The words of a line.
 
-ghost use Rattle.std.specs.Prelude.{◌≡◌, ◌≤◌, length};
+ghost use Rattle.std.specs.Prelude.{◌≡◌, ◌≤◌, length, IfOk};
 ghost use Rattle.std.specs.List.{prefix_len};
 ghost use Rattle.std.specs.Str.{bytes_eq, is_utf8};
 ghost use Rattle.script_lines.specs.Lines.{is_space};
-ghost use Rattle.script_lines.specs.Words.{after_word, end_of, first_word, in_word, literal_in, map_ok, word_in, words};
+ghost use Rattle.script_lines.specs.Words.{after_word, end_of, first_word, in_word, literal_in, map_ok, text_of, word_in, words};
 
 use crate::fault::LineFault;
 
@@ -46,7 +46,8 @@ fn first(bytes: &[u8]) -> (&[u8], &[u8])
 /// The first word, and what stands behind it.
 #[tactic(auto, using(crate::proofs::WordLaws::words_none, crate::proofs::WordLaws::words_some))]
 pub fn word(bytes: &[u8]) -> Result<(&[u8], &[u8]), LineFault>
-    ensures { map_ok (λ r. (r.0.now, words r.1.now)) result ≡ word_in (words bytes.now) }
+    ensures value { map_ok (λ r. (r.0.now, words r.1.now)) result ≡ word_in (words bytes.now) }
+    ensures rest { IfOk result (λ r. r.1.now ≡ after_word bytes.now) }
 {
     let (word, rest) = first(bytes);
     if word.is_empty() {
@@ -90,4 +91,16 @@ pub fn is_text(line: &[u8]) -> bool
     ensures { result ≡ is_utf8 line.now }
 {
     std::str::from_utf8(line).is_ok()
+}
+
+/// Bytes as a text, if they are valid UTF-8.
+#[tactic(auto, unfolding(crate::specs::Words::text_of))]
+pub fn text(bytes: &[u8]) -> Result<&str, LineFault>
+    ensures value { map_ok (λ text. text.now) result ≡ text_of bytes.now }
+    ensures same { IfOk result (λ text. text.now ≡ bytes.now) }
+{
+    match std::str::from_utf8(bytes) {
+        Ok(text) => Ok(text),
+        Err(_) => Err(LineFault::Syntax),
+    }
 }

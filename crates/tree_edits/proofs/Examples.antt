@@ -1,5 +1,5 @@
 -- Worked edits, by computation: what the definitions make of a small scene.
-use Rattle.std.specs.Prelude.{◌≡◌, ℕ, pos, refl, List, [], ◌∷◌, Some, None, Ok, Err, true}
+use Rattle.std.specs.Prelude.{◌≡◌, ℕ, pos, refl, List, [], ◌∷◌, Some, None, Ok, Err, true, false}
 use Rattle.geom_core.specs.declared.geometry.Insets.{Insets}
 use Rattle.view_model.specs.declared.facts.Facts.{Facts}
 use Rattle.view_model.specs.declared.changes.Act.TheVariants as act
@@ -7,7 +7,10 @@ use Rattle.view_model.specs.declared.changes.Change.TheVariants as change
 use Rattle.view_model.specs.declared.changes.Flag.TheVariants as flag
 use Rattle.view_model.specs.declared.kinds.Class.TheVariants as class
 use Rattle.view_model.specs.declared.kinds.Visibility.TheVariants.{Visible, Invisible, Gone}
-use Rattle.view_model.specs.Facts.{new_facts}
+use Rattle.view_model.specs.Facts.{new_facts, no_gravity}
+use Rattle.view_model.specs.declared.placing.Across.TheVariants as across
+use Rattle.view_model.specs.declared.placing.Down.TheVariants as down
+use Rattle.view_model.specs.declared.placing.Gravity.{Gravity}
 use Rattle.view_model.specs.Forest.{Forest, Nothing, Branch}
 use Rattle.view_model.specs.Geometry.{Laid}
 use Rattle.view_model.specs.Growth.{growth_refusal}
@@ -112,6 +115,49 @@ frame_does_not_scroll = refl
 frame_has_no_text : outcome_of_edit start (SetText 2 (65 ∷ [])) ≡ Err (refusal_numbered 29)
 unfolding start scene tree_with inner everywhere frame leaf laid
 frame_has_no_text = refl
+
+-- what only a linear layout has
+sum_of_a_frame : outcome_of_edit start (ActOn 2 (act.WeightSum 256)) ≡ Err (refusal_numbered 29)
+unfolding start scene tree_with inner everywhere frame leaf laid
+sum_of_a_frame = refl
+
+way_of_a_view : outcome_of_edit start (ActOn 3 (act.Orient true)) ≡ Err (refusal_numbered 29)
+unfolding start scene tree_with inner everywhere frame leaf laid
+way_of_a_view = refl
+
+gravity_of_the_children_of_a_frame : outcome_of_edit start (ActOn 2 (act.Change (change.Gravity true no_gravity))) ≡ Err (refusal_numbered 29)
+unfolding start scene tree_with inner everywhere frame leaf laid
+gravity_of_the_children_of_a_frame = refl
+
+line : Facts → Scene
+line facts = scene (Branch (record (new_view 1 class.LinearLayout (pos 40) (pos 30)) { facts = facts }) Nothing Nothing) 2 []
+
+sum_is_set : outcome_of_edit (line (new_facts (pos 40) (pos 30))) (ActOn 1 (act.WeightSum 256)) ≡ Ok (line (record (new_facts (pos 40) (pos 30)) { weight_sum = 256 }), None)
+unfolding line scene
+sum_is_set = refl
+
+way_is_set : outcome_of_edit (line (new_facts (pos 40) (pos 30))) (ActOn 1 (act.Orient true)) ≡ Ok (line (record (new_facts (pos 40) (pos 30)) { vertical = true }), None)
+unfolding line scene
+way_is_set = refl
+
+left : Gravity
+left = record { given = true; across = across.Left; down = down.Unset }
+
+gravity_of_children_is_set : outcome_of_edit (line (new_facts (pos 40) (pos 30))) (ActOn 1 (act.Change (change.Gravity true left)))
+    ≡ Ok (line (record (new_facts (pos 40) (pos 30)) { gravity = left }), None)
+unfolding line scene left
+gravity_of_children_is_set = refl
+
+own_gravity_is_set : outcome_of_edit (line (new_facts (pos 40) (pos 30))) (ActOn 1 (act.Change (change.Gravity false left)))
+    ≡ Ok (line (record (new_facts (pos 40) (pos 30)) { layout_gravity = left }), None)
+unfolding line scene left
+own_gravity_is_set = refl
+
+-- any view has a weight
+weight_is_set : outcome_of_edit start (ActOn 2 (act.Change (change.Weight 256)))
+    ≡ Ok (scene (tree_with (record (frame 2) { facts = record (new_facts (pos 40) (pos 30)) { weight = 256 } })) 5 everywhere, None)
+unfolding start scene tree_with inner everywhere frame leaf laid
+weight_is_set = refl
 
 -- what is kept of a view 7 with a view 8 below it and a view 9 behind it: a scroll sets the offset of one view
 rows : Forest Row

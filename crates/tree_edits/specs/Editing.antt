@@ -28,15 +28,21 @@ pub data NumberedEdit : Type 0 where
 abbrev pub Outcome : Type 0
 Outcome = Result (Scene × Option ℕ) PlainRefusal
 
--- what no class that there is has: children in a row, a text, a child that moves
-abbrev pub takes_change : Change → Bool
-takes_change (change.Gravity kids gravity) = if kids then false else true
-takes_change (change.Size width height) = true
-takes_change (change.Min size) = true
-takes_change (change.Margins sides) = true
-takes_change (change.Padding sides) = true
-takes_change (change.Weight weight) = true
-takes_change (change.Background color) = true
+-- whether a view of this class lays its children in a line, and so has a way, a sum of weights and a gravity for them
+abbrev pub lays_in_line : Class → Bool
+lays_in_line class.View = false
+lays_in_line class.FrameLayout = false
+lays_in_line class.LinearLayout = true
+
+-- only a view that lays its children in a line has a gravity for them
+abbrev pub takes_change : Class → Change → Bool
+takes_change class (change.Gravity kids gravity) = if kids then lays_in_line class else true
+takes_change class (change.Size width height) = true
+takes_change class (change.Min size) = true
+takes_change class (change.Margins sides) = true
+takes_change class (change.Padding sides) = true
+takes_change class (change.Weight weight) = true
+takes_change class (change.Background color) = true
 
 -- a view without children clips and splits nothing, and only a child that moves is told to fill
 abbrev pub takes_flag : Class → Flag → Bool
@@ -44,11 +50,11 @@ takes_flag class flag.Clip = is_group class
 takes_flag class flag.Fill = false
 takes_flag class flag.Split = is_group class
 
--- whether a view of this class has what an act sets
+-- whether a view of this class has what an act sets; none has a text of its own colour, or a child that moves
 abbrev pub takes : Class → Act → Bool
-takes class (act.Change change) = takes_change change
-takes class (act.WeightSum sum) = false
-takes class (act.Orient vertical) = false
+takes class (act.Change change) = takes_change class change
+takes class (act.WeightSum sum) = lays_in_line class
+takes class (act.Orient vertical) = lays_in_line class
 takes class (act.Flag flag on) = takes_flag class flag
 takes class (act.Visible visibility) = true
 takes class (act.Ink color) = false
@@ -62,6 +68,7 @@ takes class (act.Scroll offset) = false
 abbrev pub has_text : Class → Bool
 has_text class.View = false
 has_text class.FrameLayout = false
+has_text class.LinearLayout = false
 
 -- whether an act takes a view, and all below it, out of the geometry at once
 abbrev pub hides : Act → Bool

@@ -1,3 +1,5 @@
+//! Edits of a tree, applied.
+
 ghost use Rattle.std.specs.Prelude.{◌≡◌, ◌<◌, ◌^◌, true, chars, length, Err, OnErr, OnOk, None, Ok};
 ghost use Rattle.std.specs.Option.{option_map};
 ghost use Rattle.tree_edits.specs.Applied.{AppliesEdit, IsAddable, IsEdit, IsVerb, MayWantMemory, names_views, numbered};

@@ -1,6 +1,6 @@
 //! What a view has by its class.
 ghost use Rattle.std.specs.Prelude.{◌≡◌};
-ghost use Rattle.tree_edits.specs.Editing.{has_text, takes, takes_change, takes_flag};
+ghost use Rattle.tree_edits.specs.Editing.{has_text, lays_in_line, takes, takes_change, takes_flag};
 
 use view_model::{Act, Change, Class, Flag};
 
@@ -9,11 +9,12 @@ pub fn takes(class: Class, act: Act) -> bool
     ensures { result ≡ takes class act }
 {
     match act {
-        Act::Change(change) => takes_change(change),
+        Act::Change(change) => takes_change(class, change),
         Act::Flag { flag, on: _ } => takes_flag(class, flag),
         Act::Intercept(_) => class.is_group(),
+        Act::WeightSum(_) | Act::Orient { .. } => lays_in_line(class),
         Act::Visible(_) | Act::Id(_) | Act::Rule { .. } | Act::Answer(_) => true,
-        Act::WeightSum(_) | Act::Orient { .. } | Act::Ink(_) | Act::Scroll(_) => false,
+        Act::Ink(_) | Act::Scroll(_) => false,
     }
 }
 
@@ -22,15 +23,25 @@ pub fn has_text(class: Class) -> bool
     ensures { result ≡ has_text class }
 {
     match class {
-        Class::View | Class::FrameLayout => false,
+        Class::View | Class::FrameLayout | Class::LinearLayout => false,
     }
 }
 
-fn takes_change(change: Change) -> bool
-    ensures { result ≡ takes_change change }
+/// Whether a view of this class lays its children in a line.
+fn lays_in_line(class: Class) -> bool
+    ensures { result ≡ lays_in_line class }
+{
+    match class {
+        Class::View | Class::FrameLayout => false,
+        Class::LinearLayout => true,
+    }
+}
+
+fn takes_change(class: Class, change: Change) -> bool
+    ensures { result ≡ takes_change class change }
 {
     match change {
-        Change::Gravity { kids, gravity: _ } => !kids,
+        Change::Gravity { kids, gravity: _ } => !kids || lays_in_line(class),
         Change::Size { .. }
         | Change::Min(_)
         | Change::Margins(_)

@@ -1,3 +1,5 @@
+//! What is asked of a tree.
+
 use view_model::{Act, Class};
 use view_tree::Key;
 

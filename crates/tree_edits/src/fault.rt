@@ -1,3 +1,5 @@
+//! Why an edit is not made.
+
 use std::alloc::AllocError;
 use view_model::Refusal;
 use view_tree::AttachFault;

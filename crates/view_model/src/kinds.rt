@@ -7,6 +7,8 @@ pub enum Class {
     View,
     /// A group that lays its children over one another.
     FrameLayout,
+    /// A group that lays its children in a line.
+    LinearLayout,
 }
 
 impl Class {
@@ -19,7 +21,7 @@ impl Class {
     {
         match self {
             Class::View => false,
-            Class::FrameLayout => true,
+            Class::FrameLayout | Class::LinearLayout => true,
         }
     }
 }

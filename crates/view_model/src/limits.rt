@@ -1,7 +1,9 @@
-//! The limits of a tree, and of what may be set of a view.
+//! The limits of a tree, of what may be set of a view, of resources and of layout files.
 
 /// The most views that a tree may have.
 pub const MAX_VIEWS: usize = 4096;
+/// The most resources that there may be.
+pub const MAX_RESOURCES: usize = 4096;
 /// How deep the deepest view of a tree may be: a root is 1 deep.
 pub const MAX_DEPTH: usize = 32;
 /// No view has this number or a greater one.
@@ -14,3 +16,7 @@ pub const MAX_INSET: i64 = 1048575;
 pub const MIN_MARGIN: i64 = -1048575;
 /// The greatest weight and the greatest sum of weights that may be set, in 256ths.
 pub const MAX_WEIGHT: u32 = 16776960;
+/// The density of a screen of which none is told, in dots an inch.
+pub const NORMAL_DPI: u32 = 160;
+/// The most bytes that a layout file may have.
+pub const MAX_FILE: usize = 1048576;

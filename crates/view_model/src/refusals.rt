@@ -1,11 +1,25 @@
 //! The numbers of the refusals of lines, and of files that are not read.
 
+/// An attribute names a resource that is not defined.
+pub const UNRESOLVED: u8 = 12;
+/// An attribute's value is one of a theme.
+pub const THEME_REF: u8 = 13;
+/// An attribute's value is not one that the attribute takes.
+pub const BAD_VALUE: u8 = 14;
+/// A resource would be one more than there may be.
+pub const TOO_MANY_RESOURCES: u8 = 15;
+/// An element has an attribute twice.
+pub const DUPLICATE: u8 = 16;
+/// An element has no width or no height.
+pub const NO_SIZE: u8 = 17;
 /// A view would be one more than a tree may have.
 pub const TOO_MANY_VIEWS: u8 = 19;
 /// A view would be deeper than a tree may be.
 pub const TOO_DEEP: u8 = 20;
 /// The parent of a new view is no group.
 pub const NOT_GROUP: u8 = 21;
+/// An element's name is that of no class.
+pub const UNKNOWN_CLASS: u8 = 23;
 /// A line names a view that is not there.
 pub const NO_VIEW: u8 = 28;
 /// A line sets what a view of this class does not have.
@@ -28,3 +42,5 @@ pub const NO_FRAME: u8 = 37;
 pub const MISSING_FILE: u8 = 39;
 /// A file has more bytes than it may have.
 pub const LONG_FILE: u8 = 40;
+/// The density is told of a screen on which there are views.
+pub const LATE_DPI: u8 = 41;

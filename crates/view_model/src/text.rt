@@ -39,6 +39,14 @@ impl Text {
         Ok(Text { characters })
     }
 
+    /// The text of these characters.
+    pub fn from_characters(characters: Vec<char>) -> Text
+        requires { length characters.items < 2 ^ 31 }
+        ensures { result ≡ characters.items }
+    {
+        Text { characters }
+    }
+
     /// The same text once more.
     pub fn copy(&self, alloc: Global) -> Result<Text, AllocError>
         ensures { IfOk result (λ t. t ≡ self.now) }

@@ -6,7 +6,7 @@ use Rattle.std.proofs.lemmas.Grind.{fold-append}
 use Rattle.std.proofs.lemmas.List.{append-nil, take-append-drop}
 use Rattle.script_lines.specs.LineBuffer.{LineBuffer, IsAfter}
 use Rattle.script_lines.specs.Lines.{Line, Text, LongLine, cut_of, last_of, lines_of, is_passed_over}
-use Rattle.script_lines.specs.declared.commands.Command.{Command}
+use Rattle.script_lines.specs.PlainCommands.{PlainCommand}
 use Rattle.script_lines.specs.declared.fault.LineFault.{LineFault}
 use Rattle.script_lines.specs.Commands.{command_of}
 use Rattle.text_lines.specs.BufferedText.{BufferedText as BufferedText}
@@ -27,7 +27,8 @@ use Rattle.view_model.specs.World.{World}
 use Rattle.view_world.specs.declared.fault.StepFault.{StepFault}
 use Rattle.view_world.specs.declared.fault.StepFault.TheVariants as step
 use Rattle.view_world.specs.Carried.{WritesReply, IsDone}
-use Rattle.view_world.specs.Step.{Reply, Done, Refused, asked_file, step as step_of}
+use Rattle.view_world.specs.Inflating.{asked_file}
+use Rattle.view_world.specs.Step.{Reply, Done, Refused, step as step_of}
 use Rattle.view_world.specs.KeyedWorld.{KeyedWorld, world_of}
 use Rattle.script_lines.proofs.LineLaws.{cut_lines-append, cut_lines-length}
 
@@ -114,19 +115,19 @@ passed_line files first now runner progress line number passed counted at =
     rw reply (record { lines = counted; world = at.world; refused = at.refused; gone = subst (Appends first now) (sym (append-nil progress.text)) at.gone })
 
 -- a line that can be read is carried out
-pub taken_line : (files : Files) (world : World) (bytes : List ℕ) (command : Command) (result : Result Command LineFault) → is_passed_over bytes ≡ false → result ≡ command_of bytes → result ≡ Ok command
+pub taken_line : (files : Files) (world : World) (bytes : List ℕ) (command : PlainCommand) (result : Result PlainCommand LineFault) → is_passed_over bytes ≡ false → result ≡ command_of bytes → result ≡ Ok command
     → reply_to_line files world (Text bytes) ≡ step_of files world command
 unfolding reply_to_line
 taken_line files world bytes command result passed read e = rw (passed, sym read ∙ e) refl
 
 -- and asks for the file that its command asks for
-pub taken_line-asked : (world : World) (bytes : List ℕ) (command : Command) (result : Result Command LineFault) → is_passed_over bytes ≡ false → result ≡ command_of bytes → result ≡ Ok command
+pub taken_line-asked : (world : World) (bytes : List ℕ) (command : PlainCommand) (result : Result PlainCommand LineFault) → is_passed_over bytes ≡ false → result ≡ command_of bytes → result ≡ Ok command
     → asked_by_line world (Text bytes) ≡ asked_file world command
 unfolding asked_by_line
 taken_line-asked world bytes command result passed read e = rw (passed, sym read ∙ e) refl
 
 -- a line that cannot be read is refused
-pub faulty_line : (files : Files) (world : World) (bytes : List ℕ) (fault : LineFault) (result : Result Command LineFault) → is_passed_over bytes ≡ false → result ≡ command_of bytes → result ≡ Err fault
+pub faulty_line : (files : Files) (world : World) (bytes : List ℕ) (fault : LineFault) (result : Result PlainCommand LineFault) → is_passed_over bytes ≡ false → result ≡ command_of bytes → result ≡ Err fault
     → reply_to_line files world (Text bytes) ≡ reply_to_command files world (Err fault)
 unfolding reply_to_line
 faulty_line files world bytes fault result passed read e = rw (passed, sym read ∙ e) refl

@@ -1,8 +1,8 @@
 -- How much is counted in a line.
 use Rattle.std.proofs.Common.{◌≡◌, ◌≢◌, ℕ, ◌+◌, ◌-◌, ◌^◌, ◌≤◌, min, ap, refl, arith, inl, inr}
 use Rattle.std.specs.Prelude.{◌⊎◌, Result}
-use Rattle.script_lines.specs.declared.commands.Command.{Command}
-use Rattle.script_lines.specs.declared.commands.Command.TheVariants as command
+use Rattle.script_lines.specs.PlainCommands.{PlainCommand}
+use Rattle.script_lines.specs.PlainCommands as command
 use Rattle.view_model.specs.declared.work.Work.{Work}
 use Rattle.view_world.specs.declared.fault.StepFault.{StepFault}
 use Rattle.view_world.specs.Carried.{IsDone}
@@ -11,11 +11,14 @@ stays : (before after : Work) → after ≡ before → min before.measured (2 ^ 
 stays before after e = omega (arith, ap (λ (work : Work). work.measured) e)
 
 -- a line does not lower the count of measurings: a frame adds to it, and any other line leaves it
-pub measured_later : (line : Command) (outcome : Result (Unit {0}) StepFault) (before after : Work) (calls : ℕ) → (line ≢ command.Frame → after ≡ before) → IsDone outcome ⊎ (after ≡ before)
+pub measured_later : (line : PlainCommand) (outcome : Result (Unit {0}) StepFault) (before after : Work) (calls : ℕ) → (line ≢ command.Frame → after ≡ before) → IsDone outcome ⊎ (after ≡ before)
     → (line ≡ command.Frame → IsDone outcome → after.measured ≡ min (before.measured + calls) (2 ^ 64 - 1)) → min before.measured (2 ^ 64 - 1) ≤ after.measured
 measured_later command.Frame outcome before after calls other (inl done) counted = omega (arith, counted refl done)
 measured_later command.Frame outcome before after calls other (inr idle) counted = stays before after idle
 measured_later (command.Window w h) outcome before after calls other idle counted = stays before after (other (λ e. cc))
+measured_later (command.Dpi dpi) outcome before after calls other idle counted = stays before after (other (λ e. cc))
+measured_later (command.Res id value) outcome before after calls other idle counted = stays before after (other (λ e. cc))
+measured_later (command.Inflate name into) outcome before after calls other idle counted = stays before after (other (λ e. cc))
 measured_later (command.Add parent class width height) outcome before after calls other idle counted = stays before after (other (λ e. cc))
 measured_later (command.Remove view) outcome before after calls other idle counted = stays before after (other (λ e. cc))
 measured_later (command.Act view act) outcome before after calls other idle counted = stays before after (other (λ e. cc))

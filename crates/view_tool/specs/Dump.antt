@@ -8,13 +8,10 @@ use Rattle.axml_reader.specs.Dump.{dump_text}
 use Rattle.text_lines.specs.Joined.{◌⧺◌}
 use Rattle.tool_io.specs.Fetched.{Files, file_of}
 use Rattle.tool_io.specs.SinkState.{SinkState}
+use Rattle.view_model.specs.declared.limits.TheConstants.{MAX_FILE}
 use Rattle.view_model.specs.declared.refusals.TheConstants.{LONG_FILE, MISSING_FILE}
 use Rattle.view_tool.specs.Refusals.{refused_text}
 use Rattle.view_tool.specs.Tool.{IsComplete, Writes}
-
--- the most bytes that a layout file may have
-abbrev pub max_file : ℕ
-max_file = 1048576
 
 -- a file that is refused, by the number of the refusal
 unfoldable pub refused_file_text : ℕ → List ℕ
@@ -36,11 +33,11 @@ is_fault (Err fault) = true
 -- the text of a file, where there is one
 abbrev pub file_text : Option (List ℕ) → List ℕ
 file_text None = refused_file_text MISSING_FILE
-file_text (Some bytes) = if nat_lt max_file (length bytes) then refused_file_text LONG_FILE else decoded_text (decoded bytes)
+file_text (Some bytes) = if nat_lt MAX_FILE (length bytes) then refused_file_text LONG_FILE else decoded_text (decoded bytes)
 
 abbrev pub is_refused_file : Option (List ℕ) → Bool
 is_refused_file None = true
-is_refused_file (Some bytes) = if nat_lt max_file (length bytes) then true else is_fault (decoded bytes)
+is_refused_file (Some bytes) = if nat_lt MAX_FILE (length bytes) then true else is_fault (decoded bytes)
 
 -- what is written of the file of a name, and whether it is refused
 abbrev pub dump_page : Files → List ℕ → List ℕ

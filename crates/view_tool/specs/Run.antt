@@ -1,9 +1,9 @@
 -- The run of a script in the code.
-use Rattle.std.specs.Prelude.{◌≡◌, ◌≤◌, ℕ, List, [], ◌∷◌, ◌++◌, Option, Some, None, Result, Ok, Err}
+use Rattle.std.specs.Prelude.{◌≡◌, ◌≤◌, ℕ, List, [], ◌∷◌, ◌++◌, Option, Some, None, Result, Ok, Err, IfSome, length}
 use Rattle.std.proofs.Common.{Bor}
 use Rattle.std.specs.Io.KnownBytes.{Appends}
 use Rattle.script_lines.specs.LineBuffer.{IsAfter}
-use Rattle.script_lines.specs.Lines.{Line, Text, LongLine, cut_of}
+use Rattle.script_lines.specs.Lines.{Line, Text, LongLine, cut_of, max_line}
 use Rattle.text_lines.specs.Prefix.{AppendsPrefix}
 use Rattle.tool_io.specs.Counts.{raised}
 use Rattle.tool_io.specs.Fetched.{Files}
@@ -18,6 +18,10 @@ use Rattle.view_world.specs.KeyedWorld.{world_of}
 abbrev pub line_now : Option (Bor (List ℕ)) → Line
 line_now None = LongLine
 line_now (Some line) = Text line.now
+
+-- a line as the code has it is no longer than a line may be
+abbrev pub IsShort : Option (Bor (List ℕ)) → Type 0
+IsShort line = IfSome line (λ bytes. length bytes.now ≤ max_line)
 
 -- the line that has ended, where one has
 abbrev pub lines_now : Option (Option (Bor (List ℕ))) → List Line

@@ -1,6 +1,6 @@
 -- What the tool writes for a script: the texts of its lines, one after another, from the empty world.
 use Rattle.std.specs.Prelude.{◌≢◌, ℕ, ◌+◌, Bool, true, false, nat_lt, if◌then◌else◌, length, List, [], ◌++◌, Option, None, Result, Ok, Err, fold, take}
-use Rattle.script_lines.specs.declared.commands.Command.{Command}
+use Rattle.script_lines.specs.PlainCommands.{PlainCommand}
 use Rattle.script_lines.specs.declared.fault.LineFault.{LineFault}
 use Rattle.script_lines.specs.declared.fault.LineFault.TheVariants as fault
 use Rattle.script_lines.specs.Commands.{command_of}
@@ -11,9 +11,10 @@ use Rattle.view_model.specs.World.{World, empty_world}
 use Rattle.tool_io.specs.Fetched.{Files}
 use Rattle.view_tool.specs.Refusals.{refused_line}
 use Rattle.view_world.specs.Carried.{MayWantMemory}
-use Rattle.view_world.specs.Step.{Reply, Done, Refused, asked_file, step}
+use Rattle.view_world.specs.Inflating.{asked_file}
+use Rattle.view_world.specs.Step.{Reply, Done, Refused, step}
 
-abbrev pub reply_to_command : Files → World → Result Command LineFault → Reply
+abbrev pub reply_to_command : Files → World → Result PlainCommand LineFault → Reply
 reply_to_command files world (Ok command) = step files world command
 reply_to_command files world (Err fault.Syntax) = Refused (refusal_numbered SYNTAX)
 reply_to_command files world (Err fault.Range) = Refused (refusal_numbered OUT_OF_RANGE)
@@ -29,7 +30,7 @@ reply_to_line files world LongLine = Refused (refusal_numbered LONG_LINE)
 reply_to_line files world (Text bytes) = if is_passed_over bytes then Done world [] else reply_to_command files world (command_of bytes)
 
 -- the name of the file that a line asks the shelf for, unless it is refused before
-abbrev pub asked_by_command : World → Result Command LineFault → Option (List ℕ)
+abbrev pub asked_by_command : World → Result PlainCommand LineFault → Option (List ℕ)
 asked_by_command world (Ok command) = asked_file world command
 asked_by_command world (Err fault) = None
 
@@ -85,7 +86,7 @@ abbrev pub cut_transcript : List ℕ → Files → List ℕ
 cut_transcript script files = (after_lines files (cut_of (take max_script script)).lines).text
 
 -- the command of a line may want memory
-abbrev pub CommandWants : Result Command LineFault → Type 0
+abbrev pub CommandWants : Result PlainCommand LineFault → Type 0
 CommandWants (Ok command) = MayWantMemory command
 CommandWants (Err fault) = ⊥
 

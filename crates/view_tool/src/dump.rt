@@ -4,6 +4,7 @@ ghost use Rattle.std.specs.Prelude.{◌≡◌, ◌≢◌, ◌≤◌, ◌⊎◌, 
 ghost use Rattle.axml_reader.specs.Decoding.{decoded};
 ghost use Rattle.tool_io.specs.Counts.{raised};
 ghost use Rattle.tool_io.specs.Fetched.{Fetched, Files};
+ghost use Rattle.view_model.specs.declared.limits.TheConstants.{MAX_FILE};
 ghost use Rattle.view_tool.specs.Dump.{Dumps, decoded_text, dump_page, is_fault, refuses_file, status_of_text};
 ghost use Rattle.view_tool.specs.Tool.{IsOneOf};
 
@@ -13,10 +14,8 @@ use axml_chunks::ReadFault;
 use axml_reader::{print, read};
 use std::alloc::Global;
 use tool_io::{Failed, Found, Shelf, ShelfFault, Sink};
+use view_model::limits::MAX_FILE;
 use view_model::refusals::{LONG_FILE, MISSING_FILE};
-
-/// The most bytes that a layout file may have.
-const MAX_FILE: usize = 1048576;
 
 /// Prints the file of this name, or tells why it is refused.
 pub fn dump<K: Sink, F: Shelf>(alloc: Global, name: &str, shelf: &mut F, sink: &mut K) -> u8

@@ -1,11 +1,11 @@
 //! A script that is carried out as its bytes come.
 
-ghost use Rattle.std.specs.Prelude.{◌≡◌, ◌⊎◌, ℕ, ◌+◌, ◌-◌, ◌*◌, ◌<◌, ◌≤◌, ◌^◌, min, false, List, ◌∷◌, [], ◌++◌, Option, Some, Err, OnOk, IfOk, IfErr, length, take};
+ghost use Rattle.std.specs.Prelude.{◌≡◌, ◌⊎◌, ℕ, ◌+◌, ◌-◌, ◌*◌, ◌<◌, ◌≤◌, ◌^◌, min, false, List, ◌∷◌, [], ◌++◌, Option, Some, Err, OnOk, IfOk, IfErr, IfSome, length, take};
 ghost use Rattle.script_lines.specs.LineBuffer.{IsLent, lines_at};
-ghost use Rattle.script_lines.specs.Lines.{Line, cut_of, lines_of};
+ghost use Rattle.script_lines.specs.Lines.{Line, cut_of, lines_of, max_line};
 ghost use Rattle.tool_io.specs.Fetched.{Files};
 ghost use Rattle.view_model.specs.declared.limits.TheConstants.{MAX_VIEWS, NUMBERS_END};
-ghost use Rattle.view_tool.specs.Run.{CountsFetches, HasCarriedOut, HasReadUpTo, StopsIn, WithFiles, line_now, lines_now, writes_counted};
+ghost use Rattle.view_tool.specs.Run.{CountsFetches, HasCarriedOut, HasReadUpTo, IsShort, StopsIn, WithFiles, line_now, lines_now, writes_counted};
 ghost use Rattle.view_tool.specs.Transcript.{Asks, MayWant, Progress, after_line, after_lines, is_idle, reply_to_line};
 ghost use Rattle.view_world.specs.Carried.{CountsShelf, IsDone, WritesReply, faults_after_line};
 ghost use Rattle.view_world.specs.KeyedWorld.{world_of};
@@ -51,7 +51,8 @@ impl LineRunner {
         sink: &mut K,
         work: &mut Work,
     ) -> Result<(), Stop>
-        requires { self.old.world.views.next < NUMBERS_END }
+        requires numbered { self.old.world.views.next < NUMBERS_END }
+        requires short { IsShort line }
         ensures done { (files : Files) (first : Option (List ℕ)) (progress : Progress)
             → F.files shelf.old ≡ Some files
             → progress.lines < 2 ^ 63
@@ -87,6 +88,7 @@ impl LineRunner {
         work: &mut Work,
     ) -> Result<(), Stop>
         requires numbered { self.old.world.views.next < NUMBERS_END }
+        requires short { IsShort line }
         requires counts { is_idle (line_now line) ≡ false }
         ensures done { (files : Files) (first : Option (List ℕ)) (progress : Progress)
             → F.files shelf.old ≡ Some files
@@ -144,6 +146,7 @@ fn carry_out<K: Sink, F: Shelf>(
     work: &mut Work,
 ) -> Result<(), StepFault>
     requires numbered { world.old.views.next < NUMBERS_END }
+    requires short { IsShort bytes }
     requires counts { is_idle (line_now bytes) ≡ false }
     ensures carried { (files : Files)
         → F.files shelf.old ≡ Some files
@@ -171,8 +174,10 @@ fn carry_out<K: Sink, F: Shelf>(
 /// The line that has ended, if one has: one in a piece, or the one that is held. None in it is a line that is too long.
 #[inline]
 fn ended_line<'a>(place: LinePlace, piece: &'a [u8], held: &'a [u8]) -> Option<Option<&'a [u8]>>
-    requires { IsLent place (length piece.now) }
-    ensures { lines_now result ≡ lines_at place piece.now held.now }
+    requires lent { IsLent place (length piece.now) }
+    requires short { length held.now ≤ max_line }
+    ensures line { lines_now result ≡ lines_at place piece.now held.now }
+    ensures short { IfSome result (λ line. IsShort line) }
 {
     match place {
         LinePlace::No => None,

@@ -1,9 +1,10 @@
 //! What the words behind the name of the tool ask for.
 
 ghost use Rattle.std.specs.Prelude.{◌≡◌, string_bytes};
-ghost use Rattle.std.specs.List.{list_all};
 ghost use Rattle.std.specs.Str.{bytes_eq};
-ghost use Rattle.view_tool.specs.Usage.{dump_usage, form_now, is_name, is_name_byte, run_usage, usage};
+ghost use Rattle.view_tool.specs.Usage.{dump_usage, form_now, run_usage, usage};
+
+use script_lines::is_file_name;
 
 /// What the words ask for.
 #[derive(Clone, Copy, Debug)]
@@ -40,7 +41,7 @@ fn run_form(word: &String) -> Option<Form<'_>>
 fn dump_form<'a>(word: &String, name: &'a String) -> Option<Form<'a>>
     ensures { form_now result ≡ dump_usage (string_bytes word.now) (string_bytes name.now) }
 {
-    if is(word, "dump") && names_a_file(name) {
+    if is(word, "dump") && is_file_name(name.as_bytes()) {
         Some(Form::Dump(name.as_str()))
     } else {
         None
@@ -51,19 +52,4 @@ fn is(word: &String, text: &str) -> bool
     ensures { result ≡ bytes_eq (string_bytes word.now) text.now }
 {
     word.as_str() == text
-}
-
-/// Whether a file may have this name.
-#[tactic(auto, unfolding(crate::specs::Usage::is_name))]
-fn names_a_file(word: &String) -> bool
-    ensures { result ≡ is_name (string_bytes word.now) }
-{
-    let name = word.as_bytes();
-    !name.is_empty() && name.len() <= 64 && are_name_bytes(name) && name[0] != b'.'
-}
-
-fn are_name_bytes(bytes: &[u8]) -> bool
-    ensures { result ≡ list_all is_name_byte bytes.now }
-{
-    bytes.iter().all(|b| b.is_ascii_alphanumeric() || *b == b'_' || *b == b'-' || *b == b'.')
 }

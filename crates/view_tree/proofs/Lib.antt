@@ -2,4 +2,5 @@
 pub mod forest
 pub mod values
 mod calls
+mod grafts
 mod nodes

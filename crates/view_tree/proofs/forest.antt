@@ -3,6 +3,7 @@ pub mod AncestorLaws
 pub mod DepthLaws
 pub mod ForestLaws
 pub mod Forests
+pub mod GrownParts
 pub mod IdLaws
 pub mod KeyLaws
 pub mod NumberLaws

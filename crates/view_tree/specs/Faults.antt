@@ -1,6 +1,7 @@
--- Why a tree does not take a view.
+-- Why a tree does not take what it is handed.
 use Rattle.std.specs.Prelude.{◌≡◌, Option, Some, None, Result, Ok, Err}
 use Rattle.view_model.specs.Refusals.{PlainRefusal, plain_refusal}
+use Rattle.view_model.specs.declared.refusal.Refusal.{Refusal}
 use Rattle.view_tree.specs.declared.fault.AttachFault.{AttachFault}
 use Rattle.view_tree.specs.declared.fault.AttachFault.TheVariants as fault
 
@@ -10,3 +11,8 @@ abbrev pub IsRefusedExactlyFor : {A : Type 0} → Option PlainRefusal → Result
 IsRefusedExactlyFor reason (Ok answer) = reason ≡ None
 IsRefusedExactlyFor reason (Err (fault.Refused refusal)) = reason ≡ Some (plain_refusal refusal)
 IsRefusedExactlyFor reason (Err fault.NoMemory) = reason ≡ None
+
+-- the same of an answer that never wants memory
+abbrev pub RefusesExactlyFor : {A : Type 0} → Option PlainRefusal → Result A Refusal → Type 0
+RefusesExactlyFor reason (Ok answer) = reason ≡ None
+RefusesExactlyFor reason (Err refusal) = reason ≡ Some (plain_refusal refusal)

@@ -1,8 +1,10 @@
 pub mod Attached
 pub mod Codes
 pub mod Faults
+pub mod Grafted
 pub mod Hidden
 pub mod Holders
 pub mod Nodes
 pub mod Rows
+pub mod Sowing
 pub mod Views

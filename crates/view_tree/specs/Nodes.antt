@@ -1,7 +1,9 @@
 -- How the nodes of a tree stand for its views.
+use Rattle.std.specs.declared.hash.BuildHasherDefault.{BuildHasherDefault}
+use Rattle.std.specs.declared.hash.FoldHasher.{FoldHasher}
 use Rattle.std.specs.Prelude.{ℕ, zero, suc, ◌≡◌, ◌<◌, ◌≤◌, ◌==◌, ◌^◌, nat_eq, map, Bool, Option, Some, None, if◌then◌else◌, option_map, ◌⊎◌}
 use Rattle.slab.specs.Slab.{Slab, get, slab_len}
-use Rattle.indexmap.specs.IndexMap.{get as get_key}
+use Rattle.indexmap.specs.IndexMap.{IndexMap, get as get_key}
 use Rattle.view_model.specs.Forest.{Forest, Nothing, Branch, count_of}
 use Rattle.view_model.specs.Layout.{unscrolled}
 use Rattle.view_model.specs.PlainTree.{PlainView}
@@ -137,11 +139,19 @@ pub record RepresentsTree (at : ℕ → Option Links) (root : Option ℕ) (next 
   pub distinct : (key : ℕ) → count_of_key key tree ≤ 1
   pub few : count_of tree < next
 
+-- the fields of a tree
+abbrev pub fields : Slab Node → IndexMap ℕ ℕ (BuildHasherDefault FoldHasher) → IndexMap ℕ Holders (BuildHasherDefault FoldHasher) → Option ℕ → ℕ → Inside
+fields nodes keys ids root next = record { nodes = nodes; keys = keys; ids = ids; root = root; next = next }
+
 abbrev pub tree_of : Inside → Forest Row
 tree_of inside = forest inside.next (links_at inside.nodes) inside.root
 
+-- what contracts see of a tree with this root, where this is the number of the view that is made next
+abbrev pub views_in : Slab Node → Option ℕ → ℕ → Views
+views_in nodes root next = record { tree = forest next (links_at nodes) root; held = map held_in nodes.slots; next = next }
+
 abbrev pub value_of : Inside → Views
-value_of inside = record { tree = tree_of inside; held = map held_in inside.nodes.slots; next = inside.next }
+value_of inside = views_in inside.nodes inside.root inside.next
 
 abbrev pub has_id : ℕ → PlainView → Bool
 has_id id view = view.facts.id == id

@@ -1,5 +1,5 @@
 //! The views that have each id, kept so that one that has an id alone is found without a walk.
-ghost use Rattle.std.specs.Prelude.{◌≡◌, ◌≤◌, ◌<◌, ◌+◌, ℕ, Some, None, IfSome, IsOk, OnErr, OnOk, nat_eq};
+ghost use Rattle.std.specs.Prelude.{◌≡◌, ◌≢◌, ◌≤◌, ◌<◌, ◌+◌, ℕ, Some, None, IfSome, IsOk, OnErr, OnOk, nat_eq};
 ghost use Rattle.indexmap.specs.IndexMap.{get as holders_at, spare};
 ghost use Rattle.view_model.specs.declared.limits.TheConstants.{MAX_VIEWS};
 ghost use Rattle.view_tree.specs.Faults.{IsRefusedExactlyFor};
@@ -46,7 +46,7 @@ pub fn note_id(ids: &mut IndexMap<u32, Holders>, id: u32, key: usize) -> Result<
     ensures refused { IsRefusedExactlyFor None result }
     ensures noted { OnOk result ((i : ℕ) → holders_at nat_eq ids.new i ≡ noted (holders_at nat_eq ids.old i) id key i) }
     ensures unchanged { OnErr result (ids.new.entries ≡ ids.old.entries) }
-    ensures succeeds { 0 < spare ids.old → IsOk result }
+    ensures succeeds { (id ≢ 0 → 0 < spare ids.old) → IsOk result }
     ensures spare { spare ids.old ≤ spare ids.new + 1 }
 {
     if id == 0 {

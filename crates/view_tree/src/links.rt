@@ -14,6 +14,7 @@ fn set_next(nodes: &mut Slab<Node>, key: Option<usize>, next: Option<usize>)
     ensures links { (x : ℕ) → links_at nodes.new x ≡ changed_at (links_at nodes.old) key (λ node. record node { next = next }) x }
     ensures held { (x : ℕ) → held_in (get nodes.new x) ≡ held_in (get nodes.old x) }
     ensures len { slab_len nodes.new ≡ slab_len nodes.old }
+    ensures capacity { nodes.new.capacity ≡ nodes.old.capacity }
 {
     if let Some(key) = key {
         let node = &mut nodes[key];
@@ -26,6 +27,7 @@ fn set_previous(nodes: &mut Slab<Node>, key: Option<usize>, previous: Option<usi
     ensures links { (x : ℕ) → links_at nodes.new x ≡ changed_at (links_at nodes.old) key (λ node. record node { previous = previous }) x }
     ensures held { (x : ℕ) → held_in (get nodes.new x) ≡ held_in (get nodes.old x) }
     ensures len { slab_len nodes.new ≡ slab_len nodes.old }
+    ensures capacity { nodes.new.capacity ≡ nodes.old.capacity }
 {
     if let Some(key) = key {
         let node = &mut nodes[key];
@@ -39,6 +41,7 @@ fn set_last(nodes: &mut Slab<Node>, parent: Option<usize>, kid: usize)
     ensures links { (x : ℕ) → links_at nodes.new x ≡ changed_at (links_at nodes.old) parent (λ node. record node { first = key_or node.first kid; last = Some kid }) x }
     ensures held { (x : ℕ) → held_in (get nodes.new x) ≡ held_in (get nodes.old x) }
     ensures len { slab_len nodes.new ≡ slab_len nodes.old }
+    ensures capacity { nodes.new.capacity ≡ nodes.old.capacity }
 {
     if let Some(parent) = parent {
         let node = &mut nodes[parent];
@@ -60,6 +63,7 @@ fn set_ends(
     ensures links { (x : ℕ) → links_at nodes.new x ≡ changed_at (links_at nodes.old) parent (λ node. record node { first = replaced_if_none previous next node.first; last = replaced_if_none next previous node.last }) x }
     ensures held { (x : ℕ) → held_in (get nodes.new x) ≡ held_in (get nodes.old x) }
     ensures len { slab_len nodes.new ≡ slab_len nodes.old }
+    ensures capacity { nodes.new.capacity ≡ nodes.old.capacity }
 {
     if let Some(parent) = parent {
         let node = &mut nodes[parent];
@@ -99,6 +103,7 @@ pub fn link_last(
     ensures held { held_in (get nodes.new result) ≡ Some (fresh_held facts.offset) }
     ensures others { (x : ℕ) → x ≢ result → held_in (get nodes.new x) ≡ held_in (get nodes.old x) }
     ensures len { slab_len nodes.new ≡ slab_len nodes.old + 1 }
+    ensures capacity { nodes.new.capacity ≡ nodes.old.capacity }
 {
     let last = last_of(nodes, parent);
     let key = nodes.insert_reserved(Node {

@@ -1,5 +1,5 @@
 //! The keys of views by their numbers, and the memory that more views take.
-ghost use Rattle.std.specs.Prelude.{◌≡◌, ◌<◌, ◌≤◌, ℕ, Some, None, OnOk, if◌then◌else◌, nat_eq};
+ghost use Rattle.std.specs.Prelude.{◌≡◌, ◌<◌, ◌≤◌, ◌+◌, ℕ, Some, None, OnOk, if◌then◌else◌, nat_eq};
 ghost use Rattle.indexmap.specs.IndexMap.{get as key_of, spare};
 ghost use Rattle.slab.specs.Slab.{HasRoomFor};
 ghost use Rattle.view_tree.specs.Faults.{IsRefusedExactlyFor};
@@ -13,7 +13,8 @@ use slab::Slab;
 /// Notes the key of a number, where there is room for it.
 pub fn note_key(keys: &mut IndexMap<u64, usize>, number: u64, key: usize)
     requires { 0 < spare keys.old }
-    ensures { (n : ℕ) → key_of nat_eq keys.new n ≡ (if nat_eq number n then Some key else key_of nat_eq keys.old n) }
+    ensures noted { (n : ℕ) → key_of nat_eq keys.new n ≡ (if nat_eq number n then Some key else key_of nat_eq keys.old n) }
+    ensures spare { spare keys.old ≤ spare keys.new + 1 }
 {
     match keys.insert(number, key) {
         Ok(_) => (),

@@ -8,8 +8,10 @@ ghost use Rattle.view_tree.specs.Views.{IsLive, IsTree, no_views};
 mod attach;
 mod detach;
 mod find;
+mod graft;
 mod look_up;
 mod plain;
+mod plant;
 mod setters;
 
 use crate::ids::Holders;

@@ -106,5 +106,6 @@ laid_group held row kids specs rect spot here finals is =
     let rule = rule_of (unscrolled row.view) specs in
     let course = (course_of rule (children_of (views_of kids))).kids in
     let entry : Laid = record { number = row.view.number; rect = rect } in
+    let own : Spot = record { view = unscrolled row.view; specs = specs; room = size_of_rect rect; total = total_size row.view (views_of kids) specs } in
     rw (here, is) (ap (λ (more : List Laid). entry ∷ more)
-    (placed_kids _ [] specs held kids course (unasked-course rule (children_of (views_of kids))) (sym finals)))
+    (placed_kids own [] specs held kids course (unasked-course rule (children_of (views_of kids))) (sym finals)))

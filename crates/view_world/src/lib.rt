@@ -3,9 +3,11 @@
 
 mod bounds;
 mod fault;
+mod inflating;
 mod laying;
 mod naming;
 mod replies;
+mod resources;
 mod response;
 mod stage;
 mod world;

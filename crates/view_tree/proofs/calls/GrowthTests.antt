@@ -4,15 +4,15 @@ use Rattle.view_model.specs.declared.kinds.Class.{Class}
 use Rattle.view_model.specs.Forest.{count_of}
 use Rattle.view_model.specs.Growth.{growth_refusal, refusal_at}
 use Rattle.view_model.specs.Refusals.{PlainRefusal}
-use Rattle.view_tree.specs.Faults.{IsRefusedExactlyFor}
+use Rattle.view_tree.specs.Faults.{RefusesExactlyFor}
 use Rattle.view_tree.specs.Rows.{ancestors}
 use Rattle.view_tree.specs.Views.{IsLive, IsTree, Views, class_of, number_of, plain_of}
-use Rattle.view_tree.specs.declared.fault.AttachFault.{AttachFault}
+use Rattle.view_model.specs.declared.refusal.Refusal.{Refusal}
 use Rattle.view_tree.proofs.values.KeptLaws.{refusal_live}
 
-pub refused_live : (views : Views) (parent : ℕ) (class : Class) (depth count : ℕ) (result : Result (Unit {0}) AttachFault) → IsTree views → IsLive views parent
+pub refused_live : (views : Views) (parent : ℕ) (class : Class) (depth count : ℕ) (result : Result (Unit {0}) Refusal) → IsTree views → IsLive views parent
     → class ≡ class_of views parent → depth ≡ length (ancestors parent views.tree) + 1 → count ≡ count_of views.tree
-    → IsRefusedExactlyFor (growth_refusal class depth count) result → IsRefusedExactlyFor (refusal_at (plain_of views) (Some (number_of views parent))) result
+    → RefusesExactlyFor (growth_refusal class depth count) result → RefusesExactlyFor (refusal_at (plain_of views) (Some (number_of views parent))) result
 refused_live views parent class depth count result is live class_is depth_is count_is refused =
     let deep : depth ≡ suc (length (ancestors parent views.tree)) = omega arith in
     let same : growth_refusal class depth count ≡ refusal_at (plain_of views) (Some (number_of views parent)) =
@@ -20,4 +20,4 @@ refused_live views parent class depth count result is live class_is depth_is cou
     ∙ ap (λ d. growth_refusal (class_of views parent) d count) deep
     ∙ ap (λ n. growth_refusal (class_of views parent) (suc (length (ancestors parent views.tree))) n) count_is
     ∙ sym (refusal_live views parent is live) in
-    subst (λ (reason : Option PlainRefusal). IsRefusedExactlyFor reason result) same refused
+    subst (λ (reason : Option PlainRefusal). RefusesExactlyFor reason result) same refused

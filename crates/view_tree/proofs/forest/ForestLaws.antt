@@ -2,7 +2,7 @@
 use Rattle.std.proofs.Common.{◌≡◌, Bool, ◌∷◌, map, refl, ap, inl, inr}
 use Rattle.std.proofs.lemmas.Bool.{cases_Bool}
 use Rattle.std.proofs.lemmas.List.{map-append}
-use Rattle.view_model.specs.Forest.{Forest, Nothing, Branch, EveryBranch, EveryRow, edited_where, joined, map_rows, or_else, rows}
+use Rattle.view_model.specs.Forest.{Forest, Nothing, Branch, EveryBranch, EveryRow, edited_where, grown_where, joined, map_rows, or_else, rows}
 
 -- what holds of every row of two lists, with what is below it, holds of every row of both together
 pub every_branch-joined : {R : Type 0} (P : R → Forest R → Type 0) (list more : Forest R) → EveryBranch P list → EveryBranch P more → EveryBranch P (joined list more)
@@ -62,4 +62,32 @@ map_rows-edited f passes test edit other same (Branch row below after) agree =
         map_rows-edited f passes test edit other same below agree.1,
         map_rows-edited f passes test edit other same after agree.2,
       )
+    ]
+
+-- lists one behind the other
+pub joined-nothing : {R : Type 0} (list : Forest R) → joined list Nothing ≡ list
+joined-nothing Nothing = refl
+joined-nothing (Branch row below after) = rw (joined-nothing after)
+
+pub joined-assoc : {R : Type 0} (list more rest : Forest R) → joined (joined list more) rest ≡ joined list (joined more rest)
+joined-assoc Nothing more rest = refl
+joined-assoc (Branch row below after) more rest = rw (joined-assoc after more rest)
+
+-- nothing comes below a row
+pub grown_where-nothing : {R : Type 0} (passes : R → Bool) (trees : Forest R) → grown_where passes Nothing trees ≡ trees
+grown_where-nothing passes Nothing = refl
+grown_where-nothing passes (Branch row below after) =
+    elim (cases_Bool (passes row)) [
+      | inl e ↦ rw (e, joined-nothing below)
+      | inr e ↦ rw (e, grown_where-nothing passes below, grown_where-nothing passes after)
+    ]
+
+-- trees come below a row, and then more
+pub grown_where-again : {R : Type 0} (passes : R → Bool) (first more trees : Forest R)
+    → grown_where passes more (grown_where passes first trees) ≡ grown_where passes (joined first more) trees
+grown_where-again passes first more Nothing = refl
+grown_where-again passes first more (Branch row below after) =
+    elim (cases_Bool (passes row)) [
+      | inl e ↦ rw (e, e, joined-assoc below first more)
+      | inr e ↦ rw (e, e, grown_where-again passes first more below, grown_where-again passes first more after)
     ]

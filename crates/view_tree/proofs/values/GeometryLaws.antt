@@ -12,7 +12,9 @@ use Rattle.geom_core.specs.declared.geometry.Rect.{Rect}
 use Rattle.view_model.specs.Forest.{Forest, Nothing, Branch, joined, or_else, rows}
 use Rattle.view_model.specs.Geometry.{Laid, rect_in, without}
 use Rattle.view_model.specs.PlainTree.{PlainView, numbers_of, part_of}
+use Rattle.view_tree.specs.Grafted.{Gained}
 use Rattle.view_tree.specs.Hidden.{NoBounds}
+use Rattle.view_tree.specs.declared.state.State.{State}
 use Rattle.view_tree.specs.Rows.{Row, first_tree, pruned_at_key, part_from, grown_at_key, leaf, changed_at_key, count_of_key, count_of_number, with_child}
 use Rattle.view_tree.specs.Views.{Held, IsLive, IsTree, Views, geometry_of, held_of, laid_at, laid_rows, number_of, plain_of, scrolled, state_of}
 use Rattle.view_tree.proofs.forest.KeyLaws.{Agree, absent, number_self, or_else_live, times_self, zero_or_more}
@@ -78,6 +80,24 @@ geometry-with_child old new (Some parent) key view root none bounds others =
     laid-grown new parent (leaf key view) old.tree (rw bounds)
     ∙ laid_along (held_of old) new old.tree
     (λ other live. ap (λ (h : Held). h.state.bounds) (others other (λ e. let z : count_of_key other old.tree ≡ 0 = rw e none in omega arith)))
+
+-- and so with views that came without bounds
+pub geometry-gained : (old new : Views) (parent : Option ℕ) (added : Forest Row) → (parent ≡ None → old.tree ≡ Nothing) → Gained old parent added new → geometry_of new ≡ geometry_of old
+geometry-gained old new parent added root gained = ap (laid_rows (held_of new)) gained.tree ∙ behind parent root
+  where
+    none : laid_rows (held_of new) added ≡ []
+    none = laid_nowhere (held_of new) added (no_bounds (held_of new) added (λ key live. ap (λ (s : State). s.bounds) (gained.made key live)))
+    elsewhere : (other : ℕ) → 0 < count_of_key other old.tree → count_of_key other added ≡ 0
+    elsewhere other live = elim (zero_or_more (count_of_key other added)) [
+      | inl none ↦ none
+      | inr came ↦ absurd (let unused = gained.unused other came in omega arith)
+    ]
+    behind : (parent : Option ℕ) → (parent ≡ None → old.tree ≡ Nothing) → laid_rows (held_of new) (with_child parent added old.tree) ≡ geometry_of old
+    behind None root = none ∙ sym (ap (laid_rows (held_of old)) (root refl))
+    behind (Some key) root =
+        laid-grown (held_of new) key added old.tree none
+        ∙ laid_along (held_of old) (held_of new) old.tree
+        (λ other live. ap (λ (h : Held). h.state.bounds) (gained.others other (elsewhere other live)))
 
 -- the numbers of keyed views
 abbrev pub row_numbers : Forest Row → List ℕ

@@ -5,9 +5,12 @@ use Rattle.std.specs.Prelude.{◌==◌}
 use Rattle.view_model.specs.Facts.{is_shown}
 use Rattle.view_model.specs.Forest.{Forest, Nothing, Branch, joined, or_else}
 use Rattle.view_model.specs.PlainTree.{PlainView}
-use Rattle.view_tree.specs.Hidden.{HiddenView, HidesGone, NoBounds}
+use Rattle.view_model.specs.Sprouts.{Seed}
+use Rattle.view_tree.specs.Grafted.{Gained, Grafted}
+use Rattle.view_tree.specs.Hidden.{HiddenView, HidesGone, IsConsistent, NoBounds}
 use Rattle.view_tree.specs.Rows.{Row, first_tree, pruned_at_key, part_from, grown_at_key, head_view, leaf, changed_at_key, count_of_key, with_child}
-use Rattle.view_tree.specs.Views.{Held, IsTree, Views, held_of}
+use Rattle.view_tree.specs.Views.{Held, IsTree, Views, fresh, held_of}
+use Rattle.view_tree.specs.declared.state.State.{State}
 use Rattle.view_tree.proofs.forest.ForestLaws.{every-edited, every-joined, every_branch-edited, every_branch-joined}
 use Rattle.view_tree.proofs.forest.KeyLaws.{absent, or_else_live, times_self, zero_or_more}
 use Rattle.view_tree.proofs.forest.NumberLaws.{count_of_key-pruned_at_key, put_absent}
@@ -133,3 +136,29 @@ hides-put held key change (Branch row kids siblings) once hides gone =
             )
           ]
     ]
+
+-- views that have come lie nowhere
+no_bounds_fresh : (held : ℕ → Held) (list : Forest Row) → ((key : ℕ) → 0 < count_of_key key list → (held key).state ≡ fresh) → NoBounds held list
+no_bounds_fresh held Nothing made = tt
+no_bounds_fresh held (Branch row kids siblings) made = (
+  record { bounds = ap (λ (state : State). state.bounds) (made row.key (times_self row kids siblings)) },
+  no_bounds_fresh held kids (λ key there. made key (omega arith)),
+  no_bounds_fresh held siblings (λ key there. made key (omega arith)),
+)
+
+pub hidden-gained : (old new : Views) (parent : Option ℕ) (added : Forest Row) → Gained old parent added new → HidesGone (held_of old) old.tree → HidesGone (held_of new) new.tree
+hidden-gained old new None added gained hides = rw gained.tree (hides_nowhere (held_of new) added (no_bounds_fresh (held_of new) added gained.made))
+hidden-gained old new (Some parent) added gained hides =
+    rw gained.tree
+    (hides-grown (held_of new) parent added old.tree
+    (hides_along (held_of old) (held_of new) old.tree
+    (λ other live was. elim (zero_or_more (count_of_key other added)) [
+      | inl none ↦ ap (λ (h : Held). h.state.bounds) (gained.others other none) ∙ was
+      | inr there ↦ let none = gained.unused other there in absurd (omega arith)
+    ])
+    hides)
+    (no_bounds_fresh (held_of new) added gained.made))
+
+-- what a tree keeps between lines, it keeps once a sapling has come
+pub consistent-grafted : (old new : Views) (parent : Option ℕ) (sapling : Forest Seed) (key : ℕ) → Grafted old parent sapling key new → IsConsistent old → IsConsistent new
+consistent-grafted old new parent sapling key grafted kept = record { hidden = hidden-gained old new parent grafted.added grafted.gained kept.hidden }

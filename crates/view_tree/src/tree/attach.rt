@@ -6,18 +6,17 @@ ghost use Rattle.view_model.specs.Forest.{Nothing};
 ghost use Rattle.view_model.specs.Growth.{growth_refusal, refusal_at};
 ghost use Rattle.view_model.specs.PlainTree.{PlainView};
 ghost use Rattle.view_tree.specs.Attached.{Attached};
-ghost use Rattle.view_tree.specs.Faults.{IsRefusedExactlyFor};
-ghost use Rattle.view_tree.specs.Nodes.{replaced_if_none};
+ghost use Rattle.view_tree.specs.Faults.{IsRefusedExactlyFor, RefusesExactlyFor};
 ghost use Rattle.view_tree.specs.Rows.{ancestors};
 ghost use Rattle.view_tree.specs.Views.{IsLive, number_of, plain_of};
 
+use super::plant::plant;
 use super::{Key, ViewTree};
 use crate::fault::AttachFault;
-use crate::links::link_last;
-use crate::table::{make_room, note_key};
+use crate::table::make_room;
 use view_model::limits::{MAX_DEPTH, MAX_VIEWS};
 use view_model::refusals::{NOT_GROUP, TOO_DEEP, TOO_MANY_VIEWS};
-use view_model::{Class, Facts, Refusal, Text};
+use view_model::{Class, Facts, Refusal, Sprout, Text};
 
 impl ViewTree {
     /// Makes a view, the last child of its parent, or the root where there is none. It has the next number, no bounds,
@@ -40,18 +39,27 @@ impl ViewTree {
     {
         self.may_grow(parent)?;
         make_room(&mut self.nodes, &mut self.keys, &mut self.ids, 1, 0)?;
-        let number = self.next;
-        let key = link_last(&mut self.nodes, parent, number, class, facts, text);
-        note_key(&mut self.keys, number, key);
-        self.root = root_with(self.root, parent, key);
-        self.next = number + 1;
-        Ok(key)
+        let sprout = Sprout {
+            class,
+            facts,
+            text,
+            depth: 1,
+        };
+        Ok(plant(
+            &mut self.nodes,
+            &mut self.keys,
+            &mut self.ids,
+            &mut self.root,
+            &mut self.next,
+            parent,
+            sprout,
+        ))
     }
 
     /// Whether a view may come below this one, or as the root.
-    fn may_grow(&self, parent: Option<Key>) -> Result<(), AttachFault>
+    fn may_grow(&self, parent: Option<Key>) -> Result<(), Refusal>
         requires { IfSome parent (λ parent. IsLive self.now parent) }
-        ensures { IsRefusedExactlyFor (refusal_at (plain_of self.now) (option_map (number_of self.now) parent)) result }
+        ensures { RefusesExactlyFor (refusal_at (plain_of self.now) (option_map (number_of self.now) parent)) result }
     {
         match parent {
             None => Ok(()),
@@ -63,7 +71,7 @@ impl ViewTree {
     }
 
     /// How deep a view is: 1 for the root.
-    fn depth(&self, view: Key) -> usize
+    pub fn depth(&self, view: Key) -> usize
         requires live { IsLive self.now view }
         requires shallow { length (ancestors view self.now.tree) < MAX_DEPTH }
         ensures { result ≡ length (ancestors view self.now.tree) + 1 }
@@ -80,27 +88,17 @@ impl ViewTree {
 
 /// Whether a view of this class and depth may get a child, in a tree of so many views.
 #[tactic(auto, unfolding(view_model::specs::Growth::growth_refusal))]
-fn growth(class: Class, depth: usize, count: usize) -> Result<(), AttachFault>
-    ensures { IsRefusedExactlyFor (growth_refusal class depth count) result }
+pub fn growth(class: Class, depth: usize, count: usize) -> Result<(), Refusal>
+    ensures { RefusesExactlyFor (growth_refusal class depth count) result }
 {
     if !class.is_group() {
-        return Err(AttachFault::Refused(Refusal::plain(NOT_GROUP)));
+        return Err(Refusal::plain(NOT_GROUP));
     }
     if depth >= MAX_DEPTH {
-        return Err(AttachFault::Refused(Refusal::plain(TOO_DEEP)));
+        return Err(Refusal::plain(TOO_DEEP));
     }
     if count >= MAX_VIEWS {
-        return Err(AttachFault::Refused(Refusal::plain(TOO_MANY_VIEWS)));
+        return Err(Refusal::plain(TOO_MANY_VIEWS));
     }
     Ok(())
-}
-
-/// The root once a view has come.
-fn root_with(root: Option<Key>, parent: Option<Key>, key: Key) -> Option<Key>
-    ensures { result ≡ replaced_if_none parent (Some key) root }
-{
-    match parent {
-        None => Some(key),
-        Some(_) => root,
-    }
 }

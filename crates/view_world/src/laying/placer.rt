@@ -13,6 +13,7 @@ ghost use Rattle.view_world.specs.Placing.{PlacesAs};
 
 use frame_layout::place;
 use geom_core::{Rect, Size};
+use linear_layout::Cursor;
 use view_model::{Class, Facts};
 use view_tree::{Key, ViewTree};
 
@@ -21,6 +22,8 @@ use view_tree::{Key, ViewTree};
 pub enum Placer {
     /// Over one another.
     Over { own: Facts, room: Size },
+    /// One behind the other.
+    InLine(Cursor),
 }
 
 impl Placer {
@@ -34,6 +37,9 @@ impl Placer {
                 own: *tree.facts(view),
                 room,
             },
+            Class::LinearLayout => {
+                Placer::InLine(Cursor::start(tree.facts(view), room, tree.state(view).total))
+            }
         }
     }
 
@@ -52,6 +58,7 @@ impl Placer {
     {
         match self {
             Placer::Over { own, room } => place(own, *room, kid, size),
+            Placer::InLine(cursor) => cursor.place(kid, size),
         }
     }
 }

@@ -1,23 +1,37 @@
-use Rattle.std.proofs.Common.{ap, sym, ◌∙◌, inl}
+use Rattle.std.proofs.Common.{ap, arith, sym, ◌∙◌, inl}
 use Rattle.std.specs.Prelude.{Err}
 use Rattle.script_lines.specs.declared.fault.LineFault.TheVariants as fault
+use Rattle.script_lines.specs.PlainCommands.{plain_command}
+use Rattle.script_lines.specs.Words.{map_ok}
 use Rattle.view_world.specs.KeyedWorld.{world_of}
 use Rattle.view_world.specs.Step.{Refused}
-use Rattle.view_tool.proofs.RunLaws.{faulty_line, taken_line}
+use Rattle.view_tool.proofs.RunLaws.{faulty_line, taken_line, taken_line-asked}
 use Rattle.view_tool.proofs.WorkLaws.{measured_later}
 use Rattle.view_tool.proofs.run.carry_out.Goals as goal
 
 pub returns-in-Ok-clause-measured : goal.returns-in-Ok-clause-measured
 returns-in-Ok-clause-measured g c =
-    measured_later c.in-Ok.command c.line-in-Ok.result c.args.work.now c.line-in-Ok.new.work _ c.line-in-Ok.ensures.work c.line-in-Ok.ensures.idle c.line-in-Ok.ensures.counted
+    measured_later (plain_command c.in-Ok.command) c.line-in-Ok.result c.args.work.now c.line-in-Ok.new.work _ c.line-in-Ok.ensures.work c.line-in-Ok.ensures.idle c.line-in-Ok.ensures.counted
 
 pub returns-in-Err-Range-clause-carried : goal.returns-in-Err-Range-clause-carried
 returns-in-Err-Range-clause-carried g c files told =
     rw c.in-Some.is
-    (faulty_line files _ c.in-Some.bytes.now fault.Range c.line.result (rw c.in-Some.is at c.requires.counts) c.line.ensures.value (c.in-Err-Range.is ∙ ap Err c.in-Err-Range.field-0-is)
+    (faulty_line files _ c.in-Some.bytes.now fault.Range (map_ok plain_command c.line.result) (rw c.in-Some.is at c.requires.counts) c.line.ensures.value (ap (map_ok plain_command) (c.in-Err-Range.is ∙ ap Err c.in-Err-Range.field-0-is))
     ∙ ap Refused (sym c.plain-in-Err-Range.ensures))
 
 pub returns-in-Ok-clause-carried : goal.returns-in-Ok-clause-carried
 returns-in-Ok-clause-carried g c files told =
-    rw (c.in-Some.is, taken_line files (world_of c.args.world.now) c.in-Some.bytes.now c.in-Ok.command c.line.result (rw c.in-Some.is at c.requires.counts) c.line.ensures.value c.in-Ok.is)
+    rw (c.in-Some.is, taken_line files (world_of c.args.world.now) c.in-Some.bytes.now (plain_command c.in-Ok.command) (map_ok plain_command c.line.result) (rw c.in-Some.is at c.requires.counts) c.line.ensures.value (ap (map_ok plain_command) c.in-Ok.is))
     (c.line-in-Ok.ensures.carried files (inl told))
+
+pub line-requires-in-Ok-clause-short : goal.line-requires-in-Ok-clause-short
+line-requires-in-Ok-clause-short g c =
+    let short = rw c.in-Some.is at c.requires.short in
+    let text = rw c.in-Ok.is at c.line.ensures.short in
+    omega (arith, short, text)
+
+pub returns-in-Ok-clause-asked : goal.returns-in-Ok-clause-asked
+returns-in-Ok-clause-asked g c failed none =
+    let world = world_of c.args.world.now in
+    let same = taken_line-asked world c.in-Some.bytes.now (plain_command c.in-Ok.command) (map_ok plain_command c.line.result) (rw c.in-Some.is at c.requires.counts) c.line.ensures.value (ap (map_ok plain_command) c.in-Ok.is) in
+    c.line-in-Ok.ensures.asked failed (sym same ∙ (rw c.in-Some.is at none))

@@ -12,7 +12,7 @@ pub returns-in_default-clause-done : goal.returns-in_default-clause-done
 returns-in_default-clause-done g c first before short s =
     let place = c.next_line-used.result.1 in
     let piece = c.args.piece.now in
-    let none = rw c.in_default.is at c.ended_line.ensures in
+    let none = rw c.in_default.is at c.ended_line.ensures.line in
     behind_same _ first _ c.next_line-used.new.self c.args.self.now.runner before _ s.runner (c.next_line-used.ensures.stands before s.held)
     (c.next_line-used.ensures.lines before s.held ∙ ap (λ (held : List ℕ). (cut_of before).lines ++ lines_at place piece held) (sym c.bytes.ensures.line)
     ∙ ap (λ (lines : List Line). (cut_of before).lines ++ lines) (sym none))
@@ -22,7 +22,7 @@ returns-clause-done g c first before short s =
     let place = c.next_line-used.result.1 in
     let piece = c.args.piece.now in
     let line = line_now c.in-Some.line in
-    let one = rw c.in-Some.is at c.ended_line.ensures in
+    let one = rw c.in-Some.is at c.ended_line.ensures.line in
     behind_more _ first _ c.next_line-used.new.self c.line.new.self before _ line
     (λ files told. c.in_ok-line.ensures.done files first (after_lines files (cut_of before).lines) told (counted_short files before _ short) (s.runner files told)) (c.next_line-used.ensures.stands before s.held)
     (c.next_line-used.ensures.lines before s.held ∙ ap (λ (held : List ℕ). (cut_of before).lines ++ lines_at place piece held) (sym c.bytes.ensures.line)
@@ -35,7 +35,7 @@ returns-in_err-line-clause-stopped g c first before short s =
     let place = c.next_line-used.result.1 in
     let piece = c.args.piece.now in
     let line = line_now c.in-Some.line in
-    let one = rw c.in-Some.is at c.ended_line.ensures in
+    let one = rw c.in-Some.is at c.ended_line.ensures.line in
     rw e
     (λ files told. stops_in_piece files first _ before piece c.next_line-used.result.0 line c.in_err-line.field-0.0
     (c.next_line-used.ensures.lines before s.held ∙ ap (λ (held : List ℕ). (cut_of before).lines ++ lines_at place piece held) (sym c.bytes.ensures.line)

@@ -1,0 +1,9 @@
+use Rattle.std.proofs.Common.{◌≡◌, ◌+◌, ◌≤◌, drop}
+use Rattle.attr_table.specs.Taking.{with_attrs}
+use Rattle.attr_table.proofs.taking.take_attrs.Given as goal
+
+abbrev pub invariant-loop-attr : goal.invariant-loop-attr
+invariant-loop-attr l = record {
+  left : with_attrs l.pool l.res l.dpi (drop l.attr-index l.attrs) l.draft ≡ with_attrs l.pool l.res l.dpi l.attrs l.fn.draft;
+  few : l.draft.ignored ≤ l.fn.draft.ignored + l.attr-index;
+}

@@ -1,0 +1,12 @@
+//! What the value of an attribute says.
+
+use view_model::Text;
+
+/// What the value of an attribute says.
+#[derive(Debug, Drop)]
+pub enum Given {
+    Pixels(i32),
+    /// A number of another kind: an id, a colour, a weight in 256ths, or as the word has it.
+    Word(u32),
+    Text(Text),
+}

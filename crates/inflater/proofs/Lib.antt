@@ -1,0 +1,6 @@
+mod PlaceLaws
+mod RowLaws
+mod RootLaws
+mod PreorderLaws
+mod Left
+mod Examples

@@ -1,0 +1,4 @@
+pub mod ClassNames
+pub mod Elements
+pub mod Inflating
+pub mod Answers

@@ -1,0 +1,11 @@
+//! The views of a document.
+
+use view_model::Sapling;
+
+/// The views of a document, as they are to come into a tree.
+#[derive(Debug, Drop)]
+pub struct Grown {
+    pub sapling: Sapling,
+    /// How many attributes of all elements together are not known.
+    pub ignored: u32,
+}

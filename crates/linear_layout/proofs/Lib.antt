@@ -1,0 +1,4 @@
+pub mod PassLaws
+pub mod PlacingLaws
+pub mod PlanLaws
+pub mod ShareLaws

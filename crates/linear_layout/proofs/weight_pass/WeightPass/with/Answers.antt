@@ -1,0 +1,31 @@
+use Rattle.std.proofs.Common.{◌≡◌, ◌<◌, ◌+ℤ◌, arith}
+use Rattle.std.proofs.lemmas.Int.{to_z-of_z}
+use Rattle.linear_layout.proofs.PassLaws.{WeightPass-push}
+use Rattle.linear_layout.specs.Line.{kid_with, own_in, specs_in}
+use Rattle.view_model.specs.declared.limits.TheConstants.{MAX_VIEWS}
+use Rattle.view_model.specs.LinearLayout.{breadth_of, claim_of, extent_of, greater, is_exact_beside}
+use Rattle.linear_layout.proofs.weight_pass.WeightPass.with.Goals as goal
+
+pub returns : goal.returns
+returns c = λ first kids few s.
+    let own = own_in c.args.line.now in
+    let specs = specs_in c.args.line.now in
+    let v = own.vertical in
+    let kid = kid_with c.args.kid.now c.args.size in
+    let count = s.count in
+    let counts = s.count_shares in
+    let low : c.args.self.extents.count < MAX_VIEWS = omega arith in
+    let lows : c.args.self.sharing.count < MAX_VIEWS = omega arith in
+    let extents : c.add.result.sum ≡ c.args.self.extents.sum +ℤ extent_of v kid = (let e = c.add.ensures.sum low in let x = c.extent.ensures.value in grind (arith, to_z-of_z)) in
+    let broadest : c.with.result.value ≡ greater c.args.self.broadest.value (breadth_of v kid) = (let e = c.with.ensures in let x = c.breadth.ensures.value in grind (arith, to_z-of_z)) in
+    let claim : c.with-2.result.value ≡ greater c.args.self.claim.value (claim_of v (is_exact_beside own specs) kid) =
+    (let e = c.with-2.ensures in let x = c.claim.ensures.value in grind (arith, to_z-of_z)) in
+    WeightPass-push c.args.self _ own specs first kids kid (record {
+      count = c.add.ensures.count low;
+      count_shares = c.give.ensures.count lows;
+      extents = extents;
+      weight = c.give.ensures.weight lows;
+      spare = c.give.ensures.spare lows;
+      broadest = broadest;
+      claim = claim;
+    }) s

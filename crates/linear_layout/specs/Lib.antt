@@ -1,0 +1,4 @@
+pub mod Cursor
+pub mod Line
+pub mod LinearPlan
+pub mod Passes

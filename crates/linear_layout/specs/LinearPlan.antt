@@ -1,0 +1,53 @@
+-- What a plan stands for: a group, its specs, and the children that it has taken in each phase.
+use Rattle.std.specs.Prelude.{◌≡◌, true, false, Bool, List, [], ◌∷◌, ◌++◌, Option, Some, None}
+use Rattle.linear_layout.specs.declared.plan.LinearPlan.{LinearPlan}
+use Rattle.linear_layout.specs.declared.plan.Phase.{Phase}
+use Rattle.linear_layout.specs.declared.plan.Phase.TheVariants.{First, Weight, Uniform}
+use Rattle.linear_layout.specs.declared.weight_pass.WeightPass.{WeightPass}
+use Rattle.linear_layout.specs.Line.{own_in, specs_in}
+use Rattle.linear_layout.specs.Passes.{IsFirstPass, IsWeightPass}
+use Rattle.view_model.specs.declared.facts.Facts.{Facts}
+use Rattle.view_model.specs.LinearLayout.{has_weight_pass, linear_rule}
+use Rattle.view_model.specs.Measuring.{Measured, Specs}
+
+-- the weight pass, once it has begun
+abbrev pub weighed_by : Phase → Option WeightPass
+weighed_by First = None
+weighed_by (Weight pass) = Some pass
+weighed_by (Uniform weighed) = weighed
+
+-- the plan of a group with these facts under these specs
+pub record IsPlanOf (plan : LinearPlan) (own : Facts) (specs : Specs) : Type 0 where
+  pub own_facts : own_in plan.line ≡ own
+  pub own_specs : specs_in plan.line ≡ specs
+
+-- it is in its weight pass, after it took the first children in the first pass
+pub record InWeightPass (plan : LinearPlan) (own : Facts) (specs : Specs) (first taken : List Measured) : Type 0 where
+  pub pass : WeightPass
+  pub phase : plan.phase ≡ Weight pass
+  pub is_pass : IsWeightPass pass own specs first taken
+
+-- it is in its second phase
+pub record InSecond (plan : LinearPlan) (own : Facts) (specs : Specs) (first taken : List Measured) : Type 0 where
+  pub weight : has_weight_pass own specs first ≡ true → InWeightPass plan own specs first taken
+  pub uniform : has_weight_pass own specs first ≡ false → plan.phase ≡ Uniform None
+
+-- it is in its third phase, the uniform pass after a weight pass
+pub record InThird (plan : LinearPlan) (own : Facts) (specs : Specs) (first second : List Measured) : Type 0 where
+  pub pass : WeightPass
+  pub weighed : has_weight_pass own specs first ≡ true
+  pub phase : plan.phase ≡ Uniform (Some pass)
+  pub is_pass : IsWeightPass pass own specs first second
+
+-- it has come through these phases, and has taken these children in the one that it is in
+abbrev pub StandsLinear : LinearPlan → Facts → Specs → List (List Measured) → List Measured → Type 0
+StandsLinear plan own specs [] taken = IsPlanOf plan own specs × (plan.phase ≡ First) × IsFirstPass plan.first own specs taken
+StandsLinear plan own specs (first ∷ []) taken = IsPlanOf plan own specs × IsFirstPass plan.first own specs first × InSecond plan own specs first taken
+StandsLinear plan own specs (first ∷ second ∷ []) taken = IsPlanOf plan own specs × IsFirstPass plan.first own specs first × InThird plan own specs first second
+StandsLinear plan own specs (first ∷ second ∷ third ∷ more) taken = ⊥
+
+-- the plan at the end of a phase, where it has answered whether another follows
+pub record TurnsLinear (plan : LinearPlan) (own : Facts) (specs : Specs) (past : List (List Measured)) (taken : List Measured) (answer : Bool) : Type 0 where
+  pub answers : answer ≡ (linear_rule own specs).turns (past ++ taken ∷ [])
+  pub follows : answer ≡ true → StandsLinear plan own specs (past ++ taken ∷ []) []
+  pub ends : answer ≡ false → StandsLinear plan own specs past taken

@@ -1,0 +1,142 @@
+//! What is read of facts, sizes and specs on one axis, the vertical one or the other. Lengths are in pixels.
+ghost use Rattle.std.specs.Prelude.{◌≡◌, ◌≤ℤ◌, pos, negsuc};
+ghost use Rattle.view_model.specs.Facts.{unscrolled_facts};
+ghost use Rattle.view_model.specs.LinearLayout.{alignment_on, dim_on, high_margin, high_padding, low_margin, low_padding, margins_on, min_on, padding_on, size_by, size_on, spec_on, specs_by};
+ghost use Rattle.view_model.specs.Measuring.{pair_of};
+
+use geom_core::{Size, Spec};
+use view_model::{Alignment, Facts, Gravity};
+
+#[tactic(auto, unfolding(view_model::specs::LinearLayout::size_on))]
+pub fn size_on(vertical: bool, size: Size) -> i32
+    ensures { result ≡ size_on vertical size }
+{
+    if vertical { size.h } else { size.w }
+}
+
+#[tactic(auto, unfolding(view_model::specs::LinearLayout::spec_on))]
+pub fn spec_on(vertical: bool, ws: Spec, hs: Spec) -> Spec
+    ensures { result ≡ spec_on vertical (record { across = ws; down = hs }) }
+{
+    if vertical { hs } else { ws }
+}
+
+#[tactic(auto, unfolding(view_model::specs::LinearLayout::dim_on))]
+pub fn dim_on(vertical: bool, facts: &Facts) -> i32
+    ensures { result ≡ dim_on vertical (unscrolled_facts facts.now) }
+{
+    if vertical { facts.height } else { facts.width }
+}
+
+#[tactic(auto, unfolding(view_model::specs::LinearLayout::min_on))]
+pub fn min_on(vertical: bool, facts: &Facts) -> i32
+    ensures { result ≡ min_on vertical (unscrolled_facts facts.now) }
+{
+    if vertical { facts.min.h } else { facts.min.w }
+}
+
+/// Both margins.
+#[tactic(auto, unfolding(view_model::specs::LinearLayout::margins_on))]
+pub fn margins_on(vertical: bool, facts: &Facts) -> i64
+    ensures value { result ≡ margins_on vertical (unscrolled_facts facts.now) }
+    ensures low { negsuc 4294967295 ≤ℤ result }
+    ensures high { result ≤ℤ pos 4294967294 }
+{
+    if vertical {
+        return facts.margins_down();
+    }
+    facts.margins_across()
+}
+
+/// Both paddings.
+#[tactic(auto, unfolding(view_model::specs::LinearLayout::padding_on))]
+pub fn padding_on(vertical: bool, facts: &Facts) -> i64
+    ensures value { result ≡ padding_on vertical (unscrolled_facts facts.now) }
+    ensures low { negsuc 4294967295 ≤ℤ result }
+    ensures high { result ≤ℤ pos 4294967294 }
+{
+    if vertical {
+        return facts.padding_down();
+    }
+    facts.padding_across()
+}
+
+/// The margin on the left or at the top.
+#[tactic(auto, unfolding(view_model::specs::LinearLayout::low_margin))]
+pub fn low_margin(vertical: bool, facts: &Facts) -> i32
+    ensures { result ≡ low_margin vertical (unscrolled_facts facts.now) }
+{
+    if vertical {
+        return facts.margins.top;
+    }
+    facts.margin_left()
+}
+
+/// The margin on the right or at the bottom.
+#[tactic(auto, unfolding(view_model::specs::LinearLayout::high_margin))]
+pub fn high_margin(vertical: bool, facts: &Facts) -> i32
+    ensures { result ≡ high_margin vertical (unscrolled_facts facts.now) }
+{
+    if vertical {
+        return facts.margins.bottom;
+    }
+    facts.margin_right()
+}
+
+/// The padding on the left or at the top.
+#[tactic(auto, unfolding(view_model::specs::LinearLayout::low_padding))]
+pub fn low_padding(vertical: bool, facts: &Facts) -> i32
+    ensures { result ≡ low_padding vertical (unscrolled_facts facts.now) }
+{
+    if vertical {
+        return facts.padding.top;
+    }
+    facts.padding_left()
+}
+
+/// The padding on the right or at the bottom.
+#[tactic(auto, unfolding(view_model::specs::LinearLayout::high_padding))]
+pub fn high_padding(vertical: bool, facts: &Facts) -> i32
+    ensures { result ≡ high_padding vertical (unscrolled_facts facts.now) }
+{
+    if vertical {
+        return facts.padding.bottom;
+    }
+    facts.padding_right()
+}
+
+#[tactic(auto, unfolding(view_model::specs::LinearLayout::alignment_on))]
+pub fn alignment_on(vertical: bool, gravity: Gravity) -> Alignment
+    ensures { result ≡ alignment_on vertical gravity }
+{
+    if vertical {
+        return gravity.down.alignment();
+    }
+    gravity.across.alignment()
+}
+
+/// The size of what is so long along a line and so broad beside it.
+pub fn size_by(vertical: bool, along: i32, beside: i32) -> Size
+    ensures { result ≡ size_by vertical along beside }
+{
+    if vertical {
+        return Size {
+            w: beside,
+            h: along,
+        };
+    }
+    Size {
+        w: along,
+        h: beside,
+    }
+}
+
+/// The specs for the width and for the height, of those along and beside a line.
+pub fn pair_by(vertical: bool, along: Spec, beside: Spec) -> (Spec, Spec)
+    ensures { result ≡ pair_of (specs_by vertical along beside) }
+{
+    if vertical {
+        return (beside, along);
+    }
+    (along, beside)
+}

@@ -1,0 +1,141 @@
+//! Where a linear layout places its children, one behind the other. Lengths are in pixels.
+ghost use Rattle.std.specs.Prelude.{◌≡◌, ℤ, ◌<◌, ◌≤◌, ◌+◌, ◌*◌, ◌^◌, ◌+ℤ◌, ◌-ℤ◌, ◌≤ℤ◌, pos, negsuc, not, unsigned_abs, [], ◌∷◌, ◌++◌, List, length};
+ghost use Rattle.geom_core.specs.Limits.{IsCoordinate, IsSide, clamp_coordinate};
+ghost use Rattle.linear_layout.specs.Line.{kid_with};
+ghost use Rattle.view_model.specs.declared.facts.Facts.{Facts as FactsValue};
+ghost use Rattle.view_model.specs.declared.limits.TheConstants.{MAX_VIEWS};
+ghost use Rattle.view_model.specs.Facts.{unscrolled_facts};
+ghost use Rattle.view_model.specs.Geometry.{size_of_rect};
+ghost use Rattle.view_model.specs.LinearLayout.{edge_beside, gravity_for, line_begin, linear_place, low_margin, rect_by};
+ghost use Rattle.view_model.specs.Measuring.{Measured};
+ghost use Rattle.geom_core.specs.declared.geometry.Size.{Size as SizeValue};
+
+use crate::axis::{
+    alignment_on, high_margin, high_padding, low_margin, low_padding, margins_on, size_on,
+};
+use crate::mark::Mark;
+use geom_core::{Rect, Size, to_coordinate};
+use view_model::{Alignment, Facts, Gravity, rect_at};
+
+/// The placing of the children of one group. They are handed in in order.
+#[derive(Clone, Copy, Debug)]
+pub struct Cursor {
+    own: Facts,
+    room: Size,
+    /// Where the next child's low margin begins.
+    mark: Mark,
+}
+
+impl Cursor {
+    ghost use Rattle.linear_layout.specs.Cursor.{PlacesLinear};
+
+    /// Before the first child of a group of this size, of whose length its children and its padding take `total`.
+    pub fn start(own: &Facts, room: Size, total: i64) -> Cursor
+        ensures { PlacesLinear result (unscrolled_facts own.now) room total [] }
+    {
+        let along = own.vertical;
+        Cursor {
+            own: *own,
+            room,
+            mark: Mark::new(line_begin(
+                alignment_on(along, own.gravity),
+                low_padding(along, own),
+                size_on(along, room),
+                total,
+            )),
+        }
+    }
+
+    /// The rectangle of the next child, which has this size, in the group's coordinates.
+    pub fn place(&mut self, kid: &Facts, size: Size) -> Rect
+        requires width { IsSide size.w }
+        requires height { IsSide size.h }
+        ensures extent { size_of_rect result ≡ size }
+        ensures place { (own : FactsValue) (room : SizeValue) (total : ℤ) (before : List Measured)
+            → PlacesLinear self.old own room total before
+            → result ≡ linear_place own room total before (record { facts = unscrolled_facts kid.now; size = size }) }
+        ensures next { (own : FactsValue) (room : SizeValue) (total : ℤ) (before : List Measured)
+            → PlacesLinear self.old own room total before
+            → length before < MAX_VIEWS
+            → PlacesLinear self.new own room total (before ++ record { facts = unscrolled_facts kid.now; size = size } ∷ []) }
+    {
+        let vertical = self.own.vertical;
+        let along = self.mark.edge(low_margin(vertical, kid));
+        let beside = edge_beside(&self.own, self.room, kid, size);
+        self.mark = self
+            .mark
+            .past(size_on(vertical, size), margins_on(vertical, kid));
+        rect_by(vertical, along, beside, size)
+    }
+}
+
+/// Where the line begins in a group that has `room` pixels on its axis.
+#[tactic(auto, unfolding(view_model::specs::LinearLayout::line_begin))]
+fn line_begin(alignment: Alignment, padding: i32, room: i32, total: i64) -> i128
+    ensures value { result ≡ line_begin alignment padding room total }
+    ensures near { unsigned_abs result ≤ 2 ^ 66 }
+{
+    let spare = spare_of(room, total);
+    match alignment {
+        Alignment::Low => behind(padding, 0),
+        Alignment::Middle => behind(padding, spare / 2),
+        Alignment::High => behind(padding, spare),
+    }
+}
+
+/// What children that take `total` pixels leave of a group.
+fn spare_of(room: i32, total: i64) -> i128
+    ensures value { result ≡ room -ℤ total }
+    ensures near { unsigned_abs result ≤ 2 ^ 65 }
+{
+    i128::from(room) - i128::from(total)
+}
+
+fn behind(padding: i32, spare: i128) -> i128
+    requires { unsigned_abs spare ≤ 2 ^ 65 }
+    ensures value { result ≡ padding +ℤ spare }
+    ensures near { unsigned_abs result ≤ 2 ^ 66 }
+{
+    i128::from(padding) + spare
+}
+
+/// The low edge of a child of this size beside the line.
+fn edge_beside(own: &Facts, room: Size, kid: &Facts, size: Size) -> i32
+    ensures value { result ≡ clamp_coordinate (edge_beside (unscrolled_facts own.now) room (kid_with kid.now size)) }
+    ensures edge { IsCoordinate result }
+{
+    let beside = !own.vertical;
+    to_coordinate(alignment_on(beside, gravity_for(own, kid)).low_edge(
+        size_on(beside, room),
+        low_padding(beside, own),
+        high_padding(beside, own),
+        size_on(beside, size),
+        low_margin(beside, kid),
+        high_margin(beside, kid),
+    ))
+}
+
+/// The gravity by which a child is placed beside the line: its own, if it has one.
+fn gravity_for(own: &Facts, kid: &Facts) -> Gravity
+    ensures { result ≡ gravity_for (unscrolled_facts own.now) (unscrolled_facts kid.now) }
+{
+    if kid.layout_gravity.given {
+        return kid.layout_gravity;
+    }
+    own.gravity
+}
+
+/// The rectangle of this size whose low edges are these, along the line and beside it.
+fn rect_by(vertical: bool, along: i32, beside: i32, size: Size) -> Rect
+    requires along { IsCoordinate along }
+    requires beside { IsCoordinate beside }
+    requires width { IsSide size.w }
+    requires height { IsSide size.h }
+    ensures value { result ≡ rect_by vertical along beside size }
+    ensures extent { size_of_rect result ≡ size }
+{
+    if vertical {
+        return rect_at(beside, along, size);
+    }
+    rect_at(along, beside, size)
+}

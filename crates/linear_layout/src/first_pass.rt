@@ -1,0 +1,195 @@
+//! The first pass: every child is measured, but for those that get their length by weight alone. Lengths are in pixels.
+ghost use Rattle.std.specs.Prelude.{◌≡◌, ◌<◌, ◌≤◌, ◌≤ℤ◌, ◌+◌, ◌+ℤ◌, ◌^◌, pos, negsuc, unsigned_abs, [], ◌∷◌, ◌++◌, List, length};
+ghost use Rattle.std.specs.Option.{option_map};
+ghost use Rattle.geom_core.specs.Limits.{IsSide};
+ghost use Rattle.geom_core.specs.Spec.{child_spec_of};
+ghost use Rattle.view_model.specs.declared.facts.Facts.{Facts as FactsValue};
+ghost use Rattle.view_model.specs.declared.limits.TheConstants.{MAX_VIEWS};
+ghost use Rattle.view_model.specs.Facts.{unscrolled_facts};
+ghost use Rattle.view_model.specs.LinearLayout.{first_along, first_dim, first_pass, full_length, has_weight_pass, own_length, spare_of, used_before, whole_weight};
+ghost use Rattle.view_model.specs.Measuring.{Measured, Specs, pair_of};
+
+use crate::axis::{dim_on, margins_on, min_on, padding_on, pair_by};
+use crate::line::Line;
+use crate::running::{Greatest, Total, Weights, greater};
+use geom_core::{Size, Spec, WRAP, child_spec, resolve};
+use view_model::Facts;
+
+/// What the children of the first pass come to.
+#[derive(Clone, Copy, Debug)]
+pub struct FirstPass {
+    /// What they take of the length.
+    pub extents: Total,
+    pub weights: Weights,
+    /// The greatest breadth of a child with its margins.
+    pub broadest: Greatest,
+    /// The greatest claim of a child without a weight.
+    pub even: Greatest,
+    /// The greatest claim of a child with a weight.
+    pub weighted: Greatest,
+    /// Whether every child wants to be as broad as the group.
+    pub all_match: bool,
+    /// Whether a child was left out.
+    pub any_skipped: bool,
+}
+
+impl FirstPass {
+    ghost use Rattle.linear_layout.specs.Line.{kid_with, own_in, specs_in};
+    ghost use Rattle.linear_layout.specs.Passes.{IsFirstPass};
+
+    /// Before the first child.
+    pub fn new() -> FirstPass
+        ensures { (own : FactsValue) (specs : Specs) → IsFirstPass result own specs [] }
+    {
+        FirstPass {
+            extents: Total::new(),
+            weights: Weights::new(),
+            broadest: Greatest::new(),
+            even: Greatest::new(),
+            weighted: Greatest::new(),
+            all_match: true,
+            any_skipped: false,
+        }
+    }
+
+    /// With one child more, which counts with this size.
+    pub fn with(self, line: &Line, kid: &Facts, size: Size) -> FirstPass
+        ensures { (kids : List Measured)
+            → length kids < MAX_VIEWS
+            → IsFirstPass self (own_in line.now) (specs_in line.now) kids
+            → IsFirstPass result (own_in line.now) (specs_in line.now) (kids ++ kid_with kid.now size ∷ []) }
+    {
+        FirstPass {
+            extents: self.extents.add(line.extent(kid, size)),
+            weights: self.weights.add(kid.weight),
+            broadest: self.broadest.with(line.breadth(kid, size)),
+            even: self.even.with(line.even_claim(kid, size)),
+            weighted: self.weighted.with(line.weighted_claim(kid, size)),
+            all_match: self.all_match & line.matches(kid),
+            any_skipped: self.any_skipped | line.skips(kid),
+        }
+    }
+
+    /// The specs of a child, or None where it is left out.
+    pub fn ask(&self, line: &Line, kid: &Facts, size: Size) -> Option<(Spec, Spec)>
+        ensures { (kids : List Measured)
+            → IsFirstPass self.now (own_in line.now) (specs_in line.now) kids
+            → result ≡ option_map pair_of (first_pass (own_in line.now) (specs_in line.now) kids (kid_with kid.now size)) }
+    {
+        if line.skips(kid) {
+            return None;
+        }
+        Some(pair_by(
+            line.vertical(),
+            self.spec_along(line, kid),
+            line.kid_spec_beside(kid),
+        ))
+    }
+
+    /// The spec of a child along the line.
+    fn spec_along(&self, line: &Line, kid: &Facts) -> Spec
+        ensures { (kids : List Measured)
+            → IsFirstPass self.now (own_in line.now) (specs_in line.now) kids
+            → result ≡ first_along (own_in line.now) (specs_in line.now) kids (unscrolled_facts kid.now) }
+    {
+        let along = line.vertical();
+        spec_behind(
+            line.spec_along(),
+            padding_on(along, &line.own),
+            margins_on(along, kid),
+            self.used_before(kid),
+            first_dim(dim_on(along, kid), kid.weight),
+        )
+    }
+
+    /// What counts as used of the line before a child.
+    #[tactic(auto, unfolding(view_model::specs::LinearLayout::used_before))]
+    fn used_before(&self, kid: &Facts) -> i64
+        ensures value { result ≡ used_before self.now.weights.sum kid.now.weight self.now.extents.sum }
+        ensures low { pos 0 ≤ℤ result }
+        ensures high { result ≤ℤ pos (2 ^ 45) }
+    {
+        if self.weights.sum == 0 && kid.weight == 0 {
+            return self.extents.sum;
+        }
+        0
+    }
+
+    /// What the children and the padding take of the length.
+    pub fn full_length(&self, line: &Line) -> i64
+        ensures value { (kids : List Measured)
+            → IsFirstPass self.now (own_in line.now) (specs_in line.now) kids
+            → result ≡ full_length (own_in line.now) kids }
+        ensures low { negsuc 4294967295 ≤ℤ result }
+        ensures high { result ≤ℤ pos (2 ^ 45 + 2 ^ 32) }
+    {
+        self.extents.sum + padding_on(line.vertical(), &line.own)
+    }
+
+    /// The length of the group.
+    pub fn own_length(&self, line: &Line) -> i32
+        ensures value { (kids : List Measured)
+            → IsFirstPass self.now (own_in line.now) (specs_in line.now) kids
+            → result ≡ own_length (own_in line.now) (specs_in line.now) kids }
+        ensures side { IsSide result }
+    {
+        let least = i64::from(min_on(line.vertical(), &line.own));
+        resolve(greater(self.full_length(line), least), line.spec_along())
+    }
+
+    /// What is left of it; below 0 where the children take more.
+    pub fn spare(&self, line: &Line) -> i64
+        ensures value { (kids : List Measured)
+            → IsFirstPass self.now (own_in line.now) (specs_in line.now) kids
+            → result ≡ spare_of (own_in line.now) (specs_in line.now) kids }
+        ensures near { unsigned_abs result ≤ 2 ^ 46 }
+    {
+        i64::from(self.own_length(line)) - self.full_length(line)
+    }
+
+    /// What weights are counted against, in 256ths.
+    #[tactic(auto, unfolding(view_model::specs::LinearLayout::whole_weight))]
+    pub fn whole_weight(&self, line: &Line) -> i64
+        ensures value { result ≡ whole_weight line.now.own.weight_sum self.now.weights.sum }
+        ensures low { pos 0 ≤ℤ result }
+        ensures high { result ≤ℤ pos (2 ^ 44) }
+    {
+        if line.own.weight_sum > 0 {
+            return i64::from(line.own.weight_sum);
+        }
+        self.weights.sum as i64
+    }
+
+    /// Whether the weight pass follows.
+    pub fn leads_to_weight_pass(&self, line: &Line) -> bool
+        ensures { (kids : List Measured)
+            → IsFirstPass self.now (own_in line.now) (specs_in line.now) kids
+            → result ≡ has_weight_pass (own_in line.now) (specs_in line.now) kids }
+    {
+        self.any_skipped || (self.spare(line) != 0 && self.weights.sum > 0)
+    }
+}
+
+/// The spec of a child of this dimension behind others that count as `used`.
+fn spec_behind(spec: Spec, padding: i64, margins: i64, used: i64, dim: i32) -> Spec
+    requires padding_low { negsuc 4294967295 ≤ℤ padding }
+    requires padding_high { padding ≤ℤ pos 4294967294 }
+    requires margins_low { negsuc 4294967295 ≤ℤ margins }
+    requires margins_high { margins ≤ℤ pos 4294967294 }
+    requires used_low { pos 0 ≤ℤ used }
+    requires used_high { used ≤ℤ pos (2 ^ 45) }
+    ensures { result ≡ child_spec_of spec (padding +ℤ margins +ℤ used) dim }
+{
+    child_spec(spec, padding + margins + used, dim)
+}
+
+/// The dimension by which a child is measured: one without length, but with a weight, by its content.
+#[tactic(auto, unfolding(view_model::specs::LinearLayout::first_dim))]
+fn first_dim(dim: i32, weight: u32) -> i32
+    ensures { result ≡ first_dim dim weight }
+{
+    if dim == 0 && weight > 0 {
+        return WRAP;
+    }
+    dim
+}

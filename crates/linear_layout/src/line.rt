@@ -1,0 +1,151 @@
+//! A group whose children stand in a line, under its specs, and what a child takes of it. Lengths are in pixels.
+ghost use Rattle.std.specs.Prelude.{◌≡◌, ◌+ℤ◌, ◌≤ℤ◌, ◌^◌, pos, negsuc, not};
+ghost use Rattle.view_model.specs.declared.facts.Facts.{Facts as FactsValue};
+ghost use Rattle.view_model.specs.Facts.{is_match, unscrolled_facts};
+ghost use Rattle.view_model.specs.LinearLayout.{breadth_of, claim, claim_of, dim_on, extent, extent_of, is_exact_beside, is_skipped, skips, spec_beside, spec_on, where_even, where_weighted};
+ghost use Rattle.view_model.specs.Measuring.{Specs};
+
+use crate::axis::{dim_on, margins_on, padding_on, size_on, spec_on};
+use geom_core::{MATCH, Size, Spec};
+use view_model::{Facts, child_spec_within, is_exact};
+
+/// A group, and the specs for its width and for its height.
+#[derive(Clone, Copy, Debug)]
+pub struct Line {
+    pub own: Facts,
+    pub ws: Spec,
+    pub hs: Spec,
+}
+
+impl Line {
+    ghost use Rattle.linear_layout.specs.Line.{kid_with, own_in, specs_in};
+
+    /// Whether the line runs from top to bottom.
+    pub fn vertical(&self) -> bool
+        ensures { result ≡ self.now.own.vertical }
+    {
+        self.own.vertical
+    }
+
+    pub fn spec_along(&self) -> Spec
+        ensures { result ≡ spec_on self.now.own.vertical (specs_in self.now) }
+    {
+        spec_on(self.vertical(), self.ws, self.hs)
+    }
+
+    pub fn spec_beside(&self) -> Spec
+        ensures { result ≡ spec_on (not self.now.own.vertical) (specs_in self.now) }
+    {
+        spec_on(!self.vertical(), self.ws, self.hs)
+    }
+
+    /// Whether the breadth of the group is told.
+    pub fn is_exact_beside(&self) -> bool
+        ensures { result ≡ is_exact_beside (own_in self.now) (specs_in self.now) }
+    {
+        is_exact(self.spec_beside())
+    }
+
+    /// Whether the first pass leaves a child out.
+    pub fn skips(&self, kid: &Facts) -> bool
+        ensures { result ≡ skips (own_in self.now) (specs_in self.now) (unscrolled_facts kid.now) }
+    {
+        is_skipped(self.spec_along(), dim_on(self.vertical(), kid), kid.weight)
+    }
+
+    /// Whether a child wants to be as broad as the group.
+    pub fn matches(&self, kid: &Facts) -> bool
+        ensures { result ≡ is_match (dim_on (not self.now.own.vertical) (unscrolled_facts kid.now)) }
+    {
+        dim_on(!self.vertical(), kid) == MATCH
+    }
+
+    /// The spec of a child beside the line.
+    pub fn kid_spec_beside(&self, kid: &Facts) -> Spec
+        ensures { result ≡ spec_beside (own_in self.now) (specs_in self.now) (unscrolled_facts kid.now) }
+    {
+        let beside = !self.vertical();
+        child_spec_within(
+            self.spec_beside(),
+            padding_on(beside, &self.own),
+            margins_on(beside, kid),
+            dim_on(beside, kid),
+        )
+    }
+
+    /// What a child takes of the length.
+    pub fn extent(&self, kid: &Facts, size: Size) -> i64
+        ensures value { result ≡ extent_of self.now.own.vertical (kid_with kid.now size) }
+        ensures low { pos 0 ≤ℤ result }
+        ensures high { result ≤ℤ pos (2 ^ 33) }
+    {
+        let along = self.vertical();
+        extent(size_on(along, size), margins_on(along, kid))
+    }
+
+    /// What a child takes of the breadth.
+    pub fn breadth(&self, kid: &Facts, size: Size) -> i64
+        ensures value { result ≡ breadth_of self.now.own.vertical (kid_with kid.now size) }
+        ensures high { result ≤ℤ pos (2 ^ 33) }
+    {
+        let beside = !self.vertical();
+        i64::from(size_on(beside, size)) + margins_on(beside, kid)
+    }
+
+    /// What a child takes of the breadth of a group that is as broad as its children are.
+    #[tactic(auto, unfolding(view_model::specs::LinearLayout::claim))]
+    pub fn claim(&self, kid: &Facts, size: Size) -> i64
+        ensures value { result ≡ claim_of self.now.own.vertical (is_exact_beside (own_in self.now) (specs_in self.now)) (kid_with kid.now size) }
+        ensures high { result ≤ℤ pos (2 ^ 33) }
+    {
+        if !self.is_exact_beside() && self.matches(kid) {
+            return margins_on(!self.vertical(), kid);
+        }
+        self.breadth(kid, size)
+    }
+
+    /// The same of a child without a weight, and 0 for the others.
+    #[tactic(auto, unfolding(view_model::specs::LinearLayout::where_even))]
+    pub fn even_claim(&self, kid: &Facts, size: Size) -> i64
+        ensures value { result ≡ where_even kid.now.weight
+            (claim_of self.now.own.vertical (is_exact_beside (own_in self.now) (specs_in self.now)) (kid_with kid.now size)) }
+        ensures high { result ≤ℤ pos (2 ^ 33) }
+    {
+        if kid.weight == 0 {
+            return self.claim(kid, size);
+        }
+        0
+    }
+
+    /// The same of a child with a weight, and 0 for the others.
+    #[tactic(auto, unfolding(view_model::specs::LinearLayout::where_weighted))]
+    pub fn weighted_claim(&self, kid: &Facts, size: Size) -> i64
+        ensures value { result ≡ where_weighted kid.now.weight
+            (claim_of self.now.own.vertical (is_exact_beside (own_in self.now) (specs_in self.now)) (kid_with kid.now size)) }
+        ensures high { result ≤ℤ pos (2 ^ 33) }
+    {
+        if kid.weight == 0 {
+            return 0;
+        }
+        self.claim(kid, size)
+    }
+}
+
+#[tactic(auto, unfolding(view_model::specs::LinearLayout::extent))]
+fn extent(size: i32, margins: i64) -> i64
+    requires low { negsuc 4294967295 ≤ℤ margins }
+    requires high { margins ≤ℤ pos 4294967294 }
+    ensures value { result ≡ extent size margins }
+    ensures low { pos 0 ≤ℤ result }
+    ensures high { result ≤ℤ pos (2 ^ 33) }
+{
+    (i64::from(size) + margins).max(0)
+}
+
+/// Whether a child of this dimension gets its length by weight alone.
+#[tactic(auto, unfolding(view_model::specs::LinearLayout::is_skipped))]
+fn is_skipped(along: Spec, dim: i32, weight: u32) -> bool
+    ensures { result ≡ is_skipped along dim weight }
+{
+    is_exact(along) && dim == 0 && weight > 0
+}

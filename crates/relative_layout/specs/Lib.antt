@@ -1,0 +1,5 @@
+pub mod Naming
+pub mod Sorting
+pub mod Reaching
+pub mod RelativePlan
+pub mod Taking

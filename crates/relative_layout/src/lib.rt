@@ -1,0 +1,25 @@
+//! A relative layout: the orders in which its children are measured, and how it measures and places them, one call at a
+//! time.
+//!
+//! `order` puts a child after all siblings that its rules name, on each axis. The plan never sees a sibling: whoever
+//! holds the tree goes along these orders, hands in a child together with the sides of its anchors, measures it as the
+//! plan asks, and hands the size back.
+#![tactic(auto)]
+
+mod extent;
+mod ids;
+mod marks;
+mod naming;
+mod ordering;
+mod plan;
+mod reaching;
+mod sides;
+mod spans;
+mod taking;
+
+pub use ordering::{OrderFault, Orders, order};
+pub use plan::RelativePlan;
+pub use view_model::{Anchor, Anchors, Edges, Link};
+
+#[cfg(test)]
+mod tests;

@@ -1,0 +1,139 @@
+//! Which children name which ids.
+ghost use Rattle.std.specs.Prelude.{◌≡◌, ◌≢◌, ◌<◌, ◌≤◌, ◌+◌, ◌++◌, ◌∷◌, [], IfOk, OnOk, Some, length, nat_eq, replicate, slice_set, true, vec_len, ℕ};
+ghost use Rattle.indexmap.specs.IndexMap.{get as place_in};
+ghost use Rattle.relative_layout.specs.Naming.{AreNamers, Has, id_at, link_at, lists_of, row_at};
+ghost use Rattle.view_model.specs.SiblingRules.{last_with_id, names};
+ghost use Rattle.view_model.specs.declared.limits.TheConstants.{MAX_VIEWS};
+
+use crate::ids::{last_places, named_ids};
+use indexmap::IndexMap;
+use std::alloc::{AllocError, Global};
+use view_model::{Axis, Link};
+
+/// Which children name which ids on an axis. A child stands for its id that is the last one with it.
+#[derive(Drop)]
+pub struct Naming {
+    lasts: IndexMap<u32, u32>,
+    /// For the last child with an id, the children that name it.
+    namers: Vec<Vec<u32>>,
+}
+
+impl Naming {
+    ghost use Rattle.relative_layout.specs.Naming.{IsNaming};
+
+    pub fn new(alloc: Global, axis: Axis, kids: &[Link]) -> Result<Naming, AllocError>
+        requires few { length kids.now ≤ MAX_VIEWS }
+        ensures { IfOk result (λ naming. IsNaming axis kids.now naming) }
+    {
+        let lasts = last_places(alloc, kids)?;
+        let namers = namers(alloc, axis, kids, &lasts)?;
+        Ok(Naming { lasts, namers })
+    }
+
+    /// The last child with an id.
+    pub fn last(&self, id: u32) -> Option<usize>
+        ensures { result ≡ place_in nat_eq self.now.lasts id }
+    {
+        last_in(&self.lasts, id)
+    }
+
+    /// The children that name the id of which this child is the last.
+    pub fn namers(&self, last: usize) -> &[u32]
+        requires { last < vec_len self.now.namers }
+        ensures { result.now ≡ row_at (lists_of self.now.namers.items) last }
+    {
+        &self.namers[last]
+    }
+}
+
+fn namers(
+    alloc: Global,
+    axis: Axis,
+    kids: &[Link],
+    lasts: &IndexMap<u32, u32>,
+) -> Result<Vec<Vec<u32>>, AllocError>
+    requires few { length kids.now ≤ MAX_VIEWS }
+    requires table { (id : ℕ) → place_in nat_eq lasts.now id ≡ last_with_id kids.now id }
+    ensures { IfOk result (λ rows. AreNamers axis kids.now (length kids.now) (lists_of rows.items)) }
+{
+    let mut rows = empty_rows(alloc, kids.len())?;
+    for (place, _kid) in kids.iter().enumerate() {
+        add_names(&mut rows, axis, kids, lasts, place)?;
+    }
+    Ok(rows)
+}
+
+/// Notes the ids that a child names.
+fn add_names(
+    rows: &mut Vec<Vec<u32>>,
+    axis: Axis,
+    kids: &[Link],
+    lasts: &IndexMap<u32, u32>,
+    place: usize,
+) -> Result<(), AllocError>
+    requires few { length kids.now ≤ MAX_VIEWS }
+    requires place { place < length kids.now }
+    requires table { (id : ℕ) → place_in nat_eq lasts.now id ≡ last_with_id kids.now id }
+    requires rows { AreNamers axis kids.now place (lists_of rows.old.items) }
+    ensures { OnOk result (AreNamers axis kids.now (place + 1) (lists_of rows.new.items)) }
+{
+    for id in named_ids(axis, &kids[place].rules).iter() {
+        add_name(rows, axis, kids, lasts, place, *id)?;
+    }
+    Ok(())
+}
+
+/// Notes an id that a child names.
+fn add_name(
+    rows: &mut Vec<Vec<u32>>,
+    axis: Axis,
+    kids: &[Link],
+    lasts: &IndexMap<u32, u32>,
+    place: usize,
+    id: u32,
+) -> Result<(), AllocError>
+    requires few { length kids.now ≤ MAX_VIEWS }
+    requires place { place < length kids.now }
+    requires table { (id : ℕ) → place_in nat_eq lasts.now id ≡ last_with_id kids.now id }
+    requires named { id ≢ 0 → names axis (link_at kids.now place).rules id ≡ true }
+    requires rows { AreNamers axis kids.now place (lists_of rows.old.items) }
+    ensures rows { OnOk result (AreNamers axis kids.now place (lists_of rows.new.items)) }
+    ensures grows { OnOk result ((q a : ℕ) → Has (row_at (lists_of rows.old.items) q) a → Has (row_at (lists_of rows.new.items) q) a) }
+    ensures added { OnOk result ((q : ℕ) → last_with_id kids.now (id_at kids.now q) ≡ Some q → id_at kids.now q ≡ id → Has (row_at (lists_of rows.new.items) q) place) }
+{
+    let Some(last) = last_in(lasts, id) else {
+        return Ok(());
+    };
+    add_to_row(rows, last, place as u32)?;
+    Ok(())
+}
+
+/// The last child with an id, by the table of them.
+fn last_in(lasts: &IndexMap<u32, u32>, id: u32) -> Option<usize>
+    ensures { result ≡ place_in nat_eq lasts.now id }
+{
+    match lasts.get(&id) {
+        None => None,
+        Some(last) => Some(*last as usize),
+    }
+}
+
+/// Adds a child to one of many lists.
+fn add_to_row(rows: &mut Vec<Vec<u32>>, at: usize, place: u32) -> Result<(), AllocError>
+    requires { at < vec_len rows.old }
+    ensures { OnOk result (lists_of rows.new.items ≡ slice_set (lists_of rows.old.items) at (row_at (lists_of rows.old.items) at ++ place ∷ [])) }
+{
+    rows[at].push(place)?;
+    Ok(())
+}
+
+/// As many empty lists.
+fn empty_rows(alloc: Global, count: usize) -> Result<Vec<Vec<u32>>, AllocError>
+    ensures { IfOk result (λ rows. lists_of rows.items ≡ replicate count []) }
+{
+    let mut rows = Vec::new(alloc);
+    for _row in 0..count {
+        rows.push(Vec::new(alloc))?;
+    }
+    Ok(rows)
+}

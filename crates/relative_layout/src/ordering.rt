@@ -1,0 +1,141 @@
+//! The orders in which the children of a relative layout are measured.
+ghost use Rattle.std.specs.Prelude.{◌≡◌, ◌<◌, ◌≤◌, ◌+◌, ℕ, IfErr, IfOk, List, Bool, OnOk, length};
+ghost use Rattle.relative_layout.specs.Naming.{IsNaming};
+ghost use Rattle.relative_layout.specs.Sorting.{IsFaultOf, IsLongest, IsSorting};
+ghost use Rattle.relative_layout.specs.Reaching.{AreReaching};
+ghost use Rattle.view_model.specs.declared.relative.Axis.TheVariants.{Horizontal, Vertical};
+ghost use Rattle.view_model.specs.Orders.{AreMembers, IsAcyclic, IsOrder};
+ghost use Rattle.view_model.specs.SiblingRules.{leads};
+ghost use Rattle.view_model.specs.declared.limits.TheConstants.{MAX_VIEWS};
+
+use crate::naming::Naming;
+use crate::reaching::those_that_reach;
+use crate::taking::Taking;
+use std::alloc::{AllocError, Global};
+use view_model::{Axis, Link};
+
+/// The places of all children, on each axis those that a child's rules name before the child itself.
+#[derive(Debug, Drop)]
+pub struct Orders {
+    pub across: Vec<u32>,
+    pub down: Vec<u32>,
+}
+
+/// Why there are no orders.
+#[derive(Debug, Drop)]
+pub enum OrderFault {
+    /// Children that reach themselves by the rules of an axis, in list order.
+    Cycle { down: bool, members: Vec<u32> },
+    NoMemory,
+}
+
+/// What comes of the children on one axis.
+#[derive(Debug, Drop)]
+enum Sorting {
+    Order(Vec<u32>),
+    Cycle(Vec<u32>),
+}
+
+/// The orders of a relative layout's children.
+pub fn order(alloc: Global, kids: &[Link]) -> Result<Orders, OrderFault>
+    requires few { length kids.now ≤ MAX_VIEWS }
+    ensures across { IfOk result (λ orders. IsOrder (leads Horizontal kids.now) (length kids.now) orders.across.items) }
+    ensures down { IfOk result (λ orders. IsOrder (leads Vertical kids.now) (length kids.now) orders.down.items) }
+    ensures acyclic_across { IfOk result (λ orders. IsAcyclic (leads Horizontal kids.now)) }
+    ensures acyclic_down { IfOk result (λ orders. IsAcyclic (leads Vertical kids.now)) }
+    ensures fault { IfErr result (λ fault. IsFaultOf kids.now fault) }
+{
+    let across = match sorted_on(alloc, Axis::Horizontal, kids) {
+        Ok(Sorting::Order(across)) => across,
+        Ok(Sorting::Cycle(members)) => {
+            return Err(OrderFault::Cycle {
+                down: false,
+                members,
+            });
+        }
+        Err(_) => return Err(OrderFault::NoMemory),
+    };
+    match sorted_on(alloc, Axis::Vertical, kids) {
+        Ok(Sorting::Order(down)) => Ok(Orders { across, down }),
+        Ok(Sorting::Cycle(members)) => Err(OrderFault::Cycle {
+            down: true,
+            members,
+        }),
+        Err(_) => Err(OrderFault::NoMemory),
+    }
+}
+
+/// The order of the children on an axis, or the members of its cycles.
+fn sorted_on(alloc: Global, axis: Axis, kids: &[Link]) -> Result<Sorting, AllocError>
+    requires few { length kids.now ≤ MAX_VIEWS }
+    ensures { IfOk result (λ sorting. IsSorting axis kids.now sorting) }
+{
+    let naming = Naming::new(alloc, axis, kids)?;
+    let order = longest_order(alloc, axis, kids, &naming)?;
+    if order.len() == kids.len() {
+        return Ok(Sorting::Order(order));
+    }
+    let members = members(alloc, axis, kids, &naming)?;
+    Ok(Sorting::Cycle(members))
+}
+
+/// The children in order as far as they can be taken.
+fn longest_order(
+    alloc: Global,
+    axis: Axis,
+    kids: &[Link],
+    naming: &Naming,
+) -> Result<Vec<u32>, AllocError>
+    requires few { length kids.now ≤ MAX_VIEWS }
+    requires naming { IsNaming axis kids.now naming.now }
+    ensures { IfOk result (λ order. IsLongest (leads axis kids.now) (length kids.now) order.items) }
+{
+    let mut taking = Taking::start(alloc, axis, kids, naming)?;
+    taking.take_all(axis, kids, naming)?;
+    let Taking { order, .. } = taking;
+    Ok(order)
+}
+
+/// The children that reach themselves, in list order.
+fn members(
+    alloc: Global,
+    axis: Axis,
+    kids: &[Link],
+    naming: &Naming,
+) -> Result<Vec<u32>, AllocError>
+    requires few { length kids.now ≤ MAX_VIEWS }
+    requires naming { IsNaming axis kids.now naming.now }
+    ensures members { IfOk result (λ members. AreMembers (leads axis kids.now) (length kids.now) members.items) }
+    ensures known { IfOk result (λ members. (place : ℕ) → place < length kids.now
+        → (marks : List Bool) × (length marks ≡ length kids.now) × AreReaching (leads axis kids.now) place marks) }
+{
+    let mut members = Vec::new(alloc);
+    for place in 0..kids.len() {
+        note_member(alloc, axis, kids, naming, &mut members, place)?;
+    }
+    Ok(members)
+}
+
+/// Notes a child if it reaches itself.
+fn note_member(
+    alloc: Global,
+    axis: Axis,
+    kids: &[Link],
+    naming: &Naming,
+    members: &mut Vec<u32>,
+    place: usize,
+) -> Result<(), AllocError>
+    requires few { length kids.now ≤ MAX_VIEWS }
+    requires place { place < length kids.now }
+    requires naming { IsNaming axis kids.now naming.now }
+    requires members { AreMembers (leads axis kids.now) place members.old.items }
+    ensures members { OnOk result (AreMembers (leads axis kids.now) (place + 1) members.new.items) }
+    ensures known { OnOk result ((marks : List Bool) × (length marks ≡ length kids.now) × AreReaching (leads axis kids.now) place marks) }
+{
+    let marks = those_that_reach(alloc, axis, kids, naming, place)?;
+    if !marks[place] {
+        return Ok(());
+    }
+    members.push(place as u32)?;
+    Ok(())
+}

@@ -1,0 +1,151 @@
+//! The measuring of one relative layout.
+ghost use Rattle.std.specs.Prelude.{◌≡◌, ◌+◌, [], ◌∷◌, ◌++◌, List};
+ghost use Rattle.geom_core.specs.Limits.{IsSide};
+ghost use Rattle.view_model.specs.declared.facts.Facts.{Facts as FactsValue};
+ghost use Rattle.view_model.specs.Facts.{unscrolled_facts};
+ghost use Rattle.view_model.specs.Measuring.{Specs, pair_of};
+ghost use Rattle.view_model.specs.RelativeLayout.{Spanned, across_specs, down_specs, final_rect, phase_specs, relative_size, span_or_none};
+
+use crate::extent::Extent;
+use crate::sides::{loose_spec, told_spec};
+use crate::spans::rect_between;
+use geom_core::{Rect, Size, Spec};
+use view_model::{Anchors, Axis, Edges, Facts};
+
+/// The measuring of one relative layout, on the horizontal axis and then on the vertical one. In each of the two phases
+/// every child that takes part in layout is handed in once, after its anchors on that axis: `ask`, measuring, `take`.
+/// `edges` is what `take` answered for that child last, and none on either axis before; `anchors` are those of the
+/// phase's axis, with the sides that they have there.
+#[derive(Clone, Copy, Debug)]
+pub struct RelativePlan {
+    axis: Axis,
+    across: Extent,
+    down: Extent,
+}
+
+impl RelativePlan {
+    ghost use Rattle.relative_layout.specs.RelativePlan.{StandsRelative, TurnsRelative, edges_as, spanned_as};
+
+    /// The plan of a group with these facts under these specs, before its first child.
+    pub fn start(own: &Facts, ws: Spec, hs: Spec) -> RelativePlan
+        ensures { StandsRelative result (unscrolled_facts own.now) (record { across = ws; down = hs }) [] [] }
+    {
+        RelativePlan {
+            axis: Axis::Horizontal,
+            across: Extent::start(Axis::Horizontal.band(own, ws, hs)),
+            down: Extent::start(Axis::Vertical.band(own, ws, hs)),
+        }
+    }
+
+    /// The specs of a child in this phase.
+    pub fn ask(&self, kid: &Facts, edges: Edges, anchors: &Anchors) -> (Spec, Spec)
+        ensures { (own : FactsValue) (specs : Specs) (past : List (List Spanned)) (taken : List Spanned)
+            → StandsRelative self.now own specs past taken
+            → result ≡ pair_of (phase_specs own specs past (unscrolled_facts kid.now) edges anchors.now) }
+    {
+        match self.axis {
+            Axis::Horizontal => self.across_specs(kid, anchors),
+            Axis::Vertical => self.down_specs(kid, edges, anchors),
+        }
+    }
+
+    /// Takes the size that a child has got, and answers its sides as far as they are known then.
+    pub fn take(&mut self, kid: &Facts, edges: Edges, anchors: &Anchors, size: Size) -> Edges
+        requires width { IsSide size.w }
+        requires height { IsSide size.h }
+        ensures edges { (own : FactsValue) (specs : Specs) (past : List (List Spanned)) (taken : List Spanned)
+            → StandsRelative self.old own specs past taken
+            → result ≡ edges_as own specs past (unscrolled_facts kid.now) edges anchors.now size }
+        ensures taken { (own : FactsValue) (specs : Specs) (past : List (List Spanned)) (taken : List Spanned)
+            → StandsRelative self.old own specs past taken
+            → StandsRelative self.new own specs past (taken ++ spanned_as own specs past (unscrolled_facts kid.now) anchors.now size ∷ []) }
+    {
+        match self.axis {
+            Axis::Horizontal => {
+                let span = self
+                    .across
+                    .take(&Axis::Horizontal.tied(kid), anchors, size.w);
+                Edges {
+                    across: Some(span),
+                    down: edges.down,
+                }
+            }
+            Axis::Vertical => {
+                let span = self.down.take(&Axis::Vertical.tied(kid), anchors, size.h);
+                Edges {
+                    across: edges.across,
+                    down: Some(span),
+                }
+            }
+        }
+    }
+
+    /// Ends a phase: true where another follows.
+    pub fn turn(&mut self) -> bool
+        ensures { (own : FactsValue) (specs : Specs) (past : List (List Spanned)) (taken : List Spanned)
+            → StandsRelative self.old own specs past taken
+            → TurnsRelative self.new own specs past taken result }
+    {
+        match self.axis {
+            Axis::Horizontal => {
+                self.axis = Axis::Vertical;
+                true
+            }
+            Axis::Vertical => false,
+        }
+    }
+
+    /// The own size, once every child of the second phase is taken.
+    pub fn finish(&self) -> Size
+        ensures value { (own : FactsValue) (specs : Specs) (first second : List Spanned)
+            → StandsRelative self.now own specs (first ∷ []) second
+            → result ≡ relative_size own specs first second }
+        ensures width { IsSide result.w }
+        ensures height { IsSide result.h }
+    {
+        Size {
+            w: self.across.own_length(),
+            h: self.down.own_length(),
+        }
+    }
+
+    /// Where a child of this size lies that has these sides after the second phase, in the group's coordinates.
+    pub fn settle(&self, kid: &Facts, edges: Edges, size: Size) -> Rect
+        requires width { IsSide size.w }
+        requires height { IsSide size.h }
+        ensures { (own : FactsValue) (specs : Specs) (first second : List Spanned)
+            → StandsRelative self.now own specs (first ∷ []) second
+            → result ≡ final_rect own specs (relative_size own specs first second) (unscrolled_facts kid.now) edges size }
+    {
+        rect_between(
+            self.across
+                .final_span(&Axis::Horizontal.tied(kid), edges.across, size.w),
+            self.down
+                .final_span(&Axis::Vertical.tied(kid), edges.down, size.h),
+        )
+    }
+
+    /// The specs of a child in the first phase.
+    fn across_specs(&self, kid: &Facts, anchors: &Anchors) -> (Spec, Spec)
+        ensures { (own : FactsValue) (specs : Specs) (taken : List Spanned)
+            → StandsRelative self.now own specs [] taken
+            → result ≡ pair_of (across_specs own specs kid.now anchors.now) }
+    {
+        (
+            self.across.spec(&Axis::Horizontal.tied(kid), anchors),
+            loose_spec(&self.down.band, &Axis::Vertical.tied(kid)),
+        )
+    }
+
+    /// The specs of a child in the second phase, in which its sides from left to right are known.
+    fn down_specs(&self, kid: &Facts, edges: Edges, anchors: &Anchors) -> (Spec, Spec)
+        ensures { (own : FactsValue) (specs : Specs) (first taken : List Spanned)
+            → StandsRelative self.now own specs (first ∷ []) taken
+            → result ≡ pair_of (down_specs own specs kid.now (span_or_none edges.across) anchors.now) }
+    {
+        (
+            told_spec(edges.across.unwrap_or((0, 0))),
+            self.down.spec(&Axis::Vertical.tied(kid), anchors),
+        )
+    }
+}

@@ -1,0 +1,15 @@
+//! The resources that layout files may name: what `define` gave an id, in a table whose look-ups do not go over it.
+//!
+//! `value` is what a resource is, `resources` the table, `fault` why one is not defined.
+#![tactic(auto)]
+
+mod fault;
+mod resources;
+mod value;
+
+pub use fault::ResFault;
+pub use resources::Resources;
+pub use value::Value;
+
+#[cfg(test)]
+mod tests;

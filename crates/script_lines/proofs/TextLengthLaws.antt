@@ -1,0 +1,121 @@
+-- The text of a command is no longer than its line.
+use Rattle.std.proofs.Common.{◌≡◌, ℕ, ◌≤◌, Bool, true, false, subst, sym, List, [], ◌∷◌, length, drop, arith, length-drop}
+use Rattle.std.specs.Prelude.{ℤ, pos, nat_lt, codes, if◌then◌else◌, IfOk, Result, Ok, Err}
+use Rattle.std.specs.List.{prefix_len}
+use Rattle.std.specs.Str.{bytes_eq, is_utf8}
+use Rattle.script_lines.specs.Changes.{act_of}
+use Rattle.script_lines.specs.Commands.{add_of, bounds_of, class_of, command_by, command_in, command_of, dpi_of, frame_of, inflate_of, into_of, remove_of, set_of}
+use Rattle.script_lines.specs.Dimensions.{extents_of}
+use Rattle.script_lines.specs.Escapes.{escaped_text_of, has_escapes, rest_of}
+use Rattle.script_lines.specs.FileNames.{file_name_in}
+use Rattle.script_lines.specs.Lines.{is_space}
+use Rattle.script_lines.specs.Names.{id_in, name_in, parent_in}
+use Rattle.script_lines.specs.Numbers.{integer_in, natural_within, pair_of, within_of}
+use Rattle.script_lines.specs.PlainCommands.{PlainCommand, PlainGiven, Window, Dpi, Inflate, Act, Text, given_text_length, text_length}
+use Rattle.script_lines.specs.Resources.{color_given, color_of, dimen_given, given_by, given_of, res_of, resource_id, unit_of}
+use Rattle.script_lines.specs.Words.{◌>>=◌, after_spaces, after_word, end_of, in_word, map_ok, text_of, word_in, words}
+use Rattle.script_lines.specs.declared.commands.TheConstants.{MAX_DPI, MAX_WINDOW, MIN_DPI}
+use Rattle.script_lines.specs.declared.fault.LineFault.{LineFault}
+use Rattle.script_lines.specs.declared.resources.TheConstants.{MAX_MANTISSA, MIN_MANTISSA}
+
+-- what holds of whatever a reading gives
+if_then : {A B : Type 0} (P : B → Type 0) (r : Result A LineFault) (next : A → Result B LineFault) → ((a : A) → IfOk (next a) P) → IfOk (r >>= next) P
+if_then P (Ok a) next h = h a
+if_then P (Err fault) next h = tt
+
+if_then_with : {A B : Type 0} (Q : A → Type 0) (P : B → Type 0) (r : Result A LineFault) (next : A → Result B LineFault) → IfOk r Q → ((a : A) → Q a → IfOk (next a) P) → IfOk (r >>= next) P
+if_then_with Q P (Ok a) next q h = h a q
+if_then_with Q P (Err fault) next q h = tt
+
+if_map : {A B : Type 0} (P : B → Type 0) (f : A → B) (r : Result A LineFault) → ((a : A) → P (f a)) → IfOk (map_ok f r) P
+if_map P f (Ok a) h = h a
+if_map P f (Err fault) h = tt
+
+if_map_with : {A B : Type 0} (Q : A → Type 0) (P : B → Type 0) (f : A → B) (r : Result A LineFault) → IfOk r Q → ((a : A) → Q a → P (f a)) → IfOk (map_ok f r) P
+if_map_with Q P f (Ok a) q h = h a q
+if_map_with Q P f (Err fault) q h = tt
+
+if_ok_more : {B : Type 0} (Q P : B → Type 0) (r : Result B LineFault) → IfOk r Q → ((b : B) → Q b → P b) → IfOk r P
+if_ok_more Q P (Ok b) q h = h b q
+if_ok_more Q P (Err fault) q h = tt
+
+if_either : {B : Type 0} (P : B → Type 0) (b : Bool) (r s : Result B LineFault) → IfOk r P → IfOk s P → IfOk (if b then r else s) P
+if_either P true r s h k = h
+if_either P false r s h k = k
+
+-- what holds of the plain value that a reading gives
+pub from_plain : {A B : Type 0} (f : A → B) (P : B → Type 0) (r : Result A LineFault) (plain : Result B LineFault) → map_ok f r ≡ plain → IfOk plain P → IfOk r (λ a. P (f a))
+from_plain f P (Ok a) plain e h = subst (λ r. IfOk r P) (sym e) h
+from_plain f P (Err fault) plain e h = tt
+
+after_word-short : (bytes : List ℕ) → length (after_word bytes) ≤ length bytes
+unfolding after_word
+after_word-short bytes =
+    omega (arith, length-drop (prefix_len is_space bytes) bytes, length-drop (prefix_len in_word (after_spaces bytes)) (after_spaces bytes))
+
+rest_of-short : (rest : List ℕ) → IfOk (rest_of rest) (λ text. length text ≤ length rest)
+unfolding rest_of escaped_text_of text_of
+rest_of-short rest =
+    let P = λ (text : List ℕ). length text ≤ length rest in
+    if_either P (nat_lt 0 (length rest)) _ _ (if_either P (has_escapes (drop 1 rest)) _ _ (if_either P (is_utf8 (drop 1 rest)) _ _ (omega (arith, length-drop 1 rest)) tt) tt) tt
+
+abbrev GivenShort : ℕ → PlainGiven → Type 0
+GivenShort n value = given_text_length value ≤ n
+
+none_short : (n : ℕ) → 0 ≤ n
+none_short n = omega arith
+
+given_by-short : (kind rest : List ℕ) → IfOk (given_by kind rest) (GivenShort (length rest))
+unfolding given_by color_given dimen_given
+given_by-short kind rest =
+    let P = GivenShort (length rest) in
+    if_either P (bytes_eq kind (codes "color")) _ _ (if_then P (word_in (words rest)) _ (λ c. if_then P (color_of c.0) _ (λ color. if_then P (end_of c.1) _ (λ _. none_short (length rest)))))
+    (if_either P (bytes_eq kind (codes "dimen")) _ _
+    (if_then P (integer_in (words rest)) _ (λ n. if_then P (word_in n.1) _ (λ u. if_then P (unit_of u.0) _ (λ unit. if_then P (end_of u.1) _
+    (λ _. if_then P (within_of MIN_MANTISSA MAX_MANTISSA n.0) _ (λ _. none_short (length rest)))))))
+    (if_either P (bytes_eq kind (codes "text")) _ _ (if_map_with (λ text. length text ≤ length rest) P Text (rest_of rest) (rest_of-short rest) (λ text h. h)) tt))
+
+given_of-short : (rest : List ℕ) → IfOk (given_of rest) (GivenShort (length (after_word rest)))
+unfolding given_of
+given_of-short rest = if_then (GivenShort (length (after_word rest))) (word_in (words rest)) _ (λ kind. given_by-short kind.0 (after_word rest))
+
+abbrev Short : ℕ → PlainCommand → Type 0
+Short n command = text_length command ≤ n
+
+res_of-short : (rest : List ℕ) → IfOk (res_of rest) (Short (length rest))
+unfolding res_of
+res_of-short rest =
+    let P = Short (length rest) in
+    if_then P (id_in (words rest)) _ (λ id.
+    if_then_with (GivenShort (length (after_word (after_word rest)))) P (given_of (after_word rest)) _ (given_of-short (after_word rest)) (λ value h.
+    if_then P (resource_id id.0) _ (λ _. omega (arith, h, after_word-short rest, after_word-short (after_word rest)))))
+
+bounds_of-short : (n : ℕ) (words : List (List ℕ)) → IfOk (bounds_of words) (Short n)
+unfolding bounds_of
+bounds_of-short n [] = none_short n
+bounds_of-short n (word ∷ words) = if_then (Short n) (name_in (word ∷ words)) _ (λ view. if_then (Short n) (end_of view.1) _ (λ _. none_short n))
+
+set_of-short : (n : ℕ) (head : List ℕ) (words : List (List ℕ)) → IfOk (set_of head words) (Short n)
+unfolding set_of
+set_of-short n head words = if_then (Short n) (name_in words) _ (λ view. if_map (Short n) (Act view.0) (act_of head view.1) (λ _. none_short n))
+
+command_by-short : (n : ℕ) (head : List ℕ) (words : List (List ℕ)) → IfOk (command_by head words) (Short n)
+unfolding command_by dpi_of inflate_of add_of remove_of frame_of
+command_by-short n head words =
+    let P = Short n in
+    if_either P (bytes_eq head (codes "window")) _ _ (if_map P (λ (pair : ℤ × ℤ). Window pair.0 pair.1) (pair_of (pos 1) MAX_WINDOW words) (λ _. none_short n))
+    (if_either P (bytes_eq head (codes "dpi")) _ _ (if_then P (integer_in words) _ (λ dpi. if_then P (end_of dpi.1) _ (λ _. if_map P Dpi (natural_within MIN_DPI MAX_DPI dpi.0) (λ _. none_short n))))
+    (if_either P (bytes_eq head (codes "inflate")) _ _ (if_then P (file_name_in words) _ (λ name. if_map P (Inflate name.0) (into_of name.1) (λ _. none_short n)))
+    (if_either P (bytes_eq head (codes "add")) _ _
+    (if_then P (parent_in words) _ (λ parent. if_then P (word_in parent.1) _ (λ c. if_then P (class_of c.0) _ (λ class. if_map P _ (extents_of c.1) (λ _. none_short n)))))
+    (if_either P (bytes_eq head (codes "remove")) _ _ (if_then P (name_in words) _ (λ view. if_then P (end_of view.1) _ (λ _. none_short n)))
+    (if_either P (bytes_eq head (codes "frame")) _ _ (if_then P (end_of words) _ (λ _. none_short n))
+    (if_either P (bytes_eq head (codes "bounds")) _ _ (bounds_of-short n words) (set_of-short n head words)))))))
+
+pub command_of-short : (line : List ℕ) → IfOk (command_of line) (Short (length line))
+unfolding command_of command_in
+command_of-short line =
+    let P = Short (length line) in
+    let res : IfOk (res_of (after_word line)) P = if_ok_more (Short (length (after_word line))) P (res_of (after_word line)) (res_of-short (after_word line)) (λ c h. omega (arith, h, after_word-short line)) in
+    if_either P (is_utf8 line) _ _ (if_then P (word_in (words line)) _ (λ head.
+    if_either P (bytes_eq head.0 (codes "res")) _ _ res (command_by-short (length line) head.0 (words (after_word line))))) tt

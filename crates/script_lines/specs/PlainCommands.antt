@@ -1,0 +1,62 @@
+-- Commands with the bytes of their texts, in place of the code's references to them.
+use Rattle.std.specs.Prelude.{ℕ, ℤ, List, length, Option}
+use Rattle.geom_core.specs.declared.color.Argb.{Argb}
+use Rattle.view_model.specs.declared.changes.Act.{Act as ViewAct}
+use Rattle.view_model.specs.declared.kinds.Class.{Class}
+use Rattle.script_lines.specs.declared.commands.Command.{Command}
+use Rattle.script_lines.specs.declared.commands.Command.TheVariants as command
+use Rattle.script_lines.specs.declared.commands.Given.{Given}
+use Rattle.script_lines.specs.declared.commands.Given.TheVariants as given
+use Rattle.script_lines.specs.declared.naming.Name.{Name}
+
+-- what a line gives a resource: a colour, the word of a dimension, or a text with its escapes as written
+pub data PlainGiven : Type 0 where
+  Color : (color : Argb) → PlainGiven
+  Dimen : (word : ℕ) → PlainGiven
+  Text : (text : List ℕ) → PlainGiven
+
+-- what a line asks for
+pub data PlainCommand : Type 0 where
+  Window : (w h : ℤ) → PlainCommand
+  Dpi : (dpi : ℕ) → PlainCommand
+  Res : (id : ℕ) (value : PlainGiven) → PlainCommand
+  Inflate : (name : List ℕ) (into : Option Name) → PlainCommand
+  Add : (parent : Option Name) (class : Class) (width height : ℤ) → PlainCommand
+  Remove : (view : Name) → PlainCommand
+  Act : (view : Name) (act : ViewAct) → PlainCommand
+  Frame : PlainCommand
+  Bounds : (view : Option Name) → PlainCommand
+
+abbrev pub plain_given : Given → PlainGiven
+plain_given (given.Color color) = Color color
+plain_given (given.Dimen word) = Dimen word
+plain_given (given.Text text) = Text text.now
+
+abbrev pub plain_command : Command → PlainCommand
+plain_command (command.Window w h) = Window w h
+plain_command (command.Dpi dpi) = Dpi dpi
+plain_command (command.Res id value) = Res id (plain_given value)
+plain_command (command.Inflate name into) = Inflate name.now into
+plain_command (command.Add parent class width height) = Add parent class width height
+plain_command (command.Remove view) = Remove view
+plain_command (command.Act view act) = Act view act
+plain_command command.Frame = Frame
+plain_command (command.Bounds view) = Bounds view
+
+-- how many bytes the text of a value has
+abbrev pub given_text_length : PlainGiven → ℕ
+given_text_length (Color color) = 0
+given_text_length (Dimen word) = 0
+given_text_length (Text text) = length text
+
+-- how many bytes the text of a command has
+abbrev pub text_length : PlainCommand → ℕ
+text_length (Window w h) = 0
+text_length (Dpi dpi) = 0
+text_length (Res id value) = given_text_length value
+text_length (Inflate name into) = 0
+text_length (Add parent class width height) = 0
+text_length (Remove view) = 0
+text_length (Act view act) = 0
+text_length Frame = 0
+text_length (Bounds view) = 0

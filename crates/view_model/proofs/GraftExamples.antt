@@ -1,0 +1,51 @@
+-- Worked rows of why a sapling is refused.
+use Rattle.std.specs.Prelude.{◌≡◌, ℕ, pos, [], Option, Some, None, refl}
+use Rattle.view_model.specs.declared.kinds.Class.{Class}
+use Rattle.view_model.specs.declared.kinds.Class.TheVariants.{View, FrameLayout}
+use Rattle.view_model.specs.declared.refusals.TheConstants.{NOT_GROUP, TOO_DEEP, TOO_MANY_VIEWS}
+use Rattle.view_model.specs.Facts.{new_facts}
+use Rattle.view_model.specs.Forest.{Forest, Nothing, Branch}
+use Rattle.view_model.specs.Grafts.{graft_refusal, refusal_below}
+use Rattle.view_model.specs.Growth.{growth_refusal}
+use Rattle.view_model.specs.PlainTree.{PlainView, single}
+use Rattle.view_model.specs.Refusals.{PlainRefusal, Element}
+use Rattle.view_model.specs.Sprouts.{Seed}
+
+abbrev seed : Class → Seed
+seed class = record { class = class; facts = new_facts (pos 0) (pos 0); text = [] }
+
+abbrev view : ℕ → Class → PlainView
+view number class = record { number = number; class = class; facts = new_facts (pos 0) (pos 0); text = [] }
+
+abbrev refused : ℕ → ℕ → Option PlainRefusal
+refused number element = Some (record { number = number; reason = Element element })
+
+-- below a view that is no group it is the first element that does not come
+below_a_view : graft_refusal (single (view 1 View)) (Some 1) (Branch (seed View) Nothing Nothing) ≡ refused NOT_GROUP 1
+unfolding growth_refusal
+below_a_view = refl
+
+-- inside an element that is no group it is the inner one, also where the sapling becomes the root
+inside_a_view : graft_refusal Nothing None (Branch (seed View) (Branch (seed View) Nothing Nothing) Nothing) ≡ refused NOT_GROUP 2
+unfolding growth_refusal
+inside_a_view = refl
+
+-- two levels below a view that is 31 deep
+too_deep : refusal_below FrameLayout 31 31 1 (Branch (seed FrameLayout) (Branch (seed View) Nothing Nothing) Nothing) ≡ refused TOO_DEEP 2
+unfolding growth_refusal
+too_deep = refl
+
+-- two views where there is room for one
+too_many : refusal_below FrameLayout 1 4095 1 (Branch (seed View) Nothing (Branch (seed View) Nothing Nothing)) ≡ refused TOO_MANY_VIEWS 2
+unfolding growth_refusal
+too_many = refl
+
+-- an earlier element decides, whatever the later ones are refused for
+first_decides : refusal_below FrameLayout 1 4096 1 (Branch (seed View) (Branch (seed View) Nothing Nothing) Nothing) ≡ refused TOO_MANY_VIEWS 1
+unfolding growth_refusal
+first_decides = refl
+
+-- one that comes
+comes : graft_refusal (single (view 1 FrameLayout)) (Some 1) (Branch (seed FrameLayout) (Branch (seed View) Nothing Nothing) Nothing) ≡ None
+unfolding growth_refusal
+comes = refl

@@ -1,0 +1,137 @@
+//! What a relative layout looks at on an axis: the group, a child, and the siblings to which it is tied. Lengths are in
+//! pixels.
+ghost use Rattle.std.specs.Prelude.{◌≡◌};
+
+use crate::facts::{Facts, Rules};
+use crate::verbs::{
+    CENTER, CENTER_H, CENTER_V, PARENT_BOTTOM, PARENT_END, PARENT_LEFT, PARENT_RIGHT, PARENT_START,
+    PARENT_TOP,
+};
+use geom_core::{Size, Spec};
+
+/// An axis of a layout. Its near side is left or top, its far side right or bottom.
+#[derive(Clone, Copy, Debug, PartialEq, Eq)]
+pub enum Axis {
+    Horizontal,
+    Vertical,
+}
+
+/// What the order of a relative layout's children hangs on: a child's id, and the ids that it names.
+#[derive(Clone, Copy, Debug, PartialEq, Eq)]
+pub struct Link {
+    pub id: u32,
+    pub rules: Rules,
+}
+
+/// The near and the far side of a child on each axis, in the coordinates of its group, as far as they are known.
+#[derive(Clone, Copy, Debug, PartialEq, Eq)]
+pub struct Edges {
+    pub across: Option<(i32, i32)>,
+    pub down: Option<(i32, i32)>,
+}
+
+/// A sibling that was measured on an axis: its sides there, and its margins.
+#[derive(Clone, Copy, Debug, PartialEq, Eq)]
+pub struct Anchor {
+    pub near: i32,
+    pub far: i32,
+    pub margin_near: i32,
+    pub margin_far: i32,
+}
+
+/// The siblings to which a child is tied on an axis.
+#[derive(Clone, Copy, Debug, PartialEq, Eq)]
+pub struct Anchors {
+    /// The one that it ends before: by left_of or above.
+    pub before: Option<Anchor>,
+    /// The one that it begins after: by right_of or below.
+    pub after: Option<Anchor>,
+    /// The one with which it begins: by align_left or align_top.
+    pub align_near: Option<Anchor>,
+    /// The one with which it ends: by align_right or align_bottom.
+    pub align_far: Option<Anchor>,
+}
+
+/// A relative layout on an axis.
+#[derive(Clone, Copy, Debug, PartialEq, Eq)]
+pub struct Band {
+    pub spec: Spec,
+    pub padding_near: i32,
+    pub padding_far: i32,
+    /// The least size.
+    pub min: i32,
+}
+
+/// A child of a relative layout on an axis, apart from its siblings.
+#[derive(Clone, Copy, Debug, PartialEq, Eq)]
+pub struct Tied {
+    /// The width or the height that it wants.
+    pub dim: i32,
+    pub margin_near: i32,
+    pub margin_far: i32,
+    /// Whether it begins where its parent does.
+    pub at_near: bool,
+    /// Whether it ends where its parent does.
+    pub at_far: bool,
+    pub centered: bool,
+}
+
+impl Axis {
+    ghost use Rattle.view_model.specs.Measuring.{Specs};
+    ghost use Rattle.view_model.specs.RelativeLayout.{band_on, length_on, tied_on};
+
+    /// A group with these facts under these specs.
+    pub fn band(self, own: &Facts, ws: Spec, hs: Spec) -> Band
+        ensures { result ≡ band_on self own.now (record { across = ws; down = hs }) }
+    {
+        match self {
+            Axis::Horizontal => Band {
+                spec: ws,
+                padding_near: own.padding_left(),
+                padding_far: own.padding_right(),
+                min: own.min.w,
+            },
+            Axis::Vertical => Band {
+                spec: hs,
+                padding_near: own.padding.top,
+                padding_far: own.padding.bottom,
+                min: own.min.h,
+            },
+        }
+    }
+
+    /// A child with these facts.
+    pub fn tied(self, kid: &Facts) -> Tied
+        ensures { result ≡ tied_on self kid.now }
+    {
+        let rules = kid.rules.values;
+        match self {
+            Axis::Horizontal => Tied {
+                dim: kid.width,
+                margin_near: kid.margin_left(),
+                margin_far: kid.margin_right(),
+                at_near: rules[PARENT_LEFT] != 0 || rules[PARENT_START] != 0,
+                at_far: rules[PARENT_RIGHT] != 0 || rules[PARENT_END] != 0,
+                centered: rules[CENTER] != 0 || rules[CENTER_H] != 0,
+            },
+            Axis::Vertical => Tied {
+                dim: kid.height,
+                margin_near: kid.margins.top,
+                margin_far: kid.margins.bottom,
+                at_near: rules[PARENT_TOP] != 0,
+                at_far: rules[PARENT_BOTTOM] != 0,
+                centered: rules[CENTER] != 0 || rules[CENTER_V] != 0,
+            },
+        }
+    }
+
+    /// The width or the height of a size.
+    pub fn length(self, size: Size) -> i32
+        ensures { result ≡ length_on self size }
+    {
+        match self {
+            Axis::Horizontal => size.w,
+            Axis::Vertical => size.h,
+        }
+    }
+}

@@ -1,0 +1,15 @@
+//! A view that is to come into a tree.
+
+use crate::facts::Facts;
+use crate::kinds::Class;
+use crate::text::Text;
+
+/// A view that is to come into a tree with others, and has no number yet.
+#[derive(Debug, Drop)]
+pub struct Sprout {
+    pub class: Class,
+    pub facts: Facts,
+    pub text: Text,
+    /// How deep it is among those that come with it: 1 for the outermost.
+    pub depth: u32,
+}

@@ -1,0 +1,9 @@
+-- Laws of saplings that come into a tree. No other crate cites them.
+pub mod CheckedSprouts
+pub mod GainLaws
+pub mod Grafts
+pub mod Paths
+pub mod Refusing
+pub mod Saplings
+pub mod Sown
+pub mod SownSprouts

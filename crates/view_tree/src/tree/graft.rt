@@ -1,0 +1,112 @@
+//! Saplings that come into a tree.
+ghost use Rattle.std.specs.Prelude.{◌≡◌, ◌≤◌, ◌+◌, ◌<◌, true, None, IfOk, IfSome, OnErr};
+ghost use Rattle.std.specs.Option.{option_map};
+ghost use Rattle.view_model.specs.declared.limits.TheConstants.{MAX_DEPTH, MAX_VIEWS, NUMBERS_END};
+ghost use Rattle.view_model.specs.Forest.{Forest, Nothing};
+ghost use Rattle.view_model.specs.Grafts.{at_element, graft_refusal, refusal_below};
+ghost use Rattle.view_model.specs.Growth.{growth_refusal};
+ghost use Rattle.view_model.specs.Sprouts.{IsPreorder, Seed, follows, preorder, seeds_of};
+ghost use Rattle.view_tree.specs.Faults.{IsRefusedExactlyFor, RefusesExactlyFor};
+ghost use Rattle.view_tree.specs.Grafted.{Grafted};
+ghost use Rattle.view_tree.specs.Hidden.{IsConsistent};
+ghost use Rattle.view_tree.specs.Views.{IsLive, number_of, plain_of};
+
+use super::attach::growth;
+use super::plant::{plant, sow};
+use super::{Key, ViewTree};
+use crate::fault::AttachFault;
+use crate::table::make_room;
+use view_model::limits::MAX_DEPTH;
+use view_model::{Class, Detail, Refusal, Sapling, Sprout};
+
+impl ViewTree {
+    /// Makes the views of a sapling, its outermost one the last child of a parent, or the root where there is none, and
+    /// answers the key of that. They have the next numbers in preorder, and no bounds. It takes time for them alone.
+    pub fn graft(&mut self, parent: Option<Key>, sapling: Sapling) -> Result<Key, AttachFault>
+        requires live { IfSome parent (λ parent. IsLive self.old parent) }
+        requires root { parent ≡ None → self.old.tree ≡ Nothing }
+        requires numbers { self.old.next < NUMBERS_END }
+        ensures grafted { IfOk result (λ key. Grafted self.old parent (seeds_of sapling.sprouts.items) key self.new) }
+        ensures refused { IsRefusedExactlyFor (graft_refusal (plain_of self.old) (option_map (number_of self.old) parent) (seeds_of sapling.sprouts.items)) result }
+        ensures few { self.new.next ≤ self.old.next + MAX_VIEWS }
+        ensures consistent { IsConsistent self.old → IsConsistent self.new }
+        ensures unchanged { OnErr result (self.new ≡ self.old) }
+    {
+        self.may_take(parent, &sapling.sprouts)?;
+        let count = sapling.sprouts.len();
+        make_room(&mut self.nodes, &mut self.keys, &mut self.ids, count, count)?;
+        let mut sprouts = sapling.sprouts.into_iter();
+        let Some(outermost) = sprouts.next() else {
+            unreachable!()
+        };
+        let key = plant(
+            &mut self.nodes,
+            &mut self.keys,
+            &mut self.ids,
+            &mut self.root,
+            &mut self.next,
+            parent,
+            outermost,
+        );
+        sow(
+            &mut self.nodes,
+            &mut self.keys,
+            &mut self.ids,
+            &mut self.root,
+            &mut self.next,
+            key,
+            sprouts,
+        );
+        Ok(key)
+    }
+
+    /// Whether these views may come below a parent, or as the whole tree.
+    fn may_take(&self, parent: Option<Key>, sprouts: &[Sprout]) -> Result<(), Refusal>
+        requires live { IfSome parent (λ parent. IsLive self.now parent) }
+        requires preorder { IsPreorder sprouts.now }
+        ensures { RefusesExactlyFor (graft_refusal (plain_of self.now) (option_map (number_of self.now) parent) (seeds_of sprouts.now)) result }
+    {
+        let mut depth = 1;
+        if let Some(parent) = parent {
+            let class = self.class(parent);
+            let above = self.depth(parent);
+            growth_at(1, class, above, self.len())?;
+            depth = above + 1;
+        }
+        growth_below(sprouts[0].class, depth, self.len() + 1, &sprouts[1..])
+    }
+}
+
+/// Whether these views may come below the outermost one of their sapling, which has this class and depth, in a tree of so
+/// many views. That is the first element, and they are the second and so on.
+fn growth_below(class: Class, depth: usize, count: usize, sprouts: &[Sprout]) -> Result<(), Refusal>
+    requires follow { follows 1 sprouts.now ≡ true }
+    requires depth { (1 ≤ depth) × (depth ≤ MAX_DEPTH) }
+    requires count { count ≤ MAX_VIEWS + 1 }
+    ensures { (kids : Forest Seed) → preorder 2 kids ≡ sprouts.now → RefusesExactlyFor (refusal_below class depth count 2 kids) result }
+{
+    let mut path = [class; MAX_DEPTH];
+    let mut count = count;
+    let mut element = 2;
+    for sprout in sprouts {
+        let above = sprout.depth as usize - 2;
+        growth_at(element, path[above], depth + above, count)?;
+        path[above + 1] = sprout.class;
+        count += 1;
+        element += 1;
+    }
+    Ok(())
+}
+
+/// Whether a view of this class and depth may get a child that is this element, in a tree of so many views.
+fn growth_at(element: u32, class: Class, depth: usize, count: usize) -> Result<(), Refusal>
+    ensures { RefusesExactlyFor (at_element element (growth_refusal class depth count)) result }
+{
+    match growth(class, depth, count) {
+        Ok(()) => Ok(()),
+        Err(refusal) => Err(Refusal {
+            number: refusal.number,
+            detail: Detail::Element(element),
+        }),
+    }
+}

@@ -1,0 +1,32 @@
+use Rattle.std.proofs.Common.{◌≡◌, List, ℕ, ap, sym, subst, ◌∙◌}
+use Rattle.std.specs.Prelude.{Ok, Some}
+use Rattle.view_model.specs.Grafts.{graft_refusal}
+use Rattle.view_tree.specs.Views.{plain_of}
+use Rattle.view_world.specs.Carried.{AreAtHand, CountsShelf}
+use Rattle.view_world.specs.Changed.{Inflates, IsPlace}
+use Rattle.view_world.specs.Inflating.{asked_for, views_in, views_of}
+use Rattle.view_world.specs.KeyedWorld.{KeyedWorld, world_of}
+use Rattle.view_world.specs.Step.{grafted, inflation}
+use Rattle.view_world.proofs.FileLaws.{counts_nothing}
+use Rattle.view_world.proofs.InflatingLaws.{inflated_as, inflates_as, told_where_asked, views_of-bytes}
+use Rattle.view_world.proofs.world.World.inflate.Goals as goal
+
+pub returns-clause-changed : goal.returns-clause-changed
+returns-clause-changed g c files at =
+    let old : KeyedWorld = record { views = c.self.inside.tree; stage = c.self.inside.stage; dpi = c.self.inside.dpi; resources = c.self.inside.resources } in
+    let name = c.args.name.now in
+    let place = c.in_ok-place.ensures.place in
+    let asked = subst (λ (w : KeyedWorld). AreAtHand files (g.F.Shelf.files c.args.shelf.now) (asked_for (plain_of w.views) (Some (name, c.args.into)))) (sym c.self.view_is) at in
+    let told = told_where_asked files (g.F.Shelf.files c.args.shelf.now) (plain_of old.views) name c.args.into place.0 place.1 asked in
+    let bytes = c.in_ok-bytes.ensures.bytes files told in
+    let views = c.in_ok-grown.ensures.views in
+    let same = ap (λ (b : List ℕ). views_in b old.resources old.dpi) (sym bytes.2 ∙ sym c.as_slice.ensures.value) in
+    let plan : views_of files name old.resources old.dpi ≡ Ok views.0 = views_of-bytes files name old.resources old.dpi bytes.0 bytes.1 ∙ same ∙ views.1 in
+    let reply = inflated_as files (world_of old) name c.args.into place.0 views.0 place.1 plan in
+    let changed = c.graft.ensures.changed place.0 views.0 (subst (λ (w : KeyedWorld). IsPlace w.views place.0 c.in_ok-place.place) c.self.view_is place.2) views.2 in
+    let replies = λ (w : KeyedWorld). inflation files (world_of w) name c.args.into in
+    let grown = λ (w : KeyedWorld). grafted (world_of w) place.0 views.0 (graft_refusal (plain_of w.views) place.0 views.0.seeds) in
+    inflates_as (replies c.args.self.now) c.graft.new.self c.graft.result (rw (subst (λ (w : KeyedWorld). replies w ≡ grown w) c.self.view_is reply) changed)
+
+pub returns-clause-shelf_failed : goal.returns-clause-shelf_failed
+returns-clause-shelf_failed g c = rw c.in_ok-bytes.ensures.shelf_failed (counts_nothing _ c.graft.result c.graft.ensures.no_shelf)
