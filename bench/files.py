@@ -31,11 +31,19 @@ def equal_strings(count, length):
     return chunk(0x0001, header, offsets + text + b"\0" * (-len(text) % 4))
 
 
+def attribute(space, name, kind, word):
+    return struct.pack("<3IHBBI", space, name, NONE, 8, 0, kind, word)
+
+
+def begin_with(attributes, name=0):
+    """An element that begins, with these attributes."""
+    body = struct.pack("<2I6H", NONE, name, 20, 20, len(attributes), 0, 0, 0)
+    return chunk(0x0102, struct.pack("<2I", 1, NONE), body + b"".join(attributes))
+
+
 def begin(attributes, name=0):
     """An element that begins, with as many attributes, named by string 0."""
-    body = struct.pack("<2I6H", NONE, name, 20, 20, attributes, 0, 0, 0)
-    attribute = struct.pack("<3IHBBI", NONE, 0, NONE, 8, 0, 0x10, 1)
-    return chunk(0x0102, struct.pack("<2I", 1, NONE), body + attribute * attributes)
+    return begin_with([attribute(NONE, 0, 0x10, 1)] * attributes, name)
 
 
 def end(name=0):
@@ -43,9 +51,9 @@ def end(name=0):
     return chunk(0x0103, struct.pack("<2I", 1, NONE), struct.pack("<2I", NONE, name))
 
 
-def layout_file(kib, strings, inner):
+def layout_file(kib, strings, inner, first=begin(0)):
     """A layout file of so many KiB: a pool, and one element around `inner`, with an unknown chunk that fills it up."""
-    parts = strings + begin(0) + inner
+    parts = strings + first + inner
     rest = kib * 1024 - 16 - len(parts) - len(end())
     return chunk(0x0003, b"", parts + chunk(0x0200, b"", b"\0" * rest) + end())
 
@@ -80,3 +88,25 @@ def two_equal_names(kib):
 
 def many_equal_names(kib):
     return equal_names(kib, 12, 112 * kib)
+
+
+# what views_file names: two classes, the namespace, and attributes that a length may stand for
+LENGTHS = [b"layout_width", b"layout_height", b"minWidth", b"minHeight"]
+LENGTHS += [b"padding" + side for side in (b"Left", b"Top", b"Right", b"Bottom")]
+LENGTHS += [b"layout_margin" + side for side in (b"Left", b"Top", b"Right", b"Bottom")]
+VIEW_NAMES = [b"FrameLayout", b"View", b"http://schemas.android.com/apk/res/android"] + LENGTHS
+
+
+def lengths(count, kind, words):
+    """The first attributes that a length may stand for."""
+    return [attribute(2, 3 + k, kind, word) for k, word in zip(range(count), words)]
+
+
+def views_file(kib, views, words_of, kind=0x05):
+    """A layout file of so many KiB: a frame layout, and in it views with as many attributes as there are words for each."""
+    inner = []
+    for number in range(views - 1):
+        words = words_of(number)
+        inner.append(begin_with(lengths(len(words), kind, words), 1) + end(1))
+    first = begin_with(lengths(2, 0x10, [NONE, NONE]))
+    return layout_file(kib, pool(VIEW_NAMES), b"".join(inner), first)

@@ -1,4 +1,13 @@
-"""Scripts for the benchmark, each made for a size."""
+"""Scripts for the benchmark, each made for a size; some with the layout file that they read."""
+import collections
+
+import files
+
+# the word of a dimension of one pixel
+PIXEL = 0x100
+
+# a script, the layout file `layout.xml` that it reads, and how many views it makes
+Inflating = collections.namedtuple("Inflating", "script layout views")
 
 
 def tree(views):
@@ -142,3 +151,41 @@ def one_line(mib):
 
 def refused(n):
     return b"x\n" * n
+
+
+def inflated(times, views):
+    """The lines that make the views of the layout file so many times, and take them away before the next time."""
+    lines = [b"inflate layout.xml\n"]
+    for number in range(1, times):
+        lines.append(b"remove v%d\ninflate layout.xml\n" % (1 + (number - 1) * views))
+    return b"".join(lines)
+
+
+def files_of_500(times):
+    """A layout file of 500 elements with 12 attributes each, so many times."""
+    layout = files.views_file(256, 500, lambda number: [PIXEL * (k + number % 7) for k in range(12)])
+    return Inflating(inflated(times, 500), layout, 500 * times)
+
+
+def one_file(kib, views, attributes):
+    """One layout file of so many views with as many attributes each, 20 times."""
+    layout = files.views_file(kib, views, lambda number: [PIXEL * (k + number % 7) for k in range(attributes)])
+    return Inflating(inflated(20, views), layout, 20 * views)
+
+
+def file_of_4096(kib):
+    """A layout file of 4096 elements, which have so many attributes that it has this size."""
+    return one_file(kib, 4096, 3 if kib <= 512 else 9)
+
+
+def file_of_elements(kib):
+    """A layout file of elements with 9 attributes, four elements a KiB."""
+    return one_file(kib, 4 * kib, 9)
+
+
+def resources(count):
+    """So many resources, and 20 times a layout file that names them all, twelve in an element."""
+    defined = b"".join(b"res @%x dimen %d dp\n" % (0x7f050000 + k, k % 90) for k in range(count))
+    views = 1 + -(-count // 12)
+    layout = files.views_file(256, views, lambda number: [0x7f050000 + (12 * number + k) % count for k in range(12)], 0x01)
+    return Inflating(defined + inflated(20, views), layout, 20 * views)

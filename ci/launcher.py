@@ -1,7 +1,6 @@
 """Tries ./vindaesk itself, in a small repository with a stand-in for the toolchain, whose program does what it is told.
 """
 import contextlib
-import glob
 import os
 import pty
 import re
@@ -95,13 +94,19 @@ def example_of_help():
     return "" if written.decode().splitlines() == answer else "it writes '%s'" % written.decode()
 
 
+def refusals():
+    """The number and the name of each refusal that the program has."""
+    with open(os.path.join(TOP, "crates/view_tool/src/names.rt")) as file:
+        names = re.findall(r'^    b"(\w*)",$', file.read(), re.M)
+    with open(os.path.join(TOP, "crates/view_model/src/refusals.rt")) as file:
+        numbers = re.findall(r"^pub const \w+: u8 = (\d+);$", file.read(), re.M)
+    # a file's faults are the first eleven
+    return {(str(number), names[number]) for number in [*range(1, 12), *map(int, numbers)]}
+
+
 def explains():
-    told = set()
-    for path in glob.glob(os.path.join(TOP, "examples", "*.answer")):
-        with open(path, encoding="utf-8") as file:
-            told |= set(re.findall(r"refused ([0-9]+) (\w+)", file.read()))
     with repository(is_built=False) as it:
-        for number, name in sorted(told):
+        for number, name in sorted(refusals()):
             ended = it.call(["explain", number])
             if ended.status or not ended.out.decode().startswith("%s %s: " % (number, name)):
                 return "%s %s: status %d, '%s'" % (number, name, ended.status, ended.out.decode())

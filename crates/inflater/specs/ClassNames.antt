@@ -3,12 +3,13 @@ use Rattle.std.specs.Prelude.{ℕ, List, [], ◌∷◌, Option, Some, None, code
 use Rattle.std.specs.Map.{lookup}
 use Rattle.std.specs.Str.{bytes_eq}
 use Rattle.view_model.specs.declared.kinds.Class.{Class}
-use Rattle.view_model.specs.declared.kinds.Class.TheVariants.{View, FrameLayout, LinearLayout}
+use Rattle.view_model.specs.declared.kinds.Class.TheVariants.{View, TextView, FrameLayout, LinearLayout}
 
 -- each class by its name alone, and with its package before it
 abbrev pub class_names : List (List ℕ × Class)
 class_names =
     (codes "View", View) ∷ (codes "android.view.View", View) ∷
+    (codes "TextView", TextView) ∷ (codes "android.widget.TextView", TextView) ∷
     (codes "FrameLayout", FrameLayout) ∷ (codes "android.widget.FrameLayout", FrameLayout) ∷
     (codes "LinearLayout", LinearLayout) ∷ (codes "android.widget.LinearLayout", LinearLayout) ∷ []
 

@@ -11,6 +11,7 @@ pub fn class_of(name: &str) -> Option<Class>
 {
     match name {
         "View" | "android.view.View" => Some(Class::View),
+        "TextView" | "android.widget.TextView" => Some(Class::TextView),
         "FrameLayout" | "android.widget.FrameLayout" => Some(Class::FrameLayout),
         "LinearLayout" | "android.widget.LinearLayout" => Some(Class::LinearLayout),
         _ => None,

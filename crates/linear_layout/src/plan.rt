@@ -26,8 +26,8 @@ pub enum Phase {
     Uniform(Option<WeightPass>),
 }
 
-/// The measuring of one linear layout. In each phase the children that take part in layout are handed in in order: `ask`,
-/// measuring, `take`; `turn` ends it.
+/// The measuring of one linear layout. In each phase the children that take part in layout are handed in in order:
+/// `ask`, measuring, `take`; `turn` ends it.
 #[derive(Clone, Copy, Debug)]
 pub struct LinearPlan {
     line: Line,

@@ -8,6 +8,7 @@ pub mod LinearLaws
 pub mod MeasureKid
 pub mod Own
 pub mod Parts
+pub mod ScrollLaws
 pub mod Turns
 pub mod Walk
 pub mod Whole

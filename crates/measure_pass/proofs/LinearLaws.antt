@@ -1,5 +1,5 @@
--- The law of a linear layout: where the first pass leaves a child out, the weight pass runs and asks for it, and does not
--- look at its size.
+-- The law of a linear layout: where the first pass leaves a child out, the weight pass runs and asks for it, and does
+-- not look at its size.
 use Rattle.std.proofs.Common.{◌≡◌, ℕ, Bool, true, false, inl, inr, Option, Some, None, List, [], ◌∷◌, ◌++◌, ap, ◌∙◌, sym, refl, arith}
 use Rattle.std.proofs.lemmas.Bool.{cases_Bool}
 use Rattle.std.proofs.lemmas.Bool.Decides.{nat_tests}

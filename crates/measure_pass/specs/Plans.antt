@@ -3,8 +3,9 @@ use Rattle.std.specs.Prelude.{◌≡◌, true, false, Bool, List, [], ◌∷◌,
 use Rattle.frame_layout.specs.FramePlan.{StandsFrame}
 use Rattle.linear_layout.specs.LinearPlan.{StandsLinear}
 use Rattle.measure_pass.specs.declared.plan.Plan.{Plan}
-use Rattle.measure_pass.specs.declared.plan.Plan.TheVariants.{Frame, Leaf, Linear}
-use Rattle.view_model.specs.declared.kinds.Class.TheVariants.{FrameLayout, LinearLayout}
+use Rattle.measure_pass.specs.declared.plan.Plan.TheVariants.{Frame, Leaf, Linear, Scroll}
+use Rattle.scroll_view.specs.ScrollPlan.{StandsScroll}
+use Rattle.view_model.specs.declared.kinds.Class.TheVariants.{FrameLayout, LinearLayout, ScrollView}
 use Rattle.view_model.specs.Forest.{Forest}
 use Rattle.view_model.specs.Layout.{rule_of, unscrolled}
 use Rattle.view_model.specs.Leaf.{leaf_rule}
@@ -29,6 +30,7 @@ abbrev pub Stands : Plan → Group → List (List Measured) → List Measured �
 Stands (Leaf size) group past taken = rule_in group ≡ leaf_rule size
 Stands (Frame plan) group past taken = (group.view.class ≡ FrameLayout) × StandsFrame plan group.view.facts group.specs past taken
 Stands (Linear plan) group past taken = (group.view.class ≡ LinearLayout) × StandsLinear plan group.view.facts group.specs past taken
+Stands (Scroll plan) group past taken = (group.view.class ≡ ScrollView) × StandsScroll plan group.view.facts group.specs past taken
 
 -- a plan at the end of a phase: whether another follows, and then the plan is at its begin
 pub record Turned (plan : Plan) (group : Group) (past : List (List Measured)) (taken : List Measured) (answer : Bool) : Type 0 where

@@ -9,9 +9,11 @@ ghost use Rattle.view_model.specs.Measuring.{Measured, pair_of, taken_as};
 ghost use Rattle.view_tree.specs.Rows.{part_from};
 ghost use Rattle.view_tree.specs.Views.{IsLive};
 
+use crate::text_size::text_size;
 use frame_layout::FramePlan;
 use geom_core::{Size, Spec, default_size};
 use linear_layout::LinearPlan;
+use scroll_view::ScrollPlan;
 use view_model::{Class, Facts};
 use view_tree::{Key, ViewTree};
 
@@ -22,6 +24,7 @@ pub enum Plan {
     Leaf(Size),
     Frame(FramePlan),
     Linear(LinearPlan),
+    Scroll(ScrollPlan),
 }
 
 impl Plan {
@@ -32,8 +35,10 @@ impl Plan {
     {
         match tree.class(view) {
             Class::View => Plan::Leaf(minimal_size(tree.facts(view), ws, hs)),
+            Class::TextView => { Plan::Leaf(text_size(tree.facts(view), tree.text(view), ws, hs)) }
             Class::FrameLayout => Plan::Frame(FramePlan::start(tree.facts(view), ws, hs)),
             Class::LinearLayout => Plan::Linear(LinearPlan::start(tree.facts(view), ws, hs)),
+            Class::ScrollView => Plan::Scroll(ScrollPlan::start(tree.facts(view), ws, hs)),
         }
     }
 
@@ -48,6 +53,7 @@ impl Plan {
             Plan::Leaf(_) => None,
             Plan::Frame(plan) => plan.ask(kid, size),
             Plan::Linear(plan) => plan.ask(kid, size),
+            Plan::Scroll(plan) => plan.ask(kid, size),
         }
     }
 
@@ -62,6 +68,7 @@ impl Plan {
             Plan::Leaf(_) => (),
             Plan::Frame(plan) => plan.take(kid, size),
             Plan::Linear(plan) => plan.take(kid, size),
+            Plan::Scroll(plan) => plan.take(kid, size),
         }
     }
 
@@ -75,6 +82,7 @@ impl Plan {
             Plan::Leaf(_) => false,
             Plan::Frame(plan) => plan.turn(),
             Plan::Linear(plan) => plan.turn(),
+            Plan::Scroll(plan) => plan.turn(),
         }
     }
 
@@ -88,6 +96,7 @@ impl Plan {
             Plan::Leaf(size) => *size,
             Plan::Frame(plan) => plan.finish(),
             Plan::Linear(plan) => plan.finish(),
+            Plan::Scroll(plan) => plan.finish(),
         }
     }
 
@@ -99,7 +108,7 @@ impl Plan {
             → result ≡ (rule_in group).total (past ++ taken ∷ []) }
     {
         match self {
-            Plan::Leaf(_) | Plan::Frame(_) => 0,
+            Plan::Leaf(_) | Plan::Frame(_) | Plan::Scroll(_) => 0,
             Plan::Linear(plan) => plan.total(),
         }
     }

@@ -1,5 +1,5 @@
 -- Counts of places below a number, and children that are left.
-use Rattle.std.proofs.Common.{◌≡◌, ◌≢◌, ◌⊎◌, ℕ, zero, suc, ◌+◌, ◌-◌, ◌<◌, ◌≤◌, Bool, true, false, cond, ◌&&◌, not, List, length, get_or, get_or-set_same, get_or-set_other, set, Some, None, refl, sym, ap, subst, ◌∙◌, add-one, arith, inl, inr}
+use Rattle.std.proofs.Common.{◌≡◌, ◌≢◌, ◌⊎◌, ℕ, zero, suc, ◌+◌, ◌-◌, ◌<◌, ◌≤◌, Bool, true, false, cond, ◌&&◌, not, List, length, get_or, get_or-set_same, get_or-set_other, set, Option, Some, None, refl, sym, ap, subst, ◌∙◌, add-one, arith, inl, inr}
 use Rattle.std.specs.Prelude.{◌==◌, nat_lt}
 use Rattle.std.proofs.lemmas.Bool.{cases_lt, cases_Bool}
 use Rattle.std.proofs.lemmas.Bool.Decides.{nat_tests}
@@ -7,9 +7,10 @@ use Rattle.std.proofs.lemmas.Grind.{common_steps}
 use Rattle.std.proofs.Math.ListN.{length-set}
 use Rattle.relative_layout.specs.Naming.{id_at}
 use Rattle.relative_layout.proofs.NamingLaws.{last_is, none_is}
-use Rattle.std.specs.Prelude.{replicate}
+use Rattle.std.specs.Prelude.{IfSome, replicate}
+use Rattle.view_model.specs.declared.limits.TheConstants.{MAX_VIEWS}
 use Rattle.std.proofs.lemmas.List.{get_or-replicate, get_or_past, length-replicate}
-use Rattle.relative_layout.specs.Taking.{AreCounts, CountsBelow, count_below, is_left, is_marked, left_with, waits_for}
+use Rattle.relative_layout.specs.Taking.{AreCounts, CountsBelow, count_below, counted_up, has_more, is_left, is_marked, left_with, waits_for}
 use Rattle.view_model.specs.declared.relative.Link.{Link}
 use Rattle.view_model.specs.SiblingRules.{last_with_id}
 
@@ -321,3 +322,20 @@ AreCounts-all kids taken left none counts = record {
   size = counts.size;
   each = λ q last. counts.each q last ∙ count_below-alike (λ k. id_at kids k == id_at kids q) (is_left kids taken (id_at kids q)) (length kids) (λ k h. rw (none k) refl);
 }
+
+-- a child is counted by the last one with its id
+
+pub last_few : (kids : List Link) (place : ℕ) (last : Option ℕ) (left : List ℕ) → place < length kids → length kids ≤ MAX_VIEWS → last ≡ last_with_id kids (id_at kids place) → CountsBelow kids place left
+    → IfSome last (λ q. get_or left q 0 < MAX_VIEWS)
+last_few kids place None left h few e counts = tt
+last_few kids place (Some q) left h few e counts = omega (arith, few_below kids place q left (sym e) counts)
+
+pub CountsBelow-up : (kids : List Link) (place : ℕ) (last : Option ℕ) (left : List ℕ) → last ≡ last_with_id kids (id_at kids place) → CountsBelow kids place left → CountsBelow kids (place + 1) (counted_up last left)
+CountsBelow-up kids place None left e counts = CountsBelow-same kids place left (sym e) counts
+CountsBelow-up kids place (Some q) left e counts = CountsBelow-more kids place q left (sym e) counts
+
+-- whether a child waits is whether more than itself are left
+pub waits_for-more : (kids : List Link) (taken : List Bool) (left : List ℕ) (own id : ℕ) (last : Option ℕ) → last ≡ last_with_id kids id → AreCounts kids taken left
+    → has_more last (cond (id == own) 1 0) left ≡ waits_for kids taken own id
+waits_for-more kids taken left own id None e counts = sym (waits_none kids taken own id (sym e))
+waits_for-more kids taken left own id (Some q) e counts = waits_some kids taken left own id q (sym e) counts

@@ -1,7 +1,7 @@
 -- Ids that children have and name.
 use Rattle.std.proofs.Common.{◌≡◌, ◌≢◌, ◌⊎◌, ℕ, zero, suc, ◌+◌, ◌<◌, Bool, true, false, cond, ◌&&◌, not, List, [], ◌∷◌, ◌++◌, length, get_or, set, Option, Some, None, refl, sym, ap, ◌∙◌, arith, inl, inr, length-append, get_or-set_same, get_or-set_other}
 use Rattle.std.proofs.Math.ListN.{length-set}
-use Rattle.std.specs.Prelude.{replicate, Vec}
+use Rattle.std.specs.Prelude.{IfSome, replicate, Vec}
 use Rattle.std.specs.declared.alloc.Global.{Global}
 use Rattle.std.proofs.lemmas.Bool.{cases_lt}
 use Rattle.std.proofs.lemmas.List.{get_or_push, get_or_append_left, get_or-replicate, get_or_past, length-replicate, get_or-map, length-map, map-append, map-set, replicate_more}
@@ -9,7 +9,7 @@ use Rattle.std.specs.Prelude.{◌==◌, if◌then◌else◌}
 use Rattle.std.specs.List.{list_any}
 use Rattle.std.proofs.lemmas.Grind.{common_steps}
 use Rattle.std.proofs.lemmas.Bool.Decides.{nat_tests}
-use Rattle.relative_layout.specs.Naming.{AreNamers, Has, NamesId, id_at, link_at, lists_of, padded_ids, row_at, with_last}
+use Rattle.relative_layout.specs.Naming.{AreNamers, Has, NamesId, id_at, link_at, lists_of, padded_ids, row_at, with_last, with_place}
 use Rattle.view_model.specs.declared.facts.Rules.{Rules}
 use Rattle.view_model.specs.declared.relative.Axis.{Axis}
 use Rattle.view_model.specs.declared.relative.Axis.TheVariants.{Horizontal, Vertical}
@@ -253,3 +253,32 @@ leads_from axis kids a b h = elim (cases_lt a (length kids)) [
       let none : names axis (link_at kids a).rules (id_at kids b) ≡ false = ap (λ (kid : Link). names axis kid.rules (id_at kids b)) past ∙ leads_from_case axis (id_at kids b) in
       absurd (cc)
 ]
+
+-- lists in which a child was added to that of the last one with an id
+pub record AddsName (axis : Axis) (kids : List Link) (place id : ℕ) (old new : List (List ℕ)) : Type 0 where
+  pub rows : AreNamers axis kids place new
+  pub grows : (q a : ℕ) → Has (row_at old q) a → Has (row_at new q) a
+  pub added : (q : ℕ) → last_with_id kids (id_at kids q) ≡ Some q → id_at kids q ≡ id → Has (row_at new q) place
+
+pub AddsName-with_place : (axis : Axis) (kids : List Link) (place id : ℕ) (last : Option ℕ) (rows : List (List ℕ)) → place < length kids → last ≡ last_with_id kids id
+    → (id ≢ 0 → names axis (link_at kids place).rules id ≡ true) → AreNamers axis kids place rows → AddsName axis kids place id rows (with_place last place rows)
+AddsName-with_place axis kids place id None rows small found named are = record {
+  rows = are;
+  grows = λ q a has. has;
+  added = λ q last same. absurd (let here = rw same at last in let bad : None ≡ Some q = found ∙ here in cc);
+}
+AddsName-with_place axis kids place id (Some last) rows small found named are =
+    let is = last_is kids id last (sym found) in
+    let inside : last < length rows = omega (arith, is.inside, are.size) in
+    record {
+      rows = AreNamers-add axis kids place last place rows is.inside small (rw is.has (named is.some)) are;
+      grows = λ q a has. row-grows rows last place q a inside has;
+      added = λ q here same.
+          let at = rw same at here in
+          let it : q ≡ last = (let both_are : Some q ≡ Some last = sym at ∙ sym found in cc) in
+          rw it (row-added rows last place inside);
+    }
+
+pub last_in_rows : (kids : List Link) (id count : ℕ) (last : Option ℕ) → count ≡ length kids → last ≡ last_with_id kids id → IfSome last (λ q. q < count)
+last_in_rows kids id count None size e = tt
+last_in_rows kids id count (Some q) size e = let is = last_is kids id q (sym e) in omega (arith, is.inside)

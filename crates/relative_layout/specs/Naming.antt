@@ -1,5 +1,5 @@
 -- Which children name which ids on an axis, as lists by the last child with an id.
-use Rattle.std.specs.Prelude.{◌≡◌, ℕ, ◌<◌, ◌==◌, true, if◌then◌else◌, List, [], ◌∷◌, length, map, nat_eq, Option, Some, slice_index, slice_index_or, Vec}
+use Rattle.std.specs.Prelude.{◌≡◌, ℕ, ◌<◌, ◌==◌, true, if◌then◌else◌, List, [], ◌∷◌, length, map, nat_eq, Option, Some, slice_index, slice_index_or, Vec, ◌++◌, None, slice_set}
 use Rattle.std.specs.declared.alloc.Global.{Global}
 use Rattle.indexmap.specs.IndexMap.{get as place_in}
 use Rattle.relative_layout.specs.declared.naming.Naming.{Naming}
@@ -31,6 +31,11 @@ lists_of rows = map (λ (row : Vec ℕ Global). row.items) rows
 abbrev pub row_at : List (List ℕ) → ℕ → List ℕ
 row_at rows at = slice_index_or rows at []
 
+-- these lists, with a place more in one of them, if it is given
+abbrev pub with_place : Option ℕ → ℕ → List (List ℕ) → List (List ℕ)
+with_place None place rows = rows
+with_place (Some at) place rows = slice_set rows at (row_at rows at ++ place ∷ [])
+
 -- a list has a place
 abbrev pub Has : List ℕ → ℕ → Type 0
 Has row place = (p : ℕ) × (p < length row) × (slice_index row p ≡ place)
@@ -50,7 +55,7 @@ pub record AreNamers (axis : Axis) (kids : List Link) (below : ℕ) (rows : List
   pub sound : (q p : ℕ) → p < length (row_at rows q) → NamesId axis kids q (slice_index (row_at rows q) p)
   pub whole : (q place : ℕ) → place < below → last_with_id kids (id_at kids q) ≡ Some q → NamesId axis kids q place → Has (row_at rows q) place
 
--- the tables of some children on an axis
-pub record IsNaming (axis : Axis) (kids : List Link) (naming : Naming) : Type 0 where
+-- the tables of some children on the axis that they are for
+pub record IsNaming (kids : List Link) (naming : Naming) : Type 0 where
   pub table : (id : ℕ) → place_in nat_eq naming.lasts id ≡ last_with_id kids id
-  pub rows : AreNamers axis kids (length kids) (lists_of naming.namers.items)
+  pub rows : AreNamers naming.axis kids (length kids) (lists_of naming.namers.items)

@@ -1,5 +1,5 @@
 -- Children that are taken into an order one after the other, each after all to which it leads.
-use Rattle.std.specs.Prelude.{◌≡◌, ◌⊎◌, ℕ, zero, suc, ◌+◌, ◌-◌, ◌*◌, ◌<◌, ◌==◌, Bool, true, false, ◌&&◌, not, if◌then◌else◌, nat_lt, List, length, Some, count_by, slice_index, slice_index_or, sum_by}
+use Rattle.std.specs.Prelude.{◌≡◌, ◌⊎◌, ℕ, zero, suc, ◌+◌, ◌-◌, ◌*◌, ◌<◌, ◌==◌, Bool, true, false, ◌&&◌, not, if◌then◌else◌, nat_lt, List, length, Option, None, Some, count_by, slice_index, slice_index_or, slice_set, sum_by}
 use Rattle.relative_layout.specs.Naming.{Has, id_at}
 use Rattle.view_model.specs.declared.relative.Axis.{Axis}
 use Rattle.view_model.specs.declared.relative.Link.{Link}
@@ -57,6 +57,16 @@ pub record AreCounts (kids : List Link) (taken : List Bool) (left : List ℕ) : 
 pub record CountsBelow (kids : List Link) (below : ℕ) (left : List ℕ) : Type 0 where
   pub size : length left ≡ length kids
   pub each : (q : ℕ) → last_with_id kids (id_at kids q) ≡ Some q → slice_index left q ≡ count_below (λ place. id_at kids place == id_at kids q) below
+
+-- counts with one more for a last child, if it is given
+abbrev pub counted_up : Option ℕ → List ℕ → List ℕ
+counted_up None left = left
+counted_up (Some last) left = slice_set left last (slice_index left last + 1)
+
+-- whether more than so many are left with the id of a last child, if it is given
+abbrev pub has_more : Option ℕ → ℕ → List ℕ → Bool
+has_more None own left = false
+has_more (Some last) own left = nat_lt own (slice_index left last)
 
 -- each child that is not taken is still to be looked at, or waits
 pub record IsTaking (axis : Axis) (kids : List Link) (left : List ℕ) (taken : List Bool) (todo order : List ℕ) : Type 0 where

@@ -1,7 +1,7 @@
 //! Which children name which ids.
-ghost use Rattle.std.specs.Prelude.{◌≡◌, ◌≢◌, ◌<◌, ◌≤◌, ◌+◌, ◌++◌, ◌∷◌, [], IfOk, OnOk, Some, length, nat_eq, replicate, slice_set, true, vec_len, ℕ};
+ghost use Rattle.std.specs.Prelude.{◌≡◌, ◌≢◌, ◌<◌, ◌≤◌, ◌+◌, ◌++◌, ◌∷◌, [], IfOk, IfSome, OnOk, Some, length, nat_eq, replicate, slice_set, true, vec_len, ℕ};
 ghost use Rattle.indexmap.specs.IndexMap.{get as place_in};
-ghost use Rattle.relative_layout.specs.Naming.{AreNamers, Has, id_at, link_at, lists_of, row_at};
+ghost use Rattle.relative_layout.specs.Naming.{AreNamers, Has, id_at, link_at, lists_of, row_at, with_place};
 ghost use Rattle.view_model.specs.SiblingRules.{last_with_id, names};
 ghost use Rattle.view_model.specs.declared.limits.TheConstants.{MAX_VIEWS};
 
@@ -13,6 +13,7 @@ use view_model::{Axis, Link};
 /// Which children name which ids on an axis. A child stands for its id that is the last one with it.
 #[derive(Drop)]
 pub struct Naming {
+    pub axis: Axis,
     lasts: IndexMap<u32, u32>,
     /// For the last child with an id, the children that name it.
     namers: Vec<Vec<u32>>,
@@ -23,11 +24,16 @@ impl Naming {
 
     pub fn new(alloc: Global, axis: Axis, kids: &[Link]) -> Result<Naming, AllocError>
         requires few { length kids.now ≤ MAX_VIEWS }
-        ensures { IfOk result (λ naming. IsNaming axis kids.now naming) }
+        ensures axis { IfOk result (λ naming. naming.axis ≡ axis) }
+        ensures naming { IfOk result (λ naming. IsNaming kids.now naming) }
     {
         let lasts = last_places(alloc, kids)?;
         let namers = namers(alloc, axis, kids, &lasts)?;
-        Ok(Naming { lasts, namers })
+        Ok(Naming {
+            axis,
+            lasts,
+            namers,
+        })
     }
 
     /// The last child with an id.
@@ -78,33 +84,8 @@ fn add_names(
     ensures { OnOk result (AreNamers axis kids.now (place + 1) (lists_of rows.new.items)) }
 {
     for id in named_ids(axis, &kids[place].rules).iter() {
-        add_name(rows, axis, kids, lasts, place, *id)?;
+        add_to_row(rows, last_in(lasts, *id), place as u32)?;
     }
-    Ok(())
-}
-
-/// Notes an id that a child names.
-fn add_name(
-    rows: &mut Vec<Vec<u32>>,
-    axis: Axis,
-    kids: &[Link],
-    lasts: &IndexMap<u32, u32>,
-    place: usize,
-    id: u32,
-) -> Result<(), AllocError>
-    requires few { length kids.now ≤ MAX_VIEWS }
-    requires place { place < length kids.now }
-    requires table { (id : ℕ) → place_in nat_eq lasts.now id ≡ last_with_id kids.now id }
-    requires named { id ≢ 0 → names axis (link_at kids.now place).rules id ≡ true }
-    requires rows { AreNamers axis kids.now place (lists_of rows.old.items) }
-    ensures rows { OnOk result (AreNamers axis kids.now place (lists_of rows.new.items)) }
-    ensures grows { OnOk result ((q a : ℕ) → Has (row_at (lists_of rows.old.items) q) a → Has (row_at (lists_of rows.new.items) q) a) }
-    ensures added { OnOk result ((q : ℕ) → last_with_id kids.now (id_at kids.now q) ≡ Some q → id_at kids.now q ≡ id → Has (row_at (lists_of rows.new.items) q) place) }
-{
-    let Some(last) = last_in(lasts, id) else {
-        return Ok(());
-    };
-    add_to_row(rows, last, place as u32)?;
     Ok(())
 }
 
@@ -118,12 +99,15 @@ fn last_in(lasts: &IndexMap<u32, u32>, id: u32) -> Option<usize>
     }
 }
 
-/// Adds a child to one of many lists.
-fn add_to_row(rows: &mut Vec<Vec<u32>>, at: usize, place: u32) -> Result<(), AllocError>
-    requires { at < vec_len rows.old }
-    ensures { OnOk result (lists_of rows.new.items ≡ slice_set (lists_of rows.old.items) at (row_at (lists_of rows.old.items) at ++ place ∷ [])) }
+/// Adds a child to the list of the last one with an id, if there is one.
+fn add_to_row(rows: &mut Vec<Vec<u32>>, last: Option<usize>, place: u32) -> Result<(), AllocError>
+    requires { IfSome last (λ last. last < length rows.old.items) }
+    ensures { OnOk result (lists_of rows.new.items ≡ with_place last place (lists_of rows.old.items)) }
 {
-    rows[at].push(place)?;
+    let Some(last) = last else {
+        return Ok(());
+    };
+    rows[last].push(place)?;
     Ok(())
 }
 

@@ -71,47 +71,37 @@ fn sorted_on(alloc: Global, axis: Axis, kids: &[Link]) -> Result<Sorting, AllocE
     ensures { IfOk result (λ sorting. IsSorting axis kids.now sorting) }
 {
     let naming = Naming::new(alloc, axis, kids)?;
-    let order = longest_order(alloc, axis, kids, &naming)?;
+    let order = longest_order(alloc, kids, &naming)?;
     if order.len() == kids.len() {
         return Ok(Sorting::Order(order));
     }
-    let members = members(alloc, axis, kids, &naming)?;
+    let members = members(alloc, kids, &naming)?;
     Ok(Sorting::Cycle(members))
 }
 
 /// The children in order as far as they can be taken.
-fn longest_order(
-    alloc: Global,
-    axis: Axis,
-    kids: &[Link],
-    naming: &Naming,
-) -> Result<Vec<u32>, AllocError>
+fn longest_order(alloc: Global, kids: &[Link], naming: &Naming) -> Result<Vec<u32>, AllocError>
     requires few { length kids.now ≤ MAX_VIEWS }
-    requires naming { IsNaming axis kids.now naming.now }
-    ensures { IfOk result (λ order. IsLongest (leads axis kids.now) (length kids.now) order.items) }
+    requires naming { IsNaming kids.now naming.now }
+    ensures { IfOk result (λ order. IsLongest (leads naming.now.axis kids.now) (length kids.now) order.items) }
 {
-    let mut taking = Taking::start(alloc, axis, kids, naming)?;
-    taking.take_all(axis, kids, naming)?;
+    let mut taking = Taking::start(alloc, kids, naming)?;
+    taking.take_all(kids, naming)?;
     let Taking { order, .. } = taking;
     Ok(order)
 }
 
 /// The children that reach themselves, in list order.
-fn members(
-    alloc: Global,
-    axis: Axis,
-    kids: &[Link],
-    naming: &Naming,
-) -> Result<Vec<u32>, AllocError>
+fn members(alloc: Global, kids: &[Link], naming: &Naming) -> Result<Vec<u32>, AllocError>
     requires few { length kids.now ≤ MAX_VIEWS }
-    requires naming { IsNaming axis kids.now naming.now }
-    ensures members { IfOk result (λ members. AreMembers (leads axis kids.now) (length kids.now) members.items) }
+    requires naming { IsNaming kids.now naming.now }
+    ensures members { IfOk result (λ members. AreMembers (leads naming.now.axis kids.now) (length kids.now) members.items) }
     ensures known { IfOk result (λ members. (place : ℕ) → place < length kids.now
-        → (marks : List Bool) × (length marks ≡ length kids.now) × AreReaching (leads axis kids.now) place marks) }
+        → (marks : List Bool) × (length marks ≡ length kids.now) × AreReaching (leads naming.now.axis kids.now) place marks) }
 {
     let mut members = Vec::new(alloc);
     for place in 0..kids.len() {
-        note_member(alloc, axis, kids, naming, &mut members, place)?;
+        note_member(alloc, kids, naming, &mut members, place)?;
     }
     Ok(members)
 }
@@ -119,7 +109,6 @@ fn members(
 /// Notes a child if it reaches itself.
 fn note_member(
     alloc: Global,
-    axis: Axis,
     kids: &[Link],
     naming: &Naming,
     members: &mut Vec<u32>,
@@ -127,12 +116,12 @@ fn note_member(
 ) -> Result<(), AllocError>
     requires few { length kids.now ≤ MAX_VIEWS }
     requires place { place < length kids.now }
-    requires naming { IsNaming axis kids.now naming.now }
-    requires members { AreMembers (leads axis kids.now) place members.old.items }
-    ensures members { OnOk result (AreMembers (leads axis kids.now) (place + 1) members.new.items) }
-    ensures known { OnOk result ((marks : List Bool) × (length marks ≡ length kids.now) × AreReaching (leads axis kids.now) place marks) }
+    requires naming { IsNaming kids.now naming.now }
+    requires members { AreMembers (leads naming.now.axis kids.now) place members.old.items }
+    ensures members { OnOk result (AreMembers (leads naming.now.axis kids.now) (place + 1) members.new.items) }
+    ensures known { OnOk result ((marks : List Bool) × (length marks ≡ length kids.now) × AreReaching (leads naming.now.axis kids.now) place marks) }
 {
-    let marks = those_that_reach(alloc, axis, kids, naming, place)?;
+    let marks = those_that_reach(alloc, kids, naming, place)?;
     if !marks[place] {
         return Ok(());
     }

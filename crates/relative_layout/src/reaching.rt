@@ -9,7 +9,7 @@ ghost use Rattle.view_model.specs.declared.limits.TheConstants.{MAX_VIEWS};
 use crate::marks::unmarked;
 use crate::naming::Naming;
 use std::alloc::{AllocError, Global};
-use view_model::{Axis, Link};
+use view_model::Link;
 
 /// How far the search for children that reach a given one has come.
 #[derive(Drop)]
@@ -24,19 +24,18 @@ pub struct Reaching {
 /// The children that reach a child.
 pub fn those_that_reach(
     alloc: Global,
-    axis: Axis,
     kids: &[Link],
     naming: &Naming,
     place: usize,
 ) -> Result<Vec<bool>, AllocError>
     requires few { length kids.now ≤ MAX_VIEWS }
     requires place { place < length kids.now }
-    requires naming { IsNaming axis kids.now naming.now }
+    requires naming { IsNaming kids.now naming.now }
     ensures size { IfOk result (λ marks. length marks.items ≡ length kids.now) }
-    ensures reaching { IfOk result (λ marks. AreReaching (leads axis kids.now) place marks.items) }
+    ensures reaching { IfOk result (λ marks. AreReaching (leads naming.now.axis kids.now) place marks.items) }
 {
-    let mut found = Reaching::start(alloc, axis, kids, naming, place)?;
-    found.spread_all(axis, kids, naming, place)?;
+    let mut found = Reaching::start(alloc, kids, naming, place)?;
+    found.spread_all(kids, naming, place)?;
     let Reaching { marks, .. } = found;
     Ok(marks)
 }
@@ -45,15 +44,14 @@ impl Reaching {
     /// Only those that lead to the child are marked.
     fn start(
         alloc: Global,
-        axis: Axis,
         kids: &[Link],
         naming: &Naming,
         place: usize,
     ) -> Result<Reaching, AllocError>
         requires few { length kids.now ≤ MAX_VIEWS }
         requires place { place < length kids.now }
-        requires naming { IsNaming axis kids.now naming.now }
-        ensures { IfOk result (λ found. IsReaching axis kids.now (lists_of naming.now.namers.items) place found.marks.items found.spread.items found.todo.items) }
+        requires naming { IsNaming kids.now naming.now }
+        ensures { IfOk result (λ found. IsReaching naming.now.axis kids.now (lists_of naming.now.namers.items) place found.marks.items found.spread.items found.todo.items) }
     {
         let mut found = Reaching::empty(alloc, kids.len())?;
         let Some(last) = naming.last(kids[place].id) else {
@@ -76,20 +74,14 @@ impl Reaching {
     }
 
     /// Marks all that lead to a marked child, as long as there are any.
-    fn spread_all(
-        &mut self,
-        axis: Axis,
-        kids: &[Link],
-        naming: &Naming,
-        place: usize,
-    ) -> Result<(), AllocError>
+    fn spread_all(&mut self, kids: &[Link], naming: &Naming, place: usize) -> Result<(), AllocError>
         requires few { length kids.now ≤ MAX_VIEWS }
-        requires naming { IsNaming axis kids.now naming.now }
-        requires reaching { IsReaching axis kids.now (lists_of naming.now.namers.items) place self.old.marks.items self.old.spread.items self.old.todo.items }
-        ensures { OnOk result (IsReaching axis kids.now (lists_of naming.now.namers.items) place self.new.marks.items self.new.spread.items []) }
+        requires naming { IsNaming kids.now naming.now }
+        requires reaching { IsReaching naming.now.axis kids.now (lists_of naming.now.namers.items) place self.old.marks.items self.old.spread.items self.old.todo.items }
+        ensures { OnOk result (IsReaching naming.now.axis kids.now (lists_of naming.now.namers.items) place self.new.marks.items self.new.spread.items []) }
     {
         while let Some(marked) = self.next() {
-            self.spread_from(axis, kids, naming, place, marked)?;
+            self.spread_from(kids, naming, place, marked)?;
         }
         Ok(())
     }
@@ -108,7 +100,6 @@ impl Reaching {
     /// Marks all that lead to a marked child.
     fn spread_from(
         &mut self,
-        axis: Axis,
         kids: &[Link],
         naming: &Naming,
         place: usize,
@@ -116,10 +107,10 @@ impl Reaching {
     ) -> Result<(), AllocError>
         requires few { length kids.now ≤ MAX_VIEWS }
         requires marked { marked < length kids.now }
-        requires naming { IsNaming axis kids.now naming.now }
-        requires reaching { IsReaching axis kids.now (lists_of naming.now.namers.items) place self.old.marks.items self.old.spread.items (self.old.todo.items ++ marked ∷ []) }
+        requires naming { IsNaming kids.now naming.now }
+        requires reaching { IsReaching naming.now.axis kids.now (lists_of naming.now.namers.items) place self.old.marks.items self.old.spread.items (self.old.todo.items ++ marked ∷ []) }
         requires own { is_marked self.old.marks.items marked ≡ true }
-        ensures reaching { OnOk result (IsReaching axis kids.now (lists_of naming.now.namers.items) place self.new.marks.items self.new.spread.items self.new.todo.items) }
+        ensures reaching { OnOk result (IsReaching naming.now.axis kids.now (lists_of naming.now.namers.items) place self.new.marks.items self.new.spread.items self.new.todo.items) }
         ensures effort { OnOk result (marks_effort self.new.marks.items (length self.new.todo.items) ≤ marks_effort self.old.marks.items (length self.old.todo.items)) }
     {
         let Some(last) = naming.last(kids[marked].id) else {

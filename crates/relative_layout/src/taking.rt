@@ -2,7 +2,7 @@
 ghost use Rattle.std.specs.Prelude.{◌≡◌, ◌==◌, ◌<◌, ◌≤◌, ◌-◌, ◌+◌, ◌++◌, ◌∷◌, ◌⊎◌, ℕ, [], Bool, IfNone, IfOk, IfSome, OnOk, Some, false, if◌then◌else◌, length, nat_eq, nat_lt, replicate, slice_index, slice_set, true};
 ghost use Rattle.indexmap.specs.IndexMap.{get as place_in};
 ghost use Rattle.relative_layout.specs.Naming.{Has, IsNaming, id_at, lists_of, row_at};
-ghost use Rattle.relative_layout.specs.Taking.{AreCounts, CountsBelow, IsPartial, IsTaking, LeadsIn, Waits, effort, is_marked, left_with, marked, waits_for};
+ghost use Rattle.relative_layout.specs.Taking.{AreCounts, CountsBelow, IsPartial, IsTaking, LeadsIn, Waits, counted_up, effort, has_more, is_marked, left_with, marked};
 ghost use Rattle.view_model.specs.SiblingRules.{last_with_id, leads};
 ghost use Rattle.view_model.specs.declared.limits.TheConstants.{MAX_VIEWS};
 
@@ -10,7 +10,7 @@ use crate::ids::named_ids;
 use crate::marks::unmarked;
 use crate::naming::Naming;
 use std::alloc::{AllocError, Global};
-use view_model::{Axis, Link};
+use view_model::Link;
 
 /// How far the taking of children has come.
 #[derive(Drop)]
@@ -25,17 +25,12 @@ pub struct Taking {
 
 impl Taking {
     /// Before any child is taken: all are to be looked at, the first of them first.
-    pub fn start(
-        alloc: Global,
-        axis: Axis,
-        kids: &[Link],
-        naming: &Naming,
-    ) -> Result<Taking, AllocError>
+    pub fn start(alloc: Global, kids: &[Link], naming: &Naming) -> Result<Taking, AllocError>
         requires few { length kids.now ≤ MAX_VIEWS }
-        requires naming { IsNaming axis kids.now naming.now }
-        ensures { IfOk result (λ taking. IsTaking axis kids.now taking.left.items taking.taken.items taking.todo.items taking.order.items) }
+        requires naming { IsNaming kids.now naming.now }
+        ensures { IfOk result (λ taking. IsTaking naming.now.axis kids.now taking.left.items taking.taken.items taking.todo.items taking.order.items) }
     {
-        let left = counts(alloc, axis, kids, naming)?;
+        let left = counts(alloc, kids, naming)?;
         let todo = all_places(alloc, kids.len())?;
         Ok(Taking {
             left,
@@ -46,14 +41,14 @@ impl Taking {
     }
 
     /// Takes children as long as there is one that can be taken.
-    pub fn take_all(&mut self, axis: Axis, kids: &[Link], naming: &Naming) -> Result<(), AllocError>
+    pub fn take_all(&mut self, kids: &[Link], naming: &Naming) -> Result<(), AllocError>
         requires few { length kids.now ≤ MAX_VIEWS }
-        requires naming { IsNaming axis kids.now naming.now }
-        requires taking { IsTaking axis kids.now self.old.left.items self.old.taken.items self.old.todo.items self.old.order.items }
-        ensures { OnOk result (IsTaking axis kids.now self.new.left.items self.new.taken.items [] self.new.order.items) }
+        requires naming { IsNaming kids.now naming.now }
+        requires taking { IsTaking naming.now.axis kids.now self.old.left.items self.old.taken.items self.old.todo.items self.old.order.items }
+        ensures { OnOk result (IsTaking naming.now.axis kids.now self.new.left.items self.new.taken.items [] self.new.order.items) }
     {
         while let Some(place) = self.next() {
-            self.look_at(axis, kids, naming, place)?;
+            self.look_at(kids, naming, place)?;
         }
         Ok(())
     }
@@ -71,76 +66,63 @@ impl Taking {
     }
 
     /// Takes a child if it can be taken and is not yet.
-    fn look_at(
-        &mut self,
-        axis: Axis,
-        kids: &[Link],
-        naming: &Naming,
-        place: usize,
-    ) -> Result<(), AllocError>
+    fn look_at(&mut self, kids: &[Link], naming: &Naming, place: usize) -> Result<(), AllocError>
         requires few { length kids.now ≤ MAX_VIEWS }
         requires place { place < length kids.now }
-        requires naming { IsNaming axis kids.now naming.now }
-        requires taking { IsTaking axis kids.now self.old.left.items self.old.taken.items (self.old.todo.items ++ place ∷ []) self.old.order.items }
-        ensures taking { OnOk result (IsTaking axis kids.now self.new.left.items self.new.taken.items self.new.todo.items self.new.order.items) }
+        requires naming { IsNaming kids.now naming.now }
+        requires taking { IsTaking naming.now.axis kids.now self.old.left.items self.old.taken.items (self.old.todo.items ++ place ∷ []) self.old.order.items }
+        ensures taking { OnOk result (IsTaking naming.now.axis kids.now self.new.left.items self.new.taken.items self.new.todo.items self.new.order.items) }
         ensures effort { OnOk result (effort (lists_of naming.now.namers.items) self.new.taken.items (length self.new.todo.items)
             ≤ effort (lists_of naming.now.namers.items) self.old.taken.items (length self.old.todo.items)) }
     {
         if self.taken[place] {
             return Ok(());
         }
-        if self.must_wait(axis, kids, naming, place) {
+        if self.must_wait(kids, naming, place) {
             return Ok(());
         }
-        self.take(axis, kids, naming, place)?;
+        self.take(kids, naming, place)?;
         Ok(())
     }
 
     /// Whether a child that is not taken leads to another that is not.
-    fn must_wait(&self, axis: Axis, kids: &[Link], naming: &Naming, place: usize) -> bool
+    fn must_wait(&self, kids: &[Link], naming: &Naming, place: usize) -> bool
         requires place { place < length kids.now }
-        requires naming { IsNaming axis kids.now naming.now }
+        requires naming { IsNaming kids.now naming.now }
         requires size { length self.now.taken.items ≡ length kids.now }
         requires counts { AreCounts kids.now self.now.taken.items self.now.left.items }
         requires fresh { is_marked self.now.taken.items place ≡ false }
-        ensures yes { result ≡ true → Waits (leads axis kids.now) self.now.taken.items place }
-        ensures no { result ≡ false → LeadsIn (leads axis kids.now) place self.now.taken.items }
+        ensures yes { result ≡ true → Waits (leads naming.now.axis kids.now) self.now.taken.items place }
+        ensures no { result ≡ false → LeadsIn (leads naming.now.axis kids.now) place self.now.taken.items }
     {
-        for id in named_ids(axis, &kids[place].rules).iter() {
-            if self.waits_for(kids, axis, naming, kids[place].id, *id) {
+        for id in named_ids(naming.axis, &kids[place].rules).iter() {
+            if self.has_more(naming.last(*id), own_count(kids[place].id, *id)) {
                 return true;
             }
         }
         false
     }
 
-    /// Whether a child of this id, itself not taken, waits for another one with an id.
-    fn waits_for(&self, kids: &[Link], axis: Axis, naming: &Naming, own: u32, id: u32) -> bool
-        requires naming { IsNaming axis kids.now naming.now }
-        requires counts { AreCounts kids.now self.now.taken.items self.now.left.items }
-        ensures { result ≡ waits_for kids.now self.now.taken.items own id }
+    /// Whether more than `own` children are left with an id, by the last child with it.
+    fn has_more(&self, last: Option<usize>, own: u32) -> bool
+        requires { IfSome last (λ last. last < length self.now.left.items) }
+        ensures { result ≡ has_more last own self.now.left.items }
     {
-        match naming.last(id) {
+        match last {
             None => false,
-            Some(last) => self.left[last] > own_count(own, id),
+            Some(last) => self.left[last] > own,
         }
     }
 
     /// Takes a child that leads only to such that are taken.
-    fn take(
-        &mut self,
-        axis: Axis,
-        kids: &[Link],
-        naming: &Naming,
-        place: usize,
-    ) -> Result<(), AllocError>
+    fn take(&mut self, kids: &[Link], naming: &Naming, place: usize) -> Result<(), AllocError>
         requires few { length kids.now ≤ MAX_VIEWS }
         requires place { place < length kids.now }
-        requires naming { IsNaming axis kids.now naming.now }
+        requires naming { IsNaming kids.now naming.now }
         requires fresh { is_marked self.old.taken.items place ≡ false }
-        requires ready { LeadsIn (leads axis kids.now) place self.old.taken.items }
-        requires taking { IsTaking axis kids.now self.old.left.items self.old.taken.items (self.old.todo.items ++ place ∷ []) self.old.order.items }
-        ensures taking { OnOk result (IsTaking axis kids.now self.new.left.items self.new.taken.items self.new.todo.items self.new.order.items) }
+        requires ready { LeadsIn (leads naming.now.axis kids.now) place self.old.taken.items }
+        requires taking { IsTaking naming.now.axis kids.now self.old.left.items self.old.taken.items (self.old.todo.items ++ place ∷ []) self.old.order.items }
+        ensures taking { OnOk result (IsTaking naming.now.axis kids.now self.new.left.items self.new.taken.items self.new.todo.items self.new.order.items) }
         ensures effort { OnOk result (effort (lists_of naming.now.namers.items) self.new.taken.items (length self.new.todo.items)
             ≤ effort (lists_of naming.now.namers.items) self.old.taken.items (length self.old.todo.items)) }
     {
@@ -196,38 +178,27 @@ fn own_count(own: u32, id: u32) -> u32
 }
 
 /// For the last child with an id, how many have it.
-fn counts(alloc: Global, axis: Axis, kids: &[Link], naming: &Naming) -> Result<Vec<u32>, AllocError>
+fn counts(alloc: Global, kids: &[Link], naming: &Naming) -> Result<Vec<u32>, AllocError>
     requires few { length kids.now ≤ MAX_VIEWS }
-    requires naming { IsNaming axis kids.now naming.now }
+    requires naming { IsNaming kids.now naming.now }
     ensures { IfOk result (λ left. CountsBelow kids.now (length kids.now) left.items) }
 {
     let mut left = zeros(alloc, kids.len())?;
-    for (place, kid) in kids.iter().enumerate() {
-        count_up(&mut left, axis, kids, naming, place, kid.id);
+    for (_place, kid) in kids.iter().enumerate() {
+        count_up(&mut left, naming.last(kid.id));
     }
     Ok(left)
 }
 
-/// Counts a child with this id.
-fn count_up(left: &mut [u32], axis: Axis, kids: &[Link], naming: &Naming, place: usize, id: u32)
-    requires few { length kids.now ≤ MAX_VIEWS }
-    requires place { place < length kids.now }
-    requires id { id_at kids.now place ≡ id }
-    requires naming { IsNaming axis kids.now naming.now }
-    requires counts { CountsBelow kids.now place left.old }
-    ensures { CountsBelow kids.now (place + 1) left.new }
+/// Counts a child by the last one with its id.
+fn count_up(left: &mut Vec<u32>, last: Option<usize>)
+    requires inside { IfSome last (λ last. last < length left.old.items) }
+    requires few { IfSome last (λ last. slice_index left.old.items last < MAX_VIEWS) }
+    ensures { left.new.items ≡ counted_up last left.old.items }
 {
-    if let Some(last) = naming.last(id) {
-        raise(left, last);
+    if let Some(last) = last {
+        left[last] += 1;
     }
-}
-
-fn raise(left: &mut [u32], at: usize)
-    requires at { at < length left.old }
-    requires few { slice_index left.old at < MAX_VIEWS }
-    ensures { left.new ≡ slice_set left.old at (slice_index left.old at + 1) }
-{
-    left[at] += 1;
 }
 
 fn zeros(alloc: Global, count: usize) -> Result<Vec<u32>, AllocError>

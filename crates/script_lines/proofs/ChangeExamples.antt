@@ -8,11 +8,12 @@ use Rattle.script_lines.specs.declared.fault.LineFault.TheVariants.{Syntax, Rang
 use Rattle.script_lines.specs.declared.naming.Name.TheVariants.{Number, Id}
 use Rattle.view_model.specs.declared.changes.Act.TheVariants as act
 use Rattle.view_model.specs.declared.changes.Change.TheVariants as change
+use Rattle.view_model.specs.declared.changes.Flag.TheVariants as flag
 use Rattle.view_model.specs.declared.kinds.Visibility.TheVariants as visibility
 use Rattle.view_model.specs.declared.placing.Across.TheVariants as across
 use Rattle.view_model.specs.declared.placing.Down.TheVariants as down
 use Rattle.view_model.specs.Facts.{no_gravity}
-use Rattle.script_lines.specs.Changes.{act_of, change_of, insets_of, new_id_of, gravity_change_of, kids_of, sides_of, visibility_of, visible_of, orient_of, vertical_of}
+use Rattle.script_lines.specs.Changes.{act_of, change_of, flag_named, flag_of, insets_of, new_id_of, on_of, scroll_of, gravity_change_of, kids_of, sides_of, visibility_of, visible_of, orient_of, vertical_of}
 use Rattle.script_lines.specs.Commands.{add_of, bounds_of, class_of, command_by, command_in, command_of, frame_of, remove_of, set_of}
 use Rattle.script_lines.specs.Dimensions.{dimension_of, extents_of}
 use Rattle.script_lines.specs.Gravities.{across_of, down_of, gravity_of, one_across, one_down, with_word, with_words}
@@ -260,3 +261,23 @@ no_way = refl
 pub a_line_that_is_not_there : command_of (codes "weigh v1 1") ≡ Err Syntax
 unfolding is_utf8 chars encode words natural_of integer_of within_of pair_of hex_digit_of hex_of id_of name_of parent_of dimension_of extents_of class_of add_of remove_of frame_of bounds_of set_of act_of change_of command_by command_in command_of after_word across_of down_of one_across one_down with_word with_words gravity_of gravity_change_of kids_of sides_of insets_of visibility_of visible_of new_id_of
 a_line_that_is_not_there = refl
+
+pub a_child_fills : command_of (codes "flag v1 fill yes") ≡ Ok (Act (Number 1) (act.Flag flag.Fill true))
+unfolding is_utf8 chars encode words natural_of integer_of within_of pair_of hex_digit_of hex_of id_of name_of parent_of dimension_of extents_of class_of add_of remove_of frame_of bounds_of set_of act_of change_of command_by command_in command_of after_word across_of down_of one_across one_down with_word with_words gravity_of gravity_change_of kids_of sides_of insets_of visibility_of visible_of new_id_of orient_of vertical_of flag_of flag_named on_of scroll_of
+a_child_fills = refl
+
+pub a_flag_that_is_not_there : command_of (codes "flag v1 full yes") ≡ Err Syntax
+unfolding is_utf8 chars encode words natural_of integer_of within_of pair_of hex_digit_of hex_of id_of name_of parent_of dimension_of extents_of class_of add_of remove_of frame_of bounds_of set_of act_of change_of command_by command_in command_of after_word across_of down_of one_across one_down with_word with_words gravity_of gravity_change_of kids_of sides_of insets_of visibility_of visible_of new_id_of orient_of vertical_of flag_of flag_named on_of scroll_of
+a_flag_that_is_not_there = refl
+
+pub an_offset : command_of (codes "scroll v1 60") ≡ Ok (Act (Number 1) (act.Scroll (pos 60)))
+unfolding is_utf8 chars encode words natural_of integer_of within_of pair_of hex_digit_of hex_of id_of name_of parent_of dimension_of extents_of class_of add_of remove_of frame_of bounds_of set_of act_of change_of command_by command_in command_of after_word across_of down_of one_across one_down with_word with_words gravity_of gravity_change_of kids_of sides_of insets_of visibility_of visible_of new_id_of orient_of vertical_of flag_of flag_named on_of scroll_of
+an_offset = refl
+
+pub an_offset_below_the_begin : command_of (codes "scroll v1 -1") ≡ Err Range
+unfolding is_utf8 chars encode words natural_of integer_of within_of pair_of hex_digit_of hex_of id_of name_of parent_of dimension_of extents_of class_of add_of remove_of frame_of bounds_of set_of act_of change_of command_by command_in command_of after_word across_of down_of one_across one_down with_word with_words gravity_of gravity_change_of kids_of sides_of insets_of visibility_of visible_of new_id_of orient_of vertical_of flag_of flag_named on_of scroll_of
+an_offset_below_the_begin = refl
+
+pub too_great_an_offset : command_of (codes "scroll v1 16777216") ≡ Err Range
+unfolding is_utf8 chars encode words natural_of integer_of within_of pair_of hex_digit_of hex_of id_of name_of parent_of dimension_of extents_of class_of add_of remove_of frame_of bounds_of set_of act_of change_of command_by command_in command_of after_word across_of down_of one_across one_down with_word with_words gravity_of gravity_change_of kids_of sides_of insets_of visibility_of visible_of new_id_of orient_of vertical_of flag_of flag_named on_of scroll_of
+too_great_an_offset = refl

@@ -110,7 +110,7 @@ pub a_dimension_below_0 : command_of (codes "add v1 View -1 10") ≡ Err Range
 unfolding is_utf8 chars encode words natural_of integer_of within_of pair_of hex_digit_of hex_of id_of name_of parent_of dimension_of extents_of class_of add_of remove_of frame_of bounds_of set_of act_of change_of command_by command_in command_of after_word
 a_dimension_below_0 = refl
 
-pub another_class : command_of (codes "add v1 TextView 10 10") ≡ Err Syntax
+pub another_class : command_of (codes "add v1 Button 10 10") ≡ Err Syntax
 unfolding is_utf8 chars encode words natural_of integer_of within_of pair_of hex_digit_of hex_of id_of name_of parent_of dimension_of extents_of class_of add_of remove_of frame_of bounds_of set_of act_of change_of command_by command_in command_of after_word
 another_class = refl
 

@@ -15,6 +15,7 @@ mod SpelledExamples
 mod SpelledNames
 mod SpelledNumbers
 mod SpelledResources
+mod SpelledTexts
 mod SpelledWords
 mod TextLaws
 mod TextLengthLaws

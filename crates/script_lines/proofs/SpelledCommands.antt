@@ -11,6 +11,7 @@ use Rattle.view_model.specs.declared.changes.Act.{Act}
 use Rattle.view_model.specs.declared.changes.Act.TheVariants as act
 use Rattle.view_model.specs.declared.changes.Change.{Change}
 use Rattle.view_model.specs.declared.changes.Change.TheVariants as change
+use Rattle.view_model.specs.declared.changes.Flag.TheVariants as flag
 use Rattle.view_model.specs.declared.kinds.Class.{Class}
 use Rattle.view_model.specs.declared.kinds.Class.TheVariants as class
 use Rattle.view_model.specs.declared.kinds.Visibility.{Visibility}
@@ -20,12 +21,12 @@ use Rattle.view_model.specs.declared.placing.Across.TheVariants as across
 use Rattle.view_model.specs.declared.placing.Down.{Down}
 use Rattle.view_model.specs.declared.placing.Down.TheVariants as down
 use Rattle.view_model.specs.declared.placing.Gravity.{Gravity}
-use Rattle.script_lines.specs.Changes.{AreWithin, IsActInBounds, IsChangeInBounds, act_of, change_of, gravity_change_of, insets_of, kids_of, new_id_of, orient_of, sides_of, vertical_of, visibility_of, visible_of}
+use Rattle.script_lines.specs.Changes.{AreWithin, IsActInBounds, IsChangeInBounds, act_of, change_of, flag_named, flag_of, gravity_change_of, insets_of, kids_of, new_id_of, on_of, orient_of, scroll_of, sides_of, vertical_of, visibility_of, visible_of}
 use Rattle.script_lines.specs.Commands.{IsInBounds, add_of, bounds_of, class_of, command_by, command_of, dpi_of, frame_of, inflate_of, into_of, remove_of, set_of}
 use Rattle.script_lines.specs.Dimensions.{IsExtent, dimension_of, extent_of, extents_of}
 use Rattle.script_lines.specs.Gravities.{across_of, down_of, gravity_of, is_set_across, is_set_down, one_across, one_down, with_word, with_words}
 use Rattle.script_lines.specs.Numbers.{IsWithin}
-use Rattle.script_lines.specs.Spelled.{ActHasLine, ChangeHasLine, HasLine, HasWord, act_head, act_words, change_head, change_words, class_text, extent_text, gravity_text, insets_words, name_text, parent_text, spelled, visibility_text, weight_words}
+use Rattle.script_lines.specs.Spelled.{ActHasLine, ChangeHasLine, ClassHasLine, HasLine, HasWord, act_head, act_words, change_head, change_words, class_text, extent_text, gravity_text, insets_words, name_text, parent_text, spelled, visibility_text, weight_words}
 use Rattle.script_lines.specs.Weights.{last_number, weight_of}
 use Rattle.script_lines.specs.declared.weights.TheConstants.{MAX_PARTS, MAX_WHOLE}
 use Rattle.script_lines.specs.declared.commands.TheConstants.{MAX_DPI, MAX_WINDOW, MIN_DPI}
@@ -37,9 +38,10 @@ use Rattle.script_lines.specs.declared.dimension.Dimension.TheVariants.{Match, W
 use Rattle.script_lines.specs.declared.naming.Name.TheVariants.{Id}
 use Rattle.script_lines.proofs.FileNameLaws.{file_name_word}
 use Rattle.script_lines.proofs.SpelledResources.{command_of-resource}
+use Rattle.script_lines.proofs.SpelledTexts.{command_of-text}
 use Rattle.script_lines.proofs.SpelledNames.{id_of-text, name_of-text, name_word, parent_of-text, parent_word}
 use Rattle.script_lines.proofs.SpelledNumbers.{IsShort, decimal_first, decimal_word, differs, integer_of-signed, natural_within-within, pair_of-signed, short_within, signed_word, within_of-within}
-use Rattle.script_lines.proofs.SpelledWords.{AreWords, IsWord, command_of-joined, word_by}
+use Rattle.script_lines.proofs.SpelledWords.{AreWords, IsWord, command_of-joined, ends_in_text, word_by}
 
 -- dimensions
 abbrev dimension_as : ℤ → Dimension
@@ -80,16 +82,20 @@ extent_word (negsuc zero) h = word_by (codes "match") refl
 extent_word (negsuc (suc n)) h = word_by (codes "wrap") refl
 
 -- classes
-class_of-text : (class : Class) → class_of (class_text class) ≡ Ok class
+class_of-text : (class : Class) → ClassHasLine class → class_of (class_text class) ≡ Ok class
 unfolding class_of
-class_of-text class.View = refl
-class_of-text class.FrameLayout = refl
-class_of-text class.LinearLayout = refl
+class_of-text class.View known = refl
+class_of-text class.TextView known = refl
+class_of-text class.FrameLayout known = refl
+class_of-text class.LinearLayout known = refl
+class_of-text class.ScrollView known = elim known [ ]
 
 class_word : (class : Class) → IsWord (class_text class)
 class_word class.View = word_by (codes "View") refl
+class_word class.TextView = word_by (codes "TextView") refl
 class_word class.FrameLayout = word_by (codes "FrameLayout") refl
 class_word class.LinearLayout = word_by (codes "LinearLayout") refl
+class_word class.ScrollView = word_by (codes "ScrollView") refl
 
 -- visibilities
 visibility_of-text : (visibility : Visibility) → visibility_of (visibility_text visibility) ≡ Ok visibility
@@ -215,6 +221,15 @@ unfolding kids_of
 kids_of-text true = refl
 kids_of-text false = refl
 
+on_word : (on : Bool) → IsWord (if on then codes "yes" else codes "no")
+on_word true = word_by (codes "yes") refl
+on_word false = word_by (codes "no") refl
+
+on_of-text : (on : Bool) → on_of (if on then codes "yes" else codes "no") ≡ Ok on
+unfolding on_of
+on_of-text true = refl
+on_of-text false = refl
+
 vertical_word : (vertical : Bool) → IsWord (if vertical then codes "vertical" else codes "horizontal")
 vertical_word true = word_by (codes "vertical") refl
 vertical_word false = word_by (codes "horizontal") refl
@@ -276,7 +291,7 @@ record ActReads (a : Act) : Type 0 where
   value : act_of (act_head a) (act_words a) ≡ Ok a
 
 act_reads : (a : Act) → IsActInBounds a → ActHasLine a → ActReads a
-unfolding act_of visible_of new_id_of orient_of
+unfolding act_of visible_of new_id_of orient_of flag_of flag_named scroll_of
 act_reads (act.Change change) b l = let r = change_reads change b l in record { head = r.head; words = r.words; value = r.value }
 act_reads (act.Visible visibility) b l = record {
   head = word_by (codes "visible") refl;
@@ -298,12 +313,24 @@ act_reads (act.Orient vertical) b l = record {
   words = (vertical_word vertical, tt);
   value = rw (vertical_of-text vertical) refl;
 }
-act_reads (act.Flag flag on) b l = absurd l
+act_reads (act.Flag flag.Clip on) b l = absurd l
+act_reads (act.Flag flag.Fill on) b l = record {
+  head = word_by (codes "flag") refl;
+  words = (word_by (codes "fill") refl, (on_word on, tt));
+  value = rw (on_of-text on) refl;
+}
+act_reads (act.Flag flag.Split on) b l = absurd l
 act_reads (act.Ink color) b l = absurd l
 act_reads (act.Rule verb value) b l = absurd l
 act_reads (act.Answer answer) b l = absurd l
 act_reads (act.Intercept actions) b l = absurd l
-act_reads (act.Scroll offset) b l = absurd l
+act_reads (act.Scroll offset) b l =
+    let short = size_short offset b in
+    record {
+      head = word_by (codes "scroll") refl;
+      words = (signed_word offset short, tt);
+      value = rw (integer_of-signed offset short, within_of-within (pos 0) MAX_SIZE offset b) refl;
+    }
 
 -- the first words of the lines that set something are none of the others
 command_by-change : (c : Change) (ws : List (List ℕ)) → ChangeHasLine c → command_by (change_head c) ws ≡ set_of (change_head c) ws
@@ -323,34 +350,34 @@ command_by-act (act.Visible visibility) ws l = refl
 command_by-act (act.Id id) ws l = refl
 command_by-act (act.WeightSum sum) ws l = refl
 command_by-act (act.Orient vertical) ws l = refl
-command_by-act (act.Flag flag on) ws l = absurd l
+command_by-act (act.Flag flag on) ws l = refl
 command_by-act (act.Ink color) ws l = absurd l
 command_by-act (act.Rule verb value) ws l = absurd l
 command_by-act (act.Answer answer) ws l = absurd l
 command_by-act (act.Intercept actions) ws l = absurd l
-command_by-act (act.Scroll offset) ws l = absurd l
+command_by-act (act.Scroll offset) ws l = refl
 
-change_no_resource : (c : Change) → ChangeHasLine c → bytes_eq (change_head c) (codes "res") ≡ false
-change_no_resource (change.Size width height) l = refl
-change_no_resource (change.Min size) l = refl
-change_no_resource (change.Margins sides) l = refl
-change_no_resource (change.Padding sides) l = refl
-change_no_resource (change.Weight weight) l = refl
-change_no_resource (change.Gravity kids gravity) l = refl
-change_no_resource (change.Background color) l = refl
+change_no_text : (c : Change) → ChangeHasLine c → ends_in_text (change_head c) ≡ false
+change_no_text (change.Size width height) l = refl
+change_no_text (change.Min size) l = refl
+change_no_text (change.Margins sides) l = refl
+change_no_text (change.Padding sides) l = refl
+change_no_text (change.Weight weight) l = refl
+change_no_text (change.Gravity kids gravity) l = refl
+change_no_text (change.Background color) l = refl
 
-act_no_resource : (a : Act) → ActHasLine a → bytes_eq (act_head a) (codes "res") ≡ false
-act_no_resource (act.Change change) l = change_no_resource change l
-act_no_resource (act.Visible visibility) l = refl
-act_no_resource (act.Id id) l = refl
-act_no_resource (act.WeightSum sum) l = refl
-act_no_resource (act.Orient vertical) l = refl
-act_no_resource (act.Flag flag on) l = refl
-act_no_resource (act.Ink color) l = refl
-act_no_resource (act.Rule verb value) l = refl
-act_no_resource (act.Answer answer) l = refl
-act_no_resource (act.Intercept actions) l = refl
-act_no_resource (act.Scroll offset) l = refl
+act_no_text : (a : Act) → ActHasLine a → ends_in_text (act_head a) ≡ false
+act_no_text (act.Change change) l = change_no_text change l
+act_no_text (act.Visible visibility) l = refl
+act_no_text (act.Id id) l = refl
+act_no_text (act.WeightSum sum) l = refl
+act_no_text (act.Orient vertical) l = refl
+act_no_text (act.Flag flag on) l = refl
+act_no_text (act.Ink color) l = refl
+act_no_text (act.Rule verb value) l = refl
+act_no_text (act.Answer answer) l = refl
+act_no_text (act.Intercept actions) l = refl
+act_no_text (act.Scroll offset) l = refl
 
 side_of_window : (z : ℤ) → IsWithin (pos 1) MAX_WINDOW z → IsShort z
 side_of_window z h = short_within 0 4096 z (omega (arith, ints, h.0)) h.1 (omega arith) (omega arith)
@@ -376,16 +403,17 @@ command_of-spelled (plain.Inflate name (Some view)) b l =
     command_of-joined (codes "inflate") (name ∷ codes "into" ∷ name_text view ∷ []) refl (word_by (codes "inflate") refl, (file_name_word name b, (word_by (codes "into") refl, (name_word view l, tt))))
     ∙ rw (b, name_of-text view l) refl
 command_of-spelled (plain.Add parent class width height) b l =
-    command_of-joined (codes "add") (parent_text parent ∷ class_text class ∷ extent_text width ∷ extent_text height ∷ []) refl (word_by (codes "add") refl, (parent_word parent l, (class_word class, (extent_word width b.0, (extent_word height b.1, tt)))))
-    ∙ rw (parent_of-text parent l, class_of-text class, extents_of-text width height b.0 b.1) refl
+    command_of-joined (codes "add") (parent_text parent ∷ class_text class ∷ extent_text width ∷ extent_text height ∷ []) refl (word_by (codes "add") refl, (parent_word parent l.0, (class_word class, (extent_word width b.0, (extent_word height b.1, tt)))))
+    ∙ rw (parent_of-text parent l.0, class_of-text class l.1, extents_of-text width height b.0 b.1) refl
 command_of-spelled (plain.Remove view) b l =
     command_of-joined (codes "remove") (name_text view ∷ []) refl (word_by (codes "remove") refl, (name_word view l, tt))
     ∙ rw (name_of-text view l) refl
 command_of-spelled (plain.Act view act) b l =
     let r = act_reads act b l.1 in
-    command_of-joined (act_head act) (name_text view ∷ act_words act) (act_no_resource act l.1) (r.head, (name_word view l.0, r.words))
+    command_of-joined (act_head act) (name_text view ∷ act_words act) (act_no_text act l.1) (r.head, (name_word view l.0, r.words))
     ∙ command_by-act act (name_text view ∷ act_words act) l.1
     ∙ rw (name_of-text view l.0, r.value) refl
+command_of-spelled (plain.SetText view text) b l = command_of-text view text b l.0 l.1
 command_of-spelled plain.Frame b l = command_of-joined (codes "frame") [] refl (word_by (codes "frame") refl, tt)
 command_of-spelled (plain.Bounds None) b l = command_of-joined (codes "bounds") [] refl (word_by (codes "bounds") refl, tt)
 command_of-spelled (plain.Bounds (Some view)) b l =

@@ -52,6 +52,10 @@ pub a_way : spelled (Act (Number 3) (act.Orient true)) ≡ codes "orient v3 vert
 unfolding digits
 a_way = refl
 
+pub an_offset : spelled (Act (Number 3) (act.Scroll (pos 60))) ≡ codes "scroll v3 60"
+unfolding digits
+an_offset = refl
+
 pub a_color : spelled (Res 127 (Color (record { 0 = 255 }))) ≡ codes "res @7f color #000000ff"
 unfolding digits
 a_color = refl

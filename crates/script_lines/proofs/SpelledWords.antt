@@ -1,6 +1,6 @@
 -- The words of a text that was made of words.
-use Rattle.std.proofs.Common.{◌≡◌, ℕ, ◌+◌, ◌<◌, true, false, refl, ap, ◌∙◌, inl, inr, List, [], ◌∷◌, ◌++◌, length, drop, arith}
-use Rattle.std.specs.Prelude.{◌&&◌, codes, filter, nat_lt}
+use Rattle.std.proofs.Common.{◌≡◌, ℕ, ◌+◌, ◌<◌, Bool, true, false, refl, ap, ◌∙◌, inl, inr, List, [], ◌∷◌, ◌++◌, length, drop, arith}
+use Rattle.std.specs.Prelude.{◌&&◌, ◌||◌, codes, filter, nat_lt}
 use Rattle.std.specs.Char.{is_ascii_graphic}
 use Rattle.std.specs.List.{All, join_with_byte, list_all, prefix_len, slice_split}
 use Rattle.std.specs.Str.{IsAscii, IsUtf8, bytes_eq, is_utf8}
@@ -73,10 +73,20 @@ after_word-joined head ws h = elim (cases_lt 0 (length (first_word (join_with_by
   | inr none ↦ absurd (cc (words-joined (head ∷ ws) h, words_none (join_with_byte 32 (head ∷ ws)) (omega (arith, none))))
 ]
 
+-- the first words of lines in which spaces count
+abbrev pub ends_in_text : List ℕ → Bool
+ends_in_text head = bytes_eq head (codes "res") || bytes_eq head (codes "text")
+
+neither : (a b : Bool) → (a || b) ≡ false → (a ≡ false) × (b ≡ false)
+neither false b h = (refl, h)
+neither true b h = absurd (cc)
+
 -- the command of a text that was made of words, but for one in which spaces count
-pub command_of-joined : (head : List ℕ) (ws : List (List ℕ)) → bytes_eq head (codes "res") ≡ false → AreWords (head ∷ ws) → command_of (join_with_byte 32 (head ∷ ws)) ≡ command_by head ws
+pub command_of-joined : (head : List ℕ) (ws : List (List ℕ)) → ends_in_text head ≡ false → AreWords (head ∷ ws) → command_of (join_with_byte 32 (head ∷ ws)) ≡ command_by head ws
 unfolding command_of command_in
-command_of-joined head ws e h = rw (joined_text (head ∷ ws) h, words-joined (head ∷ ws) h, e, after_word-joined head ws h) refl
+command_of-joined head ws e h =
+    let no = neither (bytes_eq head (codes "res")) (bytes_eq head (codes "text")) e in
+    rw (joined_text (head ∷ ws) h, words-joined (head ∷ ws) h, no.0, no.1, after_word-joined head ws h) refl
 
 -- a word before a space
 in_word_first : (word rest : List ℕ) → list_all is_ascii_graphic word ≡ true → prefix_len in_word (word ++ 32 ∷ rest) ≡ length word

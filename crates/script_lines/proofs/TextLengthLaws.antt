@@ -4,14 +4,14 @@ use Rattle.std.specs.Prelude.{ℤ, pos, nat_lt, codes, if◌then◌else◌, IfOk
 use Rattle.std.specs.List.{prefix_len}
 use Rattle.std.specs.Str.{bytes_eq, is_utf8}
 use Rattle.script_lines.specs.Changes.{act_of}
-use Rattle.script_lines.specs.Commands.{add_of, bounds_of, class_of, command_by, command_in, command_of, dpi_of, frame_of, inflate_of, into_of, remove_of, set_of}
+use Rattle.script_lines.specs.Commands.{add_of, bounds_of, class_of, command_by, command_in, command_of, dpi_of, frame_of, inflate_of, into_of, remove_of, set_of, set_text_of}
 use Rattle.script_lines.specs.Dimensions.{extents_of}
 use Rattle.script_lines.specs.Escapes.{escaped_text_of, has_escapes, rest_of}
 use Rattle.script_lines.specs.FileNames.{file_name_in}
 use Rattle.script_lines.specs.Lines.{is_space}
 use Rattle.script_lines.specs.Names.{id_in, name_in, parent_in}
 use Rattle.script_lines.specs.Numbers.{integer_in, natural_within, pair_of, within_of}
-use Rattle.script_lines.specs.PlainCommands.{PlainCommand, PlainGiven, Window, Dpi, Inflate, Act, Text, given_text_length, text_length}
+use Rattle.script_lines.specs.PlainCommands.{PlainCommand, PlainGiven, Window, Dpi, Inflate, Act, SetText, Text, given_text_length, text_length}
 use Rattle.script_lines.specs.Resources.{color_given, color_of, dimen_given, given_by, given_of, res_of, resource_id, unit_of}
 use Rattle.script_lines.specs.Words.{◌>>=◌, after_spaces, after_word, end_of, in_word, map_ok, text_of, word_in, words}
 use Rattle.script_lines.specs.declared.commands.TheConstants.{MAX_DPI, MAX_WINDOW, MIN_DPI}
@@ -90,6 +90,13 @@ res_of-short rest =
     if_then_with (GivenShort (length (after_word (after_word rest)))) P (given_of (after_word rest)) _ (given_of-short (after_word rest)) (λ value h.
     if_then P (resource_id id.0) _ (λ _. omega (arith, h, after_word-short rest, after_word-short (after_word rest)))))
 
+set_text_of-short : (rest : List ℕ) → IfOk (set_text_of rest) (Short (length rest))
+unfolding set_text_of
+set_text_of-short rest =
+    let P = Short (length rest) in
+    if_then P (name_in (words rest)) _ (λ view.
+    if_map_with (λ text. length text ≤ length (after_word rest)) P (SetText view.0) (rest_of (after_word rest)) (rest_of-short (after_word rest)) (λ text h. omega (arith, h, after_word-short rest)))
+
 bounds_of-short : (n : ℕ) (words : List (List ℕ)) → IfOk (bounds_of words) (Short n)
 unfolding bounds_of
 bounds_of-short n [] = none_short n
@@ -117,5 +124,7 @@ unfolding command_of command_in
 command_of-short line =
     let P = Short (length line) in
     let res : IfOk (res_of (after_word line)) P = if_ok_more (Short (length (after_word line))) P (res_of (after_word line)) (res_of-short (after_word line)) (λ c h. omega (arith, h, after_word-short line)) in
+    let text : IfOk (set_text_of (after_word line)) P = if_ok_more (Short (length (after_word line))) P (set_text_of (after_word line)) (set_text_of-short (after_word line)) (λ c h. omega (arith, h, after_word-short line)) in
     if_either P (is_utf8 line) _ _ (if_then P (word_in (words line)) _ (λ head.
-    if_either P (bytes_eq head.0 (codes "res")) _ _ res (command_by-short (length line) head.0 (words (after_word line))))) tt
+    if_either P (bytes_eq head.0 (codes "res")) _ _ res
+    (if_either P (bytes_eq head.0 (codes "text")) _ _ text (command_by-short (length line) head.0 (words (after_word line)))))) tt

@@ -7,6 +7,8 @@ use Rattle.view_model.specs.declared.changes.Act.{Act}
 use Rattle.view_model.specs.declared.changes.Act.TheVariants as act
 use Rattle.view_model.specs.declared.changes.Change.{Change}
 use Rattle.view_model.specs.declared.changes.Change.TheVariants as change
+use Rattle.view_model.specs.declared.changes.Flag.{Flag}
+use Rattle.view_model.specs.declared.changes.Flag.TheVariants as flag
 use Rattle.view_model.specs.declared.kinds.Visibility.{Visibility}
 use Rattle.view_model.specs.declared.kinds.Visibility.TheVariants as visibility
 use Rattle.script_lines.specs.Dimensions.{IsExtent, extents_of}
@@ -130,14 +132,43 @@ orient_of words = do
   _ ← end_of way.1
   Ok (act.Orient vertical)
 
+-- whether something is on
+unfoldable pub on_of : List ℕ → Result Bool LineFault
+on_of word =
+    if bytes_eq word (codes "yes") then Ok true else (
+    if bytes_eq word (codes "no") then Ok false else
+    Err Syntax)
+
+unfoldable pub flag_named : List ℕ → Result Flag LineFault
+flag_named word = if bytes_eq word (codes "fill") then Ok flag.Fill else Err Syntax
+
+-- `fill yes` or `fill no`
+unfoldable pub flag_of : List (List ℕ) → Result Act LineFault
+flag_of words = do
+  f ← word_in words
+  flag ← flag_named f.0
+  b ← word_in f.1
+  on ← on_of b.0
+  _ ← end_of b.1
+  Ok (act.Flag flag on)
+
+-- `Y`, an offset
+unfoldable pub scroll_of : List (List ℕ) → Result Act LineFault
+scroll_of words = do
+  y ← integer_in words
+  _ ← end_of y.1
+  map_ok act.Scroll (within_of (pos 0) MAX_SIZE y.0)
+
 -- what a line sets, by its first word and the words behind the view
 unfoldable pub act_of : List ℕ → List (List ℕ) → Result Act LineFault
 act_of head words =
     if bytes_eq head (codes "visible") then visible_of words else (
     if bytes_eq head (codes "id") then new_id_of words else (
     if bytes_eq head (codes "weightsum") then weight_sum_of words else (
-    if bytes_eq head (codes "orient") then orient_of words else
-    map_ok act.Change (change_of head words))))
+    if bytes_eq head (codes "orient") then orient_of words else (
+    if bytes_eq head (codes "flag") then flag_of words else (
+    if bytes_eq head (codes "scroll") then scroll_of words else
+    map_ok act.Change (change_of head words))))))
 
 abbrev pub AreWithin : ℤ → ℤ → Insets → Type 0
 AreWithin low high sides = IsWithin low high sides.left × IsWithin low high sides.top × IsWithin low high sides.right × IsWithin low high sides.bottom

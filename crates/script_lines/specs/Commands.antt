@@ -5,11 +5,12 @@ use Rattle.view_model.specs.declared.kinds.Class.{Class}
 use Rattle.view_model.specs.declared.kinds.Class.TheVariants as class
 use Rattle.script_lines.specs.Changes.{IsActInBounds, act_of}
 use Rattle.script_lines.specs.Dimensions.{IsExtent, extents_of}
+use Rattle.script_lines.specs.Escapes.{has_escapes, rest_of}
 use Rattle.script_lines.specs.FileNames.{file_name_in, is_file_name}
 use Rattle.script_lines.specs.Names.{name_in, parent_in}
 use Rattle.script_lines.specs.declared.naming.Name.{Name}
 use Rattle.script_lines.specs.Numbers.{IsWithin, integer_in, natural_within, pair_of}
-use Rattle.script_lines.specs.PlainCommands.{PlainCommand, Window, Dpi, Res, Inflate, Add, Remove, Act, Frame, Bounds}
+use Rattle.script_lines.specs.PlainCommands.{PlainCommand, Window, Dpi, Res, Inflate, Add, Remove, Act, SetText, Frame, Bounds}
 use Rattle.script_lines.specs.Resources.{IsGivenInBounds, res_of}
 use Rattle.script_lines.specs.Words.{after_word, ◌>>=◌, map_ok, literal_in, word_in, end_of, words}
 use Rattle.script_lines.specs.declared.commands.TheConstants.{MAX_DPI, MAX_WINDOW, MIN_DPI}
@@ -45,9 +46,10 @@ inflate_of words = do
 unfoldable pub class_of : List ℕ → Result Class LineFault
 class_of word =
     if bytes_eq word (codes "View") then Ok class.View else (
+    if bytes_eq word (codes "TextView") then Ok class.TextView else (
     if bytes_eq word (codes "FrameLayout") then Ok class.FrameLayout else (
     if bytes_eq word (codes "LinearLayout") then Ok class.LinearLayout else
-    Err Syntax))
+    Err Syntax)))
 
 -- `P C W H`, a parent, and the view that is added to it
 unfoldable pub add_of : List (List ℕ) → Result PlainCommand LineFault
@@ -82,6 +84,12 @@ set_of head words = do
   view ← name_in words
   map_ok (λ act. Act view.0 act) (act_of head view.1)
 
+-- `V T`, and the text of that view: all that stands behind one space
+unfoldable pub set_text_of : List ℕ → Result PlainCommand LineFault
+set_text_of rest = do
+  view ← name_in (words rest)
+  map_ok (SetText view.0) (rest_of (after_word rest))
+
 -- a command by the first word of its line and the words behind that
 unfoldable pub command_by : List ℕ → List (List ℕ) → Result PlainCommand LineFault
 command_by head words =
@@ -96,7 +104,10 @@ command_by head words =
 
 -- a command by the first word of its line and the bytes behind that: the spaces in a text count
 unfoldable pub command_in : List ℕ → List ℕ → Result PlainCommand LineFault
-command_in head rest = if bytes_eq head (codes "res") then res_of rest else command_by head (words rest)
+command_in head rest =
+    if bytes_eq head (codes "res") then res_of rest else (
+    if bytes_eq head (codes "text") then set_text_of rest else
+    command_by head (words rest))
 
 -- the command of a line; bytes that are not valid UTF-8 are none
 unfoldable pub command_of : List ℕ → Result PlainCommand LineFault
@@ -111,5 +122,6 @@ IsInBounds (Inflate name into) = IsTrue (is_file_name name)
 IsInBounds (Add parent class width height) = IsExtent width × IsExtent height
 IsInBounds (Remove view) = Unit {0}
 IsInBounds (Act view act) = IsActInBounds act
+IsInBounds (SetText view text) = IsTrue (has_escapes text)
 IsInBounds Frame = Unit {0}
 IsInBounds (Bounds view) = Unit {0}

@@ -29,6 +29,11 @@ unescaped [] = []
 unescaped (c ∷ []) = c ∷ []
 unescaped (c ∷ d ∷ text) = if is_backslash c then meant_by d ∷ unescaped text else c ∷ unescaped (d ∷ text)
 
+-- characters as a line can give them: a line feed and a backslash as escapes
+abbrev pub escaped : List ℕ → List ℕ
+escaped [] = []
+escaped (c ∷ text) = if c == 10 then 92 ∷ 110 ∷ escaped text else (if is_backslash c then 92 ∷ 92 ∷ escaped text else c ∷ escaped text)
+
 -- the characters that are left to go over
 abbrev pub left : Unescaped → List ℕ
 left u = unescaped (chars u.rest.now)

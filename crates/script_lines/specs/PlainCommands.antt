@@ -24,6 +24,7 @@ pub data PlainCommand : Type 0 where
   Add : (parent : Option Name) (class : Class) (width height : ℤ) → PlainCommand
   Remove : (view : Name) → PlainCommand
   Act : (view : Name) (act : ViewAct) → PlainCommand
+  SetText : (view : Name) (text : List ℕ) → PlainCommand
   Frame : PlainCommand
   Bounds : (view : Option Name) → PlainCommand
 
@@ -40,6 +41,7 @@ plain_command (command.Inflate name into) = Inflate name.now into
 plain_command (command.Add parent class width height) = Add parent class width height
 plain_command (command.Remove view) = Remove view
 plain_command (command.Act view act) = Act view act
+plain_command (command.Text view text) = SetText view text.now
 plain_command command.Frame = Frame
 plain_command (command.Bounds view) = Bounds view
 
@@ -58,5 +60,6 @@ text_length (Inflate name into) = 0
 text_length (Add parent class width height) = 0
 text_length (Remove view) = 0
 text_length (Act view act) = 0
+text_length (SetText view text) = length text
 text_length Frame = 0
 text_length (Bounds view) = 0

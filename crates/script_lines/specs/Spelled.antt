@@ -10,6 +10,8 @@ use Rattle.view_model.specs.declared.changes.Act.{Act}
 use Rattle.view_model.specs.declared.changes.Act.TheVariants as act
 use Rattle.view_model.specs.declared.changes.Change.{Change}
 use Rattle.view_model.specs.declared.changes.Change.TheVariants as change
+use Rattle.view_model.specs.declared.changes.Flag.{Flag}
+use Rattle.view_model.specs.declared.changes.Flag.TheVariants as flag
 use Rattle.view_model.specs.declared.kinds.Class.{Class}
 use Rattle.view_model.specs.declared.kinds.Class.TheVariants as class
 use Rattle.view_model.specs.declared.kinds.Visibility.{Visibility}
@@ -36,8 +38,10 @@ parent_text (Some view) = name_text view
 
 abbrev pub class_text : Class → List ℕ
 class_text class.View = codes "View"
+class_text class.TextView = codes "TextView"
 class_text class.FrameLayout = codes "FrameLayout"
 class_text class.LinearLayout = codes "LinearLayout"
+class_text class.ScrollView = codes "ScrollView"
 
 -- a dimension as facts keep it
 abbrev pub extent_text : ℤ → List ℕ
@@ -99,33 +103,39 @@ change_words (change.Weight weight) = weight_words weight
 change_words (change.Gravity kids gravity) = (if kids then codes "kids" else codes "self") ∷ gravity_text gravity ∷ []
 change_words (change.Background color) = []
 
+-- a flag; some no line sets
+abbrev pub flag_text : Flag → List ℕ
+flag_text flag.Clip = []
+flag_text flag.Fill = codes "fill"
+flag_text flag.Split = []
+
 -- the first word of the line that sets this; some things no line sets
 abbrev pub act_head : Act → List ℕ
 act_head (act.Change change) = change_head change
 act_head (act.WeightSum sum) = codes "weightsum"
 act_head (act.Orient vertical) = codes "orient"
-act_head (act.Flag flag on) = []
+act_head (act.Flag flag on) = codes "flag"
 act_head (act.Visible visibility) = codes "visible"
 act_head (act.Ink color) = []
 act_head (act.Id id) = codes "id"
 act_head (act.Rule verb value) = []
 act_head (act.Answer answer) = []
 act_head (act.Intercept actions) = []
-act_head (act.Scroll offset) = []
+act_head (act.Scroll offset) = codes "scroll"
 
 -- the words behind the view
 abbrev pub act_words : Act → List (List ℕ)
 act_words (act.Change change) = change_words change
 act_words (act.WeightSum sum) = weight_words sum
 act_words (act.Orient vertical) = (if vertical then codes "vertical" else codes "horizontal") ∷ []
-act_words (act.Flag flag on) = []
+act_words (act.Flag flag on) = flag_text flag ∷ (if on then codes "yes" else codes "no") ∷ []
 act_words (act.Visible visibility) = visibility_text visibility ∷ []
 act_words (act.Ink color) = []
 act_words (act.Id id) = name_text (Id id) ∷ []
 act_words (act.Rule verb value) = []
 act_words (act.Answer answer) = []
 act_words (act.Intercept actions) = []
-act_words (act.Scroll offset) = []
+act_words (act.Scroll offset) = signed_decimal offset ∷ []
 
 -- the lowest hexadecimal digits of a number, so many of them
 abbrev pub hex_places : ℕ → ℕ → List ℕ
@@ -158,6 +168,7 @@ command_words (plain.Inflate name (Some view)) = codes "inflate" ∷ name ∷ co
 command_words (plain.Add parent class width height) = codes "add" ∷ parent_text parent ∷ class_text class ∷ extent_text width ∷ extent_text height ∷ []
 command_words (plain.Remove view) = codes "remove" ∷ name_text view ∷ []
 command_words (plain.Act view act) = act_head act ∷ name_text view ∷ act_words act
+command_words (plain.SetText view text) = codes "text" ∷ name_text view ∷ text ∷ []
 command_words plain.Frame = codes "frame" ∷ []
 command_words (plain.Bounds None) = codes "bounds" ∷ []
 command_words (plain.Bounds (Some view)) = codes "bounds" ∷ name_text view ∷ []
@@ -185,19 +196,25 @@ ChangeHasLine (change.Weight weight) = Unit {0}
 ChangeHasLine (change.Gravity kids gravity) = HasWord gravity
 ChangeHasLine (change.Background color) = ⊥
 
+-- a flag that a line can set
+abbrev pub FlagHasLine : Flag → Type 0
+FlagHasLine flag.Clip = ⊥
+FlagHasLine flag.Fill = Unit {0}
+FlagHasLine flag.Split = ⊥
+
 -- what a line can set
 abbrev pub ActHasLine : Act → Type 0
 ActHasLine (act.Change change) = ChangeHasLine change
 ActHasLine (act.WeightSum sum) = Unit {0}
 ActHasLine (act.Orient vertical) = Unit {0}
-ActHasLine (act.Flag flag on) = ⊥
+ActHasLine (act.Flag flag on) = FlagHasLine flag
 ActHasLine (act.Visible visibility) = Unit {0}
 ActHasLine (act.Ink color) = ⊥
 ActHasLine (act.Id id) = HasText (Id id)
 ActHasLine (act.Rule verb value) = ⊥
 ActHasLine (act.Answer answer) = ⊥
 ActHasLine (act.Intercept actions) = ⊥
-ActHasLine (act.Scroll offset) = ⊥
+ActHasLine (act.Scroll offset) = Unit {0}
 
 -- a value that a line can give a resource
 abbrev pub GivenHasLine : PlainGiven → Type 0
@@ -206,13 +223,22 @@ GivenHasLine (plain.Dimen word) = Unit {0}
 GivenHasLine (plain.Text text) = IsTrue (is_utf8 text)
 
 -- a command that a line can give, if its numbers are within their bounds
+-- a class has a name; a class whose rules are not all there has none yet
+abbrev pub ClassHasLine : Class → Type 0
+ClassHasLine class.View = Unit {0}
+ClassHasLine class.TextView = Unit {0}
+ClassHasLine class.FrameLayout = Unit {0}
+ClassHasLine class.LinearLayout = Unit {0}
+ClassHasLine class.ScrollView = ⊥
+
 abbrev pub HasLine : PlainCommand → Type 0
 HasLine (plain.Window w h) = Unit {0}
 HasLine (plain.Dpi dpi) = Unit {0}
 HasLine (plain.Res id value) = HasText (Id id) × GivenHasLine value
 HasLine (plain.Inflate name into) = IfSome into HasText
-HasLine (plain.Add parent class width height) = IfSome parent HasText
+HasLine (plain.Add parent class width height) = IfSome parent HasText × ClassHasLine class
 HasLine (plain.Remove view) = HasText view
 HasLine (plain.Act view act) = HasText view × ActHasLine act
+HasLine (plain.SetText view text) = HasText view × IsTrue (is_utf8 text)
 HasLine plain.Frame = Unit {0}
 HasLine (plain.Bounds view) = IfSome view HasText

@@ -1,7 +1,7 @@
 //! What a line sets of a view.
 
 ghost use Rattle.std.specs.Prelude.{◌≡◌, pos, negsuc, ◌≤ℤ◌, IfOk};
-ghost use Rattle.script_lines.specs.Changes.{IsActInBounds, IsChangeInBounds, act_of, change_of, gravity_change_of, insets_of, kids_of, margins_of, min_of, new_id_of, orient_of, padding_of, sides_of, size_of, vertical_of, visibility_of, visible_of, weight_change_of, weight_sum_of};
+ghost use Rattle.script_lines.specs.Changes.{IsActInBounds, IsChangeInBounds, act_of, change_of, flag_named, flag_of, gravity_change_of, insets_of, kids_of, margins_of, min_of, new_id_of, on_of, orient_of, padding_of, scroll_of, sides_of, size_of, vertical_of, visibility_of, visible_of, weight_change_of, weight_sum_of};
 ghost use Rattle.script_lines.specs.Numbers.{IsWithin};
 ghost use Rattle.script_lines.specs.Words.{words};
 
@@ -14,7 +14,7 @@ use crate::weights::read_weight;
 use crate::words::{end, is, word};
 use geom_core::{Insets, Size};
 use view_model::limits::{MAX_INSET, MAX_SIZE, MIN_MARGIN};
-use view_model::{Act, Change, Visibility};
+use view_model::{Act, Change, Flag, Visibility};
 
 /// The sides of a view as words give them, the numbers not yet within their bounds.
 #[derive(Clone, Copy, Debug, PartialEq, Eq)]
@@ -228,6 +228,54 @@ fn orient(bytes: &[u8]) -> Result<Act, LineFault>
     Ok(Act::Orient { vertical })
 }
 
+/// Whether something is on.
+#[tactic(auto, unfolding(crate::specs::Changes::on_of))]
+fn read_on(word: &[u8]) -> Result<bool, LineFault>
+    ensures { result ≡ on_of word.now }
+{
+    if is(word, b"yes") {
+        return Ok(true);
+    }
+    if is(word, b"no") {
+        return Ok(false);
+    }
+    Err(LineFault::Syntax)
+}
+
+#[tactic(auto, unfolding(crate::specs::Changes::flag_named))]
+fn read_flag(word: &[u8]) -> Result<Flag, LineFault>
+    ensures { result ≡ flag_named word.now }
+{
+    if is(word, b"fill") {
+        return Ok(Flag::Fill);
+    }
+    Err(LineFault::Syntax)
+}
+
+#[tactic(auto, unfolding(crate::specs::Changes::flag_of))]
+fn flag(bytes: &[u8]) -> Result<Act, LineFault>
+    ensures value { result ≡ flag_of (words bytes.now) }
+    ensures bounds { IfOk result IsActInBounds }
+{
+    let (name, rest) = word(bytes)?;
+    let flag = read_flag(name)?;
+    let (answer, rest) = word(rest)?;
+    let on = read_on(answer)?;
+    end(rest)?;
+    Ok(Act::Flag { flag, on })
+}
+
+#[tactic(auto, unfolding(crate::specs::Changes::scroll_of))]
+fn scroll(bytes: &[u8]) -> Result<Act, LineFault>
+    ensures value { result ≡ scroll_of (words bytes.now) }
+    ensures bounds { IfOk result IsActInBounds }
+{
+    let (offset, rest) = number(bytes)?;
+    end(rest)?;
+    let offset = within(0, i64::from(MAX_SIZE), offset)?;
+    Ok(Act::Scroll(offset))
+}
+
 /// What a line sets, by its first word and what stands behind the view.
 #[tactic(auto, unfolding(crate::specs::Changes::act_of))]
 pub fn read_act(head: &[u8], bytes: &[u8]) -> Result<Act, LineFault>
@@ -245,6 +293,12 @@ pub fn read_act(head: &[u8], bytes: &[u8]) -> Result<Act, LineFault>
     }
     if is(head, b"orient") {
         return orient(bytes);
+    }
+    if is(head, b"flag") {
+        return flag(bytes);
+    }
+    if is(head, b"scroll") {
+        return scroll(bytes);
     }
     let change = read_change(head, bytes)?;
     Ok(Act::Change(change))

@@ -55,6 +55,11 @@ pub enum Command<'a> {
         view: Name,
         act: Act,
     },
+    /// Sets the text of a view. Its escapes stand as written, each of them valid.
+    Text {
+        view: Name,
+        text: &'a str,
+    },
     /// Lays the tree out.
     Frame,
     /// Tells of the bounds of this view, or of each view in preorder where that is none.

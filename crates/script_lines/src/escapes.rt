@@ -1,9 +1,9 @@
 //! Texts with escapes, as lines give them.
 
-ghost use Rattle.std.specs.Prelude.{◌≡◌, IfOk, IsTrue};
+ghost use Rattle.std.specs.Prelude.{◌≡◌, ℕ, List, IfOk, IsTrue};
 ghost use Rattle.std.specs.Iterator.{YieldsFirst, item_count};
 ghost use Rattle.std.specs.Str.{chars};
-ghost use Rattle.script_lines.specs.Escapes.{escaped_text_of, has_escapes, left, meant_by, rest_of, unescaped};
+ghost use Rattle.script_lines.specs.Escapes.{escaped, escaped_text_of, has_escapes, left, meant_by, rest_of, unescaped};
 ghost use Rattle.script_lines.specs.Words.{map_ok};
 
 use crate::fault::LineFault;
@@ -63,7 +63,8 @@ pub struct Unescaped<'a> {
 impl<'a> Unescaped<'a> {
     /// The characters of a text whose escapes are as written.
     pub fn new(text: &'a str) -> Unescaped<'a>
-        ensures { left result ≡ unescaped (chars text.now) }
+        ensures value { left result ≡ unescaped (chars text.now) }
+        ensures written { (characters : List ℕ) → chars text.now ≡ escaped characters → left result ≡ characters }
     {
         Unescaped { rest: text }
     }

@@ -102,7 +102,8 @@ fn read_name(word: &[u8]) -> Result<Name, LineFault>
 
 /// The view that the first word names, and what stands behind it.
 pub fn name_word(bytes: &[u8]) -> Result<(Name, &[u8]), LineFault>
-    ensures { map_ok (λ r. (r.0, words r.1.now)) result ≡ name_in (words bytes.now) }
+    ensures value { map_ok (λ r. (r.0, words r.1.now)) result ≡ name_in (words bytes.now) }
+    ensures rest { IfOk result (λ r. r.1.now ≡ after_word bytes.now) }
 {
     let (word, rest) = word(bytes)?;
     Ok((read_name(word)?, rest))

@@ -1,7 +1,7 @@
 //! The command of a line.
 
 ghost use Rattle.std.specs.Prelude.{◌≡◌, ◌≤◌, true, length, Ok, Err, IfOk};
-ghost use Rattle.script_lines.specs.Commands.{IsInBounds, add_of, bounds_of, class_of, command_by, command_in, command_of, dpi_of, frame_of, inflate_of, into_of, remove_of, set_of, window_of};
+ghost use Rattle.script_lines.specs.Commands.{IsInBounds, add_of, bounds_of, class_of, command_by, command_in, command_of, dpi_of, frame_of, inflate_of, into_of, remove_of, set_of, set_text_of, window_of};
 ghost use Rattle.script_lines.specs.Lines.{is_passed_over};
 ghost use Rattle.script_lines.specs.PlainCommands.{PlainCommand, plain_command, text_length};
 ghost use Rattle.script_lines.specs.Spelled.{HasLine, spelled};
@@ -10,6 +10,7 @@ ghost use Rattle.script_lines.specs.Words.{map_ok, words};
 use crate::changes::read_act;
 use crate::commands::{Command, MAX_DPI, MAX_WINDOW, MIN_DPI};
 use crate::dimension::extents;
+use crate::escapes::rest_text;
 use crate::fault::LineFault;
 use crate::file_name::file_name_word;
 use crate::naming::{Name, name_word, parent_word};
@@ -69,6 +70,9 @@ fn read_class(word: &[u8]) -> Result<Class, LineFault>
 {
     if is(word, b"View") {
         return Ok(Class::View);
+    }
+    if is(word, b"TextView") {
+        return Ok(Class::TextView);
     }
     if is(word, b"FrameLayout") {
         return Ok(Class::FrameLayout);
@@ -139,6 +143,17 @@ fn set<'a>(head: &[u8], bytes: &'a [u8]) -> Result<Command<'a>, LineFault>
     Ok(Command::Act { view, act })
 }
 
+/// A line that sets the text of a view.
+#[tactic(auto, unfolding(crate::specs::Commands::set_text_of))]
+fn set_text(bytes: &[u8]) -> Result<Command<'_>, LineFault>
+    ensures value { map_ok plain_command result ≡ set_text_of bytes.now }
+    ensures bounds { IfOk result (λ command. IsInBounds (plain_command command)) }
+{
+    let (view, rest) = name_word(bytes)?;
+    let text = rest_text(rest)?;
+    Ok(Command::Text { view, text })
+}
+
 /// The command of a line by its first word and what stands behind that.
 #[tactic(auto, unfolding(crate::specs::Commands::command_by))]
 fn read_command<'a>(head: &[u8], bytes: &'a [u8]) -> Result<Command<'a>, LineFault>
@@ -177,6 +192,9 @@ fn read_rest<'a>(head: &[u8], bytes: &'a [u8]) -> Result<Command<'a>, LineFault>
 {
     if is(head, b"res") {
         return res(bytes);
+    }
+    if is(head, b"text") {
+        return set_text(bytes);
     }
     read_command(head, bytes)
 }

@@ -31,8 +31,27 @@ Outcome = Result (Scene × Option ℕ) PlainRefusal
 -- whether a view of this class lays its children in a line, and so has a way, a sum of weights and a gravity for them
 abbrev pub lays_in_line : Class → Bool
 lays_in_line class.View = false
+lays_in_line class.TextView = false
 lays_in_line class.FrameLayout = false
 lays_in_line class.LinearLayout = true
+lays_in_line class.ScrollView = false
+
+-- whether a view of this class moves its child up by an offset, and can be told that the child fills it; it answers by moving,
+-- and in no other way
+abbrev pub scrolls : Class → Bool
+scrolls class.View = false
+scrolls class.TextView = false
+scrolls class.FrameLayout = false
+scrolls class.LinearLayout = false
+scrolls class.ScrollView = true
+
+-- whether a view of this class has a text
+abbrev pub has_text : Class → Bool
+has_text class.View = false
+has_text class.TextView = true
+has_text class.FrameLayout = false
+has_text class.LinearLayout = false
+has_text class.ScrollView = false
 
 -- only a view that lays its children in a line has a gravity for them
 abbrev pub takes_change : Class → Change → Bool
@@ -47,28 +66,22 @@ takes_change class (change.Background color) = true
 -- a view without children clips and splits nothing, and only a child that moves is told to fill
 abbrev pub takes_flag : Class → Flag → Bool
 takes_flag class flag.Clip = is_group class
-takes_flag class flag.Fill = false
+takes_flag class flag.Fill = scrolls class
 takes_flag class flag.Split = is_group class
 
--- whether a view of this class has what an act sets; none has a text of its own colour, or a child that moves
+-- whether a view of this class has what an act sets
 abbrev pub takes : Class → Act → Bool
 takes class (act.Change change) = takes_change class change
 takes class (act.WeightSum sum) = lays_in_line class
 takes class (act.Orient vertical) = lays_in_line class
 takes class (act.Flag flag on) = takes_flag class flag
 takes class (act.Visible visibility) = true
-takes class (act.Ink color) = false
+takes class (act.Ink color) = has_text class
 takes class (act.Id id) = true
 takes class (act.Rule verb value) = true
-takes class (act.Answer answer) = true
+takes class (act.Answer answer) = not (scrolls class)
 takes class (act.Intercept actions) = is_group class
-takes class (act.Scroll offset) = false
-
--- whether a view of this class has a text
-abbrev pub has_text : Class → Bool
-has_text class.View = false
-has_text class.FrameLayout = false
-has_text class.LinearLayout = false
+takes class (act.Scroll offset) = scrolls class
 
 -- whether an act takes a view, and all below it, out of the geometry at once
 abbrev pub hides : Act → Bool

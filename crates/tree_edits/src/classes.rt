@@ -1,6 +1,6 @@
 //! What a view has by its class.
 ghost use Rattle.std.specs.Prelude.{◌≡◌};
-ghost use Rattle.tree_edits.specs.Editing.{has_text, lays_in_line, takes, takes_change, takes_flag};
+ghost use Rattle.tree_edits.specs.Editing.{has_text, lays_in_line, scrolls, takes, takes_change, takes_flag};
 
 use view_model::{Act, Change, Class, Flag};
 
@@ -13,8 +13,10 @@ pub fn takes(class: Class, act: Act) -> bool
         Act::Flag { flag, on: _ } => takes_flag(class, flag),
         Act::Intercept(_) => class.is_group(),
         Act::WeightSum(_) | Act::Orient { .. } => lays_in_line(class),
-        Act::Visible(_) | Act::Id(_) | Act::Rule { .. } | Act::Answer(_) => true,
-        Act::Ink(_) | Act::Scroll(_) => false,
+        Act::Visible(_) | Act::Id(_) | Act::Rule { .. } => true,
+        Act::Answer(_) => !scrolls(class),
+        Act::Scroll(_) => scrolls(class),
+        Act::Ink(_) => has_text(class),
     }
 }
 
@@ -23,7 +25,8 @@ pub fn has_text(class: Class) -> bool
     ensures { result ≡ has_text class }
 {
     match class {
-        Class::View | Class::FrameLayout | Class::LinearLayout => false,
+        Class::TextView => true,
+        Class::View | Class::FrameLayout | Class::LinearLayout | Class::ScrollView => false,
     }
 }
 
@@ -32,8 +35,18 @@ fn lays_in_line(class: Class) -> bool
     ensures { result ≡ lays_in_line class }
 {
     match class {
-        Class::View | Class::FrameLayout => false,
+        Class::View | Class::TextView | Class::FrameLayout | Class::ScrollView => false,
         Class::LinearLayout => true,
+    }
+}
+
+/// Whether a view of this class moves its child up by an offset.
+fn scrolls(class: Class) -> bool
+    ensures { result ≡ scrolls class }
+{
+    match class {
+        Class::View | Class::TextView | Class::FrameLayout | Class::LinearLayout => false,
+        Class::ScrollView => true,
     }
 }
 
@@ -56,6 +69,6 @@ fn takes_flag(class: Class, flag: Flag) -> bool
 {
     match flag {
         Flag::Clip | Flag::Split => class.is_group(),
-        Flag::Fill => false,
+        Flag::Fill => scrolls(class),
     }
 }

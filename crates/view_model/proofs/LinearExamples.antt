@@ -85,7 +85,7 @@ a_child_gets_its_width_in_the_last_pass :
 unfolding match wrap view line summed leaf frame at window clamp_coordinate child_spec_of default_size_of remaining_of resolve_of second_spec after_share alignment_on claim dim_on extent first_dim first_length greater high_margin high_padding is_skipped line_begin low_margin low_padding margins_on min_on needed_breadth padding_on resolved_breadth share size_on spec_on used_before where_even where_weighted whole_weight
 a_child_gets_its_width_in_the_last_pass = refl
 
--- the group's gravity places the line from its end, or in the middle; beside it a child's own gravity goes before the group's
+-- the group's gravity places the line from its end, or in the middle; beside it a child's own goes before the group's
 low_end : PlainView
 low_end = view 1 class.LinearLayout
     (record (new_facts match match) { vertical = true; gravity = record { given = true; across = across.Right; down = down.Bottom } })
@@ -112,7 +112,7 @@ the_line_lies_in_the_middle :
 unfolding match wrap view line summed leaf frame at window clamp_coordinate child_spec_of default_size_of remaining_of resolve_of second_spec after_share alignment_on claim dim_on extent first_dim first_length greater high_margin high_padding is_skipped line_begin low_margin low_padding margins_on min_on needed_breadth padding_on resolved_breadth share size_on spec_on used_before where_even where_weighted whole_weight middle margined
 the_line_lies_in_the_middle = refl
 
--- two children with weights are measured in the first pass and in the weight pass, one that is left out of the first pass once
+-- a child with a weight is measured in the first pass and in the weight pass; one that the first pass leaves out, once
 told : Specs
 told = record { across = exactly (pos 100); down = exactly (pos 20) }
 

@@ -1,12 +1,11 @@
 -- Worked relative layouts, by computation.
-use Rattle.std.specs.Prelude.{◌≡◌, ℕ, ℤ, pos, negsuc, refl, true, false, List, [], ◌∷◌, ◌++◌, Option, Some, None, filter, map, replicate, slice_set}
+use Rattle.std.specs.Prelude.{◌≡◌, ℕ, ℤ, pos, negsuc, refl, false, List, [], ◌∷◌, Option, Some, None, map, replicate, slice_set}
 use Rattle.geom_core.specs.declared.geometry.Rect.{Rect}
 use Rattle.geom_core.specs.declared.geometry.Size.{Size}
 use Rattle.geom_core.specs.declared.measuring.Mode.TheVariants.{Unspecified, Exactly, AtMost}
 use Rattle.geom_core.specs.Limits.{clamp_coordinate}
-use Rattle.geom_core.specs.Spec.{child_spec_of, remaining_of, resolve_of, default_size_of}
+use Rattle.geom_core.specs.Spec.{resolve_of, default_size_of}
 use Rattle.view_model.specs.declared.facts.Facts.{Facts}
-use Rattle.view_model.specs.declared.facts.Rules.{Rules}
 use Rattle.view_model.specs.declared.kinds.Class.TheVariants as class
 use Rattle.view_model.specs.declared.kinds.Visibility.TheVariants.{Gone}
 use Rattle.view_model.specs.declared.relative.Axis.TheVariants.{Horizontal, Vertical}

@@ -1,7 +1,7 @@
 -- Where a tree takes a new view, and why it does not elsewhere.
 use Rattle.std.specs.Prelude.{ℕ, nat_lt, Bool, true, false, not, if◌then◌else◌, Option, Some, None}
 use Rattle.view_model.specs.declared.kinds.Class.{Class}
-use Rattle.view_model.specs.declared.kinds.Class.TheVariants.{View, FrameLayout, LinearLayout}
+use Rattle.view_model.specs.declared.kinds.Class.TheVariants.{View, TextView, FrameLayout, LinearLayout, ScrollView}
 use Rattle.view_model.specs.declared.limits.TheConstants.{MAX_DEPTH, MAX_VIEWS}
 use Rattle.view_model.specs.declared.refusals.TheConstants.{NOT_GROUP, TOO_DEEP, TOO_MANY_VIEWS}
 use Rattle.view_model.specs.Forest.{Forest, count_of}
@@ -11,8 +11,10 @@ use Rattle.view_model.specs.Refusals.{PlainRefusal, refusal_numbered}
 -- whether a view of this class may have children
 abbrev pub is_group : Class → Bool
 is_group View = false
+is_group TextView = false
 is_group FrameLayout = true
 is_group LinearLayout = true
+is_group ScrollView = true
 
 -- why a view of this class and depth, in a tree of so many views, takes no child: it is no group, it is too deep, or
 -- the tree is full

@@ -1,3 +1,4 @@
+pub mod CellText
 pub mod Changes
 pub mod Course
 pub mod Dimensions
@@ -11,6 +12,7 @@ pub mod Layout
 pub mod Leaf
 pub mod LinearLayout
 pub mod Measuring
+pub mod Offsets
 pub mod Orders
 pub mod Placing
 pub mod PlainTree
@@ -18,6 +20,8 @@ pub mod Refusals
 pub mod RelativeCourse
 pub mod RelativeLayout
 pub mod Resources
+pub mod ScrollView
 pub mod SiblingRules
 pub mod Sprouts
+pub mod TextView
 pub mod World

@@ -5,10 +5,14 @@
 pub enum Class {
     /// A view with no content of its own, which has no children.
     View,
+    /// A view that shows a text, which has no children.
+    TextView,
     /// A group that lays its children over one another.
     FrameLayout,
     /// A group that lays its children in a line.
     LinearLayout,
+    /// A group of at most one child, which may be higher than the group and is moved up by an offset.
+    ScrollView,
 }
 
 impl Class {
@@ -20,8 +24,8 @@ impl Class {
         ensures { result ≡ is_group self }
     {
         match self {
-            Class::View => false,
-            Class::FrameLayout | Class::LinearLayout => true,
+            Class::View | Class::TextView => false,
+            Class::FrameLayout | Class::LinearLayout | Class::ScrollView => true,
         }
     }
 }

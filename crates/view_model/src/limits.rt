@@ -1,4 +1,4 @@
-//! The limits of a tree, of what may be set of a view, of resources and of layout files.
+//! The limits of a tree, of what may be set of a view, of resources and of layout files, and the cells of texts.
 
 /// The most views that a tree may have.
 pub const MAX_VIEWS: usize = 4096;
@@ -20,3 +20,7 @@ pub const MAX_WEIGHT: u32 = 16776960;
 pub const NORMAL_DPI: u32 = 160;
 /// The most bytes that a layout file may have.
 pub const MAX_FILE: usize = 1048576;
+/// How broad a character of a text is, in pixels.
+pub const CELL_WIDTH: u32 = 6;
+/// How high a line of a text is, in pixels.
+pub const CELL_HEIGHT: u32 = 8;

@@ -55,6 +55,14 @@ impl Text {
         Ok(Text { characters })
     }
 
+    /// Its characters, in order.
+    pub fn characters(&self) -> &[char]
+        ensures value { result.now ≡ self.now }
+        ensures few { length result.now < 2 ^ 31 }
+    {
+        self.characters.as_slice()
+    }
+
     /// How many characters there are.
     pub fn len(&self) -> usize
         ensures { result ≡ length self.now }

@@ -22,4 +22,5 @@ measured_later (command.Inflate name into) outcome before after calls other idle
 measured_later (command.Add parent class width height) outcome before after calls other idle counted = stays before after (other (λ e. cc))
 measured_later (command.Remove view) outcome before after calls other idle counted = stays before after (other (λ e. cc))
 measured_later (command.Act view act) outcome before after calls other idle counted = stays before after (other (λ e. cc))
+measured_later (command.SetText view text) outcome before after calls other idle counted = stays before after (other (λ e. cc))
 measured_later (command.Bounds view) outcome before after calls other idle counted = stays before after (other (λ e. cc))

@@ -3,7 +3,7 @@
 ghost use Rattle.std.specs.Prelude.{◌<◌};
 
 use crate::tool::tool;
-use layout_samples::NARROW;
+use layout_samples::{NARROW, WIDE};
 use std::alloc::{AllocError, Global};
 use std::test::Fail;
 use tool_io::{MemoryShelf, MemorySink, MemorySource};
@@ -94,7 +94,7 @@ struct Run {
 }
 
 #[rattlefmt::skip]
-const RUNS: [Run; 10] = [
+const RUNS: [Run; 12] = [
     Run { script: b"", reads: &[], writes: &[], status: 0, text: b"" },
     Run { script: SIMPLE, reads: &[], writes: &[], status: 0, text: SIMPLE_BOUNDS },
     // The window stands after the first read, and the first view after three.
@@ -111,6 +111,8 @@ const RUNS: [Run; 10] = [
     Run { script: REFUSING, reads: &[], writes: &[], status: 1, text: REFUSED_LINES },
     // Views are at most 32 deep.
     Run { script: DEEP, reads: &[], writes: &[], status: 1, text: DEEPEST },
+    Run { script: SHARING, reads: &[], writes: &[], status: 0, text: SHARED },
+    Run { script: YIELDING, reads: &[], writes: &[], status: 0, text: YIELDED },
 ];
 
 /// Words, a file that the shelf holds as `a.xml`, the numbers of the fetches that fail, and how the call ends.
@@ -129,6 +131,66 @@ const DUMPS: [Dump; 5] = [
     Dump { words: &["dump", "a.xml"], file: b"\x03\x00\x08\x00\x5c\x01\x00", fetches: &[], status: 1, text: b"file: refused 1 Truncated at 0\n" },
     Dump { words: &["dump", "b.xml"], file: &NARROW, fetches: &[], status: 1, text: b"file: refused 39 Missing\n" },
     Dump { words: &["dump"], file: &NARROW, fetches: &[], status: 2, text: b"" },
+];
+
+/// A line of four children that share its length.
+const SHARING: &[u8] = b"window 100 20\nadd root LinearLayout match match\nadd v1 View 0 match\n\
+    add v1 View 0 match\nadd v1 View 0 match\nweight v2 1\nweight v3 1\nweight v4 1\n\
+    frame\nbounds\nremove v4\nweightsum v1 4\nframe\nbounds\nweightsum v1 1\nframe\nbounds\n";
+
+const SHARED: &[u8] = b"v1\nv2\nv3\nv4\nsettled 0\nv1 0 0 100 20\nv2 0 0 33 20\nv3 33 0 66 20\n\
+    v4 66 0 100 20\nsettled 0\nv1 0 0 100 20\nv2 0 0 25 20\nv3 25 0 50 20\nsettled 0\n\
+    v1 0 0 100 20\nv2 0 0 100 20\nv3 100 0 100 20\n";
+
+/// A line whose children have to give way, and one whose children get its breadth.
+const YIELDING: &[u8] = b"window 10 40\nadd root LinearLayout match match\norient v1 vertical\n\
+    add v1 View match 10\nadd v1 View match 50\nweight v2 3\nweight v3 1\nframe\nbounds\n\
+    remove v1\nwindow 100 100\nadd root LinearLayout wrap wrap\norient v4 vertical\n\
+    add v4 FrameLayout match 10\nadd v4 FrameLayout 30 10\nadd v4 FrameLayout match 20\n\
+    frame\nbounds\nremove v4\nadd root LinearLayout wrap wrap\norient v8 vertical\n\
+    add v8 FrameLayout match 10\nadd v9 View 30 10\nadd v9 FrameLayout match 10\nframe\nbounds\n";
+
+const YIELDED: &[u8] = b"v1\nv2\nv3\nsettled 0\nv1 0 0 10 40\nv2 0 0 10 0\nv3 0 0 10 45\n\
+    v4\nv5\nv6\nv7\nsettled 0\nv4 0 0 30 40\nv5 0 0 30 10\nv6 0 10 30 20\nv7 0 20 30 40\n\
+    v8\nv9\nv10\nv11\nsettled 0\nv8 0 0 30 10\nv9 0 0 30 10\nv10 0 0 30 10\nv11 0 0 30 10\n";
+
+/// The sample, and what may be made of it.
+#[derive(Clone, Copy)]
+enum Sample {
+    Whole,
+    /// Without its last bytes.
+    Cut,
+    /// Without its last bytes, of which it doesn't tell.
+    Shortened,
+    /// Its height is a reference to the resource 7f050001.
+    Referring,
+}
+
+/// A script over a shelf that holds a sample as `a.xml`, the numbers of the fetches that fail, and how its run ends.
+struct Inflation {
+    script: &'static [u8],
+    sample: Sample,
+    fetches: &'static [u64],
+    status: u8,
+    text: &'static [u8],
+}
+
+const INFLATING: &[u8] = b"window 40 40\ninflate a.xml\nframe\nbounds\n";
+
+#[rattlefmt::skip]
+const INFLATIONS: [Inflation; 8] = [
+    Inflation { script: INFLATING, sample: Sample::Whole, fetches: &[], status: 0, text: b"inflated v1 v1 ignored 1\nsettled 0\nv1 0 0 40 16\n" },
+    // Sizes with a unit are those of the screen.
+    Inflation { script: b"window 40 40\ndpi 240\ninflate a.xml\nframe\nbounds\n", sample: Sample::Whole, fetches: &[], status: 0, text: b"inflated v1 v1 ignored 1\nsettled 0\nv1 0 0 40 24\n" },
+    // A file that is cut, and one that says so.
+    Inflation { script: b"window 40 40\ninflate a.xml\n", sample: Sample::Cut, fetches: &[], status: 1, text: b"line 2: refused 1 Truncated at 0\n" },
+    Inflation { script: b"window 40 40\ninflate a.xml\n", sample: Sample::Shortened, fetches: &[], status: 1, text: b"line 2: refused 1 Truncated at 324\n" },
+    // A reference to a resource that is not defined, and to one that is.
+    Inflation { script: b"window 40 40\ninflate a.xml\n", sample: Sample::Referring, fetches: &[], status: 1, text: b"line 2: refused 12 Unresolved element 1\n" },
+    Inflation { script: b"window 40 40\nres @7f050001 dimen 16 dp\ninflate a.xml\nframe\nbounds\n", sample: Sample::Referring, fetches: &[], status: 0, text: b"inflated v1 v1 ignored 1\nsettled 0\nv1 0 0 40 16\n" },
+    // A fetch that fails ends the run; a line that is refused before asks for no file.
+    Inflation { script: INFLATING, sample: Sample::Whole, fetches: &[1], status: 6, text: b"" },
+    Inflation { script: b"inflate a.xml into v1\nadd root View 1 1\ninflate a.xml\ninflate a.xml into v7\ndpi 200\ninflate b.xml into v1\ninflate a.xml into v1\n", sample: Sample::Whole, fetches: &[3], status: 1, text: b"line 1: refused 34 NoRoot\nv1\nline 3: refused 35 HasRoot\nline 4: refused 28 NoView\nline 5: refused 41 DpiLate\nline 6: refused 39 Missing\nline 7: refused 21 NotGroup element 1\n" },
 ];
 
 /// The status of these words, and what was written.
@@ -177,6 +239,96 @@ fn dump_ended(
     let mut shelf = MemoryShelf::new(files, Vec::from_slice(alloc, fetches)?);
     let mut source = MemorySource::new(Vec::new(alloc), 1, Vec::new(alloc));
     ended(alloc, words, &mut source, &mut shelf, &[])
+}
+
+/// Puts a byte in the place of another.
+fn put(bytes: &mut Vec<u8>, at: usize, byte: u8) {
+    if let Some(own) = bytes.get_mut(at) {
+        *own = byte;
+    }
+}
+
+/// The bytes of a sample. Its size stands at 4, the value of its second attribute at 272.
+fn bytes_of(alloc: Global, sample: Sample) -> Result<Vec<u8>, AllocError> {
+    let mut file = Vec::from_slice(alloc, &NARROW)?;
+    match sample {
+        Sample::Whole => {}
+        Sample::Cut => file.truncate(340),
+        Sample::Shortened => {
+            put(&mut file, 4, 0x54);
+            put(&mut file, 5, 0x01);
+            file.truncate(340);
+        }
+        Sample::Referring => {
+            put(&mut file, 275, 0x01);
+            put(&mut file, 276, 0x01);
+            put(&mut file, 277, 0x00);
+            put(&mut file, 278, 0x05);
+            put(&mut file, 279, 0x7f);
+        }
+    }
+    Ok(file)
+}
+
+fn inflation_ended(
+    alloc: Global,
+    script: &[u8],
+    file: Vec<u8>,
+    fetches: &[u64],
+) -> Result<(u8, Vec<u8>), AllocError> {
+    let mut files = Vec::new(alloc);
+    files.push((String::from_str(alloc, "a.xml")?, file))?;
+    let mut shelf = MemoryShelf::new(files, Vec::from_slice(alloc, fetches)?);
+    let script = Vec::from_slice(alloc, script)?;
+    let mut source = MemorySource::new(script, 4096, Vec::new(alloc));
+    ended(alloc, &["run"], &mut source, &mut shelf, &[])
+}
+
+/// A line that defines a resource for each id from 1 to 4096, and then one for an id more and one for the first.
+fn many_resources(alloc: Global) -> Result<Vec<u8>, AllocError> {
+    let mut script = Vec::new(alloc);
+    for id in 1..4097u32 {
+        script.extend_from_slice(b"res @")?;
+        for shift in [12, 8, 4, 0] {
+            if id >> shift != 0 {
+                script.push(b"0123456789abcdef"[((id >> shift) & 15) as usize])?;
+            }
+        }
+        script.extend_from_slice(b" dimen 1 px\n")?;
+    }
+    script.extend_from_slice(b"res @1001 text a\nres @1 text a\n")?;
+    Ok(script)
+}
+
+#[test]
+fn files_are_inflated_or_refused(rt: HostRuntime) -> Result<(), Fail> {
+    let alloc = rt.alloc();
+    for run in &INFLATIONS {
+        let file = bytes_of(alloc, run.sample)?;
+        let (status, gone) = inflation_ended(alloc, run.script, file, run.fetches)?;
+        assert_eq!(rt; (status, gone.as_slice()), (run.status, run.text));
+    }
+    let wide = Vec::from_slice(alloc, &WIDE)?;
+    let (status, gone) = inflation_ended(alloc, INFLATING, wide, &[])?;
+    assert_eq!(rt;
+        (status, gone.as_slice()),
+        (
+            0,
+            b"inflated v1 v1 ignored 1\nsettled 0\nv1 0 0 40 16\n".as_slice()
+        )
+    );
+    Ok(())
+}
+
+#[test]
+fn resources_are_few(rt: HostRuntime) -> Result<(), Fail> {
+    let alloc = rt.alloc();
+    let (status, gone) = run_ended(alloc, many_resources(alloc)?, 4096, &[], &[])?;
+    assert_eq!(rt;
+        (status, gone.as_slice()),
+        (1, b"line 4097: refused 15 Full\n".as_slice())
+    );
+    Ok(())
 }
 
 #[test]

@@ -14,7 +14,9 @@ ghost use Rattle.view_tool.specs.Usage.{Run, Dump, Unknown, usage};
 use crate::dump::dump;
 use crate::run::Stop;
 use crate::script::{End, run_source};
-use crate::status::{ACCEPTED, LONG_SCRIPT, NO_MEMORY, REFUSED, SHELF_FAILED, SINK_FAILED, SOURCE_FAILED, USAGE};
+use crate::status::{
+    ACCEPTED, LONG_SCRIPT, NO_MEMORY, REFUSED, SHELF_FAILED, SINK_FAILED, SOURCE_FAILED, USAGE,
+};
 use crate::usage::{Form, form_of};
 use std::alloc::Global;
 use tool_io::{Shelf, Sink, Source};

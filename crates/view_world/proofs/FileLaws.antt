@@ -1,6 +1,6 @@
 -- Files at hand: what is asked for, and that a command that asks for none does the same with any.
-use Rattle.std.proofs.Common.{◌≡◌, ◌≢◌, ◌≤◌, ℕ, List, [], refl, sym, ap, subst, ◌∙◌, arith, inl, inr}
-use Rattle.std.specs.Prelude.{◌⊎◌, Option, None, Some, Result, Ok, Err}
+use Rattle.std.proofs.Common.{◌≡◌, ◌≢◌, ℕ, List, [], refl, subst, arith}
+use Rattle.std.specs.Prelude.{Option, None, Some, Result, Ok, Err}
 use Rattle.script_lines.specs.PlainCommands.{PlainCommand}
 use Rattle.script_lines.specs.PlainCommands as command
 use Rattle.script_lines.specs.declared.naming.Name.{Name}
@@ -22,6 +22,7 @@ unaided files world (command.Add None class width height) none = refl
 unaided files world (command.Add (Some parent) class width height) none = refl
 unaided files world (command.Remove view) none = refl
 unaided files world (command.Act view act) none = refl
+unaided files world (command.SetText view text) none = refl
 unaided files world command.Frame none = refl
 unaided files world (command.Bounds view) none = refl
 
@@ -36,6 +37,7 @@ inflates files world (command.Inflate name into) file some =
 inflates files world (command.Add parent class width height) file some = absurd cc
 inflates files world (command.Remove view) file some = absurd cc
 inflates files world (command.Act view act) file some = absurd cc
+inflates files world (command.SetText view text) file some = absurd cc
 inflates files world command.Frame file some = absurd cc
 inflates files world (command.Bounds view) file some = absurd cc
 

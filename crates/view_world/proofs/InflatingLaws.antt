@@ -1,12 +1,12 @@
 -- How the views of a file come into the world.
-use Rattle.std.proofs.Common.{◌≡◌, ◌≢◌, ◌≤◌, ◌-◌, ◌+◌, ℕ, true, false, List, [], refl, sym, ap, subst, ◌∙◌, arith, inl, inr}
+use Rattle.std.proofs.Common.{◌≡◌, ◌≢◌, ◌-◌, ℕ, true, false, List, [], refl, sym, ap, ◌∙◌, inl, inr}
 use Rattle.text_lines.specs.Joined.{◌⧺◌}
-use Rattle.std.specs.Prelude.{◌⊎◌, Option, None, Some, Result, Ok, Err, IfSome}
+use Rattle.std.specs.Prelude.{Option, None, Some, Result, Ok, Err, IfSome}
 use Rattle.std.specs.Option.{is_some, option_map}
 use Rattle.inflater.specs.Inflating.{Plan}
 use Rattle.script_lines.specs.declared.naming.Name.{Name}
 use Rattle.tool_io.specs.Fetched.{Files, file_of}
-use Rattle.view_model.specs.Forest.{Forest, Nothing, Branch, count_of}
+use Rattle.view_model.specs.Forest.{Forest, Nothing, Branch}
 use Rattle.view_model.specs.Geometry.{Laid}
 use Rattle.view_model.specs.Grafts.{graft_refusal}
 use Rattle.view_model.specs.Growth.{grown_at}

@@ -1,5 +1,5 @@
 -- The views that a layout file gives, and where they go.
-use Rattle.std.specs.Prelude.{ℕ, ◌+◌, nat_lt, if◌then◌else◌, List, length, Option, Some, None, Result, Ok, Err}
+use Rattle.std.specs.Prelude.{ℕ, nat_lt, if◌then◌else◌, List, length, Option, Some, None, Result, Ok, Err}
 use Rattle.axml_chunks.specs.Causes.{cause_number}
 use Rattle.axml_chunks.specs.declared.fault.Fault.{Fault}
 use Rattle.axml_reader.specs.Decoding.{decoded}
@@ -8,7 +8,6 @@ use Rattle.inflater.specs.Inflating.{Plan, inflated}
 use Rattle.script_lines.specs.PlainCommands.{PlainCommand}
 use Rattle.script_lines.specs.PlainCommands as command
 use Rattle.script_lines.specs.declared.naming.Name.{Name}
-use Rattle.script_lines.specs.declared.naming.Name.TheVariants as name
 use Rattle.tool_io.specs.Fetched.{Files, file_of}
 use Rattle.view_model.specs.Forest.{Forest, Nothing, Branch}
 use Rattle.view_model.specs.PlainTree.{PlainView}
@@ -61,6 +60,7 @@ inflation_of (command.Res id value) = None
 inflation_of (command.Add parent class width height) = None
 inflation_of (command.Remove view) = None
 inflation_of (command.Act view act) = None
+inflation_of (command.SetText view text) = None
 inflation_of command.Frame = None
 inflation_of (command.Bounds view) = None
 

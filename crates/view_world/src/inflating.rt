@@ -34,6 +34,7 @@ pub fn inflation_of<'a>(command: Command<'a>) -> Option<(&'a str, Option<Name>)>
         | Command::Add { .. }
         | Command::Remove(_)
         | Command::Act { .. }
+        | Command::Text { .. }
         | Command::Frame
         | Command::Bounds(_) => None,
     }

@@ -10,6 +10,7 @@ mod replies;
 mod resources;
 mod response;
 mod stage;
+mod texts;
 mod world;
 
 pub use fault::StepFault;

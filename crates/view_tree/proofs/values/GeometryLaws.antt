@@ -87,11 +87,13 @@ geometry-gained old new parent added root gained = ap (laid_rows (held_of new)) 
   where
     none : laid_rows (held_of new) added ≡ []
     none = laid_nowhere (held_of new) added (no_bounds (held_of new) added (λ key live. ap (λ (s : State). s.bounds) (gained.made key live)))
+
     elsewhere : (other : ℕ) → 0 < count_of_key other old.tree → count_of_key other added ≡ 0
     elsewhere other live = elim (zero_or_more (count_of_key other added)) [
       | inl none ↦ none
       | inr came ↦ absurd (let unused = gained.unused other came in omega arith)
     ]
+
     behind : (parent : Option ℕ) → (parent ≡ None → old.tree ≡ Nothing) → laid_rows (held_of new) (with_child parent added old.tree) ≡ geometry_of old
     behind None root = none ∙ sym (ap (laid_rows (held_of old)) (root refl))
     behind (Some key) root =

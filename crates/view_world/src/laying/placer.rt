@@ -33,7 +33,7 @@ impl Placer {
         ensures { PlacesAs result (spot_of (part_from view tree.now.tree) (held_of tree.now view) room) [] }
     {
         match tree.class(view) {
-            Class::View | Class::FrameLayout => Placer::Over {
+            Class::View | Class::TextView | Class::FrameLayout | Class::ScrollView => Placer::Over {
                 own: *tree.facts(view),
                 room,
             },

@@ -5,7 +5,7 @@ use Rattle.relative_layout.proofs.naming.add_names.Given as goal
 
 abbrev pub invariant-loop-id : goal.invariant-loop-id
 invariant-loop-id l = record {
-  rows : AreNamers l.axis l.kids l.place (lists_of l.rows.items);
-  added : (k q : ℕ) → k < l.id-index → last_with_id l.kids (id_at l.kids q) ≡ Some q → id_at l.kids q ≡ get_or (padded_ids l.axis (link_at l.kids l.place).rules) k 0
+  rows : AreNamers l.fn.axis l.kids l.place (lists_of l.rows.items);
+  added : (k q : ℕ) → k < l.id-index → last_with_id l.kids (id_at l.kids q) ≡ Some q → id_at l.kids q ≡ get_or (padded_ids l.fn.axis (link_at l.kids l.place).rules) k 0
       → Has (row_at (lists_of l.rows.items) q) l.place;
 }

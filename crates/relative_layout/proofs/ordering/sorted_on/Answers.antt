@@ -8,7 +8,8 @@ returns-then-len-kids c =
     let kids = c.args.kids.now in
     let order = c.in_ok-order.order.items in
     let whole : length order ≡ length kids = search rules in
-    let is = IsOrder-whole (leads c.args.axis kids) (length kids) order whole c.in_ok-order.ensures in
+    let longest = rw c.in_ok-naming.ensures.axis at c.in_ok-order.ensures in
+    let is = IsOrder-whole (leads c.args.axis kids) (length kids) order whole longest in
     (is, acyclic c.args.axis kids order is)
 
 pub returns : goal.returns
@@ -16,4 +17,7 @@ returns c =
     let kids = c.args.kids.now in
     let order = c.in_ok-order.order.items in
     let short : length order ≢ length kids = search rules in
-    IsCycle-left c.args.axis kids order c.in_ok-members.members.items short c.in_ok-order.ensures c.in_ok-members.ensures.known c.in_ok-members.ensures.members
+    let longest = rw c.in_ok-naming.ensures.axis at c.in_ok-order.ensures in
+    let known = rw c.in_ok-naming.ensures.axis at c.in_ok-members.ensures.known in
+    let members = rw c.in_ok-naming.ensures.axis at c.in_ok-members.ensures.members in
+    IsCycle-left c.args.axis kids order c.in_ok-members.members.items short longest known members

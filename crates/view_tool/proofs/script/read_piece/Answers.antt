@@ -1,4 +1,4 @@
-use Rattle.std.proofs.Common.{ℕ, [], take, refl, sym, ◌∙◌, arith, length-take}
+use Rattle.std.proofs.Common.{[], take, refl, sym, ◌∙◌, arith, length-take}
 use Rattle.view_tool.proofs.ScriptLaws.{Consumes-kept}
 use Rattle.view_tool.proofs.script.read_piece.Goals as goal
 

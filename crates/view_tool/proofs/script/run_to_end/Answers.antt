@@ -101,7 +101,7 @@ returns-clause-runs g c =
     let lost = Consumes-Consumes _ _ _ t.bytes q.bytes t.consumed q.consumed in
     let ended = c.in_ok-n.ensures.end (ap Ok none) in
     rw c.refused.ensures (record {
-      runs = λ files script at_hand told. ends_well files _ _ _ _ script (t.bytes ++ q.bytes) c.finish.new.self.runner told lost ended fits 
+      runs = λ files script at_hand told. ends_well files _ _ _ _ script (t.bytes ++ q.bytes) c.finish.new.self.runner told lost ended fits
           (c.in_ok-finish.ensures.done files (g.K.Sink.state c.args.sink.now).gone (t.bytes ++ q.bytes) (c.read_piece.ensures.files_stay ∙ c.loop-n.invariant.files ∙ at_hand) (omega (arith, fits)) (rw c.read_piece.ensures.files_stay q.comes));
       end = ended;
       taken = t.bytes ++ q.bytes;

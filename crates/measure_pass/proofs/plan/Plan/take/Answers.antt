@@ -9,3 +9,8 @@ pub returns-in-Linear : goal.returns-in-Linear
 returns-in-Linear c = λ group past taken stands few.
     let s = rw c.in-Linear.is at stands in
     (s.0, rw s.0 (c.take-in-Linear.ensures group.view.facts group.specs past taken s.1 few))
+
+pub returns-in-Scroll : goal.returns-in-Scroll
+returns-in-Scroll c = λ group past taken stands few.
+    let s = rw c.in-Scroll.is at stands in
+    (s.0, rw s.0 (c.take-in-Scroll.ensures group.view.facts group.specs past taken s.1))

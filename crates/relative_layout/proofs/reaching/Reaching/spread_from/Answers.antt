@@ -46,8 +46,8 @@ returns-in_default-clause-reaching c =
     let kids = c.args.kids.now in
     let old = c.args.self.now in
     let none : last_with_id kids (id_at kids c.args.marked) ≡ None = sym (c.requires.naming.table (id_at kids c.args.marked)) ∙ sym c.in_default.ensures in
-    IsReaching-passed c.args.axis kids (lists_of c.args.naming.now.namers.items) c.args.place c.args.marked old.marks.items old.spread.items old.todo.items
-    (led_none c.args.axis kids c.args.marked old.marks.items c.requires.marked none) c.requires.reaching
+    IsReaching-passed c.args.naming.now.axis kids (lists_of c.args.naming.now.namers.items) c.args.place c.args.marked old.marks.items old.spread.items old.todo.items
+    (led_none c.args.naming.now.axis kids c.args.marked old.marks.items c.requires.marked none) c.requires.reaching
 
 pub returns-then-index-clause-reaching : goal.returns-then-index-clause-reaching
 returns-then-index-clause-reaching c =
@@ -57,8 +57,8 @@ returns-then-index-clause-reaching c =
     let old = c.args.self.now in
     let inside : c.in-Some.last < length old.spread.items = omega (arith, is.inside, c.requires.reaching.spread_size) in
     let done : is_marked old.spread.items c.in-Some.last ≡ true = get_or_default old.spread.items c.in-Some.last false c.index.result.now inside ∙ sym c.index.ensures ∙ c.if-index.true in
-    IsReaching-passed c.args.axis kids (lists_of c.args.naming.now.namers.items) c.args.place c.args.marked old.marks.items old.spread.items old.todo.items
-    (led_done c.args.axis kids (lists_of c.args.naming.now.namers.items) c.args.place c.args.marked c.in-Some.last old.marks.items old.spread.items _ c.requires.naming.rows found done c.requires.reaching)
+    IsReaching-passed c.args.naming.now.axis kids (lists_of c.args.naming.now.namers.items) c.args.place c.args.marked old.marks.items old.spread.items old.todo.items
+    (led_done c.args.naming.now.axis kids (lists_of c.args.naming.now.namers.items) c.args.place c.args.marked c.in-Some.last old.marks.items old.spread.items _ c.requires.naming.rows found done c.requires.reaching)
     c.requires.reaching
 
 pub returns-clause-reaching : goal.returns-clause-reaching
@@ -70,7 +70,7 @@ returns-clause-reaching c =
     let note = c.note_spread.ensures in
     let marked = rw c.namers.ensures at c.in_ok-mark_row.ensures.marked in
     rw (note.spread, note.marks, note.todo, c.in_ok-mark_row.ensures.spread)
-    (IsReaching-spread c.args.axis kids (lists_of c.args.naming.now.namers.items) c.args.place c.args.marked c.in-Some.last old.marks.items old.spread.items old.todo.items
+    (IsReaching-spread c.args.naming.now.axis kids (lists_of c.args.naming.now.namers.items) c.args.place c.args.marked c.in-Some.last old.marks.items old.spread.items old.todo.items
     c.mark_row.new.self.marks.items c.mark_row.new.self.todo.items c.requires.naming.rows found c.requires.own marked c.requires.reaching)
 
 pub returns-clause-effort : goal.returns-clause-effort

@@ -21,7 +21,7 @@ returns-in_default c =
     let kids = c.args.kids.now in
     let none : last_with_id kids (id_at kids c.args.place) ≡ None = sym (c.requires.naming.table (id_at kids c.args.place)) ∙ sym c.in_default.ensures in
     rw (c.in_ok-found.ensures.marks, c.in_ok-found.ensures.spread, c.in_ok-found.ensures.todo)
-    (IsReaching-nobody c.args.axis kids (lists_of c.args.naming.now.namers.items) c.args.place _ _ c.requires.place none (length-replicate _ _) (unmarked (length kids)) (length-replicate _ _) (unmarked (length kids)))
+    (IsReaching-nobody c.args.naming.now.axis kids (lists_of c.args.naming.now.namers.items) c.args.place _ _ c.requires.place none (length-replicate _ _) (unmarked (length kids)) (length-replicate _ _) (unmarked (length kids)))
 
 pub returns : goal.returns
 returns c =
@@ -30,5 +30,5 @@ returns c =
     let is = last_is kids (id_at kids c.args.place) c.in-Some.last found in
     let marked = rw (c.namers.ensures, c.in_ok-found.ensures.marks, c.in_ok-found.ensures.todo) at c.in_ok-mark_row.ensures.marked in
     rw (c.in_ok-mark_row.ensures.spread, c.in_ok-found.ensures.spread)
-    (IsReaching-start c.args.axis kids (lists_of c.args.naming.now.namers.items) c.args.place c.in-Some.last _ _ c.mark_row.new.self.marks.items c.mark_row.new.self.todo.items
+    (IsReaching-start c.args.naming.now.axis kids (lists_of c.args.naming.now.namers.items) c.args.place c.in-Some.last _ _ c.mark_row.new.self.marks.items c.mark_row.new.self.todo.items
     c.requires.naming.rows found (length-replicate _ _) (unmarked (length kids)) (length-replicate _ _) (unmarked (length kids)) marked)

@@ -8,5 +8,5 @@ pub returns : goal.returns
 returns c =
     let kids = c.args.kids.now in
     rw (c.in_ok-unmarked.ensures)
-    (IsTaking-start c.args.axis kids c.in_ok-left.left.items _ c.in_ok-todo.todo.items c.new.result.items c.new.ensures.items (length-replicate _ _) (unmarked (length kids))
+    (IsTaking-start c.args.naming.now.axis kids c.in_ok-left.left.items _ c.in_ok-todo.todo.items c.new.result.items c.new.ensures.items (length-replicate _ _) (unmarked (length kids))
     (AreCounts-all kids _ c.in_ok-left.left.items (unmarked (length kids)) c.in_ok-left.ensures) c.in_ok-todo.ensures.inside c.in_ok-todo.ensures.each)

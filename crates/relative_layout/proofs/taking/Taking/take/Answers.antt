@@ -36,7 +36,7 @@ returns-in-None-clause-taking c =
     let append = c.in_ok-append.ensures in
     let old = c.args.self.now in
     rw (append.left, append.taken, append.todo, append.order)
-    (IsTaking-alone c.args.axis kids old.left.items old.taken.items old.todo.items old.order.items c.args.place c.requires.place c.requires.fresh c.requires.ready none c.requires.taking)
+    (IsTaking-alone c.args.naming.now.axis kids old.left.items old.taken.items old.todo.items old.order.items c.args.place c.requires.place c.requires.fresh c.requires.ready none c.requires.taking)
 
 pub returns-in-None-clause-effort : goal.returns-in-None-clause-effort
 returns-in-None-clause-effort c =
@@ -53,7 +53,7 @@ returns-in_ok-count_down-in-Some-clause-taking c =
     let down = c.in_ok-count_down-in-Some.ensures in
     let old = c.args.self.now in
     rw (down.left, down.taken, down.todo, down.order, append.left, append.taken, append.todo, append.order)
-    (IsTaking-one_of c.args.axis kids (lists_of c.args.naming.now.namers.items) old.left.items old.taken.items old.todo.items old.order.items c.args.place c.in-Some.last
+    (IsTaking-one_of c.args.naming.now.axis kids (lists_of c.args.naming.now.namers.items) old.left.items old.taken.items old.todo.items old.order.items c.args.place c.in-Some.last
     c.requires.place c.requires.fresh c.requires.ready found c.requires.naming.rows (nat_lt 1 (get_or old.left.items c.in-Some.last 0 - 1)) refl c.requires.taking)
 
 pub returns-in_ok-count_down-in-Some-clause-effort : goal.returns-in_ok-count_down-in-Some-clause-effort

@@ -4,7 +4,7 @@ use Rattle.relative_layout.specs.Taking.{IsTaking, effort}
 use Rattle.relative_layout.proofs.taking.Taking.take_all.Given as goal
 
 abbrev pub invariant-loop-place : goal.invariant-loop-place
-invariant-loop-place l = IsTaking l.axis l.kids l.self.left.items l.self.taken.items l.self.todo.items l.self.order.items
+invariant-loop-place l = IsTaking l.naming.axis l.kids l.self.left.items l.self.taken.items l.self.todo.items l.self.order.items
 
 abbrev pub decreases-loop-place : goal.decreases-loop-place
 decreases-loop-place l = effort (lists_of l.naming.namers.items) l.self.taken.items (length l.self.todo.items)

@@ -1,10 +1,6 @@
-use Rattle.std.proofs.Common.{◌≡◌, refl, sym, subst}
-use Rattle.std.specs.Prelude.{ℕ, Option, None, Some, Result}
-use Rattle.std.specs.Option.{option_map}
+use Rattle.std.proofs.Common.{refl, sym, subst}
 use Rattle.view_model.specs.Grafts.{graft_refusal}
-use Rattle.view_model.specs.PlainTree.{PlainView}
-use Rattle.view_model.specs.Refusals.{PlainRefusal}
-use Rattle.view_tree.specs.Views.{number_of, plain_of}
+use Rattle.view_tree.specs.Views.{plain_of}
 use Rattle.view_world.specs.Changed.{CarriesOut, IsPlace}
 use Rattle.view_world.specs.KeyedWorld.{KeyedWorld, world_of}
 use Rattle.view_world.specs.Step.{grafted}

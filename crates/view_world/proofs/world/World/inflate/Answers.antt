@@ -2,8 +2,8 @@ use Rattle.std.proofs.Common.{◌≡◌, List, ℕ, ap, sym, subst, ◌∙◌}
 use Rattle.std.specs.Prelude.{Ok, Some}
 use Rattle.view_model.specs.Grafts.{graft_refusal}
 use Rattle.view_tree.specs.Views.{plain_of}
-use Rattle.view_world.specs.Carried.{AreAtHand, CountsShelf}
-use Rattle.view_world.specs.Changed.{Inflates, IsPlace}
+use Rattle.view_world.specs.Carried.{AreAtHand}
+use Rattle.view_world.specs.Changed.{IsPlace}
 use Rattle.view_world.specs.Inflating.{asked_for, views_in, views_of}
 use Rattle.view_world.specs.KeyedWorld.{KeyedWorld, world_of}
 use Rattle.view_world.specs.Step.{grafted, inflation}

@@ -1,6 +1,5 @@
-use Rattle.std.proofs.Common.{◌≡◌, sym, ap, ◌∙◌}
+use Rattle.std.proofs.Common.{◌≡◌, sym, ◌∙◌}
 use Rattle.std.specs.Prelude.{None, Some}
-use Rattle.std.specs.Option.{option_map}
 use Rattle.script_lines.specs.PlainCommands.{plain_command}
 use Rattle.view_world.specs.Inflating.{inflation_of}
 use Rattle.view_world.specs.KeyedWorld.{world_of}

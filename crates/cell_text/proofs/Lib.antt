@@ -1,0 +1,2 @@
+mod CellLaws
+mod SegmentLaws

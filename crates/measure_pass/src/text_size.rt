@@ -1,0 +1,67 @@
+//! The size of a view that shows a text. Lengths are in pixels.
+ghost use Rattle.std.specs.Prelude.{◌≡◌, ◌<◌, ◌≤◌, ◌*◌, ◌^◌, ◌≤ℤ◌, pos};
+ghost use Rattle.view_model.specs.declared.limits.TheConstants.{CELL_HEIGHT};
+ghost use Rattle.view_model.specs.Facts.{unscrolled_facts};
+ghost use Rattle.view_model.specs.TextView.{cells_across, cells_in, text_height, text_size, text_width};
+
+use cell_text::{count, widest};
+use geom_core::{Size, Spec};
+use view_model::limits::{CELL_HEIGHT, CELL_WIDTH};
+use view_model::{Facts, Text, own_side};
+
+/// The size of a view with this text. How many lines the text takes depends on the width that comes out.
+pub fn text_size(own: &Facts, text: &Text, ws: Spec, hs: Spec) -> Size
+    ensures { result ≡ text_size (unscrolled_facts own.now) text.now (record { across = ws; down = hs }) }
+{
+    let width = text_width(own, text, ws);
+    Size {
+        w: width,
+        h: text_height(own, text, hs, width),
+    }
+}
+
+#[tactic(auto, unfolding(view_model::specs::TextView::text_width))]
+fn text_width(own: &Facts, text: &Text, spec: Spec) -> i32
+    ensures { result ≡ text_width (unscrolled_facts own.now) text.now spec }
+{
+    let most = length_of(CELL_WIDTH, widest(text));
+    own_side(own.min.w, most, own.padding_across(), spec)
+}
+
+#[tactic(auto, unfolding(view_model::specs::TextView::text_height))]
+fn text_height(own: &Facts, text: &Text, spec: Spec, width: i32) -> i32
+    ensures { result ≡ text_height (unscrolled_facts own.now) text.now spec width }
+{
+    let lines = count(text, cells_across(own, width));
+    let most = length_of(CELL_HEIGHT, lines);
+    own_side(own.min.h, most, own.padding_down(), spec)
+}
+
+/// The length of so many cells on an axis on which each has this side.
+fn length_of(side: u32, cells: u32) -> i64
+    requires { side ≤ CELL_HEIGHT }
+    ensures { result ≡ pos (side * cells) }
+{
+    (u64::from(side) * u64::from(cells)) as i64
+}
+
+/// How many cells a line has in a view of this width.
+fn cells_across(own: &Facts, width: i32) -> u32
+    ensures value { result ≡ cells_across (unscrolled_facts own.now) width }
+    ensures some { 0 < result }
+{
+    cells_in(i64::from(width) - own.padding_across())
+}
+
+/// How many cells a line has in this many pixels.
+#[tactic(auto, unfolding(view_model::specs::TextView::cells_in))]
+fn cells_in(room: i64) -> u32
+    requires { room ≤ℤ pos (2 ^ 34) }
+    ensures value { result ≡ cells_in room }
+    ensures some { 0 < result }
+{
+    if room < 0 {
+        return 1;
+    }
+    ((room / i64::from(CELL_WIDTH)) as u32).max(1)
+}

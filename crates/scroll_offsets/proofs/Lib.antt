@@ -1,0 +1,3 @@
+mod BringingWalk
+mod RangeLaws
+mod PlainRanged

@@ -1,0 +1,24 @@
+use Rattle.std.proofs.Common.{◌≡◌}
+use Rattle.scroll_offsets.specs.Bringing.{range_at}
+use Rattle.scroll_offsets.proofs.BringingWalk.{BringingWalk}
+use Rattle.view_model.specs.Forest.{count_of}
+use Rattle.view_tree.specs.Rows.{first_tree, children_of_first, part_from, rest_from}
+use Rattle.view_tree.specs.Views.{held_of}
+use Rattle.scroll_offsets.proofs.bringing.+bring.Given as goal
+
+-- the views from this one down
+abbrev pub decreases-bring : goal.decreases-bring
+decreases-bring l = count_of (first_tree (part_from l.view l.tree.now.tree))
+
+-- the views among the later siblings
+abbrev pub decreases-loop-next : goal.decreases-loop-next
+decreases-loop-next l = count_of (rest_from l.next l.tree.tree)
+
+abbrev pub invariant-loop-next : goal.invariant-loop-next
+invariant-loop-next l =
+    let tree = l.fn.tree.tree in
+    record {
+      same : l.tree.tree ≡ tree;
+      numbers : l.tree.next ≡ l.fn.tree.next;
+      walked : BringingWalk tree (children_of_first (part_from l.view tree)) (range_at l.fn.tree) (held_of l.initial.tree) l.next (held_of l.tree);
+    }

@@ -1,0 +1,33 @@
+-- What a plan stands for: a group, its specs, and the children that it has taken in each phase.
+use Rattle.std.specs.Prelude.{◌≡◌, Bool, true, false, List, [], ◌∷◌, ◌++◌}
+use Rattle.frame_layout.specs.FramePlan.{StandsFrame}
+use Rattle.scroll_view.specs.declared.plan.ScrollPlan.{ScrollPlan}
+use Rattle.view_model.specs.declared.facts.Facts.{Facts}
+use Rattle.view_model.specs.Facts.{unscrolled_facts}
+use Rattle.view_model.specs.Measuring.{Specs, Measured}
+use Rattle.view_model.specs.ScrollView.{scroll_rule}
+
+-- the facts and the specs that a plan has
+abbrev pub own_in : ScrollPlan → Facts
+own_in plan = unscrolled_facts plan.own
+
+abbrev pub specs_in : ScrollPlan → Specs
+specs_in plan = record { across = plan.ws; down = plan.hs }
+
+-- the plan of a group with these facts under these specs, which took these children in its first phase
+pub record HasTaken (plan : ScrollPlan) (own : Facts) (specs : Specs) (first : List Measured) : Type 0 where
+  pub own_facts : own_in plan ≡ own
+  pub own_specs : specs_in plan ≡ specs
+  pub frame : StandsFrame plan.frame own specs [] first
+
+-- it has come through these phases, and has taken these children in the one that it is in
+abbrev pub StandsScroll : ScrollPlan → Facts → Specs → List (List Measured) → List Measured → Type 0
+StandsScroll plan own specs [] taken = HasTaken plan own specs taken × (plan.filling ≡ false)
+StandsScroll plan own specs (first ∷ []) taken = HasTaken plan own specs first × (plan.filling ≡ true)
+StandsScroll plan own specs (first ∷ second ∷ more) taken = ⊥
+
+-- the plan at the end of a phase, where it has answered whether another follows
+pub record TurnsScroll (plan : ScrollPlan) (own : Facts) (specs : Specs) (past : List (List Measured)) (taken : List Measured) (answer : Bool) : Type 0 where
+  pub answers : answer ≡ (scroll_rule own specs).turns (past ++ taken ∷ [])
+  pub follows : answer ≡ true → StandsScroll plan own specs (past ++ taken ∷ []) []
+  pub ends : answer ≡ false → StandsScroll plan own specs past taken

@@ -1,0 +1,4 @@
+mod EditLaws
+mod EntryLaws
+mod Examples
+mod MapLaws

@@ -1,0 +1,49 @@
+//! An armed hook as it is kept.
+ghost use Rattle.std.specs.Prelude.{◌≡◌};
+ghost use Rattle.size_hooks.specs.Entries.{hook_in, hooks_of};
+ghost use Rattle.size_hooks.specs.Hooks.{reported_as, reported_to};
+
+use crate::edit::KeptEdit;
+use crate::limits::MAX_EDITS;
+use arrayvec::ArrayVec;
+use geom_core::Size;
+
+/// An armed hook.
+#[derive(Drop)]
+pub struct Entry {
+    /// The number of the view whose size it waits for.
+    pub view: u64,
+    /// The size that is no news, in pixels.
+    pub reported: Size,
+    /// What is changed once the view has another size, in order.
+    pub edits: ArrayVec<KeptEdit, MAX_EDITS>,
+}
+
+impl Default for Entry {
+    /// What stands in an unused place, and never fires.
+    fn default() -> Entry {
+        Entry {
+            view: 0,
+            reported: Size { w: 0, h: 0 },
+            edits: ArrayVec::new(),
+        }
+    }
+}
+
+/// Sets the reported size of the entry of a view, if it is among these.
+pub fn report_in(entries: &mut [Entry], view: u64, size: Size)
+    ensures { hooks_of entries.new ≡ reported_as view size (hooks_of entries.old) }
+{
+    for entry in entries.iter_mut() {
+        report_to(entry, view, size);
+    }
+}
+
+/// Sets the reported size of an entry, if it is of this view.
+fn report_to(entry: &mut Entry, view: u64, size: Size)
+    ensures { hook_in entry.new ≡ reported_to view size (hook_in entry.old) }
+{
+    if entry.view == view {
+        entry.reported = size;
+    }
+}

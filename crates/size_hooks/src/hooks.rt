@@ -1,0 +1,120 @@
+//! The table of armed hooks.
+ghost use Rattle.std.specs.Prelude.{◌≡◌, ◌==◌, ◌<◌, ◌↔◌, ℕ, if◌then◌else◌, nat_eq, IfSome, [], None, Some, OnOk, OnErr, IsErr, length};
+ghost use Rattle.std.specs.Option.{option_map};
+ghost use Rattle.size_hooks.specs.Entries.{hook_in};
+ghost use Rattle.size_hooks.specs.Hook.{Hook};
+ghost use Rattle.size_hooks.specs.Hooks.{IsMap, armed, disarmed, edit_of, hook_of, reported_as, reported_to};
+
+use crate::edit::kept_edits;
+use crate::entry::{Entry, report_in};
+use crate::fault::HookFault;
+use crate::limits::{MAX_EDITS, MAX_HOOKS};
+use arrayvec::ArrayVec;
+use geom_core::Size;
+use std::marker::Model;
+use view_model::NumEdit;
+
+/// The armed hooks, which contracts see as a list in the order in which they were armed: at most one of a view, and at
+/// most `MAX_HOOKS`, each with at most `MAX_EDITS` edits.
+#[derive(Drop)]
+pub struct Hooks {
+    entries: ArrayVec<Entry, MAX_HOOKS>,
+}
+
+impl Model for Hooks {
+    ghost use Rattle.std.specs.Prelude.{List};
+    ghost use Rattle.size_hooks.specs.Entries.{hooks_of, hooks_code};
+    ghost use Rattle.size_hooks.specs.Hook.{Hook};
+    ghost use Rattle.size_hooks.specs.Hooks.{IsMap};
+
+    ghost Value = { List Hook };
+
+    ghost coded = { hooks_code };
+
+    ghost view = { λ h. hooks_of h.entries.items };
+
+    ghost invariant = { λ h. IsMap (hooks_of h.entries.items) };
+}
+
+impl Hooks {
+    /// No hook is armed.
+    pub fn new() -> Hooks
+        ensures { result ≡ [] }
+    {
+        Hooks {
+            entries: ArrayVec::new(),
+        }
+    }
+
+    /// Arms the hook of a view, in the place of one that it has. `reported` is the size in pixels that is no news.
+    pub fn arm(
+        &mut self,
+        view: u64,
+        reported: Size,
+        edits: &ArrayVec<NumEdit, MAX_EDITS>,
+    ) -> Result<(), HookFault>
+        ensures hooks { OnOk result (self.new ≡ armed (record { view = view; reported = reported; edits = edits.now.items }) self.old) }
+        ensures value { OnOk result ((other : ℕ) → hook_of self.new other ≡ (if nat_eq view other then Some (record { view = view; reported = reported; edits = edits.now.items }) else hook_of self.old other)) }
+        ensures full { IsErr result ↔ ((length self.old ≡ MAX_HOOKS) × (hook_of self.old view ≡ None)) }
+        ensures unchanged { OnErr result (self.new ≡ self.old) }
+    {
+        self.disarm(view);
+        // a table that is still full has lost nothing
+        if self.entries.is_full() {
+            return Err(HookFault);
+        }
+        self.entries.push(Entry {
+            view,
+            reported,
+            edits: kept_edits(edits),
+        });
+        Ok(())
+    }
+
+    /// Takes the hook of a view away, if it has one.
+    pub fn disarm(&mut self, view: u64)
+        ensures hooks { self.new ≡ disarmed view self.old }
+        ensures value { (other : ℕ) → hook_of self.new other ≡ (if nat_eq view other then None else hook_of self.old other) }
+        ensures map { IsMap self.old }
+    {
+        self.entries.retain(|entry| entry.view != view);
+    }
+
+    /// The reported size of a view whose hook is armed, in pixels.
+    pub fn reported(&self, view: u64) -> Option<Size>
+        ensures { result ≡ option_map (λ hook. hook.reported) (hook_of self.now view) }
+    {
+        let entry = self.entry(view)?;
+        Some(entry.reported)
+    }
+
+    /// Sets the reported size of a view, in pixels, if its hook is armed.
+    pub fn report(&mut self, view: u64, size: Size)
+        ensures hooks { self.new ≡ reported_as view size self.old }
+        ensures value { (other : ℕ) → hook_of self.new other ≡ option_map (reported_to view size) (hook_of self.old other) }
+    {
+        report_in(self.entries.as_mut_slice(), view, size);
+    }
+
+    /// An edit of a view whose hook is armed, counted from 0.
+    pub fn edit(&self, view: u64, k: usize) -> Option<NumEdit>
+        ensures value { result ≡ edit_of (hook_of self.now view) k }
+        ensures few { IfSome result (λ _. k < MAX_EDITS) }
+    {
+        let entry = self.entry(view)?;
+        let kept = entry.edits.get(k)?;
+        Some(kept.edit)
+    }
+
+    /// The entry of a view whose hook is armed.
+    fn entry(&self, view: u64) -> Option<&Entry>
+        ensures { option_map (λ entry. hook_in entry.now) result ≡ hook_of self.now view }
+    {
+        for entry in self.entries.as_slice() {
+            if entry.view == view {
+                return Some(entry);
+            }
+        }
+        None
+    }
+}

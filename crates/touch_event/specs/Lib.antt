@@ -1,0 +1,3 @@
+pub mod PointerSets
+pub mod Splitting
+pub mod Touches

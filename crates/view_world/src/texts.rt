@@ -1,0 +1,25 @@
+//! Texts that lines give to views.
+
+ghost use Rattle.std.specs.Prelude.{◌≡◌, ◌≤◌, IfOk, chars, encode_utf8_all, length};
+ghost use Rattle.std.specs.String.{string_bytes};
+ghost use Rattle.script_lines.specs.Escapes.{unescaped};
+
+use script_lines::Unescaped;
+use std::alloc::{AllocError, Global};
+
+/// The bytes of a text whose escapes are as written, these resolved.
+fn unescaped_text(alloc: Global, text: &str) -> Result<String, AllocError>
+    ensures { IfOk result (λ resolved. string_bytes resolved ≡ encode_utf8_all (unescaped (chars text.now))) }
+{
+    let resolved = Unescaped::new(text).collect(alloc)?;
+    Ok(resolved)
+}
+
+/// A text whose escapes are as written, these resolved.
+pub fn resolved(alloc: Global, text: &str) -> Result<String, AllocError>
+    ensures value { IfOk result (λ resolved. chars (string_bytes resolved) ≡ unescaped (chars text.now)) }
+    ensures short { IfOk result (λ resolved. length (string_bytes resolved) ≤ length text.now) }
+{
+    let resolved = unescaped_text(alloc, text)?;
+    Ok(resolved)
+}
