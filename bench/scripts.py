@@ -58,6 +58,22 @@ def nested_weighted_frames(n):
     return b"".join(lines) + b"frame\n" * n
 
 
+def frames_of_texts(n):
+    """A column of 4000 texts of 60 characters, each in four lines."""
+    lines = [b"window 1000 1000\nadd root LinearLayout match match\norient v1 vertical\n"]
+    for number in range(2, 4002):
+        lines.append(b"add v1 TextView 100 wrap\ntext v%d %060d\n" % (number, number))
+    return b"".join(lines) + b"frame\n" * n
+
+
+def widths_of_a_text(n):
+    """A text that is as long as a line of a script can be, in frames of the widths 1 to n."""
+    line = b"text v2 "
+    begun = b"window 1000 1000\nadd root FrameLayout match match\nadd v1 TextView 1 wrap\n"
+    text = line + b"x" * (1024 - len(line)) + b"\n"
+    return begun + text + b"".join(b"size v2 %d wrap\nframe\n" % (width + 1) for width in range(n))
+
+
 def bounds(n):
     return tree(4096) + b"frame\n" + b"bounds\n" * n
 

@@ -3,7 +3,7 @@ use Rattle.std.specs.Prelude.{ℕ, List, [], ◌∷◌, Option, Some, None, code
 use Rattle.std.specs.Map.{lookup}
 use Rattle.std.specs.Str.{bytes_eq}
 use Rattle.view_model.specs.declared.kinds.Class.{Class}
-use Rattle.view_model.specs.declared.kinds.Class.TheVariants.{View, TextView, FrameLayout, LinearLayout}
+use Rattle.view_model.specs.declared.kinds.Class.TheVariants.{View, TextView, FrameLayout, LinearLayout, ScrollView}
 
 -- each class by its name alone, and with its package before it
 abbrev pub class_names : List (List ℕ × Class)
@@ -11,7 +11,8 @@ class_names =
     (codes "View", View) ∷ (codes "android.view.View", View) ∷
     (codes "TextView", TextView) ∷ (codes "android.widget.TextView", TextView) ∷
     (codes "FrameLayout", FrameLayout) ∷ (codes "android.widget.FrameLayout", FrameLayout) ∷
-    (codes "LinearLayout", LinearLayout) ∷ (codes "android.widget.LinearLayout", LinearLayout) ∷ []
+    (codes "LinearLayout", LinearLayout) ∷ (codes "android.widget.LinearLayout", LinearLayout) ∷
+    (codes "ScrollView", ScrollView) ∷ (codes "android.widget.ScrollView", ScrollView) ∷ []
 
 -- the class that a name stands for, if it is known
 unfoldable pub class_of : List ℕ → Option Class

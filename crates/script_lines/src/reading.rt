@@ -80,6 +80,9 @@ fn read_class(word: &[u8]) -> Result<Class, LineFault>
     if is(word, b"LinearLayout") {
         return Ok(Class::LinearLayout);
     }
+    if is(word, b"ScrollView") {
+        return Ok(Class::ScrollView);
+    }
     Err(LineFault::Syntax)
 }
 

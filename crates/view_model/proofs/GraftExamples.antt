@@ -1,10 +1,10 @@
 -- Worked rows of why a sapling is refused.
-use Rattle.std.specs.Prelude.{◌≡◌, ℕ, pos, [], Option, Some, None, refl}
+use Rattle.std.specs.Prelude.{◌≡◌, ℕ, true, false, pos, [], Option, Some, None, refl}
 use Rattle.view_model.specs.declared.kinds.Class.{Class}
-use Rattle.view_model.specs.declared.kinds.Class.TheVariants.{View, FrameLayout}
-use Rattle.view_model.specs.declared.refusals.TheConstants.{NOT_GROUP, TOO_DEEP, TOO_MANY_VIEWS}
+use Rattle.view_model.specs.declared.kinds.Class.TheVariants.{View, FrameLayout, ScrollView}
+use Rattle.view_model.specs.declared.refusals.TheConstants.{NOT_GROUP, SCROLL_FULL, TOO_DEEP, TOO_MANY_VIEWS}
 use Rattle.view_model.specs.Facts.{new_facts}
-use Rattle.view_model.specs.Forest.{Forest, Nothing, Branch}
+use Rattle.view_model.specs.Forest.{Nothing, Branch}
 use Rattle.view_model.specs.Grafts.{graft_refusal, refusal_below}
 use Rattle.view_model.specs.Growth.{growth_refusal}
 use Rattle.view_model.specs.PlainTree.{PlainView, single}
@@ -31,17 +31,17 @@ unfolding growth_refusal
 inside_a_view = refl
 
 -- two levels below a view that is 31 deep
-too_deep : refusal_below FrameLayout 31 31 1 (Branch (seed FrameLayout) (Branch (seed View) Nothing Nothing) Nothing) ≡ refused TOO_DEEP 2
+too_deep : refusal_below FrameLayout false 31 31 1 (Branch (seed FrameLayout) (Branch (seed View) Nothing Nothing) Nothing) ≡ refused TOO_DEEP 2
 unfolding growth_refusal
 too_deep = refl
 
 -- two views where there is room for one
-too_many : refusal_below FrameLayout 1 4095 1 (Branch (seed View) Nothing (Branch (seed View) Nothing Nothing)) ≡ refused TOO_MANY_VIEWS 2
+too_many : refusal_below FrameLayout false 1 4095 1 (Branch (seed View) Nothing (Branch (seed View) Nothing Nothing)) ≡ refused TOO_MANY_VIEWS 2
 unfolding growth_refusal
 too_many = refl
 
 -- an earlier element decides, whatever the later ones are refused for
-first_decides : refusal_below FrameLayout 1 4096 1 (Branch (seed View) (Branch (seed View) Nothing Nothing) Nothing) ≡ refused TOO_MANY_VIEWS 1
+first_decides : refusal_below FrameLayout false 1 4096 1 (Branch (seed View) (Branch (seed View) Nothing Nothing) Nothing) ≡ refused TOO_MANY_VIEWS 1
 unfolding growth_refusal
 first_decides = refl
 
@@ -49,3 +49,19 @@ first_decides = refl
 comes : graft_refusal (single (view 1 FrameLayout)) (Some 1) (Branch (seed FrameLayout) (Branch (seed View) Nothing Nothing) Nothing) ≡ None
 unfolding growth_refusal
 comes = refl
+
+-- a second child of a scroll view is the one that does not come, whatever is below the first
+full_inside : graft_refusal Nothing None (Branch (seed ScrollView) (Branch (seed FrameLayout) (Branch (seed View) Nothing Nothing) (Branch (seed View) Nothing Nothing)) Nothing)
+    ≡ refused SCROLL_FULL 4
+unfolding growth_refusal
+full_inside = refl
+
+-- below a scroll view that has a child no element comes
+full_before : graft_refusal (Branch (view 1 ScrollView) (single (view 2 View)) Nothing) (Some 1) (Branch (seed View) Nothing Nothing) ≡ refused SCROLL_FULL 1
+unfolding growth_refusal
+full_before = refl
+
+-- and it is full before it is too deep, or the tree too large
+full_first : refusal_below ScrollView true 32 4096 1 (Branch (seed View) Nothing Nothing) ≡ refused SCROLL_FULL 1
+unfolding growth_refusal
+full_first = refl

@@ -1,6 +1,5 @@
 -- Worked scroll views, by computation.
 use Rattle.std.specs.Prelude.{◌≡◌, ℕ, ℤ, pos, negsuc, refl, true, [], ◌∷◌, Some, None}
-use Rattle.geom_core.specs.declared.geometry.Insets.{Insets}
 use Rattle.geom_core.specs.declared.geometry.Size.{Size}
 use Rattle.geom_core.specs.declared.measuring.Mode.TheVariants.{Unspecified, Exactly, AtMost}
 use Rattle.geom_core.specs.Limits.{clamp_coordinate}

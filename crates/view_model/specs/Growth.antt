@@ -1,11 +1,11 @@
 -- Where a tree takes a new view, and why it does not elsewhere.
-use Rattle.std.specs.Prelude.{ℕ, nat_lt, Bool, true, false, not, if◌then◌else◌, Option, Some, None}
+use Rattle.std.specs.Prelude.{ℕ, nat_lt, Bool, true, false, not, ◌&&◌, if◌then◌else◌, Option, Some, None}
 use Rattle.view_model.specs.declared.kinds.Class.{Class}
 use Rattle.view_model.specs.declared.kinds.Class.TheVariants.{View, TextView, FrameLayout, LinearLayout, ScrollView}
 use Rattle.view_model.specs.declared.limits.TheConstants.{MAX_DEPTH, MAX_VIEWS}
-use Rattle.view_model.specs.declared.refusals.TheConstants.{NOT_GROUP, TOO_DEEP, TOO_MANY_VIEWS}
+use Rattle.view_model.specs.declared.refusals.TheConstants.{NOT_GROUP, SCROLL_FULL, TOO_DEEP, TOO_MANY_VIEWS}
 use Rattle.view_model.specs.Forest.{Forest, count_of}
-use Rattle.view_model.specs.PlainTree.{PlainView, depth_of, grown, view_in}
+use Rattle.view_model.specs.PlainTree.{PlainView, depth_of, grown, has_child, view_in}
 use Rattle.view_model.specs.Refusals.{PlainRefusal, refusal_numbered}
 
 -- whether a view of this class may have children
@@ -16,23 +16,32 @@ is_group FrameLayout = true
 is_group LinearLayout = true
 is_group ScrollView = true
 
--- why a view of this class and depth, in a tree of so many views, takes no child: it is no group, it is too deep, or
--- the tree is full
-unfoldable pub growth_refusal : Class → ℕ → ℕ → Option PlainRefusal
-growth_refusal class depth count =
+-- whether a view of this class has at most one child
+abbrev pub takes_one_child : Class → Bool
+takes_one_child View = false
+takes_one_child TextView = false
+takes_one_child FrameLayout = false
+takes_one_child LinearLayout = false
+takes_one_child ScrollView = true
+
+-- why a view of this class and depth, which has a child or none, takes no more in a tree of so many views: it is no
+-- group, it has the one child that it takes, it is too deep, or the tree is full
+unfoldable pub growth_refusal : (class : Class) (occupied : Bool) (depth count : ℕ) → Option PlainRefusal
+growth_refusal class occupied depth count =
     if not (is_group class) then Some (refusal_numbered NOT_GROUP)
+    else (if takes_one_child class && occupied then Some (refusal_numbered SCROLL_FULL)
     else (if not (nat_lt depth MAX_DEPTH) then Some (refusal_numbered TOO_DEEP)
     else (if not (nat_lt count MAX_VIEWS) then Some (refusal_numbered TOO_MANY_VIEWS)
-    else None))
+    else None)))
 
-abbrev pub growth_refusal_of : Option PlainView → ℕ → ℕ → Option PlainRefusal
-growth_refusal_of None depth count = None
-growth_refusal_of (Some view) depth count = growth_refusal view.class depth count
+abbrev pub growth_refusal_of : (view : Option PlainView) (occupied : Bool) (depth count : ℕ) → Option PlainRefusal
+growth_refusal_of None occupied depth count = None
+growth_refusal_of (Some view) occupied depth count = growth_refusal view.class occupied depth count
 
 -- why the tree takes no child of this parent; a root is taken
 abbrev pub refusal_at : Forest PlainView → Option ℕ → Option PlainRefusal
 refusal_at tree None = None
-refusal_at tree (Some parent) = growth_refusal_of (view_in tree parent) (depth_of parent tree) (count_of tree)
+refusal_at tree (Some parent) = growth_refusal_of (view_in tree parent) (has_child parent tree) (depth_of parent tree) (count_of tree)
 
 -- the tree with a view behind the children of its parent, or as its root
 abbrev pub grown_at : Option ℕ → Forest PlainView → Forest PlainView → Forest PlainView

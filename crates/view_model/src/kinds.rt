@@ -17,7 +17,7 @@ pub enum Class {
 
 impl Class {
     ghost use Rattle.std.specs.Prelude.{◌≡◌};
-    ghost use Rattle.view_model.specs.Growth.{is_group};
+    ghost use Rattle.view_model.specs.Growth.{is_group, takes_one_child};
 
     /// Whether a view of this class may have children.
     pub fn is_group(self) -> bool
@@ -26,6 +26,16 @@ impl Class {
         match self {
             Class::View | Class::TextView => false,
             Class::FrameLayout | Class::LinearLayout | Class::ScrollView => true,
+        }
+    }
+
+    /// Whether a view of this class, a group, has at most one child. A child that is gone counts.
+    pub fn takes_one_child(self) -> bool
+        ensures { result ≡ takes_one_child self }
+    {
+        match self {
+            Class::View | Class::TextView | Class::FrameLayout | Class::LinearLayout => false,
+            Class::ScrollView => true,
         }
     }
 }

@@ -18,6 +18,8 @@ pub const TOO_MANY_VIEWS: u8 = 19;
 pub const TOO_DEEP: u8 = 20;
 /// The parent of a new view is no group.
 pub const NOT_GROUP: u8 = 21;
+/// The parent of a new view takes one child, and has it.
+pub const SCROLL_FULL: u8 = 22;
 /// An element's name is that of no class.
 pub const UNKNOWN_CLASS: u8 = 23;
 /// A line names a view that is not there.

@@ -94,7 +94,7 @@ struct Run {
 }
 
 #[rattlefmt::skip]
-const RUNS: [Run; 12] = [
+const RUNS: [Run; 15] = [
     Run { script: b"", reads: &[], writes: &[], status: 0, text: b"" },
     Run { script: SIMPLE, reads: &[], writes: &[], status: 0, text: SIMPLE_BOUNDS },
     // The window stands after the first read, and the first view after three.
@@ -113,6 +113,9 @@ const RUNS: [Run; 12] = [
     Run { script: DEEP, reads: &[], writes: &[], status: 1, text: DEEPEST },
     Run { script: SHARING, reads: &[], writes: &[], status: 0, text: SHARED },
     Run { script: YIELDING, reads: &[], writes: &[], status: 0, text: YIELDED },
+    Run { script: SCROLLING, reads: &[], writes: &[], status: 0, text: SCROLLED },
+    Run { script: CROWDING, reads: &[], writes: &[], status: 1, text: CROWDED },
+    Run { script: NESTING, reads: &[], writes: &[], status: 0, text: NESTED },
 ];
 
 /// Words, a file that the shelf holds as `a.xml`, the numbers of the fetches that fail, and how the call ends.
@@ -153,6 +156,33 @@ const YIELDING: &[u8] = b"window 10 40\nadd root LinearLayout match match\norien
 const YIELDED: &[u8] = b"v1\nv2\nv3\nsettled 0\nv1 0 0 10 40\nv2 0 0 10 0\nv3 0 0 10 45\n\
     v4\nv5\nv6\nv7\nsettled 0\nv4 0 0 30 40\nv5 0 0 30 10\nv6 0 10 30 20\nv7 0 20 30 40\n\
     v8\nv9\nv10\nv11\nsettled 0\nv8 0 0 30 10\nv9 0 0 30 10\nv10 0 0 30 10\nv11 0 0 30 10\n";
+
+/// A scroll view whose child gets shorter.
+const SCROLLING: &[u8] = b"window 50 40\nadd root ScrollView match match\n\
+    add v1 LinearLayout match wrap\norient v2 vertical\nadd v2 View match 100\nscroll v1 60\n\
+    frame\nbounds v1\nsize v3 match 70\nframe\nbounds v1\n";
+
+const SCROLLED: &[u8] =
+    b"v1\nv2\nv3\nsettled 0\nv1 0 0 50 40 scroll 60\nsettled 0\nv1 0 0 50 40 scroll 30\n";
+
+/// A scroll view with a second child, also where the first one is gone, and again where there is none.
+const CROWDING: &[u8] = b"add root FrameLayout match match\nadd v1 ScrollView 9 9\n\
+    add v2 View 9 9\nadd v2 View 9 9\nvisible v3 gone\nadd v2 View 9 9\nadd v1 View 9 9\n\
+    remove v3\nadd v2 View 9 9\n";
+
+const CROWDED: &[u8] = b"v1\nv2\nv3\nline 4: refused 22 ScrollFull\n\
+    line 6: refused 22 ScrollFull\nv4\nv5\n";
+
+/// Lines with weights one in another, with a text that gets longer and is again as before.
+const NESTING: &[u8] = b"window 100 20\nadd root LinearLayout match match\n\
+    add v1 LinearLayout wrap match\nweight v2 1\nadd v2 TextView 0 match\nweight v3 1\n\
+    text v3 ab\nadd v1 TextView wrap match\ntext v4 x\nframe\nbounds\ntext v4 xyz\nframe\n\
+    bounds\ntext v4 x\nframe\nbounds\n";
+
+const NESTED: &[u8] = b"v1\nv2\nv3\nv4\nsettled 0\nv1 0 0 100 20\nv2 0 0 94 20\nv3 0 0 94 20\n\
+    v4 94 0 100 20\nsettled 0\nv1 0 0 100 20\nv2 0 0 82 20\nv3 0 0 82 20\n\
+    v4 82 0 100 20\nsettled 0\nv1 0 0 100 20\nv2 0 0 94 20\nv3 0 0 94 20\n\
+    v4 94 0 100 20\n";
 
 /// The sample, and what may be made of it.
 #[derive(Clone, Copy)]

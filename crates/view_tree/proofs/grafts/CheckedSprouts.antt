@@ -2,7 +2,7 @@
 use Rattle.std.proofs.Common.{◌≡◌, ℕ, suc, ◌+◌, ◌-◌, ◌<◌, ◌≤◌, true, List, ◌∷◌, length, Option, Some, None, refl, sym, ◌∙◌, ap, arith, inl, inr}
 use Rattle.std.proofs.lemmas.Bool.{cases_eq}
 use Rattle.std.proofs.lemmas.List.{get_or-replicate, get_or-set_other, get_or-set_same, length-set}
-use Rattle.std.specs.Prelude.{replicate, slice_index_or, slice_set}
+use Rattle.std.specs.Prelude.{nat_le, replicate, slice_index_or, slice_set}
 use Rattle.view_model.specs.declared.limits.TheConstants.{MAX_DEPTH, MAX_VIEWS}
 use Rattle.view_model.specs.declared.kinds.Class.{Class}
 use Rattle.view_model.specs.declared.kinds.Class.TheVariants as class
@@ -15,22 +15,21 @@ use Rattle.view_tree.proofs.grafts.Paths.{Follows, followed, last_earlier, last_
 use Rattle.view_tree.proofs.grafts.Refusing.{at_none, refusal_along}
 use Rattle.view_tree.proofs.values.KeptLaws.{grows}
 
--- what is left to look at, where all that was looked at may come: `classes` has the class of the last view of each place
-pub record Left (depth : ℕ) (total : Option PlainRefusal) (classes : List Class) (count element : ℕ) (rest : List Sprout) : Type 0 where
-  pub before : ℕ
+-- what is left to look at, where all that was looked at may come: `classes` has the class of the last view of each
+-- place, and the last view of all has the depth `before`
+pub record Left (depth : ℕ) (total : Option PlainRefusal) (before : ℕ) (classes : List Class) (count element : ℕ) (rest : List Sprout) : Type 0 where
   pub path : ℕ → Class
   pub read : (place : ℕ) → place < before → slice_index_or classes place class.View ≡ path place
   pub shallow : before ≤ MAX_DEPTH
   pub long : length classes ≡ MAX_DEPTH
   pub follow : follows before rest ≡ true
-  pub same : refusal_along depth path count element rest ≡ total
+  pub same : refusal_along depth before path count element rest ≡ total
   pub small : element ≤ count + 2
   pub few : count ≤ MAX_VIEWS + 1
 
 pub left_start : (depth count : ℕ) (own : Class) (classes : List Class) (sprouts : List Sprout) → classes ≡ replicate MAX_DEPTH own → count ≤ MAX_VIEWS + 1 → follows 1 sprouts ≡ true
-    → Left depth (refusal_along depth (λ _. own) count 2 sprouts) classes count 2 sprouts
+    → Left depth (refusal_along depth 1 (λ _. own) count 2 sprouts) 1 classes count 2 sprouts
 left_start depth count own classes sprouts all few follow = record {
-  before = 1;
   path = λ _. own;
   read = λ place less. rw all (get_or-replicate MAX_DEPTH place own class.View (omega arith));
   shallow = omega arith;
@@ -41,26 +40,27 @@ left_start depth count own classes sprouts all few follow = record {
   few = few;
 }
 
-module _ (depth : ℕ) (total : Option PlainRefusal) (classes : List Class) (count element : ℕ) (sprout : Sprout) (more : List Sprout)
-    (left : Left depth total classes count element (sprout ∷ more)) where
-  pub next : Follows left.before sprout more
-  next = followed left.before sprout more left.follow
+module _ (depth : ℕ) (total : Option PlainRefusal) (before : ℕ) (classes : List Class) (count element : ℕ) (sprout : Sprout) (more : List Sprout)
+    (left : Left depth total before classes count element (sprout ∷ more)) where
+  pub next : Follows before sprout more
+  next = followed before sprout more left.follow
 
   -- the class of the view that it comes below
   pub above : slice_index_or classes (sprout.depth - 2) class.View ≡ left.path (sprout.depth - 2)
   above = left.read (sprout.depth - 2) (let n = next.next in let d = next.deep in omega arith)
 
   -- it does not come
-  pub left_out : (told : PlainRefusal) → at_element element (growth_refusal (slice_index_or classes (sprout.depth - 2) class.View) (depth + (sprout.depth - 2)) count) ≡ Some told
+  pub left_out : (told : PlainRefusal)
+      → at_element element (growth_refusal (slice_index_or classes (sprout.depth - 2) class.View) (nat_le sprout.depth before) (depth + (sprout.depth - 2)) count) ≡ Some told
       → total ≡ Some told
   left_out told is = let here = rw above at is in sym left.same ∙ rw here
 
   -- it comes
-  module _ (taken : at_element element (growth_refusal (slice_index_or classes (sprout.depth - 2) class.View) (depth + (sprout.depth - 2)) count) ≡ None) where
+  module _ (taken : at_element element (growth_refusal (slice_index_or classes (sprout.depth - 2) class.View) (nat_le sprout.depth before) (depth + (sprout.depth - 2)) count) ≡ None) where
     pub low : (depth + (sprout.depth - 2) < MAX_DEPTH) × (count < MAX_VIEWS)
-    low = let g = grows (slice_index_or classes (sprout.depth - 2) class.View) (depth + (sprout.depth - 2)) count (at_none element _ taken) in (g.1, g.2)
+    low = let g = grows (slice_index_or classes (sprout.depth - 2) class.View) (nat_le sprout.depth before) (depth + (sprout.depth - 2)) count (at_none element _ taken) in (g.1, g.2)
 
-    pub left_on : (place : ℕ) → place ≡ sprout.depth - 1 → 1 ≤ depth → Left depth total (slice_set classes place sprout.class) (count + 1) (element + 1) more
+    pub left_on : (place : ℕ) → place ≡ sprout.depth - 1 → 1 ≤ depth → Left depth total sprout.depth (slice_set classes place sprout.class) (count + 1) (element + 1) more
     left_on place at deep =
         let d = next.deep in
         let n = next.next in
@@ -68,7 +68,6 @@ module _ (depth : ℕ) (total : Option PlainRefusal) (classes : List Class) (cou
         let long = left.long in
         let here = rw above at taken in
         record {
-          before = sprout.depth;
           path = with_last left.path place sprout.class;
           read = λ other less. elim (cases_eq other place) [
             | inl e ↦ rw e (get_or-set_same classes place sprout.class class.View (omega arith) ∙ sym (last_own left.path place sprout.class))

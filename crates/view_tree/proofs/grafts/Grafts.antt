@@ -1,5 +1,5 @@
 -- What has come once a sapling has come.
-use Rattle.std.proofs.Common.{◌≡◌, ℕ, suc, ◌+◌, ◌≤◌, List, [], ◌∷◌, length, Option, Some, None, refl, sym, ◌∙◌, ap, arith, length-append}
+use Rattle.std.proofs.Common.{◌≡◌, ℕ, suc, ◌+◌, ◌≤◌, Bool, true, false, List, [], ◌∷◌, length, Option, Some, None, refl, sym, ◌∙◌, ap, arith, length-append}
 use Rattle.std.proofs.lemmas.Bool.{eq-eqb}
 use Rattle.std.specs.Prelude.{IfSome}
 use Rattle.std.specs.Option.{option_map, option_or}
@@ -15,9 +15,10 @@ use Rattle.view_model.specs.Refusals.{PlainRefusal}
 use Rattle.view_model.specs.Sprouts.{IsPreorder, Seed, numbered, preorder, seed_of, seeds_of, sprout_of, view_of}
 use Rattle.view_tree.specs.Attached.{Attached}
 use Rattle.view_tree.specs.Grafted.{Grafted}
-use Rattle.view_tree.specs.Rows.{ancestors, head_view, leaf, part_from}
+use Rattle.view_tree.specs.Rows.{ancestors, has_kids, head_view, leaf, part_from}
 use Rattle.view_tree.specs.Sowing.{FitsBelow, GainedBelow}
 use Rattle.view_tree.specs.Views.{Views, IsLive, IsTree, class_of, number_of, plain_of}
+use Rattle.view_tree.proofs.forest.ChildLaws.{has_kids-leaf, has_kids-new}
 use Rattle.view_tree.proofs.forest.GrownParts.{head_view-leaf}
 use Rattle.view_tree.proofs.forest.NumberLaws.{count-leaf, count-with_child, count_of_key-leaf_own}
 use Rattle.view_tree.proofs.grafts.GainLaws.{gained_whole}
@@ -40,15 +41,15 @@ or_none : (first later : Option PlainRefusal) → option_or first later ≡ None
 or_none None later is = (refl, is)
 or_none (Some refusal) later is = absurd (cc)
 
-few_below : (class : Class) (depth count element : ℕ) (list : Forest Seed) → refusal_below class depth count element list ≡ None → count ≤ MAX_VIEWS → count + count_of list ≤ MAX_VIEWS
-few_below class depth count element Nothing taken few = omega arith
-few_below class depth count element (Branch seed kids siblings) taken few =
-    let own = first_none element (growth_refusal class depth count) _ taken in
-    let rest = or_none (refusal_below seed.class (suc depth) (suc count) (suc element) kids) _ own.1 in
-    let room = grows class depth count own.0 in
+few_below : (class : Class) (occupied : Bool) (depth count element : ℕ) (list : Forest Seed) → refusal_below class occupied depth count element list ≡ None → count ≤ MAX_VIEWS → count + count_of list ≤ MAX_VIEWS
+few_below class occupied depth count element Nothing taken few = omega arith
+few_below class occupied depth count element (Branch seed kids siblings) taken few =
+    let own = first_none element (growth_refusal class occupied depth count) _ taken in
+    let rest = or_none (refusal_below seed.class false (suc depth) (suc count) (suc element) kids) _ own.1 in
+    let room = grows class occupied depth count own.0 in
     let less = room.2 in
-    let below = few_below seed.class (suc depth) (suc count) (suc element) kids rest.0 (omega arith) in
-    let after = few_below class depth (suc count + count_of kids) (suc element + count_of kids) siblings rest.1 below in
+    let below = few_below seed.class false (suc depth) (suc count) (suc element) kids rest.0 (omega arith) in
+    let after = few_below class true depth (suc count + count_of kids) (suc element + count_of kids) siblings rest.1 below in
     omega arith
 
 -- how many views are around the outermost one
@@ -59,7 +60,7 @@ outer_of views (Some parent) = suc (length (ancestors parent views.tree))
 -- what is asked of a sapling that is taken
 pub record Taken (views : Views) (parent : Option ℕ) (seed : Seed) (kids : Forest Seed) : Type 0 where
   pub own : refusal_at (plain_of views) (option_map (number_of views) parent) ≡ None
-  pub below : refusal_below seed.class (suc (outer_of views parent)) (suc (count_of views.tree)) 2 kids ≡ None
+  pub below : refusal_below seed.class false (suc (outer_of views parent)) (suc (count_of views.tree)) 2 kids ≡ None
   pub few : suc (count_of views.tree) ≤ MAX_VIEWS
 
 pub taken : (views : Views) (parent : Option ℕ) (sprouts : List Sprout) (shape : Shaped sprouts) → IsTree views → IfSome parent (λ parent. IsLive views parent)
@@ -69,22 +70,23 @@ taken views None sprouts shape is live empty none =
     let one : count_of views.tree + 1 ≡ suc (count_of views.tree) = omega arith in
     record {
       own = refl;
-      below = ap (λ n. refusal_below shape.seed.class 1 n 2 shape.kids) (sym one) ∙ sym (refusal_as_root views sprouts shape (count_of views.tree) refl) ∙ none;
+      below = ap (λ n. refusal_below shape.seed.class false 1 n 2 shape.kids) (sym one) ∙ sym (refusal_as_root views sprouts shape (count_of views.tree) refl) ∙ none;
       few = let zero : count_of views.tree ≡ 0 = ap count_of (empty refl) in omega arith;
     }
 taken views (Some parent) sprouts shape is live empty none =
     let above = length (ancestors parent views.tree) + 1 in
-    let all = first_none 1 (growth_refusal (class_of views parent) above (count_of views.tree)) _
-    (sym (refusal_at_parent views sprouts is shape parent above (count_of views.tree) (class_of views parent) live refl refl refl) ∙ none) in
+    let has = has_kids parent views.tree in
+    let all = first_none 1 (growth_refusal (class_of views parent) has above (count_of views.tree)) _
+    (sym (refusal_at_parent views sprouts is shape parent above (count_of views.tree) (class_of views parent) has live refl refl refl refl) ∙ none) in
     let high : above ≡ suc (length (ancestors parent views.tree)) = omega arith in
     let deeper : above + 1 ≡ suc (suc (length (ancestors parent views.tree))) = omega arith in
     let one : count_of views.tree + 1 ≡ suc (count_of views.tree) = omega arith in
-    let room = grows (class_of views parent) above (count_of views.tree) all.0 in
+    let room = grows (class_of views parent) has above (count_of views.tree) all.0 in
     let less = room.2 in
     record {
-      own = refusal_live views parent is live ∙ ap (λ depth. growth_refusal (class_of views parent) depth (count_of views.tree)) (sym high) ∙ all.0;
-      below = ap (λ depth. refusal_below shape.seed.class depth (suc (count_of views.tree)) 2 shape.kids) (sym deeper)
-          ∙ ap (λ n. refusal_below shape.seed.class (above + 1) n 2 shape.kids) (sym one) ∙ all.1;
+      own = refusal_live views parent is live ∙ ap (λ depth. growth_refusal (class_of views parent) has depth (count_of views.tree)) (sym high) ∙ all.0;
+      below = ap (λ depth. refusal_below shape.seed.class false depth (suc (count_of views.tree)) 2 shape.kids) (sym deeper)
+          ∙ ap (λ n. refusal_below shape.seed.class false (above + 1) n 2 shape.kids) (sym one) ∙ all.1;
       few = omega arith;
     }
 
@@ -105,6 +107,15 @@ pub outermost : (old mid : Views) (parent : Option ℕ) (key : ℕ) (view : Plai
     → Entry mid key view.number view.class (outer_of old parent)
 outermost old mid None key view live came = root_entry mid key view came.tree
 outermost old mid (Some parent) key view live came = entry_new old mid parent key view live came (length (ancestors parent old.tree)) refl
+
+-- it has no child then
+childless_root : (mid : Views) (key : ℕ) (view : PlainView) → mid.tree ≡ leaf key view → has_kids key mid.tree ≡ false
+childless_root mid key view is = ap (has_kids key) is ∙ has_kids-leaf key view
+
+childless : (old mid : Views) (parent : Option ℕ) (key : ℕ) (view : PlainView) → IfSome parent (λ parent. IsLive old parent) → Attached old parent view key mid
+    → has_kids key mid.tree ≡ false
+childless old mid None key view live came = childless_root mid key view came.tree
+childless old mid (Some parent) key view live came = ap (has_kids key) came.tree ∙ has_kids-new key parent view old.tree live came.unused
 
 -- the plain tree with the outermost view, and then with what is below it
 grown_whole : (old : Views) (parent : Option ℕ) (view : PlainView) (kids : Forest PlainView) → IsTree old → IfSome parent (λ parent. IsLive old parent) → view.number ≡ old.next
@@ -147,13 +158,18 @@ module _ (old mid : Views) (parent : Option ℕ) (key : ℕ) (sprout : Sprout) (
       ap count_of came.tree
       ∙ (let c = count-with_child parent (leaf key (view_of old.next (seed_of sprout))) old.tree live empty is.keys in let l = count-leaf key (view_of old.next (seed_of sprout)) in omega arith) in
       let class : class_of mid key ≡ shape.seed.class = own.class_is ∙ ap (λ (s : Sprout). s.class) first in
-      record { kids = shape.kids; preorder = rest; taken = rw (class, own.deep, count) may.below }
+      record {
+        kids = shape.kids;
+        preorder = rest;
+        childless = childless old mid parent key (view_of old.next (seed_of sprout)) live came;
+        taken = rw (class, own.deep, count) may.below;
+      }
 
   length_is : length more ≡ count_of shape.kids
   length_is = ap length (sym rest) ∙ length-preorder 2 shape.kids
 
   few : suc (length more) ≤ MAX_VIEWS
-  few = let n = few_below shape.seed.class (suc (outer_of old parent)) (suc (count_of old.tree)) 2 shape.kids may.below may.few in let l = length_is in omega arith
+  few = let n = few_below shape.seed.class false (suc (outer_of old parent)) (suc (count_of old.tree)) 2 shape.kids may.below may.few in let l = length_is in omega arith
 
   grafted : (new : Views) → GainedBelow mid key new
       → ((kids : Forest Seed) → preorder 2 kids ≡ more → plain_of new ≡ grown (number_of mid key) (numbered mid.next kids) (plain_of mid))

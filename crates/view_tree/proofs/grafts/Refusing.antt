@@ -1,6 +1,8 @@
 -- Why a sapling's views do not come, looked at one after another.
-use Rattle.std.proofs.Common.{◌≡◌, ℕ, suc, ◌+◌, ◌-◌, ◌≤◌, List, [], ◌∷◌, ◌++◌, Option, Some, None, refl, sym, ◌∙◌, ap, arith, append_assoc}
+use Rattle.std.proofs.Common.{◌≡◌, ℕ, suc, ◌+◌, ◌-◌, ◌<◌, ◌≤◌, Bool, true, false, List, [], ◌∷◌, ◌++◌, Option, Some, None, refl, sym, ◌∙◌, ap, arith, append_assoc}
 use Rattle.std.proofs.lemmas.List.{append-nil}
+use Rattle.std.proofs.lemmas.Bool.{le-leb, lt-leb}
+use Rattle.std.specs.Prelude.{nat_le}
 use Rattle.std.specs.Option.{option_or}
 use Rattle.view_model.specs.declared.kinds.Class.{Class}
 use Rattle.view_model.specs.declared.sprout.Sprout.{Sprout}
@@ -20,18 +22,22 @@ pub first_none : (element : ℕ) (reason later : Option PlainRefusal) → option
 first_none element None later is = (refl, is)
 first_none element (Some told) later is = absurd (cc)
 
--- the first reason: `path` has the class of the last view of each depth, the first of which is `depth` deep
-abbrev pub refusal_along : ℕ → (ℕ → Class) → ℕ → ℕ → List Sprout → Option PlainRefusal
-refusal_along depth path count element [] = None
-refusal_along depth path count element (sprout ∷ more) =
-    option_or (at_element element (growth_refusal (path (sprout.depth - 2)) (depth + (sprout.depth - 2)) count))
-    (refusal_along depth (with_last path (sprout.depth - 1) sprout.class) (suc count) (suc element) more)
+-- the first reason: `path` has the class of the last view of each depth, the first of which is `depth` deep; the view
+-- right before has the depth `before`, and so the parent of the next one has a child where that is no deeper
+abbrev pub refusal_along : (depth before : ℕ) (path : ℕ → Class) (count element : ℕ) → List Sprout → Option PlainRefusal
+refusal_along depth before path count element [] = None
+refusal_along depth before path count element (sprout ∷ more) =
+    option_or (at_element element (growth_refusal (path (sprout.depth - 2)) (nat_le sprout.depth before) (depth + (sprout.depth - 2)) count))
+    (refusal_along depth sprout.depth (with_last path (sprout.depth - 1) sprout.class) (suc count) (suc element) more)
 
 -- what is left to look at behind trees whose views were looked at
-pub record Passed (depth place count element : ℕ) (class : Class) (path : ℕ → Class) (list : Forest Seed) (rest : List Sprout) (whole : Option PlainRefusal) : Type 0 where
+pub record Passed (depth place count element : ℕ) (class : Class) (occupied : Bool) (path : ℕ → Class) (list : Forest Seed) (rest : List Sprout) (whole : Option PlainRefusal) : Type 0 where
+  pub last : ℕ
+  pub deep : place < last
   pub ends : ℕ → Class
   pub outer : (other : ℕ) → other ≤ place → ends other ≡ path other
-  pub same : whole ≡ option_or (refusal_below class (depth + place) count element list) (refusal_along depth ends (count + count_of list) (element + count_of list) rest)
+  pub same : whole
+      ≡ option_or (refusal_below class occupied (depth + place) count element list) (refusal_along depth last ends (count + count_of list) (element + count_of list) rest)
 
 or_assoc : (a b c : Option PlainRefusal) → option_or (option_or a b) c ≡ option_or a (option_or b c)
 or_assoc None b c = refl
@@ -41,9 +47,12 @@ or_none : (a : Option PlainRefusal) → option_or a None ≡ a
 or_none None = refl
 or_none (Some x) = refl
 
-pub passed : (depth place count element : ℕ) (class : Class) (path : ℕ → Class) (list : Forest Seed) (rest : List Sprout) → path place ≡ class
-    → Passed depth place count element class path list rest (refusal_along depth path count element (preorder (suc (suc place)) list ++ rest))
-passed depth place count element class path Nothing rest is = record {
+pub passed : (depth place before count element : ℕ) (class : Class) (occupied : Bool) (path : ℕ → Class) (list : Forest Seed) (rest : List Sprout) → path place ≡ class
+    → place < before → nat_le (suc (suc place)) before ≡ occupied
+    → Passed depth place count element class occupied path list rest (refusal_along depth before path count element (preorder (suc (suc place)) list ++ rest))
+passed depth place before count element class occupied path Nothing rest is deep has = record {
+  last = before;
+  deep = deep;
   ends = path;
   outer = λ other le. refl;
   same =
@@ -51,45 +60,49 @@ passed depth place count element class path Nothing rest is = record {
       let c : element + 0 ≡ element = omega arith in
       rw (b, c) refl;
 }
-passed depth place count element class path (Branch seed kids siblings) rest is =
+passed depth place before count element class occupied path (Branch seed kids siblings) rest is deep has =
     let here : suc (suc place) - 2 ≡ place = omega arith in
     let there : suc (suc place) - 1 ≡ suc place = omega arith in
     let inner = with_last path (suc place) seed.class in
     let behind = preorder (suc (suc place)) siblings ++ rest in
-    let one = passed depth (suc place) (suc count) (suc element) seed.class inner kids behind (last_own path (suc place) seed.class) in
+    let one = passed depth (suc place) (suc (suc place)) (suc count) (suc element) seed.class false inner kids behind (last_own path (suc place) seed.class)
+    (omega arith) (lt-leb (suc (suc (suc place))) (suc (suc place)) (omega arith)) in
     let back : (other : ℕ) → other ≤ place → one.ends other ≡ path other =
     λ other le. one.outer other (omega arith) ∙ last_earlier path (suc place) other seed.class (omega arith) in
-    let two = passed depth place (suc count + count_of kids) (suc element + count_of kids) class one.ends siblings rest (back place (omega arith) ∙ is) in
-    let own = at_element element (growth_refusal class (depth + place) count) in
-    let below = refusal_below seed.class (suc (depth + place)) (suc count) (suc element) kids in
-    let after = refusal_below class (depth + place) (suc count + count_of kids) (suc element + count_of kids) siblings in
-    let last = refusal_along depth two.ends (suc count + count_of kids + count_of siblings) (suc element + count_of kids + count_of siblings) rest in
+    let two = passed depth place one.last (suc count + count_of kids) (suc element + count_of kids) class true one.ends siblings rest (back place (omega arith) ∙ is)
+    (let d = one.deep in omega arith) (le-leb (suc (suc place)) one.last (let d = one.deep in omega arith)) in
+    let own = at_element element (growth_refusal class occupied (depth + place) count) in
+    let below = refusal_below seed.class false (suc (depth + place)) (suc count) (suc element) kids in
+    let after = refusal_below class true (depth + place) (suc count + count_of kids) (suc element + count_of kids) siblings in
+    let last = refusal_along depth two.last two.ends (suc count + count_of kids + count_of siblings) (suc element + count_of kids + count_of siblings) rest in
     let deeper : depth + suc place ≡ suc (depth + place) = omega arith in
     let counts : suc count + count_of kids + count_of siblings ≡ count + count_of (Branch seed kids siblings) = omega arith in
     let elements : suc element + count_of kids + count_of siblings ≡ element + count_of (Branch seed kids siblings) = omega arith in
-    let first : refusal_along depth path count element (preorder (suc (suc place)) (Branch seed kids siblings) ++ rest)
-    ≡ option_or own (refusal_along depth inner (suc count) (suc element) ((preorder (suc (suc (suc place))) kids ++ preorder (suc (suc place)) siblings) ++ rest)) =
-    rw (here, there, is) refl in
+    let first : refusal_along depth before path count element (preorder (suc (suc place)) (Branch seed kids siblings) ++ rest)
+    ≡ option_or own (refusal_along depth (suc (suc place)) inner (suc count) (suc element) ((preorder (suc (suc (suc place))) kids ++ preorder (suc (suc place)) siblings) ++ rest)) =
+    rw (here, there, is, has) refl in
     record {
+      last = two.last;
+      deep = two.deep;
       ends = two.ends;
       outer = λ other le. two.outer other le ∙ back other le;
       same = first
-          ∙ ap (λ list. option_or own (refusal_along depth inner (suc count) (suc element) list)) (append_assoc (preorder (suc (suc (suc place))) kids) (preorder (suc (suc place)) siblings) rest)
+          ∙ ap (λ list. option_or own (refusal_along depth (suc (suc place)) inner (suc count) (suc element) list)) (append_assoc (preorder (suc (suc (suc place))) kids) (preorder (suc (suc place)) siblings) rest)
           ∙ ap (option_or own) (one.same
-          ∙ ap (λ deep. option_or (refusal_below seed.class deep (suc count) (suc element) kids) (refusal_along depth one.ends (suc count + count_of kids) (suc element + count_of kids) behind)) deeper
+          ∙ ap (λ deep. option_or (refusal_below seed.class false deep (suc count) (suc element) kids) (refusal_along depth one.last one.ends (suc count + count_of kids) (suc element + count_of kids) behind)) deeper
           ∙ ap (option_or below) two.same
           ∙ sym (or_assoc below after last))
           ∙ sym (or_assoc own (option_or below after) last)
-          ∙ ap (λ n. option_or (option_or own (option_or below after)) (refusal_along depth two.ends n (suc element + count_of kids + count_of siblings) rest)) counts
-          ∙ ap (λ n. option_or (option_or own (option_or below after)) (refusal_along depth two.ends (count + count_of (Branch seed kids siblings)) n rest)) elements;
+          ∙ ap (λ n. option_or (option_or own (option_or below after)) (refusal_along depth two.last two.ends n (suc element + count_of kids + count_of siblings) rest)) counts
+          ∙ ap (λ n. option_or (option_or own (option_or below after)) (refusal_along depth two.last two.ends (count + count_of (Branch seed kids siblings)) n rest)) elements;
     }
 
--- what stands below the outermost view of a sapling, whose class and depth these are
+-- what stands below the outermost view of a sapling, whose class and depth these are, and which has no child yet
 pub refusal_is : (depth count : ℕ) (class : Class) (path : ℕ → Class) (kids : Forest Seed) (sprouts : List Sprout) → path 0 ≡ class → preorder 2 kids ≡ sprouts
-    → refusal_along depth path count 2 sprouts ≡ refusal_below class depth count 2 kids
+    → refusal_along depth 1 path count 2 sprouts ≡ refusal_below class false depth count 2 kids
 refusal_is depth count class path kids sprouts is same =
-    let p = passed depth 0 count 2 class path kids [] is in
+    let p = passed depth 0 1 count 2 class false path kids [] is (omega arith) refl in
     let flat : depth + 0 ≡ depth = omega arith in
-    ap (refusal_along depth path count 2) (sym same ∙ sym (append-nil (preorder 2 kids)))
-    ∙ p.same ∙ or_none (refusal_below class (depth + 0) count 2 kids)
-    ∙ ap (λ deep. refusal_below class deep count 2 kids) flat
+    ap (refusal_along depth 1 path count 2) (sym same ∙ sym (append-nil (preorder 2 kids)))
+    ∙ p.same ∙ or_none (refusal_below class false (depth + 0) count 2 kids)
+    ∙ ap (λ deep. refusal_below class false deep count 2 kids) flat

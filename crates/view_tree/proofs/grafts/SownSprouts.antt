@@ -1,8 +1,8 @@
 -- A tree to which some views of a sapling have come.
-use Rattle.std.proofs.Common.{◌≡◌, ◌≢◌, ℕ, suc, ◌+◌, ◌-◌, ◌<◌, ◌≤◌, true, List, [], ◌∷◌, length, Some, None, refl, sym, ◌∙◌, ap, subst, arith, ◌⊎◌, inl, inr}
-use Rattle.std.proofs.lemmas.Bool.{cases_eq, cases_lt}
+use Rattle.std.proofs.Common.{◌≡◌, ◌≢◌, ℕ, suc, ◌+◌, ◌-◌, ◌<◌, ◌≤◌, true, false, List, [], ◌∷◌, length, Some, None, refl, sym, ◌∙◌, ap, subst, arith, ◌⊎◌, inl, inr}
+use Rattle.std.proofs.lemmas.Bool.{cases_eq, cases_lt, le-leb, lt-leb}
 use Rattle.std.proofs.lemmas.List.{get_or-replicate, get_or-set_other, get_or-set_same, length-set}
-use Rattle.std.specs.Prelude.{replicate, slice_index_or, slice_set}
+use Rattle.std.specs.Prelude.{nat_le, replicate, slice_index_or, slice_set}
 use Rattle.view_model.specs.declared.limits.TheConstants.{MAX_DEPTH}
 use Rattle.view_model.specs.declared.kinds.Class.{Class}
 use Rattle.view_model.specs.declared.sprout.Sprout.{Sprout}
@@ -12,9 +12,10 @@ use Rattle.view_model.specs.PlainTree.{PlainView, grown, single}
 use Rattle.view_model.specs.Sprouts.{Seed, follows, numbered, preorder, seed_of, view_of}
 use Rattle.view_tree.specs.Attached.{Attached}
 use Rattle.view_tree.specs.Grafted.{Gained}
-use Rattle.view_tree.specs.Rows.{Row, ancestors, count_of_key, count_of_number, head_view, leaf, part_from}
+use Rattle.view_tree.specs.Rows.{Row, ancestors, count_of_key, count_of_number, grown_at_key, has_kids, head_view, leaf, part_from}
 use Rattle.view_tree.specs.Sowing.{FitsBelow}
 use Rattle.view_tree.specs.Views.{Held, Views, IsLive, IsTree, class_of, held_of, number_of, plain_of, plain_rows}
+use Rattle.view_tree.proofs.forest.ChildLaws.{has_kids-grown, has_kids-new, has_kids-parent}
 use Rattle.view_tree.proofs.forest.DepthLaws.{ancestors-grown, ancestors-leaf}
 use Rattle.view_tree.proofs.forest.GrownParts.{count_of_key-grown_more, head_view-grown, head_view-leaf, head_view-new}
 use Rattle.view_tree.proofs.forest.KeyLaws.{number_live, number_self}
@@ -87,12 +88,13 @@ pub record Sowing (start : Views) (outermost : ℕ) (all : List Sprout) (keys : 
   pub numbers : ℕ → ℕ
   pub classes : ℕ → Class
   pub entries : (place : ℕ) → place < before → Entry now (slice_index_or keys place 0) (numbers place) (classes place) (length (ancestors outermost start.tree) + place)
+  pub occupied : (place : ℕ) → place < before → has_kids (slice_index_or keys place 0) now.tree ≡ nat_le (suc (suc place)) before
   pub long : length keys ≡ MAX_DEPTH
   pub shallow : before ≤ MAX_DEPTH
   pub follow : follows before rest ≡ true
   pub sown : sown now.next numbers (plain_of now) rest ≡ sown start.next (λ _. number_of start outermost) (plain_of start) all
   pub element : ℕ
-  pub taken : refusal_along (suc (length (ancestors outermost start.tree))) classes (count_of now.tree) element rest ≡ None
+  pub taken : refusal_along (suc (length (ancestors outermost start.tree))) before classes (count_of now.tree) element rest ≡ None
   pub next : now.next + length rest ≡ start.next + length all
   pub added : Forest Row
   pub gained : Gained start (Some outermost) added now
@@ -112,6 +114,9 @@ sowing_start start outermost all keys live every follow fits =
           let flat : high ≡ high + place = omega arith in
           subst (λ key. Entry start key (number_of start outermost) (class_of start outermost) (high + place)) (sym (read place less))
           (subst (Entry start outermost (number_of start outermost) (class_of start outermost)) flat own);
+      occupied = λ place less.
+          let first : place ≡ 0 = omega arith in
+          rw (read place less, first) fits.childless;
       long = ap length every;
       shallow = omega arith;
       follow = follow;
@@ -145,18 +150,25 @@ module _ (start : Views) (outermost : ℕ) (all : List Sprout) (keys : List ℕ)
   entry : Entry now parent (so_far.numbers (sprout.depth - 2)) (so_far.classes (sprout.depth - 2)) (high + (sprout.depth - 2))
   entry = so_far.entries (sprout.depth - 2) (let d = place_of.deep in let n = place_of.next in omega arith)
 
-  parts : (growth_refusal (so_far.classes (sprout.depth - 2)) (suc high + (sprout.depth - 2)) (count_of now.tree) ≡ None)
-      × (refusal_along (suc high) (with_last so_far.classes (sprout.depth - 1) sprout.class) (suc (count_of now.tree)) (suc so_far.element) more ≡ None)
+  parts : (growth_refusal (so_far.classes (sprout.depth - 2)) (nat_le sprout.depth so_far.before) (suc high + (sprout.depth - 2)) (count_of now.tree) ≡ None)
+      × (refusal_along (suc high) sprout.depth (with_last so_far.classes (sprout.depth - 1) sprout.class) (suc (count_of now.tree)) (suc so_far.element) more ≡ None)
   parts = first_none so_far.element _ _ so_far.taken
 
-  taken_here : growth_refusal (head_view (part_from parent now.tree)).class (suc (length (ancestors parent now.tree))) (count_of now.tree) ≡ None
+  occupied_here : has_kids parent now.tree ≡ nat_le sprout.depth so_far.before
+  occupied_here =
+      let d = place_of.deep in
+      let n = place_of.next in
+      let own : suc (suc (sprout.depth - 2)) ≡ sprout.depth = omega arith in
+      so_far.occupied (sprout.depth - 2) (omega arith) ∙ ap (λ d. nat_le d so_far.before) own
+
+  taken_here : growth_refusal (head_view (part_from parent now.tree)).class (has_kids parent now.tree) (suc (length (ancestors parent now.tree))) (count_of now.tree) ≡ None
   taken_here =
       let height : suc (length (ancestors parent now.tree)) ≡ suc high + (sprout.depth - 2) = let e = entry.deep in omega arith in
-      rw (height, entry.class_is) parts.0
+      rw (height, entry.class_is, occupied_here) parts.0
 
   shallow_here : sprout.depth ≤ MAX_DEPTH
   shallow_here =
-      let g = grows (so_far.classes (sprout.depth - 2)) (suc high + (sprout.depth - 2)) (count_of now.tree) parts.0 in
+      let g = grows (so_far.classes (sprout.depth - 2)) (nat_le sprout.depth so_far.before) (suc high + (sprout.depth - 2)) (count_of now.tree) parts.0 in
       let low = g.1 in
       let d = place_of.deep in
       omega arith
@@ -168,6 +180,35 @@ module _ (start : Views) (outermost : ℕ) (all : List Sprout) (keys : List ℕ)
     live = entry.live;
     taken = refusal_live now parent is entry.live ∙ taken_here;
   }
+
+  -- which views have a child once it has come
+  occupied_on : (key : ℕ) (new : Views) → Attached now (Some parent) (view_of now.next (seed_of sprout)) key new
+      → (place : ℕ) → place < sprout.depth - 1 → has_kids (slice_index_or keys place 0) new.tree ≡ nat_le (suc (suc place)) sprout.depth
+  occupied_on key new came place less =
+      let d = place_of.deep in
+      let n = place_of.next in
+      let view = view_of now.next (seed_of sprout) in
+      let other = slice_index_or keys place 0 in
+      let there = so_far.entries place (omega arith) in
+      let has : nat_le (suc (suc place)) sprout.depth ≡ true = le-leb (suc (suc place)) sprout.depth (omega arith) in
+      ap (has_kids other) came.tree ∙ elim (cases_eq other parent) [
+        | inl e ↦ ap (λ k. has_kids k (grown_at_key parent (leaf key view) now.tree)) e ∙ has_kids-parent parent (leaf key view) now.tree entry.live refl ∙ sym has
+        | inr ne ↦
+            let none : count_of_key other (leaf key view) ≡ 0 = count_of_key-leaf_other other key view
+            (λ e. let unused = came.unused in let z : count_of_key other now.tree ≡ 0 = rw e unused in let l = there.live in absurd (omega arith)) in
+            has_kids-grown other parent (leaf key view) now.tree ne none ∙ so_far.occupied place (omega arith)
+            ∙ le-leb (suc (suc place)) so_far.before (inner place less ne) ∙ sym has
+      ]
+    where
+      -- the parent is the last of these places
+      inner : (place : ℕ) → place < sprout.depth - 1 → slice_index_or keys place 0 ≢ parent → suc (suc place) ≤ so_far.before
+      inner place less ne =
+          let d = place_of.deep in
+          let n = place_of.next in
+          elim (cases_eq place (sprout.depth - 2)) [
+            | inl e ↦ absurd (ne (ap (λ p. slice_index_or keys p 0) e))
+            | inr apart ↦ omega arith
+          ]
 
   -- one more has come
   pub sow_on : (place key : ℕ) (new : Views) → place ≡ sprout.depth - 1 → Attached now (Some parent) (view_of now.next (seed_of sprout)) key new
@@ -202,6 +243,13 @@ module _ (start : Views) (outermost : ℕ) (all : List Sprout) (keys : List ℕ)
               rw (outer other ne, last_earlier so_far.numbers place other now.next (omega arith), last_earlier so_far.classes place other sprout.class (omega arith))
               (entry_kept now new parent key view entry.live came (slice_index_or keys other 0) (so_far.numbers other) (so_far.classes other) (high + other)
               (so_far.entries other (omega arith)))
+        ];
+        occupied = λ other less. elim (cases_eq other place) [
+          | inl e ↦
+              let none : nat_le (suc (suc other)) sprout.depth ≡ false = lt-leb (suc (suc other)) sprout.depth (omega arith) in
+              let at_key : slice_index_or (slice_set keys place key) other 0 ≡ key = rw e own in
+              ap (λ k. has_kids k new.tree) at_key ∙ ap (has_kids key) came.tree ∙ has_kids-new key parent view now.tree entry.live came.unused ∙ sym none
+          | inr ne ↦ ap (λ k. has_kids k new.tree) (outer other ne) ∙ occupied_on key new came other (omega arith)
         ];
         long = length-set keys place key ∙ so_far.long;
         shallow = s;

@@ -1,17 +1,18 @@
 -- What every tree keeps, after edits.
 use Rattle.std.proofs.Common.{◌≡◌, ℕ, suc, ◌+◌, ◌<◌, ◌≤◌, pos, Bool, true, false, List, [], ◌∷◌, length, Option, Some, None, refl, sym, ◌∙◌, ap, subst, arith, inl, inr}
-use Rattle.std.proofs.lemmas.Bool.{eq-eqb, ne_eqb, cases_eq, cases_Bool, ltb-true, true≢false}
-use Rattle.std.specs.Prelude.{◌==◌, if◌then◌else◌, IfSome, nat_lt, not}
+use Rattle.std.proofs.lemmas.Bool.{eq-eqb, ne_eqb, cases_eq, cases_Bool, ltb-true, not-false, true≢false}
+use Rattle.std.specs.Prelude.{◌==◌, ◌&&◌, if◌then◌else◌, IfSome, nat_lt, not}
 use Rattle.std.specs.Option.{option_map}
 use Rattle.view_model.specs.declared.limits.TheConstants.{MAX_DEPTH, MAX_VIEWS}
 use Rattle.view_model.specs.declared.kinds.Class.{Class}
 use Rattle.view_model.specs.Forest.{Forest, Nothing, Branch, count_of, edited_where, joined, or_else}
-use Rattle.view_model.specs.Growth.{growth_refusal, growth_refusal_of, is_group, refusal_at}
-use Rattle.view_model.specs.Refusals.{refusal_numbered}
-use Rattle.view_model.specs.declared.refusals.TheConstants.{NOT_GROUP, TOO_DEEP, TOO_MANY_VIEWS}
-use Rattle.view_model.specs.PlainTree.{PlainView, depth_of}
-use Rattle.view_tree.specs.Rows.{Row, later_siblings, ancestors, around, children_of_first, pruned_at_key, part_from, grown_at_key, head_view, leaf, changed_at_key, count_of_key, count_of_number, with_child}
+use Rattle.view_model.specs.Growth.{growth_refusal, growth_refusal_of, is_group, refusal_at, takes_one_child}
+use Rattle.view_model.specs.Refusals.{PlainRefusal, refusal_numbered}
+use Rattle.view_model.specs.declared.refusals.TheConstants.{NOT_GROUP, SCROLL_FULL, TOO_DEEP, TOO_MANY_VIEWS}
+use Rattle.view_model.specs.PlainTree.{PlainView, depth_of, has_child}
+use Rattle.view_tree.specs.Rows.{Row, later_siblings, ancestors, around, children_of_first, pruned_at_key, part_from, grown_at_key, has_kids, head_view, leaf, changed_at_key, count_of_key, count_of_number, with_child}
 use Rattle.view_tree.specs.Views.{GroupsOnly, IsLive, IsTree, Unscrolled, Views, held_of, number_of, plain_of}
+use Rattle.view_tree.proofs.forest.ChildLaws.{has_child_live}
 use Rattle.view_tree.proofs.forest.DepthLaws.{ancestors-pruned_at_key, ancestors-grown, ancestors-leaf, depth_live}
 use Rattle.view_tree.proofs.forest.ForestLaws.{every-edited, every-joined, every_branch-edited, every_branch-joined}
 use Rattle.view_tree.proofs.forest.KeyLaws.{absent, or_else_live, zero_or_more}
@@ -176,34 +177,33 @@ pub record Grows (views : Views) (parent : ℕ) : Type 0 where
   pub high : suc (length (ancestors parent views.tree)) < MAX_DEPTH
   pub room : count_of views.tree < MAX_VIEWS
 
-pub grows : (class : Class) (depth count : ℕ) → growth_refusal class depth count ≡ None → (is_group class ≡ true) × (depth < MAX_DEPTH) × (count < MAX_VIEWS)
+passed : (test : Bool) (refusal : PlainRefusal) (later : Option PlainRefusal) → (if test then Some refusal else later) ≡ None → (test ≡ false) × (later ≡ None)
+passed true refusal later none = absurd (cc)
+passed false refusal later none = (refl, none)
+
+pub grows : (class : Class) (occupied : Bool) (depth count : ℕ) → growth_refusal class occupied depth count ≡ None → (is_group class ≡ true) × (depth < MAX_DEPTH) × (count < MAX_VIEWS)
 unfolding growth_refusal
-grows class depth count =
-    elim (is_group class) as (λ g. (if not g then Some (refusal_numbered NOT_GROUP) else (if not (nat_lt depth MAX_DEPTH) then Some (refusal_numbered TOO_DEEP) else (if not (nat_lt count MAX_VIEWS) then Some (refusal_numbered TOO_MANY_VIEWS) else None))) ≡ None
-    → (g ≡ true) × (depth < MAX_DEPTH) × (count < MAX_VIEWS)) [
-      | false ↦ λ none. absurd (cc)
-      | true ↦ elim (nat_lt depth MAX_DEPTH) as (λ d. nat_lt depth MAX_DEPTH ≡ d → (if not d then Some (refusal_numbered TOO_DEEP) else (if not (nat_lt count MAX_VIEWS) then Some (refusal_numbered TOO_MANY_VIEWS) else None)) ≡ None
-          → (true ≡ true) × (depth < MAX_DEPTH) × (count < MAX_VIEWS)) [
-            | false ↦ λ deep none. absurd (cc)
-            | true ↦ λ deep. elim (nat_lt count MAX_VIEWS) as (λ c. nat_lt count MAX_VIEWS ≡ c → (if not c then Some (refusal_numbered TOO_MANY_VIEWS) else None) ≡ None → (true ≡ true) × (depth < MAX_DEPTH) × (count < MAX_VIEWS)) [
-              | false ↦ λ full none. absurd (cc)
-              | true ↦ λ full none. (refl, ltb-true depth MAX_DEPTH deep, ltb-true count MAX_VIEWS full)
-            ] refl
-          ] refl
-    ]
+grows class occupied depth count none =
+    let group = passed (not (is_group class)) (refusal_numbered NOT_GROUP) _ none in
+    let vacant = passed (takes_one_child class && occupied) (refusal_numbered SCROLL_FULL) _ group.1 in
+    let high = passed (not (nat_lt depth MAX_DEPTH)) (refusal_numbered TOO_DEEP) _ vacant.1 in
+    let room = passed (not (nat_lt count MAX_VIEWS)) (refusal_numbered TOO_MANY_VIEWS) None high.1 in
+    (not-false (is_group class) group.0, ltb-true depth MAX_DEPTH (not-false _ high.0), ltb-true count MAX_VIEWS (not-false _ room.0))
 
 -- why a live parent takes no child
 pub refusal_live : (views : Views) (parent : ℕ) → IsTree views → IsLive views parent
     → refusal_at (plain_of views) (Some (number_of views parent))
-    ≡ growth_refusal (head_view (part_from parent views.tree)).class (suc (length (ancestors parent views.tree))) (count_of views.tree)
+    ≡ growth_refusal (head_view (part_from parent views.tree)).class (has_kids parent views.tree) (suc (length (ancestors parent views.tree))) (count_of views.tree)
 refusal_live views parent is live =
-    ap (λ view. growth_refusal_of view (depth_of (number_of views parent) (plain_of views)) (count_of (plain_of views))) (number_there views parent is live)
-    ∙ ap (λ depth. growth_refusal (head_view (part_from parent views.tree)).class depth (count_of (plain_of views))) (depth_live views parent is live)
-    ∙ ap (λ count. growth_refusal (head_view (part_from parent views.tree)).class (suc (length (ancestors parent views.tree))) count) (plain-count (held_of views) views.tree)
+    ap (λ view. growth_refusal_of view (has_child (number_of views parent) (plain_of views)) (depth_of (number_of views parent) (plain_of views)) (count_of (plain_of views))) (number_there views parent is live)
+    ∙ ap (λ has. growth_refusal (head_view (part_from parent views.tree)).class has (depth_of (number_of views parent) (plain_of views)) (count_of (plain_of views)))
+    (has_child_live views parent is live)
+    ∙ ap (λ depth. growth_refusal (head_view (part_from parent views.tree)).class (has_kids parent views.tree) depth (count_of (plain_of views))) (depth_live views parent is live)
+    ∙ ap (λ count. growth_refusal (head_view (part_from parent views.tree)).class (has_kids parent views.tree) (suc (length (ancestors parent views.tree))) count) (plain-count (held_of views) views.tree)
 
 pub grows_at : (views : Views) (parent : ℕ) → IsTree views → IsLive views parent → refusal_at (plain_of views) (Some (number_of views parent)) ≡ None → Grows views parent
 grows_at views parent is live taken =
-    let all = grows (head_view (part_from parent views.tree)).class (suc (length (ancestors parent views.tree))) (count_of views.tree) (sym (refusal_live views parent is live) ∙ taken) in
+    let all = grows (head_view (part_from parent views.tree)).class (has_kids parent views.tree) (suc (length (ancestors parent views.tree))) (count_of views.tree) (sym (refusal_live views parent is live) ∙ taken) in
     record { group = all.0; high = all.1; room = all.2 }
 
 -- a new view under a parent that takes it

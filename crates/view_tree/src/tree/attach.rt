@@ -15,7 +15,7 @@ use super::{Key, ViewTree};
 use crate::fault::AttachFault;
 use crate::table::make_room;
 use view_model::limits::{MAX_DEPTH, MAX_VIEWS};
-use view_model::refusals::{NOT_GROUP, TOO_DEEP, TOO_MANY_VIEWS};
+use view_model::refusals::{NOT_GROUP, SCROLL_FULL, TOO_DEEP, TOO_MANY_VIEWS};
 use view_model::{Class, Facts, Refusal, Sprout, Text};
 
 impl ViewTree {
@@ -65,7 +65,8 @@ impl ViewTree {
             None => Ok(()),
             Some(parent) => {
                 let class = self.class(parent);
-                growth(class, self.depth(parent), self.len())
+                let occupied = self.first(parent).is_some();
+                growth(class, occupied, self.depth(parent), self.len())
             }
         }
     }
@@ -86,13 +87,16 @@ impl ViewTree {
     }
 }
 
-/// Whether a view of this class and depth may get a child, in a tree of so many views.
+/// Whether a view of this class and depth, which has a child or none, may get one more in a tree of so many views.
 #[tactic(auto, unfolding(view_model::specs::Growth::growth_refusal))]
-pub fn growth(class: Class, depth: usize, count: usize) -> Result<(), Refusal>
-    ensures { RefusesExactlyFor (growth_refusal class depth count) result }
+pub fn growth(class: Class, occupied: bool, depth: usize, count: usize) -> Result<(), Refusal>
+    ensures { RefusesExactlyFor (growth_refusal class occupied depth count) result }
 {
     if !class.is_group() {
         return Err(Refusal::plain(NOT_GROUP));
+    }
+    if class.takes_one_child() && occupied {
+        return Err(Refusal::plain(SCROLL_FULL));
     }
     if depth >= MAX_DEPTH {
         return Err(Refusal::plain(TOO_DEEP));

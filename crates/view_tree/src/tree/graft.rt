@@ -1,5 +1,5 @@
 //! Saplings that come into a tree.
-ghost use Rattle.std.specs.Prelude.{◌≡◌, ◌≤◌, ◌+◌, ◌<◌, true, None, IfOk, IfSome, OnErr};
+ghost use Rattle.std.specs.Prelude.{◌≡◌, ◌≤◌, ◌+◌, ◌<◌, true, false, None, IfOk, IfSome, OnErr};
 ghost use Rattle.std.specs.Option.{option_map};
 ghost use Rattle.view_model.specs.declared.limits.TheConstants.{MAX_DEPTH, MAX_VIEWS, NUMBERS_END};
 ghost use Rattle.view_model.specs.Forest.{Forest, Nothing};
@@ -69,40 +69,52 @@ impl ViewTree {
         let mut depth = 1;
         if let Some(parent) = parent {
             let class = self.class(parent);
+            let occupied = self.first(parent).is_some();
             let above = self.depth(parent);
-            growth_at(1, class, above, self.len())?;
+            growth_at(1, class, occupied, above, self.len())?;
             depth = above + 1;
         }
         growth_below(sprouts[0].class, depth, self.len() + 1, &sprouts[1..])
     }
 }
 
-/// Whether these views may come below the outermost one of their sapling, which has this class and depth, in a tree of so
-/// many views. That is the first element, and they are the second and so on.
+/// Whether these views may come below the outermost one of their sapling, which has this class and depth and no child
+/// yet, in a tree of so many views. That is the first element, and they are the second and so on. The parent of a
+/// sprout has a child where the sprout before it is as deep, or deeper.
 fn growth_below(class: Class, depth: usize, count: usize, sprouts: &[Sprout]) -> Result<(), Refusal>
     requires follow { follows 1 sprouts.now ≡ true }
     requires depth { (1 ≤ depth) × (depth ≤ MAX_DEPTH) }
     requires count { count ≤ MAX_VIEWS + 1 }
-    ensures { (kids : Forest Seed) → preorder 2 kids ≡ sprouts.now → RefusesExactlyFor (refusal_below class depth count 2 kids) result }
+    ensures { (kids : Forest Seed) → preorder 2 kids ≡ sprouts.now → RefusesExactlyFor (refusal_below class false depth count 2 kids) result }
 {
     let mut path = [class; MAX_DEPTH];
     let mut count = count;
     let mut element = 2;
+    let mut before = 1;
     for sprout in sprouts {
         let above = sprout.depth as usize - 2;
-        growth_at(element, path[above], depth + above, count)?;
+        let occupied = sprout.depth <= before;
+        growth_at(element, path[above], occupied, depth + above, count)?;
         path[above + 1] = sprout.class;
+        before = sprout.depth;
         count += 1;
         element += 1;
     }
     Ok(())
 }
 
-/// Whether a view of this class and depth may get a child that is this element, in a tree of so many views.
-fn growth_at(element: u32, class: Class, depth: usize, count: usize) -> Result<(), Refusal>
-    ensures { RefusesExactlyFor (at_element element (growth_refusal class depth count)) result }
+/// Whether a view of this class and depth, which has a child or none, may get one more that is this element, in a tree
+/// of so many views.
+fn growth_at(
+    element: u32,
+    class: Class,
+    occupied: bool,
+    depth: usize,
+    count: usize,
+) -> Result<(), Refusal>
+    ensures { RefusesExactlyFor (at_element element (growth_refusal class occupied depth count)) result }
 {
-    match growth(class, depth, count) {
+    match growth(class, occupied, depth, count) {
         Ok(()) => Ok(()),
         Err(refusal) => Err(Refusal {
             number: refusal.number,

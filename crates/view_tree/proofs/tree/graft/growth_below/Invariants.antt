@@ -6,5 +6,5 @@ use Rattle.view_tree.proofs.tree.graft.growth_below.Given as goal
 abbrev pub invariant-loop-sprout : goal.invariant-loop-sprout
 invariant-loop-sprout l = record {
   index : l.sprout-index ≤ length l.sprouts;
-  left : Left l.depth (refusal_along l.depth (λ _. l.fn.class) l.fn.count 2 l.sprouts) l.path l.count l.element (drop l.sprout-index l.sprouts);
+  left : Left l.depth (refusal_along l.depth 1 (λ _. l.fn.class) l.fn.count 2 l.sprouts) l.before l.path l.count l.element (drop l.sprout-index l.sprouts);
 }
