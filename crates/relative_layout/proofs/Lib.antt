@@ -2,5 +2,8 @@ mod Counting
 mod NamingLaws
 pub mod OrderLaws
 pub mod PlanLaws
-mod ReachingLaws
+mod PartLaws
+mod PointLaws
+mod SearchLaws
+mod SettleLaws
 mod TakingLaws

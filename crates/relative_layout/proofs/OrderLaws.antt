@@ -1,11 +1,11 @@
 -- Orders that have all children, and cycles where there is none.
-use Rattle.std.proofs.Common.{◌≡◌, ◌≢◌, ℕ, zero, suc, ◌+◌, ◌-◌, ◌<◌, ◌≤◌, Bool, true, false, List, [], ◌∷◌, ◌++◌, length, get_or, refl, sym, ◌∙◌, arith, inl, inr, length-append}
-use Rattle.std.proofs.lemmas.Bool.{cases_lt}
+use Rattle.std.proofs.Common.{◌≡◌, ◌≢◌, ℕ, zero, suc, ◌+◌, ◌<◌, ◌≤◌, Bool, true, false, cond, List, [], ◌∷◌, ◌++◌, ◌&&◌, ◌||◌, length, get_or, refl, sym, ◌∙◌, arith, inl, inr, length-append}
+use Rattle.std.proofs.lemmas.Bool.{cases_Bool, cases_lt}
 use Rattle.std.proofs.lemmas.List.{get_or_push, get_or_append_left}
 use Rattle.relative_layout.proofs.NamingLaws.{leads_from, leads_inside, pushed}
 use Rattle.relative_layout.proofs.TakingLaws.{marked-cons, marked-most}
+use Rattle.relative_layout.specs.Parts.{AreMarked, members_with}
 use Rattle.relative_layout.specs.Sorting.{IsLongest}
-use Rattle.relative_layout.specs.Reaching.{AreReaching}
 use Rattle.relative_layout.specs.Taking.{IsTaking, is_marked, marked}
 use Rattle.view_model.specs.declared.relative.Axis.{Axis}
 use Rattle.view_model.specs.declared.relative.Link.{Link}
@@ -65,71 +65,71 @@ some_unmarked [] h = absurd (omega arith)
 some_unmarked (false ∷ marks) h = (0, omega arith, refl)
 some_unmarked (true ∷ marks) h = let k = some_unmarked marks (omega (arith, marked-cons true marks)) in (suc k.0, omega (arith, k.1), k.2)
 
--- one more step at the end
-reach_on : {r : ℕ → ℕ → Bool} {a b c : ℕ} → Reaches r a b → r b c ≡ true → Reaches r a c
-reach_on (AtOnce e) f = Through e (AtOnce f)
-reach_on (Through e w) f = Through e (reach_on w f)
+-- one way behind the other
+pub reach_both : {r : ℕ → ℕ → Bool} {a b c : ℕ} → Reaches r a b → Reaches r b c → Reaches r a c
+reach_both (AtOnce e) v = Through e v
+reach_both (Through e w) v = Through e (reach_both w v)
 
-marked-le : (a b : List Bool) → length a ≡ length b → ((k : ℕ) → is_marked a k ≡ true → is_marked b k ≡ true) → marked a ≤ marked b
-marked-le [] [] e h = omega arith
-marked-le [] (y ∷ b) e h = absurd (omega arith)
-marked-le (x ∷ a) [] e h = absurd (omega arith)
-marked-le (true ∷ a) (false ∷ b) e h = let bad : false ≡ true = h 0 refl in cc
-marked-le (true ∷ a) (true ∷ b) e h = rw (marked-cons true a, marked-cons true b) (omega (arith, marked-le a b (omega arith) (λ k. h (suc k))))
-marked-le (false ∷ a) (y ∷ b) e h = rw (marked-cons false a, marked-cons y b) (omega (arith, marked-le a b (omega arith) (λ k. h (suc k))))
+-- a relation without one of its places: what leads there leads on to where that leads
+abbrev pub around : (ℕ → ℕ → Bool) → ℕ → ℕ → ℕ → Bool
+around r m a b = r a b || (r a m && r m b)
 
-marked-lt : (a b : List Bool) (v : ℕ) → length a ≡ length b → ((k : ℕ) → is_marked a k ≡ true → is_marked b k ≡ true) → v < length a → is_marked a v ≡ false → is_marked b v ≡ true → marked a < marked b
-marked-lt [] b v e h l f t = absurd (omega arith)
-marked-lt (x ∷ a) [] v e h l f t = absurd (omega arith)
-marked-lt (false ∷ a) (true ∷ b) zero e h l f t = rw (marked-cons false a, marked-cons true b) (omega (arith, marked-le a b (omega arith) (λ k. h (suc k))))
-marked-lt (true ∷ a) (y ∷ b) zero e h l f t = cc
-marked-lt (false ∷ a) (false ∷ b) zero e h l f t = cc
-marked-lt (true ∷ a) (false ∷ b) (suc v) e h l f t = let bad : false ≡ true = h 0 refl in cc
-marked-lt (true ∷ a) (true ∷ b) (suc v) e h l f t = rw (marked-cons true a, marked-cons true b) (omega (arith, marked-lt a b v (omega arith) (λ k. h (suc k)) (omega arith) f t))
-marked-lt (false ∷ a) (y ∷ b) (suc v) e h l f t = rw (marked-cons false a, marked-cons y b) (omega (arith, marked-lt a b v (omega arith) (λ k. h (suc k)) (omega arith) f t))
+around_steps : (r : ℕ → ℕ → Bool) (m a b : ℕ) (at_once to from : Bool) → r a b ≡ at_once → r a m ≡ to → r m b ≡ from → (at_once || (to && from)) ≡ true → Reaches r a b
+around_steps r m a b true to from e f g h = AtOnce e
+around_steps r m a b false true true e f g h = Through f (AtOnce g)
+around_steps r m a b false true false e f g h = absurd (cc)
+around_steps r m a b false false from e f g h = absurd (cc)
 
-not_marked : (b : Bool) → (b ≡ true → ⊥) → b ≡ false
-not_marked true h = absurd (h refl)
-not_marked false h = refl
+around_reaches : (r : ℕ → ℕ → Bool) (m : ℕ) {a b : ℕ} → Reaches (around r m) a b → Reaches r a b
+around_reaches r m (AtOnce e) = around_steps r m _ _ _ _ _ refl refl refl e
+around_reaches r m (Through e w) = reach_both (around_steps r m _ _ _ _ _ refl refl refl e) (around_reaches r m w)
 
--- what reaches each place is known
-abbrev pub IsKnown : (ℕ → ℕ → Bool) → ℕ → Type 0
-IsKnown r count = (place : ℕ) → place < count → (marks : List Bool) × (length marks ≡ count) × AreReaching r place marks
+back_in : (r : ℕ → ℕ → Bool) (m : ℕ) → (c : ℕ) × (c < m) × Reaches (around r m) c c → (c : ℕ) × (c < suc m) × Reaches r c c
+back_in r m c = (c.0, omega (arith, c.1), around_reaches r m c.2)
 
--- where each of some places leads to another of them, one of them reaches itself
-stuck : (r : ℕ → ℕ → Bool) (count : ℕ) (U : ℕ → Type 0)
-    → ((a : ℕ) → U a → (b : ℕ) × U b × (r a b ≡ true)) → (small : (a : ℕ) → U a → a < count) → (known : IsKnown r count)
-    → ((a : ℕ) → U a → Reaches r a a → ⊥) → (m a : ℕ) (u : U a) → count - marked (known a (small a u)).0 < m → ⊥
-stuck r count U on small known apart zero a u h = omega arith
-stuck r count U on small known apart (suc m) a u h =
-    let b = on a u in
-    let here = known a (small a u) in
-    let there = known b.0 (small b.0 b.1) in
-    let more : marked here.0 < marked there.0 = marked-lt here.0 there.0 a
-    (here.1 ∙ sym there.1)
-    (λ k t. there.2.whole k (reach_on (here.2.sound k t) b.2))
-    (rw here.1 (small a u))
-    (not_marked (is_marked here.0 a) (λ t. apart a u (here.2.sound a t)))
-    (there.2.whole a (AtOnce b.2)) in
-    stuck r count U on small known apart m b.0 b.1 (omega (arith, marked-most there.0, there.1))
+or_true : (b : Bool) → (b || true) ≡ true
+or_true true = refl
+or_true false = refl
+
+-- where each place that is left below a number leads to another such, one of them reaches itself
+stuck : (m : ℕ) (r : ℕ → ℕ → Bool) (gone : ℕ → Bool) → ((a : ℕ) → a < m → gone a ≡ false → (b : ℕ) × (b < m) × (gone b ≡ false) × (r a b ≡ true))
+    → (a : ℕ) → a < m → gone a ≡ false → (c : ℕ) × (c < m) × Reaches r c c
+stuck zero r gone on a h left = absurd (omega arith)
+stuck (suc m) r gone on a h left = elim (cases_Bool (gone m)) [
+  | inl t ↦
+      let smaller : (b : ℕ) → b < suc m → gone b ≡ false → b < m
+      = (λ b l f. elim (cases_lt b m) [ inl lt ↦ lt | inr le ↦ let same : b ≡ m = omega arith in absurd (let g = rw same at f in let bad : true ≡ false = sym t ∙ g in cc) ]) in
+      let c = stuck m r gone (λ b l f. let w = on b (omega arith) f in (w.0, smaller w.0 w.1 w.2, w.2, w.3)) a (smaller a h left) left in
+      (c.0, omega (arith, c.1), c.2)
+  | inr f ↦
+      let to = on m (omega arith) f in
+      elim (cases_lt to.0 m) [
+        | inr le ↦ let same : to.0 ≡ m = omega (arith, to.1) in (m, omega arith, AtOnce (rw same at to.3))
+        | inl lt ↦
+            back_in r m (stuck m (around r m) gone
+            (λ b l e. let w = on b (omega arith) e in elim (cases_lt w.0 m) [
+              | inl small ↦ (w.0, small, w.2, rw w.3 refl)
+              | inr le ↦ let same : w.0 ≡ m = omega (arith, w.1) in let there : r b m ≡ true = rw same at w.3 in (to.0, lt, to.2, rw (there, to.3) (or_true (r b to.0)))
+            ])
+            to.0 lt to.2)
+      ]
+]
 
 -- an order that is not whole and can't be made longer leaves a cycle
 pub IsCycle-left : (axis : Axis) (kids : List Link) (order members : List ℕ) → length order ≢ length kids → IsLongest (leads axis kids) (length kids) order
-    → IsKnown (leads axis kids) (length kids) → AreMembers (leads axis kids) (length kids) members → IsCycle (leads axis kids) (length kids) members
-IsCycle-left axis kids order members short is known are = record { some = elim (cases_lt 0 (length members)) [ inl lt ↦ lt | inr le ↦ absurd (none le) ]; exact = are }
+    → AreMembers (leads axis kids) (length kids) members → IsCycle (leads axis kids) (length kids) members
+IsCycle-left axis kids order members short is are = record { some = elim (cases_lt 0 (length members)) [ inl lt ↦ lt | inr le ↦ absurd (none le) ]; exact = are }
   where
     none : length members ≤ 0 → ⊥
     none empty =
         let most = marked-most is.taken in
         let few : marked is.taken < length is.taken = (let z = is.partial.size in let y = is.size in omega arith) in
         let k = some_unmarked is.taken few in
-        let start : (k.0 < length kids) × (is_marked is.taken k.0 ≡ false) = (omega (arith, k.1, is.size), k.2) in
-        stuck (leads axis kids) (length kids) (λ a. (a < length kids) × (is_marked is.taken a ≡ false))
-        (λ a u. let w = is.waits a u.0 u.1 in (w.0, (leads_inside axis kids a w.0 w.1, w.2), w.1))
-        (λ a u. u.0)
-        known
-        (λ a u w. let p = are.whole a u.0 w in omega (arith, p.1))
-        (suc (length kids)) k.0 start (omega arith)
+        let c = stuck (length kids) (leads axis kids) (is_marked is.taken)
+        (λ a l f. let w = is.waits a l f in (w.0, leads_inside axis kids a w.0 w.1, w.2, w.1))
+        k.0 (omega (arith, k.1, is.size)) k.2 in
+        let p = are.whole c.0 c.1 c.2 in
+        omega (arith, p.1)
 
 pub AreMembers-none : (r : ℕ → ℕ → Bool) (members : List ℕ) → members ≡ [] → AreMembers r 0 members
 AreMembers-none r members e = rw e (record {
@@ -167,3 +167,12 @@ AreMembers-push r a members reaches are =
         | inr le ↦ (length members, omega arith, get_or_push members a 0 (length members) refl ∙ omega arith)
       ];
     }
+
+-- one place more, by its mark
+pub AreMembers-next : (r : ℕ → ℕ → Bool) (count place : ℕ) (marks : List Bool) (members : List ℕ) → AreMarked r count marks → place < count → AreMembers r place members
+    → AreMembers r (place + 1) (members_with marks place members)
+AreMembers-next r count place marks members marked small are = by_mark (is_marked marks place) refl
+  where
+    by_mark : (mark : Bool) → is_marked marks place ≡ mark → AreMembers r (place + 1) (cond mark (members ++ place ∷ []) members)
+    by_mark true t = AreMembers-push r place members (marked.sound place t) are
+    by_mark false f = AreMembers-skip r place members (λ way. let t = marked.whole place small way in let bad : true ≡ false = sym t ∙ f in cc) are

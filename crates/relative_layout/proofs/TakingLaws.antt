@@ -88,7 +88,7 @@ before_last xs a c ne has = elim (pushed xs a has.0 has.1) [
   | inr w ↦ absurd (ne (sym has.2 ∙ w.1))
 ]
 
-append_at : (xs ys : List ℕ) (k : ℕ) → get_or (xs ++ ys) (length xs + k) 0 ≡ get_or ys k 0
+pub append_at : (xs ys : List ℕ) (k : ℕ) → get_or (xs ++ ys) (length xs + k) 0 ≡ get_or ys k 0
 append_at xs ys k = let back : length xs + k - length xs ≡ k = omega arith in get_or-append_right xs ys (length xs) (length xs + k) 0 refl (omega arith) ∙ ap (λ i. get_or ys i 0) back
 
 pub Has-right : (xs ys : List ℕ) (c : ℕ) → Has ys c → Has (xs ++ ys) c
@@ -195,7 +195,7 @@ IsTaking-one_of axis kids rows left taken todo order place last small fresh read
 
 -- what is still to be done gets less
 
-row-least : (rows : List (List ℕ)) (q : ℕ) → length (row_at rows q) ≤ sum_by length rows
+pub row-least : (rows : List (List ℕ)) (q : ℕ) → length (row_at rows q) ≤ sum_by length rows
 row-least [] q = omega arith
 row-least (row ∷ rows) zero = omega (arith, sum_by-cons length row rows)
 row-least (row ∷ rows) (suc q) = omega (arith, sum_by-cons length row rows, row-least rows q)

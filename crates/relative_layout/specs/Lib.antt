@@ -1,5 +1,6 @@
 pub mod Naming
 pub mod Sorting
-pub mod Reaching
+pub mod Points
+pub mod Parts
 pub mod RelativePlan
 pub mod Taking

@@ -1,15 +1,15 @@
 //! The orders in which the children of a relative layout are measured.
 ghost use Rattle.std.specs.Prelude.{◌≡◌, ◌<◌, ◌≤◌, ◌+◌, ℕ, IfErr, IfOk, List, Bool, OnOk, length};
 ghost use Rattle.relative_layout.specs.Naming.{IsNaming};
+ghost use Rattle.relative_layout.specs.Parts.{members_with};
 ghost use Rattle.relative_layout.specs.Sorting.{IsFaultOf, IsLongest, IsSorting};
-ghost use Rattle.relative_layout.specs.Reaching.{AreReaching};
 ghost use Rattle.view_model.specs.declared.relative.Axis.TheVariants.{Horizontal, Vertical};
 ghost use Rattle.view_model.specs.Orders.{AreMembers, IsAcyclic, IsOrder};
 ghost use Rattle.view_model.specs.SiblingRules.{leads};
 ghost use Rattle.view_model.specs.declared.limits.TheConstants.{MAX_VIEWS};
 
 use crate::naming::Naming;
-use crate::reaching::those_that_reach;
+use crate::parts::marks_of_members;
 use crate::taking::Taking;
 use std::alloc::{AllocError, Global};
 use view_model::{Axis, Link};
@@ -95,33 +95,22 @@ fn longest_order(alloc: Global, kids: &[Link], naming: &Naming) -> Result<Vec<u3
 fn members(alloc: Global, kids: &[Link], naming: &Naming) -> Result<Vec<u32>, AllocError>
     requires few { length kids.now ≤ MAX_VIEWS }
     requires naming { IsNaming kids.now naming.now }
-    ensures members { IfOk result (λ members. AreMembers (leads naming.now.axis kids.now) (length kids.now) members.items) }
-    ensures known { IfOk result (λ members. (place : ℕ) → place < length kids.now
-        → (marks : List Bool) × (length marks ≡ length kids.now) × AreReaching (leads naming.now.axis kids.now) place marks) }
+    ensures { IfOk result (λ members. AreMembers (leads naming.now.axis kids.now) (length kids.now) members.items) }
 {
+    let marks = marks_of_members(alloc, kids, naming)?;
     let mut members = Vec::new(alloc);
     for place in 0..kids.len() {
-        note_member(alloc, kids, naming, &mut members, place)?;
+        note_member(&mut members, &marks, place)?;
     }
     Ok(members)
 }
 
-/// Notes a child if it reaches itself.
-fn note_member(
-    alloc: Global,
-    kids: &[Link],
-    naming: &Naming,
-    members: &mut Vec<u32>,
-    place: usize,
-) -> Result<(), AllocError>
-    requires few { length kids.now ≤ MAX_VIEWS }
-    requires place { place < length kids.now }
-    requires naming { IsNaming kids.now naming.now }
-    requires members { AreMembers (leads naming.now.axis kids.now) place members.old.items }
-    ensures members { OnOk result (AreMembers (leads naming.now.axis kids.now) (place + 1) members.new.items) }
-    ensures known { OnOk result ((marks : List Bool) × (length marks ≡ length kids.now) × AreReaching (leads naming.now.axis kids.now) place marks) }
+/// Notes a child if it is marked.
+fn note_member(members: &mut Vec<u32>, marks: &[bool], place: usize) -> Result<(), AllocError>
+    requires few { place < MAX_VIEWS }
+    requires place { place < length marks.now }
+    ensures { OnOk result (members.new.items ≡ members_with marks.now place members.old.items) }
 {
-    let marks = those_that_reach(alloc, kids, naming, place)?;
     if !marks[place] {
         return Ok(());
     }

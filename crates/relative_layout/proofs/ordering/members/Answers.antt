@@ -1,10 +1,11 @@
-use Rattle.std.proofs.Common.{◌≡◌, List, Bool, length, below_more}
-use Rattle.relative_layout.specs.Reaching.{AreReaching}
+use Rattle.std.proofs.Common.{length}
+use Rattle.relative_layout.proofs.OrderLaws.{AreMembers-next}
 use Rattle.view_model.specs.SiblingRules.{leads}
 use Rattle.relative_layout.proofs.ordering.members.Goals as goal
 
 pub loop-place-preserved : goal.loop-place-preserved
-loop-place-preserved c = record {
-  members = c.in_ok-note_member.ensures.members;
-  known = below_more (λ k. (marks : List Bool) × (length marks ≡ length c.args.kids.now) × AreReaching (leads c.args.naming.now.axis c.args.kids.now) k marks) _ c.loop-place.invariant.known c.in_ok-note_member.ensures.known;
-}
+loop-place-preserved c =
+    let kids = c.args.kids.now in
+    let r = leads c.args.naming.now.axis kids in
+    let next = AreMembers-next r (length kids) c.loop-place.place c.in_ok-marks.marks.items c.loop-place.members.items c.in_ok-marks.ensures.marks c.loop-place-test.true c.loop-place.invariant in
+    rw (c.in_ok-note_member.ensures, c.deref.ensures.value) next

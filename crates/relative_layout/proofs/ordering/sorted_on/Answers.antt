@@ -18,6 +18,5 @@ returns c =
     let order = c.in_ok-order.order.items in
     let short : length order ≢ length kids = search rules in
     let longest = rw c.in_ok-naming.ensures.axis at c.in_ok-order.ensures in
-    let known = rw c.in_ok-naming.ensures.axis at c.in_ok-members.ensures.known in
-    let members = rw c.in_ok-naming.ensures.axis at c.in_ok-members.ensures.members in
-    IsCycle-left c.args.axis kids order c.in_ok-members.members.items short longest known members
+    let members = rw c.in_ok-naming.ensures.axis at c.in_ok-members.ensures in
+    IsCycle-left c.args.axis kids order c.in_ok-members.members.items short longest members

@@ -1,0 +1,13 @@
+use Rattle.std.proofs.Common.{None, length}
+use Rattle.relative_layout.specs.Naming.{lists_of}
+use Rattle.relative_layout.specs.Parts.{IsSearching, Visits, search_effort}
+use Rattle.relative_layout.proofs.parts.Search.leave_all.Given as goal
+
+abbrev pub invariant-loop-part : goal.invariant-loop-part
+invariant-loop-part l = record {
+  search : IsSearching l.kids l.naming l.self None;
+  visits : Visits l.fn.self.standing.items l.self.standing.items;
+}
+
+abbrev pub decreases-loop-part : goal.decreases-loop-part
+decreases-loop-part l = search_effort (lists_of l.naming.namers.items) l.self.standing.items (length l.self.todo.items) (length l.self.parts.items)
