@@ -12,6 +12,7 @@ use Rattle.view_model.specs.declared.kinds.Class.TheVariants as class
 use Rattle.view_model.specs.Facts.{new_facts, takes_part}
 use Rattle.view_model.specs.Geometry.{Laid, without}
 use Rattle.view_model.specs.Growth.{grown_at, is_group, refusal_at}
+use Rattle.view_model.specs.Offsets.{scrolls}
 use Rattle.view_model.specs.PlainTree.{PlainView, numbers_of, part_of, pruned, single, view_in, with_facts, with_text}
 use Rattle.view_model.specs.Refusals.{PlainRefusal, refusal_numbered}
 use Rattle.view_model.specs.declared.refusals.TheConstants.{WRONG_CLASS}
@@ -35,15 +36,6 @@ lays_in_line class.TextView = false
 lays_in_line class.FrameLayout = false
 lays_in_line class.LinearLayout = true
 lays_in_line class.ScrollView = false
-
--- whether a view of this class moves its child up by an offset, and can be told that the child fills it; it answers by moving,
--- and in no other way
-abbrev pub scrolls : Class → Bool
-scrolls class.View = false
-scrolls class.TextView = false
-scrolls class.FrameLayout = false
-scrolls class.LinearLayout = false
-scrolls class.ScrollView = true
 
 -- whether a view of this class has a text
 abbrev pub has_text : Class → Bool

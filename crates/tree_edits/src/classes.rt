@@ -1,6 +1,6 @@
 //! What a view has by its class.
 ghost use Rattle.std.specs.Prelude.{◌≡◌};
-ghost use Rattle.tree_edits.specs.Editing.{has_text, lays_in_line, scrolls, takes, takes_change, takes_flag};
+ghost use Rattle.tree_edits.specs.Editing.{has_text, lays_in_line, takes, takes_change, takes_flag};
 
 use view_model::{Act, Change, Class, Flag};
 
@@ -14,8 +14,8 @@ pub fn takes(class: Class, act: Act) -> bool
         Act::Intercept(_) => class.is_group(),
         Act::WeightSum(_) | Act::Orient { .. } => lays_in_line(class),
         Act::Visible(_) | Act::Id(_) | Act::Rule { .. } => true,
-        Act::Answer(_) => !scrolls(class),
-        Act::Scroll(_) => scrolls(class),
+        Act::Answer(_) => !class.scrolls(),
+        Act::Scroll(_) => class.scrolls(),
         Act::Ink(_) => has_text(class),
     }
 }
@@ -40,16 +40,6 @@ fn lays_in_line(class: Class) -> bool
     }
 }
 
-/// Whether a view of this class moves its child up by an offset.
-fn scrolls(class: Class) -> bool
-    ensures { result ≡ scrolls class }
-{
-    match class {
-        Class::View | Class::TextView | Class::FrameLayout | Class::LinearLayout => false,
-        Class::ScrollView => true,
-    }
-}
-
 fn takes_change(class: Class, change: Change) -> bool
     ensures { result ≡ takes_change class change }
 {
@@ -69,6 +59,6 @@ fn takes_flag(class: Class, flag: Flag) -> bool
 {
     match flag {
         Flag::Clip | Flag::Split => class.is_group(),
-        Flag::Fill => scrolls(class),
+        Flag::Fill => class.scrolls(),
     }
 }

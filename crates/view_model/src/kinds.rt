@@ -18,6 +18,7 @@ pub enum Class {
 impl Class {
     ghost use Rattle.std.specs.Prelude.{◌≡◌};
     ghost use Rattle.view_model.specs.Growth.{is_group, takes_one_child};
+    ghost use Rattle.view_model.specs.Offsets.{scrolls};
 
     /// Whether a view of this class may have children.
     pub fn is_group(self) -> bool
@@ -26,6 +27,16 @@ impl Class {
         match self {
             Class::View | Class::TextView => false,
             Class::FrameLayout | Class::LinearLayout | Class::ScrollView => true,
+        }
+    }
+
+    /// Whether a view of this class moves its child up by an offset.
+    pub fn scrolls(self) -> bool
+        ensures { result ≡ scrolls self }
+    {
+        match self {
+            Class::View | Class::TextView | Class::FrameLayout | Class::LinearLayout => false,
+            Class::ScrollView => true,
         }
     }
 

@@ -22,6 +22,10 @@ pub const NOT_GROUP: u8 = 21;
 pub const SCROLL_FULL: u8 = 22;
 /// An element's name is that of no class.
 pub const UNKNOWN_CLASS: u8 = 23;
+/// The bytes of a saved state are not those of one.
+pub const BAD_STATE: u8 = 26;
+/// A saved state has the offset of a view that is no scroll view.
+pub const STATE_CLASS: u8 = 27;
 /// A line names a view that is not there.
 pub const NO_VIEW: u8 = 28;
 /// A line sets what a view of this class does not have.

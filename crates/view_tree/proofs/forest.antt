@@ -10,6 +10,7 @@ pub mod KeyLaws
 pub mod NumberLaws
 pub mod PartLaws
 pub mod PlainLaws
+pub mod PreorderLaws
 pub mod SearchLaws
 pub mod SiblingLaws
 pub mod Walks

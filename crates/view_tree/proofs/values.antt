@@ -3,4 +3,5 @@ pub mod GeometryLaws
 pub mod HiddenLaws
 pub mod KeptLaws
 pub mod LayoutLaws
+pub mod OffsetLaws
 pub mod ViewsLaws

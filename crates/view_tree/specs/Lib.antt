@@ -5,6 +5,7 @@ pub mod Grafted
 pub mod Hidden
 pub mod Holders
 pub mod Nodes
+pub mod Preorder
 pub mod Rows
 pub mod Sowing
 pub mod Views

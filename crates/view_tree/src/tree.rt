@@ -12,6 +12,7 @@ mod graft;
 mod look_up;
 mod plain;
 mod plant;
+mod preorder;
 mod setters;
 
 use crate::ids::Holders;

@@ -1,8 +1,8 @@
 use Rattle.std.proofs.Common.{◌∙◌, ap, of_z, to_z, w32}
-use Rattle.scroll_offsets.proofs.RangeLaws.{offset_put}
 use Rattle.view_model.specs.declared.facts.Facts.{Facts}
 use Rattle.view_model.specs.ScrollView.{offset_within}
 use Rattle.view_tree.specs.Views.{facts_of}
+use Rattle.view_tree.proofs.values.OffsetLaws.{offset_put}
 use Rattle.scroll_offsets.proofs.bringing.bring_one.Goals as goal
 
 pub returns-clause-same : goal.returns-clause-same

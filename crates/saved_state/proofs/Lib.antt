@@ -1,0 +1,5 @@
+mod EntryLaws
+mod Examples
+mod RestoringLaws
+mod SavingLaws
+mod StateLaws

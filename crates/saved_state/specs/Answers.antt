@@ -1,0 +1,31 @@
+-- What calls answer, by what is defined. Memory may be wanting where something is read.
+use Rattle.std.specs.Prelude.{◌≡◌, ℕ, Bool, true, false, Result, Ok, Err}
+use Rattle.view_model.specs.Refusals.{AtPlace, plain_refusal, refusal_numbered}
+use Rattle.view_model.specs.declared.refusals.TheConstants.{BAD_STATE, STATE_CLASS}
+use Rattle.saved_state.specs.declared.fault.StateFault.{StateFault}
+use Rattle.saved_state.specs.declared.fault.StateFault.TheVariants as fault
+
+-- a fault tells that what stands at this place is wrong
+abbrev pub is_bad_at : ℕ → StateFault → Type 0
+is_bad_at place (fault.Refused refusal) = plain_refusal refusal ≡ record { number = BAD_STATE; reason = AtPlace place }
+is_bad_at place fault.NoMemory = ⊥
+
+-- a fault tells that a view of another class has the id of an entry
+abbrev pub is_other_class : StateFault → Type 0
+is_other_class (fault.Refused refusal) = plain_refusal refusal ≡ refusal_numbered STATE_CLASS
+is_other_class fault.NoMemory = ⊥
+
+-- a fault tells the first wrong place of what is read, or memory was wanting
+abbrev pub FailsAs : {A : Type 0} → Result A ℕ → StateFault → Type 0
+FailsAs read (fault.Refused refusal) = (place : ℕ) × (read ≡ Err place) × is_bad_at place (fault.Refused refusal)
+FailsAs read fault.NoMemory = Unit {0}
+
+-- something was read, or its first wrong place is the answer
+abbrev pub ReadAs : {A : Type 0} → Result A ℕ → Result A StateFault → Type 0
+ReadAs read (Ok made) = read ≡ Ok made
+ReadAs read (Err failed) = FailsAs read failed
+
+-- a state is refused exactly where it is for a view of another class; memory is never wanting
+abbrev pub RestoredUnless : {A : Type 0} → Bool → Result A StateFault → Type 0
+RestoredUnless is_for_other (Ok done) = is_for_other ≡ false
+RestoredUnless is_for_other (Err failed) = (is_for_other ≡ true) × is_other_class failed

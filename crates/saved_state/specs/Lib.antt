@@ -1,0 +1,4 @@
+pub mod Answers
+pub mod Restoring
+pub mod Saving
+pub mod State

@@ -1,0 +1,41 @@
+//! Why a state is not read, or not restored.
+ghost use Rattle.saved_state.specs.Answers.{is_bad_at, is_other_class};
+
+use std::alloc::AllocFailed;
+use view_model::refusals::{BAD_STATE, STATE_CLASS};
+use view_model::{Detail, Refusal};
+
+/// Why a state is not read, or not restored.
+#[derive(Debug, Drop)]
+pub enum StateFault {
+    Refused(Refusal),
+    NoMemory,
+}
+
+impl<T: Drop> From<AllocFailed<T>> for StateFault {
+    ghost use Rattle.std.specs.Prelude.{◌≡◌};
+    ghost use Rattle.saved_state.specs.declared.fault.StateFault.TheVariants.{NoMemory};
+
+    ghost from_gives = { λ _ fault. fault ≡ NoMemory };
+
+    fn from(_error: AllocFailed<T>) -> StateFault {
+        StateFault::NoMemory
+    }
+}
+
+/// The field at this place is cut short or wrong, or does not belong to the state any more.
+pub fn bad_state(place: usize) -> StateFault
+    ensures { is_bad_at place result }
+{
+    StateFault::Refused(Refusal {
+        number: BAD_STATE,
+        detail: Detail::At(place),
+    })
+}
+
+/// Some view has the id of an entry, and no scroll view has it.
+pub fn other_class() -> StateFault
+    ensures { is_other_class result }
+{
+    StateFault::Refused(Refusal::plain(STATE_CLASS))
+}
