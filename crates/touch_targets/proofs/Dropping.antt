@@ -1,0 +1,196 @@
+-- A walk over the targets of a group that takes pointers away from each.
+use Rattle.std.proofs.Common.{◌≡◌, ◌≢◌, ℕ, ◌<◌, length, arith, true, false, List, [], ◌∷◌, ◌++◌, Option, Some, None, IsSome, map, refl, sym, ◌∙◌, ap, subst, inl, inr}
+use Rattle.std.specs.Prelude.{◌==◌, ◌&&◌, if◌then◌else◌}
+use Rattle.std.proofs.lemmas.Bool.{cases_Bool, cases_eq, eq-eqb, ne_eqb}
+use Rattle.std.proofs.lemmas.List.{append_assoc, append-nil, map-append}
+use Rattle.slab.specs.Slab.{Slab, get}
+use Rattle.touch_targets.specs.Nodes.{AreLinked, Chain, caught_at, caught_by, caught_in_place, has_place, left_at, places_by, places_from, view_of, without_place}
+use Rattle.touch_targets.specs.Seats.{Caught, drop_caught, mask_without}
+use Rattle.touch_targets.specs.declared.node.Node.{Node}
+use Rattle.touch_targets.proofs.Chains.{first_of, from_start, has_apart, map_same, no_some, some_is, starts_at, there, true_not_false}
+use Rattle.touch_targets.proofs.Removing.{elsewhere}
+use Rattle.touch_targets.proofs.Unlinking.{has_behind, without_behind}
+use Rattle.touch_targets.proofs.Walks.{Here, Walk, chain_ahead, here, last_end, node_here, walk_start, whole_here}
+
+-- the pool as it was, and the pool once the walk has come to this place
+pub record Drops (old new : Slab Node) (group ids : ℕ) (previous at : Option ℕ) : Type 0 where
+  pub linked : AreLinked new
+  pub opened : IsSome (get new group)
+  pub walk : Walk new group previous at
+  pub dropped : map (λ p. caught_at (get new p)) walk.front ++ drop_caught ids (map (λ p. caught_at (get new p)) walk.back) ≡ drop_caught ids (caught_by old group)
+  pub others : (x : ℕ) → x ≢ group → caught_by new x ≡ caught_by old x
+  pub views : (x : ℕ) → view_of (get new x) ≡ view_of (get old x)
+
+pub drops_start : (s : Slab Node) (group ids : ℕ) (g : Node) → AreLinked s → get s group ≡ Some g → Drops s s group ids None g.newest
+drops_start s group ids g linked is = record {
+  linked = linked;
+  opened = rw is refl;
+  walk = walk_start s group g linked is;
+  dropped = refl;
+  others = λ x apart. refl;
+  views = λ x. refl;
+}
+
+-- a place stands once among others
+front_lacks : (at : ℕ → Option Node) (g : ℕ) (start : Option ℕ) (place : ℕ) (front back : List ℕ) → Chain at g start (front ++ place ∷ back) → has_place place front ≡ false
+front_lacks at g start place [] back c = refl
+front_lacks at g start place (q ∷ front) back c =
+    let apart : place ≢ q = has_apart q place (front ++ place ∷ back) (has_behind place front back) c.1 in
+    rw (ne_eqb place q apart) (front_lacks at g c.2.next place front back c.5)
+
+-- what becomes of one captured child
+drop_first : (ids : ℕ) (c : Caught) (caught : List Caught) → drop_caught ids (c ∷ caught)
+    ≡ (if mask_without c.ids ids == 0 then drop_caught ids caught else record { child = c.child; ids = mask_without c.ids ids } ∷ drop_caught ids caught)
+drop_first ids c caught = elim (cases_Bool (mask_without c.ids ids == 0)) [ inl is ↦ rw is refl | inr is ↦ rw is refl ]
+
+module _
+    (s t u : Slab Node) (group ids place : ℕ) (previous : Option ℕ) (n : Node)
+    (drops : Drops s t group ids previous (Some place))
+    (is : get t place ≡ Some n)
+    (linked : AreLinked u)
+    (places : (x : ℕ) → places_by u x ≡ (if left_at t place ids == 0 && x == group then without_place place (places_by t x) else places_by t x))
+    (others : (x : ℕ) → x ≢ place → caught_at (get u x) ≡ caught_at (get t x))
+    (own : left_at t place ids ≢ 0 → caught_at (get u place) ≡ caught_in_place (get t place) (left_at t place ids))
+    (views : (x : ℕ) → view_of (get u x) ≡ view_of (get t x)) where
+  at : Here t group place drops.walk.back
+  at = here t group previous place drops.linked drops.opened drops.walk
+
+  whole : places_by t group ≡ drops.walk.front ++ place ∷ at.back
+  whole = whole_here t group previous place drops.walk at
+
+  whole_chain : Chain (get t) group (first_of (places_by t group)) (drops.walk.front ++ place ∷ at.back)
+  whole_chain =
+      let g = there (get t group) drops.opened in
+      let chained = drops.linked.chained group g.value g.is in
+      subst (Chain (get t) group (first_of (places_by t group))) whole
+      (subst (λ o. Chain (get t) group o (places_by t group)) (starts_at (get t) group g.value.newest (places_by t group) chained) chained)
+
+  same_at : (ps : List ℕ) → has_place place ps ≡ false → map (λ p. caught_at (get u p)) ps ≡ map (λ p. caught_at (get t p)) ps
+  same_at ps lacks = map_same (λ p. caught_at (get u p)) (λ p. caught_at (get t p)) ps (λ p has. others p (has_apart place p ps has lacks))
+
+  still_open : IsSome (get u group)
+  still_open = view_open (get u group) (get t group) (views group) drops.opened
+    where
+      view_open : (new old : Option Node) → view_of new ≡ view_of old → IsSome old → IsSome new
+      view_open None (Some m) e h = absurd (cc)
+      view_open None None e h = h
+      view_open (Some m) old e h = refl
+
+  -- what is captured ahead and behind stays
+  same_back : map (λ p. caught_at (get u p)) at.back ≡ map (λ p. caught_at (get t p)) at.back
+  same_back = same_at at.back at.lacks
+
+  same_front : map (λ p. caught_at (get u p)) drops.walk.front ≡ map (λ p. caught_at (get t p)) drops.walk.front
+  same_front = same_at drops.walk.front (front_lacks (get t) group (first_of (places_by t group)) place drops.walk.front at.back whole_chain)
+
+  next_chain : Chain (get t) group n.next at.back
+  next_chain = node_here t group previous place drops.walk at n is
+
+  -- the walk's equation, with the target at which it is taken off
+  equation : map (λ p. caught_at (get t p)) drops.walk.front
+      ++ (if left_at t place ids == 0 then drop_caught ids (map (λ p. caught_at (get t p)) at.back)
+      else record { child = (caught_at (get t place)).child; ids = left_at t place ids } ∷ drop_caught ids (map (λ p. caught_at (get t p)) at.back))
+      ≡ drop_caught ids (caught_by s group)
+  equation =
+      ap (λ l. map (λ p. caught_at (get t p)) drops.walk.front ++ l)
+      (sym (ap (λ ps. drop_caught ids (map (λ p. caught_at (get t p)) ps)) at.first ∙ drop_first ids (caught_at (get t place)) (map (λ p. caught_at (get t p)) at.back)))
+      ∙ drops.dropped
+
+  others_on : (x : ℕ) → x ≢ group → caught_by u x ≡ caught_by s x
+  others_on x apart =
+      let now = places x in
+      let same : places_by u x ≡ places_by t x =
+      elim (cases_Bool (left_at t place ids == 0)) [ inl zero ↦ rw (zero, ne_eqb x group apart) at now | inr some ↦ rw some at now ] in
+      ap (map (λ p. caught_at (get u p))) same
+      ∙ same_at (places_by t x) (elsewhere t drops.linked group x place n is (ap (λ (n : Node). n.group) (some_is (sym is ∙ at.is)) ∙ at.group_is) apart)
+      ∙ drops.others x apart
+
+  views_on : (x : ℕ) → view_of (get u x) ≡ view_of (get s x)
+  views_on x = views x ∙ drops.views x
+
+  dropped_here : left_at t place ids == 0 ≡ true → Drops s u group ids previous n.next
+  dropped_here zero =
+      let now = places group in
+      let gone : places_by u group ≡ drops.walk.front ++ at.back =
+      (rw (zero, eq-eqb group group refl) at now) ∙ ap (without_place place) whole
+      ∙ without_behind (get t) group (first_of (places_by t group)) place drops.walk.front at.back whole_chain in
+      record {
+        linked = linked;
+        opened = still_open;
+        walk = record {
+          front = drops.walk.front;
+          back = at.back;
+          whole = gone;
+          before = drops.walk.before;
+          ahead = starts_at (get t) group n.next at.back next_chain;
+        };
+        dropped = rw (same_front, same_back) (rw zero at equation);
+        others = others_on;
+        views = views_on;
+      }
+
+  kept_here : left_at t place ids == 0 ≡ false → Drops s u group ids (Some place) n.next
+  kept_here some =
+      let now = places group in
+      let stay : places_by u group ≡ drops.walk.front ++ place ∷ at.back = (rw some at now) ∙ whole in
+      let nonzero : left_at t place ids ≢ 0 = λ e. true_not_false (eq-eqb (left_at t place ids) 0 e) some in
+      let here : caught_at (get u place) ≡ record { child = (caught_at (get t place)).child; ids = left_at t place ids } =
+      own nonzero ∙ rw is refl in
+      record {
+        linked = linked;
+        opened = still_open;
+        walk = record {
+          front = drops.walk.front ++ place ∷ [];
+          back = at.back;
+          whole = stay ∙ sym (append_assoc drops.walk.front (place ∷ []) at.back);
+          before = last_end None drops.walk.front place;
+          ahead = starts_at (get t) group n.next at.back next_chain;
+        };
+        dropped =
+            rw (map-append (λ p. caught_at (get u p)) drops.walk.front (place ∷ []), same_front, same_back, here)
+            (append_assoc (map (λ p. caught_at (get t p)) drops.walk.front) (record { child = (caught_at (get t place)).child; ids = left_at t place ids } ∷ [])
+            (drop_caught ids (map (λ p. caught_at (get t p)) at.back))
+            ∙ (rw some at equation));
+        others = others_on;
+        views = views_on;
+      }
+
+  pub drops_on : Drops s u group ids (if left_at t place ids == 0 then previous else Some place) n.next
+  drops_on = elim (cases_Bool (left_at t place ids == 0)) [ inl zero ↦ rw zero (dropped_here zero) | inr some ↦ rw some (kept_here some) ]
+
+  rest_on : places_from u n.next ≡ at.back
+  unfolding dropped_here kept_here
+  rest_on =
+      elim (cases_Bool (left_at t place ids == 0)) [
+        | inl zero ↦ from_start u group n.next at.back (chain_ahead u group previous n.next linked still_open (dropped_here zero).walk)
+        | inr some ↦ from_start u group n.next at.back (chain_ahead u group (Some place) n.next linked still_open (kept_here some).walk)
+      ]
+
+  pub fewer_on : length (places_from u n.next) < length (places_from t (Some place))
+  fewer_on = rw (rest_on, at.from) (omega arith)
+
+-- a walk that has come to an end has been at all targets
+pub drops_end : (s t : Slab Node) (group ids : ℕ) (previous : Option ℕ) → Drops s t group ids previous None
+    → (x : ℕ) → caught_by t x ≡ (if x == group then drop_caught ids (caught_by s x) else caught_by s x)
+drops_end s t group ids previous drops x =
+    elim (cases_eq x group) [
+      | inl e ↦ rw (eq-eqb x group e) (subst (λ y. caught_by t y ≡ drop_caught ids (caught_by s y)) (sym e) all)
+      | inr ne ↦ rw (ne_eqb x group ne) (drops.others x ne)
+    ]
+  where
+    nothing : (back : List ℕ) → None ≡ first_of back → back ≡ []
+    nothing [] e = refl
+    nothing (p ∷ back) e = no_some refl e
+
+    front : List ℕ
+    front = drops.walk.front
+
+    none : drops.walk.back ≡ []
+    none = nothing drops.walk.back drops.walk.ahead
+
+    all : caught_by t group ≡ drop_caught ids (caught_by s group)
+    all =
+        ap (map (λ p. caught_at (get t p))) (drops.walk.whole ∙ ap (λ l. front ++ l) none ∙ append-nil front)
+        ∙ sym (append-nil (map (λ p. caught_at (get t p)) front))
+        ∙ ap (λ l. map (λ p. caught_at (get t p)) front ++ drop_caught ids (map (λ p. caught_at (get t p)) l)) (sym none)
+        ∙ drops.dropped

@@ -1,0 +1,53 @@
+-- Worked captures, by computation.
+use Rattle.std.specs.Prelude.{◌≡◌, ℕ, Bool, true, false, List, [], ◌∷◌, Some, None, refl, map}
+use Rattle.touch_event.specs.PointerSets.{has_id}
+use Rattle.touch_targets.specs.Captures.{Target, drop_pointers, first_child, from_child, holds, older, order, put_target, without_child}
+
+-- what is told of the targets of a group: each child with the first three of its pointers
+abbrev pointers : (ℕ → Bool) → List Bool
+pointers ids = ids 0 ∷ ids 1 ∷ ids 2 ∷ []
+
+abbrev told : List Target → List (ℕ × List Bool)
+told targets = map (λ (t : Target). (t.child, pointers t.ids)) targets
+
+-- the child 5 is captured by the pointer 0, and then 7 by 1
+abbrev one : List Target
+one = put_target 5 (has_id 1) []
+
+abbrev two : List Target
+two = put_target 7 (has_id 2) one
+
+newest_first : order two ≡ 7 ∷ 5 ∷ []
+newest_first = refl
+
+two_told : told two ≡ (7, false ∷ true ∷ false ∷ []) ∷ (5, true ∷ false ∷ false ∷ []) ∷ []
+unfolding has_id
+two_told = refl
+
+-- one more pointer for the older child leaves the order
+more_told : told (put_target 5 (has_id 4) two) ≡ (7, false ∷ true ∷ false ∷ []) ∷ (5, true ∷ false ∷ true ∷ []) ∷ []
+unfolding has_id
+more_told = refl
+
+holds_one : holds 1 7 two ≡ true
+unfolding has_id
+holds_one = refl
+
+holds_no_other : holds 0 7 two ≡ false
+unfolding has_id
+holds_no_other = refl
+
+behind_newest : first_child (older (from_child 7 two)) ≡ Some 5
+behind_newest = refl
+
+behind_oldest : first_child (older (from_child 5 two)) ≡ None
+behind_oldest = refl
+
+-- the pointer 1 goes up, and with it the child that had no other
+dropped_told : told (drop_pointers (has_id 2) two) ≡ (5, true ∷ false ∷ false ∷ []) ∷ []
+unfolding has_id
+dropped_told = refl
+
+removed_told : told (without_child 5 two) ≡ (7, false ∷ true ∷ false ∷ []) ∷ []
+unfolding has_id
+removed_told = refl

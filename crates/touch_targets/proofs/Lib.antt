@@ -1,0 +1,15 @@
+mod CaughtLaws
+mod Chains
+mod Dropping
+mod Examples
+mod Linking
+mod MaskLaws
+mod Membership
+mod Opening
+mod Pointing
+mod Putting
+mod Removing
+mod Reading
+mod SeatLaws
+mod Unlinking
+mod Walks

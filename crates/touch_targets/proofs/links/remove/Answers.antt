@@ -1,0 +1,5 @@
+use Rattle.touch_targets.proofs.Removing.{caught_free}
+use Rattle.touch_targets.proofs.links.remove.Goals as goal
+
+pub returns-in-None-clause-caught : goal.returns-in-None-clause-caught
+returns-in-None-clause-caught c = caught_free c.args.nodes.now c.args.child c.index.result.now c.requires.linked c.index.ensures c.in-None.is

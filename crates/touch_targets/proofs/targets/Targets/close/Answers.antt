@@ -1,0 +1,69 @@
+use Rattle.std.proofs.Common.{◌≡◌, ◌∙◌, ℕ, [], Some, ap, refl, sym}
+use Rattle.std.proofs.lemmas.Bool.{eq-eqb}
+use Rattle.std.specs.Prelude.{◌==◌, ◌&&◌, if◌then◌else◌, not}
+use Rattle.touch_targets.specs.Captures.{without_child}
+use Rattle.touch_targets.specs.Seats.{is_open, targets_of}
+use Rattle.touch_targets.specs.declared.targets.Targets.TheInside.{Inside}
+use Rattle.touch_targets.proofs.Membership.{closed_targets, closed_view, left_nowhere, left_targets, nothing_caught, nowhere_caught, sound_closed}
+use Rattle.touch_targets.proofs.SeatLaws.{node_of, place_in}
+use Rattle.touch_targets.proofs.targets.Targets.close.Goals as goal
+use Rattle.touch_targets.proofs.targets.Targets.close.Goals.{After-remove, In-Some}
+
+left : (c : After-remove) → (group : ℕ) → targets_of c.remove.new.self group ≡ (if group == c.args.view then [] else without_child c.args.view (targets_of c.args.self.now group))
+left c = left_targets c.args.view (targets_of c.args.self.now) (targets_of c.clear.new.self) (targets_of c.remove.new.self) c.clear.ensures.targets c.remove.ensures.targets
+
+none : (c : After-remove) → targets_of c.remove.new.self c.args.view ≡ []
+none c = left c c.args.view ∙ rw (eq-eqb c.args.view c.args.view refl) refl
+
+opened : (c : After-remove) → (other : ℕ) → is_open c.remove.new.self other ≡ is_open c.args.self.now other
+opened c other = c.remove.ensures.opened other ∙ c.clear.ensures.opened other
+
+place : (c : In-Some) → place_in c.self.inside c.args.view ≡ Some c.in-Some.place
+place c = sym c.forget_place.ensures.value ∙ c.in-Some.is
+
+pub take_out-requires-clause-there : goal.take_out-requires-clause-there
+take_out-requires-clause-there c =
+    rw (node_of c.self.inside c.self.invariant c.args.view c.in-Some.place (place (goal.at.take_out-requires-clause-there c).In-Some)).is refl
+
+pub take_out-requires-clause-empty : goal.take_out-requires-clause-empty
+take_out-requires-clause-empty c =
+    let at = goal.at.take_out-requires-clause-empty c in
+    nothing_caught c.self.inside c.remove.new.self c.args.view c.in-Some.place c.self.view_is (place at.In-Some) (none at.After-remove)
+
+pub take_out-requires-clause-free : goal.take_out-requires-clause-free
+take_out-requires-clause-free c =
+    let at = goal.at.take_out-requires-clause-free c in
+    nowhere_caught c.self.inside c.remove.new.self c.args.view c.in-Some.place c.self.invariant c.self.view_is (place at.In-Some)
+    (left_nowhere c.args.view (targets_of c.clear.new.self) (targets_of c.remove.new.self) c.remove.ensures.targets)
+
+pub invariant_of-self : goal.invariant_of-self
+invariant_of-self c =
+    let b : Inside = record { nodes = c.take_out.new.nodes; places = c.forget_place.new.places } in
+    sound_closed c.self.inside b c.remove.new.self c.args.view c.self.view_is c.forget_place.ensures.forgot c.in-Some.place c.self.invariant
+    (place (goal.at.invariant_of-self c).In-Some) c.take_out.ensures.linked c.take_out.ensures.nodes
+
+pub returns-in-Some-clause-opened : goal.returns-in-Some-clause-opened
+returns-in-Some-clause-opened c = λ other.
+    let b : Inside = record { nodes = c.take_out.new.nodes; places = c.forget_place.new.places } in
+    closed_view c.self.inside b c.remove.new.self c.args.view c.self.view_is c.forget_place.ensures.forgot other
+    ∙ ap (λ x. x && not (other == c.args.view)) (opened (goal.at.returns-in-Some-clause-opened c).After-remove other)
+
+pub returns-in-Some-clause-targets : goal.returns-in-Some-clause-targets
+returns-in-Some-clause-targets c = λ group.
+    let at = goal.at.returns-in-Some-clause-targets c in
+    let b : Inside = record { nodes = c.take_out.new.nodes; places = c.forget_place.new.places } in
+    closed_targets c.self.inside b c.remove.new.self c.args.view c.self.view_is c.forget_place.ensures.forgot c.take_out.ensures.caught (none at.After-remove) group
+    ∙ left at.After-remove group
+
+pub returns-in_default-clause-opened : goal.returns-in_default-clause-opened
+returns-in_default-clause-opened c = λ other.
+    let b : Inside = record { nodes = c.self.inside.nodes; places = c.forget_place.new.places } in
+    closed_view c.self.inside b c.remove.new.self c.args.view c.self.view_is c.forget_place.ensures.forgot other
+    ∙ ap (λ x. x && not (other == c.args.view)) (opened (goal.at.returns-in_default-clause-opened c).After-remove other)
+
+pub returns-in_default-clause-targets : goal.returns-in_default-clause-targets
+returns-in_default-clause-targets c = λ group.
+    let at = goal.at.returns-in_default-clause-targets c in
+    let b : Inside = record { nodes = c.self.inside.nodes; places = c.forget_place.new.places } in
+    closed_targets c.self.inside b c.remove.new.self c.args.view c.self.view_is c.forget_place.ensures.forgot (λ x. refl) (none at.After-remove) group
+    ∙ left at.After-remove group

@@ -1,0 +1,24 @@
+use Rattle.std.proofs.Common.{◌≡◌, ◌∙◌, Some, refl, sym}
+use Rattle.touch_targets.specs.declared.targets.Targets.TheInside.{Inside}
+use Rattle.touch_targets.proofs.SeatLaws.{closed_nowhere, node_of, place_in, removed_targets, same_open}
+use Rattle.touch_targets.proofs.targets.Targets.remove.Goals as goal
+
+pub remove-requires-clause-child : goal.remove-requires-clause-child
+remove-requires-clause-child c =
+    let place : place_in c.self.inside c.args.child ≡ Some c.in-Some.place = sym c.place_of.ensures ∙ c.in-Some.is in
+    rw (node_of c.self.inside c.self.invariant c.args.child c.in-Some.place place).is refl
+
+pub returns-in-Some-clause-opened : goal.returns-in-Some-clause-opened
+returns-in-Some-clause-opened c =
+    same_open c.self.inside (record { nodes = c.remove.new.nodes; places = c.self.inside.places }) c.args.self.now c.self.view_is refl
+
+pub returns-in-Some-clause-targets : goal.returns-in-Some-clause-targets
+returns-in-Some-clause-targets c =
+    let a = c.self.inside in
+    let place : place_in a c.args.child ≡ Some c.in-Some.place = sym c.place_of.ensures ∙ c.in-Some.is in
+    let b : Inside = record { nodes = c.remove.new.nodes; places = a.places } in
+    removed_targets a b c.args.self.now c.args.child c.in-Some.place c.self.invariant c.self.view_is refl place c.remove.ensures.caught
+
+pub returns-in_default-clause-targets : goal.returns-in_default-clause-targets
+returns-in_default-clause-targets c =
+    closed_nowhere c.self.inside c.args.self.now c.self.invariant c.self.view_is c.args.child (sym c.place_of.ensures ∙ c.in_default.is)

@@ -1,0 +1,4 @@
+pub mod Captures
+pub mod Nodes
+pub mod Pool
+pub mod Seats

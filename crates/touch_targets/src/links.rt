@@ -1,0 +1,264 @@
+//! How nodes come among the targets of a group and leave them. A group and a target are named by the places of their nodes.
+ghost use Rattle.std.specs.Prelude.{◌≡◌, ◌≢◌, ◌==◌, ◌&&◌, true, if◌then◌else◌, ℕ, [], ◌∷◌, false, Some, None};
+ghost use Rattle.slab.specs.Slab.{get, ContainsKey, HasRoomFor};
+ghost use Rattle.touch_targets.specs.declared.node.Node.{Node};
+ghost use Rattle.touch_targets.specs.Nodes.{AreLinked, IsBehind, IsTarget, caught_at, caught_by, caught_in_place, changed, fresh_node, has_place, left_at, places_by, relinked, view_at, view_of, without_place, without_caught};
+ghost use Rattle.touch_targets.specs.Seats.{drop_caught, is_caught, mask_with, mask_without, put_caught};
+
+use crate::node::Node;
+use slab::Slab;
+
+fn set_newest(nodes: &mut Slab<Node>, group: usize, newest: Option<usize>)
+    requires { ContainsKey nodes.old group }
+    ensures { (x : ℕ) → get nodes.new x ≡ changed (get nodes.old) group (λ node. record node { newest = newest }) x }
+{
+    let node = &mut nodes[group];
+    node.newest = newest;
+}
+
+fn set_next(nodes: &mut Slab<Node>, place: usize, next: Option<usize>)
+    requires { ContainsKey nodes.old place }
+    ensures { (x : ℕ) → get nodes.new x ≡ changed (get nodes.old) place (λ node. record node { next = next }) x }
+{
+    let node = &mut nodes[place];
+    node.next = next;
+}
+
+fn write_ids(nodes: &mut Slab<Node>, place: usize, ids: u32)
+    requires { ContainsKey nodes.old place }
+    ensures { (x : ℕ) → get nodes.new x ≡ changed (get nodes.old) place (λ node. record node { ids = ids }) x }
+{
+    let node = &mut nodes[place];
+    node.ids = ids;
+}
+
+/// Sets what comes right behind a target, or first where that is none.
+fn set_behind(nodes: &mut Slab<Node>, group: usize, previous: Option<usize>, next: Option<usize>)
+    requires group { ContainsKey nodes.old group }
+    requires previous { (p : ℕ) → previous ≡ Some p → ContainsKey nodes.old p }
+    ensures { (x : ℕ) → get nodes.new x ≡ relinked (get nodes.old) group previous next x }
+{
+    match previous {
+        None => set_newest(nodes, group, next),
+        Some(previous) => set_next(nodes, previous, next),
+    }
+}
+
+/// Makes a node a target of a group, or of none.
+fn set_target(
+    nodes: &mut Slab<Node>,
+    place: usize,
+    group: Option<usize>,
+    next: Option<usize>,
+    ids: u32,
+)
+    requires { ContainsKey nodes.old place }
+    ensures { (x : ℕ) → get nodes.new x ≡ changed (get nodes.old) place (λ node. record node { group = group; next = next; ids = ids }) x }
+{
+    let node = &mut nodes[place];
+    node.group = group;
+    node.next = next;
+    node.ids = ids;
+}
+
+/// Sets the pointers of a target, at least one.
+pub fn set_ids(nodes: &mut Slab<Node>, place: usize, ids: u32)
+    requires linked { AreLinked nodes.old }
+    requires target { IsTarget (get nodes.old place) }
+    requires ids { ids ≢ 0 }
+    ensures linked { AreLinked nodes.new }
+    ensures nodes { (x : ℕ) → get nodes.new x ≡ changed (get nodes.old) place (λ node. record node { ids = ids }) x }
+    ensures places { (x : ℕ) → places_by nodes.new x ≡ places_by nodes.old x }
+{
+    write_ids(nodes, place, ids);
+}
+
+/// Makes a node that is no target the newest target of a group, with these pointers, at least one.
+pub fn link_newest(nodes: &mut Slab<Node>, group: usize, child: usize, ids: u32)
+    requires linked { AreLinked nodes.old }
+    requires group { ContainsKey nodes.old group }
+    requires child { ContainsKey nodes.old child }
+    requires free { (node : Node) → get nodes.old child ≡ Some node → node.group ≡ None }
+    requires ids { ids ≢ 0 }
+    ensures linked { AreLinked nodes.new }
+    ensures caught { (x : ℕ) → caught_by nodes.new x ≡ (if x == group then caught_in_place (get nodes.old child) ids ∷ caught_by nodes.old x else caught_by nodes.old x) }
+    ensures views { (x : ℕ) → view_of (get nodes.new x) ≡ view_of (get nodes.old x) }
+{
+    let next = nodes[group].newest;
+    set_target(nodes, child, Some(group), next, ids);
+    set_newest(nodes, group, Some(child));
+}
+
+/// Takes a target away from its group. `previous` is the target right before it, which is newer, if there is one.
+pub fn unlink(nodes: &mut Slab<Node>, group: usize, previous: Option<usize>, place: usize)
+    requires linked { AreLinked nodes.old }
+    requires group { ContainsKey nodes.old group }
+    requires behind { IsBehind previous place (places_by nodes.old group) }
+    ensures linked { AreLinked nodes.new }
+    ensures places { (x : ℕ) → places_by nodes.new x ≡ (if x == group then without_place place (places_by nodes.old x) else places_by nodes.old x) }
+    ensures others { (x : ℕ) → x ≢ place → caught_at (get nodes.new x) ≡ caught_at (get nodes.old x) }
+    ensures views { (x : ℕ) → view_of (get nodes.new x) ≡ view_of (get nodes.old x) }
+{
+    let next = nodes[place].next;
+    set_behind(nodes, group, previous, next);
+    set_target(nodes, place, None, None, 0);
+}
+
+/// The target right before one of a group, if there is one.
+fn before(nodes: &Slab<Node>, group: usize, place: usize) -> Option<usize>
+    requires linked { AreLinked nodes.now }
+    requires group { ContainsKey nodes.now group }
+    requires there { has_place place (places_by nodes.now group) ≡ true }
+    ensures { IsBehind result place (places_by nodes.now group) }
+{
+    let mut previous = None;
+    let mut at = nodes[group].newest;
+    while let Some(other) = at {
+        if other == place {
+            return previous;
+        }
+        previous = at;
+        at = nodes[other].next;
+    }
+    previous
+}
+
+/// Takes a target away from its group.
+fn unlink_child(nodes: &mut Slab<Node>, group: usize, child: usize)
+    requires linked { AreLinked nodes.old }
+    requires target { (node : Node) → get nodes.old child ≡ Some node → node.group ≡ Some group }
+    requires child { ContainsKey nodes.old child }
+    ensures linked { AreLinked nodes.new }
+    ensures caught { (x : ℕ) → caught_by nodes.new x ≡ without_caught (view_of (get nodes.old child)) (caught_by nodes.old x) }
+    ensures views { (x : ℕ) → view_of (get nodes.new x) ≡ view_of (get nodes.old x) }
+{
+    let previous = before(nodes, group, child);
+    unlink(nodes, group, previous, child);
+}
+
+/// Takes a view away from the group that has captured it, if one has.
+pub fn remove(nodes: &mut Slab<Node>, child: usize)
+    requires linked { AreLinked nodes.old }
+    requires child { ContainsKey nodes.old child }
+    ensures linked { AreLinked nodes.new }
+    ensures caught { (x : ℕ) → caught_by nodes.new x ≡ without_caught (view_of (get nodes.old child)) (caught_by nodes.old x) }
+    ensures views { (x : ℕ) → view_of (get nodes.new x) ≡ view_of (get nodes.old x) }
+{
+    match nodes[child].group {
+        None => (),
+        Some(group) => unlink_child(nodes, group, child),
+    }
+}
+
+/// Captures a view by these pointers, at least one, for a group. It is no target of another.
+pub fn put(nodes: &mut Slab<Node>, group: usize, child: usize, ids: u32)
+    requires linked { AreLinked nodes.old }
+    requires group { ContainsKey nodes.old group }
+    requires child { ContainsKey nodes.old child }
+    requires only { (node : Node) (x : ℕ) → get nodes.old child ≡ Some node → node.group ≡ Some x → x ≡ group }
+    requires ids { ids ≢ 0 }
+    ensures linked { AreLinked nodes.new }
+    ensures caught { (x : ℕ) → caught_by nodes.new x ≡ (if x == group then put_caught (view_at nodes.old child) ids (caught_by nodes.old x) else caught_by nodes.old x) }
+    ensures views { (x : ℕ) → view_of (get nodes.new x) ≡ view_of (get nodes.old x) }
+{
+    match nodes[child].group {
+        None => link_newest(nodes, group, child, ids),
+        Some(_) => {
+            let all = ids_with(nodes[child].ids, ids);
+            set_ids(nodes, child, all);
+        }
+    }
+}
+
+/// Takes the node out of a view that is no target and has none.
+pub fn take_out(nodes: &mut Slab<Node>, place: usize)
+    requires linked { AreLinked nodes.old }
+    requires there { ContainsKey nodes.old place }
+    requires empty { caught_by nodes.old place ≡ [] }
+    requires free { (x : ℕ) → is_caught (view_at nodes.old place) (caught_by nodes.old x) ≡ false }
+    ensures linked { AreLinked nodes.new }
+    ensures nodes { (x : ℕ) → get nodes.new x ≡ (if x == place then None else get nodes.old x) }
+    ensures caught { (x : ℕ) → caught_by nodes.new x ≡ caught_by nodes.old x }
+{
+    nodes.remove(place);
+}
+
+/// Puts in the node of a view that has none yet, where there is room. The answer is its place.
+pub fn put_in(nodes: &mut Slab<Node>, view: u64) -> usize
+    requires room { HasRoomFor nodes.old 1 }
+    requires linked { AreLinked nodes.old }
+    requires unknown { (x : ℕ) (node : Node) → get nodes.old x ≡ Some node → node.view ≢ view }
+    ensures linked { AreLinked nodes.new }
+    ensures unused { get nodes.old result ≡ None }
+    ensures nodes { (x : ℕ) → get nodes.new x ≡ (if x == result then Some (fresh_node view) else get nodes.old x) }
+    ensures caught { (x : ℕ) → caught_by nodes.new x ≡ caught_by nodes.old x }
+{
+    nodes.insert_reserved(Node {
+        view,
+        newest: None,
+        group: None,
+        next: None,
+        ids: 0,
+    })
+}
+
+/// Takes pointers away from all targets of a group, and the targets that have no others.
+pub fn drop_ids(nodes: &mut Slab<Node>, group: usize, ids: u32)
+    requires linked { AreLinked nodes.old }
+    requires group { ContainsKey nodes.old group }
+    ensures linked { AreLinked nodes.new }
+    ensures caught { (x : ℕ) → caught_by nodes.new x ≡ (if x == group then drop_caught ids (caught_by nodes.old x) else caught_by nodes.old x) }
+    ensures views { (x : ℕ) → view_of (get nodes.new x) ≡ view_of (get nodes.old x) }
+{
+    let mut previous = None;
+    let mut at = nodes[group].newest;
+    while let Some(place) = at {
+        at = nodes[place].next;
+        previous = drop_ids_at(nodes, group, previous, place, ids);
+    }
+}
+
+/// Takes pointers away from one target, which comes right behind another, and the target where it has no others. The
+/// answer is the one that the next target comes right behind then.
+fn drop_ids_at(
+    nodes: &mut Slab<Node>,
+    group: usize,
+    previous: Option<usize>,
+    place: usize,
+    ids: u32,
+) -> Option<usize>
+    requires linked { AreLinked nodes.old }
+    requires group { ContainsKey nodes.old group }
+    requires behind { IsBehind previous place (places_by nodes.old group) }
+    ensures linked { AreLinked nodes.new }
+    ensures previous { result ≡ (if left_at nodes.old place ids == 0 then previous else Some place) }
+    ensures places { (x : ℕ) → places_by nodes.new x ≡ (if left_at nodes.old place ids == 0 && x == group then without_place place (places_by nodes.old x) else places_by nodes.old x) }
+    ensures others { (x : ℕ) → x ≢ place → caught_at (get nodes.new x) ≡ caught_at (get nodes.old x) }
+    ensures own { left_at nodes.old place ids ≢ 0 → caught_at (get nodes.new place) ≡ caught_in_place (get nodes.old place) (left_at nodes.old place ids) }
+    ensures views { (x : ℕ) → view_of (get nodes.new x) ≡ view_of (get nodes.old x) }
+{
+    let left = ids_without(nodes[place].ids, ids);
+    if left == 0 {
+        unlink(nodes, group, previous, place);
+        previous
+    } else {
+        set_ids(nodes, place, left);
+        Some(place)
+    }
+}
+
+/// The pointers of two sets.
+#[tactic(auto, unfolding(crate::specs::Seats::mask_with))]
+fn ids_with(ids: u32, more: u32) -> u32
+    ensures { result ≡ mask_with ids more }
+{
+    ids | more
+}
+
+/// The pointers of one set that are not in another.
+#[tactic(auto, unfolding(crate::specs::Seats::mask_without))]
+fn ids_without(ids: u32, others: u32) -> u32
+    ensures { result ≡ mask_without ids others }
+{
+    ids & !others
+}

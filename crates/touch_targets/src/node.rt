@@ -1,0 +1,16 @@
+//! The node of an open view.
+
+/// What is kept of an open view. Nodes name each other by their places in the pool.
+#[derive(Drop)]
+pub struct Node {
+    /// The number of the view.
+    pub view: u64,
+    /// As a group: its newest target.
+    pub newest: Option<usize>,
+    /// As a target: the group that captured it. None for a view that is no target.
+    pub group: Option<usize>,
+    /// As a target: the next older one of its group.
+    pub next: Option<usize>,
+    /// As a target: its pointers, where bit `k` stands for the id `k`. One at least.
+    pub ids: u32,
+}

@@ -1,0 +1,189 @@
+//! The pool of targets.
+ghost use Rattle.std.specs.Prelude.{◌≡◌, ◌≢◌, ◌==◌, ◌<◌, ◌&&◌, ◌||◌, not, true, false, ℕ, if◌then◌else◌, [], Some, None, OnErr, OnOk, is_some, nat_eq};
+ghost use Rattle.indexmap.specs.IndexMap.{get as get_key, spare};
+ghost use Rattle.touch_event.specs.PointerSets.{has_id};
+ghost use Rattle.touch_targets.specs.Captures.{drop_pointers, first_child, first_ids, from_child, is_target, older, put_target, targets_from, without_child};
+ghost use Rattle.touch_targets.specs.Seats.{is_open, targets_of};
+
+use crate::links;
+use crate::node::Node;
+use indexmap::IndexMap;
+use slab::Slab;
+use std::alloc::{AllocError, Global};
+use std::marker::Model;
+
+/// The open views, each with the children that it has captured, the newest first. Contracts see the list of these, whose
+/// own order means nothing.
+#[derive(Drop)]
+pub struct Targets {
+    nodes: Slab<Node>,
+    /// The place of each open view's node, by the number of the view.
+    places: IndexMap<u64, usize>,
+}
+
+impl Model for Targets {
+    ghost use Rattle.std.specs.Prelude.{List};
+    ghost use Rattle.touch_targets.specs.Seats.{Seat, seats_code};
+
+    ghost Value = { List Seat };
+
+    ghost coded = { seats_code };
+
+    ghost use Rattle.touch_targets.specs.Pool.{IsSound, seats_in};
+
+    ghost view = { seats_in };
+
+    ghost invariant = { IsSound };
+}
+
+impl Targets {
+    /// No view is open. It takes no memory.
+    pub fn new(alloc: Global) -> Targets
+        ensures { result ≡ [] }
+    {
+        Targets {
+            nodes: Slab::new(alloc),
+            places: IndexMap::new(alloc),
+        }
+    }
+
+    /// Keeps a place for a view, so that it may be a group or a target. No other call takes memory.
+    pub fn open(&mut self, view: u64) -> Result<(), AllocError>
+        ensures opened { OnOk result ((other : ℕ) → is_open self.new other ≡ (is_open self.old other || other == view)) }
+        ensures targets { (group : ℕ) → targets_of self.new group ≡ targets_of self.old group }
+        ensures unchanged { OnErr result (self.new ≡ self.old) }
+    {
+        if self.places.contains_key(&view) {
+            return Ok(());
+        }
+        self.nodes.reserve(1)?;
+        self.places.reserve(1)?;
+        let place = links::put_in(&mut self.nodes, view);
+        note_place(&mut self.places, view, place);
+        Ok(())
+    }
+
+    /// Takes the place of a view away, with all that names the view as a group or as a target.
+    pub fn close(&mut self, view: u64)
+        ensures opened { (other : ℕ) → is_open self.new other ≡ (is_open self.old other && not (other == view)) }
+        ensures targets { (group : ℕ) → targets_of self.new group ≡ (if group == view then [] else without_child view (targets_of self.old group)) }
+    {
+        self.clear(view);
+        self.remove(view);
+        if let Some(place) = forget_place(&mut self.places, view) {
+            links::take_out(&mut self.nodes, place);
+        }
+    }
+
+    /// The newest target of a group.
+    pub fn newest(&self, group: u64) -> Option<u64>
+        ensures child { result ≡ first_child (targets_of self.now group) }
+        ensures part { targets_from result (targets_of self.now group) ≡ targets_of self.now group }
+    {
+        let place = place_of(&self.places, group)?;
+        let newest = self.nodes[place].newest?;
+        Some(self.nodes[newest].view)
+    }
+
+    /// The next older target of the group that has captured a view.
+    pub fn next(&self, child: u64) -> Option<u64>
+        ensures child { (group : ℕ) → is_target child (targets_of self.now group) ≡ true → result ≡ first_child (older (from_child child (targets_of self.now group))) }
+        ensures part { (group : ℕ) → is_target child (targets_of self.now group) ≡ true → targets_from result (targets_of self.now group) ≡ older (from_child child (targets_of self.now group)) }
+        ensures free { ((group : ℕ) → is_target child (targets_of self.now group) ≡ false) → result ≡ None }
+    {
+        let place = place_of(&self.places, child)?;
+        let next = self.nodes[place].next?;
+        Some(self.nodes[next].view)
+    }
+
+    /// The pointers by which a view was captured, where bit `k` stands for the id `k`; 0 for a view that is no target.
+    pub fn ids(&self, child: u64) -> u32
+        ensures ids { (group : ℕ) → is_target child (targets_of self.now group) ≡ true → has_id result ≡ first_ids (from_child child (targets_of self.now group)) }
+        ensures free { ((group : ℕ) → is_target child (targets_of self.now group) ≡ false) → result ≡ 0 }
+    {
+        match place_of(&self.places, child) {
+            None => 0,
+            Some(place) => self.nodes[place].ids,
+        }
+    }
+
+    /// A group captures a view by these pointers, beside those by which it has. A view that was no target is the newest
+    /// target then; it is no target of another group.
+    pub fn put(&mut self, group: u64, child: u64, ids: u32)
+        requires ids { ids ≢ 0 }
+        requires group { is_open self.old group ≡ true }
+        requires child { is_open self.old child ≡ true }
+        requires only { (other : ℕ) → is_target child (targets_of self.old other) ≡ true → other ≡ group }
+        ensures opened { (view : ℕ) → is_open self.new view ≡ is_open self.old view }
+        ensures targets { (other : ℕ) → targets_of self.new other ≡ (if other == group then put_target child (has_id ids) (targets_of self.old other) else targets_of self.old other) }
+    {
+        let at = open_place(&self.places, group);
+        let place = open_place(&self.places, child);
+        links::put(&mut self.nodes, at, place, ids);
+    }
+
+    /// Takes pointers away from all targets of a group, and the targets that have no others.
+    pub fn drop_ids(&mut self, group: u64, ids: u32)
+        ensures opened { (view : ℕ) → is_open self.new view ≡ is_open self.old view }
+        ensures targets { (other : ℕ) → targets_of self.new other ≡ (if other == group then drop_pointers (has_id ids) (targets_of self.old other) else targets_of self.old other) }
+    {
+        if let Some(place) = place_of(&self.places, group) {
+            links::drop_ids(&mut self.nodes, place, ids);
+        }
+    }
+
+    /// Takes a view away from the group that has captured it, if one has.
+    pub fn remove(&mut self, child: u64)
+        ensures opened { (view : ℕ) → is_open self.new view ≡ is_open self.old view }
+        ensures targets { (group : ℕ) → targets_of self.new group ≡ without_child child (targets_of self.old group) }
+    {
+        if let Some(place) = place_of(&self.places, child) {
+            links::remove(&mut self.nodes, place);
+        }
+    }
+
+    /// Takes all targets of a group away.
+    pub fn clear(&mut self, group: u64)
+        ensures opened { (view : ℕ) → is_open self.new view ≡ is_open self.old view }
+        ensures targets { (other : ℕ) → targets_of self.new other ≡ (if other == group then [] else targets_of self.old other) }
+    {
+        self.drop_ids(group, u32::MAX);
+    }
+}
+
+/// The place of an open view's node.
+fn place_of(places: &IndexMap<u64, usize>, view: u64) -> Option<usize>
+    ensures { result ≡ get_key nat_eq places.now view }
+{
+    places.get(&view).copied()
+}
+
+/// The place of the node of a view that is open.
+fn open_place(places: &IndexMap<u64, usize>, view: u64) -> usize
+    requires { is_some (get_key nat_eq places.now view) ≡ true }
+    ensures { get_key nat_eq places.now view ≡ Some result }
+{
+    match place_of(places, view) {
+        Some(place) => place,
+        None => unreachable!(),
+    }
+}
+
+/// Takes the place of a view's node out, and tells it.
+fn forget_place(places: &mut IndexMap<u64, usize>, view: u64) -> Option<usize>
+    ensures value { result ≡ get_key nat_eq places.old view }
+    ensures forgot { (other : ℕ) → get_key nat_eq places.new other ≡ (if nat_eq view other then None else get_key nat_eq places.old other) }
+{
+    places.swap_remove(&view)
+}
+
+/// Notes the place of a view's node, where there is room for it.
+fn note_place(places: &mut IndexMap<u64, usize>, view: u64, place: usize)
+    requires { 0 < spare places.old }
+    ensures noted { (other : ℕ) → get_key nat_eq places.new other ≡ (if nat_eq view other then Some place else get_key nat_eq places.old other) }
+{
+    match places.insert(view, place) {
+        Ok(_) => (),
+        Err(_) => unreachable!(),
+    }
+}
