@@ -66,6 +66,48 @@ def frames_of_texts(n):
     return b"".join(lines) + b"frame\n" * n
 
 
+def filled(color, n):
+    """A window of 2048 by 2048 that one view fills with a colour."""
+    return b"window 2048 2048\nadd root View match match\nbg v1 #%s\n" % color + b"frame\n" * n
+
+
+def opaque_frames(n):
+    return filled(b"ff336699", n)
+
+
+def blended_frames(n):
+    return filled(b"80336699", n)
+
+
+def frames_of_small_views(n):
+    """4000 views of 12 by 9 pixels, each with a background of its own."""
+    lines = [b"window 1000 1000\nadd root FrameLayout match match\n"]
+    for number in range(2, 4002):
+        at = number - 2
+        lines.append(b"add v1 View 12 9\nmargins v%d %d %d 0 0\n" % (number, at % 80 * 12, at // 80 * 18))
+        lines.append(b"bg v%d #ff%06x\n" % (number, at * 4099 % 0x1000000))
+    return b"".join(lines) + b"frame\n" * n
+
+
+def frames_of_a_page(n):
+    """A page of text that fills the window."""
+    text = b"The quick brown fox jumps over the lazy dog. " * 21
+    lines = [b"window 540 960\nadd root LinearLayout match match\norient v1 vertical\n"]
+    for number in range(2, 12):
+        lines.append(b"add v1 TextView match wrap\ntext v%d %s\n" % (number, text))
+    return b"".join(lines) + b"frame\n" * n
+
+
+def digests(n):
+    return b"window 1024 1024\nadd root View match match\nbg v1 #ff336699\nframe\n" + b"digest\n" * n
+
+
+def pixels(n):
+    """A picture of 1024 by 1024 points, part by part."""
+    picture = b"".join(b"pixels 0 %d 1024 64\n" % top for top in range(0, 1024, 64))
+    return b"window 1024 1024\nadd root View match match\nbg v1 #ff336699\nframe\n" + picture * n
+
+
 def widths_of_a_text(n):
     """A text that is as long as a line of a script can be, in frames of the widths 1 to n."""
     line = b"text v2 "

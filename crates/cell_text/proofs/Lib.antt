@@ -1,2 +1,3 @@
+mod BreakLaws
 mod CellLaws
 mod SegmentLaws

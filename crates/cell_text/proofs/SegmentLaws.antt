@@ -13,7 +13,7 @@ abbrev pub lengths_behind : ℕ → List ℕ → List ℕ
 lengths_behind k [] = k ∷ []
 lengths_behind k (c ∷ text) = if c == newline then k ∷ lengths_behind 0 text else lengths_behind (k + 1) text
 
-in_front-in_front : (begun more : List ℕ) (segments : List (List ℕ)) → in_front begun (in_front more segments) ≡ in_front (begun ++ more) segments
+pub in_front-in_front : (begun more : List ℕ) (segments : List (List ℕ)) → in_front begun (in_front more segments) ≡ in_front (begun ++ more) segments
 in_front-in_front begun more [] = refl
 in_front-in_front begun more (segment ∷ others) = ap (λ (s : List ℕ). s ∷ others) (sym (append_assoc begun more segment))
 
@@ -25,11 +25,11 @@ in_front-none c text = by_newline (c == newline) (segments_of text)
     by_newline false [] = refl
     by_newline false (segment ∷ more) = refl
 
-in_front-nothing : (text : List ℕ) → in_front [] (segments_of text) ≡ segments_of text
+pub in_front-nothing : (text : List ℕ) → in_front [] (segments_of text) ≡ segments_of text
 in_front-nothing [] = refl
 in_front-nothing (c ∷ text) = in_front-none c text
 
-append_nothing : (xs : List ℕ) → xs ++ [] ≡ xs
+pub append_nothing : (xs : List ℕ) → xs ++ [] ≡ xs
 append_nothing [] = refl
 append_nothing (x ∷ xs) = ap (λ (ys : List ℕ). x ∷ ys) (append_nothing xs)
 

@@ -1,9 +1,14 @@
-//! A text in cells of one character each: how broad it is, how many lines it takes, and which character stands in a
-//! cell. Each call goes over the text once. Nothing here takes memory.
+//! A text in cells of one character each: how broad it is, how many lines it takes, where they begin, which character
+//! stands in a cell, and which pixels of a cell are set. Each call goes over the text at most once. Nothing here takes
+//! memory.
 #![tactic(auto)]
 
+mod breaking;
 mod cells;
+mod glyphs;
 mod lines;
 
+pub use breaking::{Break, first_line};
 pub use cells::cell;
+pub use glyphs::glyph;
 pub use lines::{count, widest};

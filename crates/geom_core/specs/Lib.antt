@@ -1,2 +1,4 @@
+pub mod Color
 pub mod Limits
+pub mod Rects
 pub mod Spec

@@ -1,6 +1,5 @@
 -- Worked states, by computation.
 use Rattle.std.specs.Prelude.{◌≡◌, ℕ, ℤ, pos, refl, true, false, List, [], ◌∷◌, Ok, Err}
-use Rattle.view_model.specs.declared.facts.Facts.{Facts}
 use Rattle.view_model.specs.declared.kinds.Class.{Class}
 use Rattle.view_model.specs.declared.kinds.Class.TheVariants as class
 use Rattle.view_model.specs.Facts.{new_facts}

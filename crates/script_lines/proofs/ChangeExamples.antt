@@ -13,14 +13,14 @@ use Rattle.view_model.specs.declared.kinds.Visibility.TheVariants as visibility
 use Rattle.view_model.specs.declared.placing.Across.TheVariants as across
 use Rattle.view_model.specs.declared.placing.Down.TheVariants as down
 use Rattle.view_model.specs.Facts.{no_gravity}
-use Rattle.script_lines.specs.Changes.{act_of, change_of, flag_named, flag_of, insets_of, new_id_of, on_of, scroll_of, gravity_change_of, kids_of, sides_of, visibility_of, visible_of, orient_of, vertical_of}
+use Rattle.script_lines.specs.Changes.{act_of, change_of, flag_named, flag_of, insets_of, new_id_of, scroll_of, gravity_change_of, kids_of, sides_of, visibility_of, visible_of, orient_of, vertical_of}
 use Rattle.script_lines.specs.Commands.{add_of, bounds_of, class_of, command_by, command_in, command_of, frame_of, remove_of, set_of}
 use Rattle.script_lines.specs.Dimensions.{dimension_of, extents_of}
 use Rattle.script_lines.specs.Gravities.{across_of, down_of, gravity_of, one_across, one_down, with_word, with_words}
 use Rattle.script_lines.specs.Names.{hex_digit_of, hex_of, id_of, name_of, parent_of}
 use Rattle.script_lines.specs.Numbers.{integer_of, natural_of, pair_of, within_of, natural_within}
 use Rattle.script_lines.specs.Weights.{last_number, weight_of}
-use Rattle.script_lines.specs.Words.{after_word, words}
+use Rattle.script_lines.specs.Words.{on_of, after_word, words}
 
 pub a_size : command_of (codes "size v1 10 match") ≡ Ok (Act (Number 1) (act.Change (change.Size (pos 10) (negsuc 0))))
 unfolding is_utf8 chars encode words natural_of integer_of within_of pair_of hex_digit_of hex_of id_of name_of parent_of dimension_of extents_of class_of add_of remove_of frame_of bounds_of set_of act_of change_of command_by command_in command_of after_word across_of down_of one_across one_down with_word with_words gravity_of gravity_change_of kids_of sides_of insets_of visibility_of visible_of new_id_of

@@ -10,11 +10,13 @@ pub mod LineLaws
 pub mod PieceLaws
 mod PlaceLaws
 mod ResourceExamples
+mod SpelledColors
 pub mod SpelledCommands
 mod SpelledExamples
 mod SpelledNames
 mod SpelledNumbers
 mod SpelledResources
+mod SpelledRules
 mod SpelledTexts
 mod SpelledWords
 mod TextLaws

@@ -1,6 +1,6 @@
 -- Commands, read from their texts.
 use Rattle.std.proofs.Common.{◌≡◌, ◌≢◌, ℕ, suc, zero, ◌+◌, ◌*◌, ◌/◌, ◌%◌, ◌<◌, ◌≤◌, ◌^◌, Bool, true, false, refl, sym, subst, ◌∙◌, inl, inr, List, [], ◌∷◌, arith}
-use Rattle.std.specs.Prelude.{◌||◌, if◌then◌else◌, IsTrue, ℤ, pos, negsuc, slice_index, codes, Some, None, Ok}
+use Rattle.std.specs.Prelude.{◌||◌, if◌then◌else◌, IsTrue, ℤ, pos, negsuc, slice_index, codes, Some, None, Ok, ◌*ℤ◌, ◌≤ℤ◌}
 use Rattle.std.specs.Fmt.{decimal, signed_decimal}
 use Rattle.std.specs.Str.{bytes_eq}
 use Rattle.std.proofs.lemmas.Int.{ints}
@@ -21,15 +21,18 @@ use Rattle.view_model.specs.declared.placing.Across.TheVariants as across
 use Rattle.view_model.specs.declared.placing.Down.{Down}
 use Rattle.view_model.specs.declared.placing.Down.TheVariants as down
 use Rattle.view_model.specs.declared.placing.Gravity.{Gravity}
-use Rattle.script_lines.specs.Changes.{AreWithin, IsActInBounds, IsChangeInBounds, act_of, change_of, flag_named, flag_of, gravity_change_of, insets_of, kids_of, new_id_of, on_of, orient_of, scroll_of, sides_of, vertical_of, visibility_of, visible_of}
-use Rattle.script_lines.specs.Commands.{IsInBounds, add_of, bounds_of, class_of, command_by, command_of, dpi_of, frame_of, inflate_of, into_of, remove_of, set_of}
+use Rattle.script_lines.specs.Changes.{AreWithin, IsActInBounds, IsChangeInBounds, act_of, change_of, flag_named, flag_of, gravity_change_of, insets_of, kids_of, new_id_of, orient_of, scroll_of, sides_of, vertical_of, visibility_of, visible_of}
+use Rattle.script_lines.specs.Commands.{IsInBounds, add_of, bounds_of, class_of, command_by, command_of, digest_of, dpi_of, frame_of, inflate_of, into_of, remove_of, set_of}
 use Rattle.script_lines.specs.Dimensions.{IsExtent, dimension_of, extent_of, extents_of}
 use Rattle.script_lines.specs.Gravities.{across_of, down_of, gravity_of, is_set_across, is_set_down, one_across, one_down, with_word, with_words}
 use Rattle.script_lines.specs.Numbers.{IsWithin}
+use Rattle.script_lines.specs.Pixels.{IsPart, is_small, part_of, pixels_of}
+use Rattle.script_lines.specs.Rules.{rule_of}
 use Rattle.script_lines.specs.Spelled.{ActHasLine, ChangeHasLine, HasLine, HasWord, act_head, act_words, change_head, change_words, class_text, extent_text, gravity_text, insets_words, name_text, parent_text, spelled, visibility_text, weight_words}
 use Rattle.script_lines.specs.Weights.{last_number, weight_of}
+use Rattle.script_lines.specs.Words.{on_of}
 use Rattle.script_lines.specs.declared.weights.TheConstants.{MAX_PARTS, MAX_WHOLE}
-use Rattle.script_lines.specs.declared.commands.TheConstants.{MAX_DPI, MAX_WINDOW, MIN_DPI}
+use Rattle.script_lines.specs.declared.commands.TheConstants.{MAX_DPI, MAX_PIXELS, MAX_POINT, MAX_WINDOW, MIN_DPI}
 use Rattle.script_lines.specs.PlainCommands.{PlainCommand}
 use Rattle.script_lines.specs.PlainCommands as plain
 use Rattle.script_lines.specs.declared.changes.Sides.{Sides}
@@ -37,7 +40,9 @@ use Rattle.script_lines.specs.declared.dimension.Dimension.{Dimension}
 use Rattle.script_lines.specs.declared.dimension.Dimension.TheVariants.{Match, Wrap, Pixels}
 use Rattle.script_lines.specs.declared.naming.Name.TheVariants.{Id}
 use Rattle.script_lines.proofs.FileNameLaws.{file_name_word}
+use Rattle.script_lines.proofs.SpelledColors.{color_word, last_color-text}
 use Rattle.script_lines.proofs.SpelledResources.{command_of-resource}
+use Rattle.script_lines.proofs.SpelledRules.{rule_value_in-text, rule_value_word, verb_of-text, verb_word}
 use Rattle.script_lines.proofs.SpelledTexts.{command_of-text}
 use Rattle.script_lines.proofs.SpelledNames.{id_of-text, name_of-text, name_word, parent_of-text, parent_word}
 use Rattle.script_lines.proofs.SpelledNumbers.{IsShort, decimal_first, decimal_word, differs, integer_of-signed, natural_within-within, pair_of-signed, short_within, signed_word, within_of-within}
@@ -283,7 +288,11 @@ change_reads (change.Gravity kids gravity) b l =
       words = (kids_word kids, (back.word, tt));
       value = rw (kids_of-text kids, back.value) refl;
     }
-change_reads (change.Background color) b l = absurd l
+change_reads (change.Background color) b l = record {
+  head = word_by (codes "bg") refl;
+  words = (color_word color, tt);
+  value = rw (last_color-text color l) refl;
+}
 
 record ActReads (a : Act) : Type 0 where
   head : IsWord (act_head a)
@@ -291,7 +300,7 @@ record ActReads (a : Act) : Type 0 where
   value : act_of (act_head a) (act_words a) ≡ Ok a
 
 act_reads : (a : Act) → IsActInBounds a → ActHasLine a → ActReads a
-unfolding act_of visible_of new_id_of orient_of flag_of flag_named scroll_of
+unfolding act_of visible_of new_id_of orient_of flag_of flag_named scroll_of rule_of
 act_reads (act.Change change) b l = let r = change_reads change b l in record { head = r.head; words = r.words; value = r.value }
 act_reads (act.Visible visibility) b l = record {
   head = word_by (codes "visible") refl;
@@ -313,15 +322,27 @@ act_reads (act.Orient vertical) b l = record {
   words = (vertical_word vertical, tt);
   value = rw (vertical_of-text vertical) refl;
 }
-act_reads (act.Flag flag.Clip on) b l = absurd l
+act_reads (act.Flag flag.Clip on) b l = record {
+  head = word_by (codes "flag") refl;
+  words = (word_by (codes "clip") refl, (on_word on, tt));
+  value = rw (on_of-text on) refl;
+}
 act_reads (act.Flag flag.Fill on) b l = record {
   head = word_by (codes "flag") refl;
   words = (word_by (codes "fill") refl, (on_word on, tt));
   value = rw (on_of-text on) refl;
 }
 act_reads (act.Flag flag.Split on) b l = absurd l
-act_reads (act.Ink color) b l = absurd l
-act_reads (act.Rule verb value) b l = absurd l
+act_reads (act.Ink color) b l = record {
+  head = word_by (codes "ink") refl;
+  words = (color_word color, tt);
+  value = rw (last_color-text color l) refl;
+}
+act_reads (act.Rule verb value) b l = record {
+  head = word_by (codes "rule") refl;
+  words = (verb_word verb b, (rule_value_word verb value l, tt));
+  value = rw (verb_of-text verb b, rule_value_in-text verb value l) refl;
+}
 act_reads (act.Answer answer) b l = absurd l
 act_reads (act.Intercept actions) b l = absurd l
 act_reads (act.Scroll offset) b l =
@@ -341,7 +362,7 @@ command_by-change (change.Margins sides) ws l = refl
 command_by-change (change.Padding sides) ws l = refl
 command_by-change (change.Weight weight) ws l = refl
 command_by-change (change.Gravity kids gravity) ws l = refl
-command_by-change (change.Background color) ws l = absurd l
+command_by-change (change.Background color) ws l = refl
 
 command_by-act : (a : Act) (ws : List (List ℕ)) → ActHasLine a → command_by (act_head a) ws ≡ set_of (act_head a) ws
 unfolding command_by
@@ -351,8 +372,8 @@ command_by-act (act.Id id) ws l = refl
 command_by-act (act.WeightSum sum) ws l = refl
 command_by-act (act.Orient vertical) ws l = refl
 command_by-act (act.Flag flag on) ws l = refl
-command_by-act (act.Ink color) ws l = absurd l
-command_by-act (act.Rule verb value) ws l = absurd l
+command_by-act (act.Ink color) ws l = refl
+command_by-act (act.Rule verb value) ws l = refl
 command_by-act (act.Answer answer) ws l = absurd l
 command_by-act (act.Intercept actions) ws l = absurd l
 command_by-act (act.Scroll offset) ws l = refl
@@ -385,9 +406,36 @@ side_of_window z h = short_within 0 4096 z (omega (arith, ints, h.0)) h.1 (omega
 dpi_short : (dpi : ℕ) → dpi ≤ MAX_DPI → dpi < 10 ^ 10
 dpi_short dpi h = omega (arith, h)
 
+point_short : (z : ℤ) → IsWithin (pos 0) MAX_POINT z → IsShort z
+point_short z h = short_within 0 4095 z (omega (arith, ints, h.0)) h.1 (omega arith) (omega arith)
+
+-- the four numbers of a part of the picture
+part_short : (x y w h : ℤ) → IsPart x y w h → AreShort (record { left = x; top = y; right = w; bottom = h })
+part_short x y w h b = record { left = point_short x b.0; top = point_short y b.1; right = side_of_window w b.2; bottom = side_of_window h b.3 }
+
+is_small-part : (w h : ℤ) → (w *ℤ h) ≤ℤ MAX_PIXELS → is_small w h ≡ true
+unfolding is_small
+is_small-part w h small = grind (arith, ints)
+
+pixels_of-text : (x y w h : ℤ) → IsPart x y w h → pixels_of (signed_decimal x ∷ signed_decimal y ∷ signed_decimal w ∷ signed_decimal h ∷ []) ≡ Ok (plain.Pixels x y w h)
+unfolding pixels_of part_of
+pixels_of-text x y w h b =
+    let short = part_short x y w h b in
+    rw (
+      integer_of-signed x short.left,
+      integer_of-signed y short.top,
+      integer_of-signed w short.right,
+      integer_of-signed h short.bottom,
+      within_of-within (pos 0) MAX_POINT x b.0,
+      within_of-within (pos 0) MAX_POINT y b.1,
+      within_of-within (pos 1) MAX_WINDOW w b.2,
+      within_of-within (pos 1) MAX_WINDOW h b.3,
+      is_small-part w h b.4,
+    ) refl
+
 -- The command of the text of a command is that plain.
 pub command_of-spelled : (c : PlainCommand) → IsInBounds c → HasLine c → command_of (spelled c) ≡ Ok c
-unfolding command_by dpi_of inflate_of into_of add_of remove_of frame_of bounds_of set_of
+unfolding command_by dpi_of inflate_of into_of add_of remove_of frame_of bounds_of digest_of set_of
 command_of-spelled (plain.Window w h) b l =
     command_of-joined (codes "window") (signed_decimal w ∷ signed_decimal h ∷ []) refl (word_by (codes "window") refl, (signed_word w (side_of_window w b.0), (signed_word h (side_of_window h b.1), tt)))
     ∙ rw (pair_of-signed (pos 1) MAX_WINDOW w h (side_of_window w b.0) (side_of_window h b.1) b.0 b.1) refl
@@ -419,3 +467,9 @@ command_of-spelled (plain.Bounds None) b l = command_of-joined (codes "bounds") 
 command_of-spelled (plain.Bounds (Some view)) b l =
     command_of-joined (codes "bounds") (name_text view ∷ []) refl (word_by (codes "bounds") refl, (name_word view l, tt))
     ∙ rw (name_of-text view l) refl
+command_of-spelled (plain.Pixels x y w h) b l =
+    let short = part_short x y w h b in
+    command_of-joined (codes "pixels") (signed_decimal x ∷ signed_decimal y ∷ signed_decimal w ∷ signed_decimal h ∷ []) refl
+    (word_by (codes "pixels") refl, (signed_word x short.left, (signed_word y short.top, (signed_word w short.right, (signed_word h short.bottom, tt)))))
+    ∙ pixels_of-text x y w h b
+command_of-spelled plain.Digest b l = command_of-joined (codes "digest") [] refl (word_by (codes "digest") refl, tt)

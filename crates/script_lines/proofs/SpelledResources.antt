@@ -1,62 +1,30 @@
 -- Lines that give a resource its value, read from their texts.
-use Rattle.std.proofs.Common.{◌≡◌, ℕ, suc, zero, ◌+◌, ◌*◌, ◌-◌, ◌/◌, ◌%◌, ◌<◌, ◌^◌, true, false, refl, ◌∙◌, List, [], ◌∷◌, ◌++◌, length, length-append, arith}
+use Rattle.std.proofs.Common.{◌≡◌, ℕ, ◌+◌, ◌*◌, ◌-◌, ◌/◌, ◌%◌, ◌<◌, ◌^◌, true, false, refl, ◌∙◌, List, [], ◌∷◌, ◌++◌, length, arith}
 use Rattle.std.specs.Prelude.{◌==◌, nat_lt, ℤ, pos, negsuc, codes, Ok}
-use Rattle.std.specs.Char.{is_ascii_hexdigit}
-use Rattle.std.specs.Fmt.{digit_glyph, signed_decimal}
-use Rattle.std.specs.List.{join_with_byte, list_all}
+use Rattle.std.specs.Fmt.{signed_decimal}
+use Rattle.std.specs.List.{join_with_byte}
 use Rattle.std.specs.Str.{is_utf8}
 use Rattle.std.proofs.lemmas.Bool.Decides.{nat_tests}
 use Rattle.std.proofs.lemmas.Int.{ints}
-use Rattle.std.proofs.lemmas.List.Sums.{fold-append}
-use Rattle.std.proofs.lemmas.List.Folds.{list_all-append}
 use Rattle.std.proofs.lemmas.Str.{IsUtf8-from_is_utf8, is_utf8-from_IsUtf8}
 use Rattle.view_model.specs.Dimensions.{mantissa}
 use Rattle.script_lines.specs.Commands.{command_in, command_of}
 use Rattle.script_lines.specs.Escapes.{escaped_text_of, rest_of}
-use Rattle.script_lines.specs.Names.{hex_digit_of, hex_of, hex_value}
 use Rattle.script_lines.specs.Numbers.{IsWithin}
 use Rattle.script_lines.specs.PlainCommands.{PlainGiven, Color, Dimen, Text, Res}
-use Rattle.script_lines.specs.Resources.{IsGivenInBounds, color_given, color_of, dimen_given, dimen_word, given_by, given_of, res_of, resource_id, unit_number, unit_of}
+use Rattle.script_lines.specs.Resources.{IsGivenInBounds, dimen_given, dimen_word, given_by, given_of, res_of, resource_id, unit_number, unit_of}
 use Rattle.script_lines.specs.Spelled.{GivenHasLine, given_words, hex_places, name_text, unit_text}
+use Rattle.script_lines.specs.Colors.{last_color}
 use Rattle.script_lines.specs.Words.{text_of}
 use Rattle.script_lines.specs.declared.naming.Name.TheVariants.{Id}
 use Rattle.script_lines.specs.declared.resources.LengthUnit.{LengthUnit}
 use Rattle.script_lines.specs.declared.resources.LengthUnit.TheVariants.{Px, Dp, Sp, Pt, In, Mm}
 use Rattle.script_lines.specs.declared.resources.TheConstants.{MAX_MANTISSA, MIN_MANTISSA}
-use Rattle.script_lines.proofs.SpelledNames.{all_graphic, glyph_digit, glyph_value, id_of-text, name_word, shorter}
+use Rattle.script_lines.proofs.SpelledColors.{color_of-text, color_word}
+use Rattle.script_lines.proofs.SpelledNames.{id_of-text, name_word}
 use Rattle.script_lines.proofs.SpelledNumbers.{differs, integer_of-signed, short_within, signed_word, within_of-within}
 use Rattle.script_lines.proofs.SpelledWords.{AreWords, IsWord, after_word-before, after_word-space, joined_text, utf8_before, word_by, words-before, words-joined}
 use Rattle.script_lines.proofs.WordLaws.{word_space}
-
--- colours
-places_value : (k n : ℕ) → n < 16 ^ k → hex_value (hex_places k n) ≡ n
-places_value zero n h = omega (arith, h)
-places_value (suc k) n h =
-    let front : hex_value (hex_places k (n / 16)) ≡ n / 16 = places_value k (n / 16) (shorter k n h) in
-    fold-append (λ n d. 16 * n + hex_digit_of d) 0 (hex_places k (n / 16)) (digit_glyph false (n % 16) ∷ [])
-    ∙ omega (arith, front, glyph_value (n % 16) (omega arith))
-
-places_length : (k n : ℕ) → length (hex_places k n) ≡ k
-places_length zero n = refl
-places_length (suc k) n = omega (arith, length-append (hex_places k (n / 16)) (digit_glyph false (n % 16) ∷ []), places_length k (n / 16))
-
-places_digits : (k n : ℕ) → list_all is_ascii_hexdigit (hex_places k n) ≡ true
-places_digits zero n = refl
-places_digits (suc k) n =
-    list_all-append is_ascii_hexdigit (hex_places k (n / 16)) (digit_glyph false (n % 16) ∷ []) ∙ rw (places_digits k (n / 16), glyph_digit (n % 16) (omega arith)) refl
-
-color_of-digits : (ds : List ℕ) (n : ℕ) → length ds ≡ 8 → list_all is_ascii_hexdigit ds ≡ true → hex_value ds ≡ n → color_of (35 ∷ ds) ≡ Ok (record { 0 = n })
-unfolding color_of hex_of
-color_of-digits ds n long digits value =
-    let color : nat_lt 0 (length (35 ∷ ds)) ≡ true = grind (arith, nat_tests) in
-    let nine : (length (35 ∷ ds) == 9) ≡ true = grind (arith, nat_tests) in
-    rw (color, nine, long, digits, value) refl
-
-color_of-text : (n : ℕ) → n < 2 ^ 32 → color_of (35 ∷ hex_places 8 n) ≡ Ok (record { 0 = n })
-color_of-text n h = color_of-digits (hex_places 8 n) n (places_length 8 n) (places_digits 8 n) (places_value 8 n (omega (arith, h)))
-
-color_word : (n : ℕ) → IsWord (35 ∷ hex_places 8 n)
-color_word n = record { some = omega arith; graphic = all_graphic (hex_places 8 n) (places_digits 8 n) }
 
 -- dimensions
 unit_below : (unit : LengthUnit) → unit_number unit < 6
@@ -142,11 +110,11 @@ dimen_back id n unit some below within =
 
 pub command_of-resource : (id : ℕ) (value : PlainGiven) → 0 < id → id < 2 ^ 32 → IsGivenInBounds value → GivenHasLine value
     → command_of (join_with_byte 32 (codes "res" ∷ name_text (Id id) ∷ given_words value)) ≡ Ok (Res id value)
-unfolding given_by color_given dimen_given rest_of escaped_text_of text_of
+unfolding given_by last_color dimen_given rest_of escaped_text_of text_of
 command_of-resource id (Color color) some below bounds has =
-    let word = color_word color.0 in
+    let word = color_word color in
     joined_resource id (codes "color") (35 ∷ hex_places 8 color.0) (Color color) some below (word_by (codes "color") refl) (joined_text ((35 ∷ hex_places 8 color.0) ∷ []) (word, tt))
-    (rw (word_space 32 (35 ∷ hex_places 8 color.0) refl, words-joined ((35 ∷ hex_places 8 color.0) ∷ []) (word, tt), color_of-text color.0 has) refl)
+    (rw (word_space 32 (35 ∷ hex_places 8 color.0) refl, words-joined ((35 ∷ hex_places 8 color.0) ∷ []) (word, tt), color_of-text color has) refl)
 command_of-resource id (Dimen word) some below (n, unit, within, e) has = rw e (dimen_back id n unit some below within)
 command_of-resource id (Text text) some below bounds has =
     let space : nat_lt 0 (length (32 ∷ text)) ≡ true = grind (arith, nat_tests) in

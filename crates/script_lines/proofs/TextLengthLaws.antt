@@ -4,17 +4,19 @@ use Rattle.std.specs.Prelude.{ℤ, pos, nat_lt, codes, if◌then◌else◌, IfOk
 use Rattle.std.specs.List.{prefix_len}
 use Rattle.std.specs.Str.{bytes_eq, is_utf8}
 use Rattle.script_lines.specs.Changes.{act_of}
-use Rattle.script_lines.specs.Commands.{add_of, bounds_of, class_of, command_by, command_in, command_of, dpi_of, frame_of, inflate_of, into_of, remove_of, set_of, set_text_of}
+use Rattle.script_lines.specs.Commands.{add_of, bounds_of, class_of, command_by, command_in, command_of, digest_of, dpi_of, frame_of, inflate_of, into_of, remove_of, set_of, set_text_of}
 use Rattle.script_lines.specs.Dimensions.{extents_of}
 use Rattle.script_lines.specs.Escapes.{escaped_text_of, has_escapes, rest_of}
 use Rattle.script_lines.specs.FileNames.{file_name_in}
 use Rattle.script_lines.specs.Lines.{is_space}
 use Rattle.script_lines.specs.Names.{id_in, name_in, parent_in}
 use Rattle.script_lines.specs.Numbers.{integer_in, natural_within, pair_of, within_of}
-use Rattle.script_lines.specs.PlainCommands.{PlainCommand, PlainGiven, Window, Dpi, Inflate, Act, SetText, Text, given_text_length, text_length}
-use Rattle.script_lines.specs.Resources.{color_given, color_of, dimen_given, given_by, given_of, res_of, resource_id, unit_of}
+use Rattle.script_lines.specs.PlainCommands.{PlainCommand, PlainGiven, Window, Dpi, Inflate, Act, SetText, Text, Color, given_text_length, text_length}
+use Rattle.script_lines.specs.Colors.{last_color}
+use Rattle.script_lines.specs.Pixels.{is_small, part_of, pixels_of}
+use Rattle.script_lines.specs.Resources.{dimen_given, given_by, given_of, res_of, resource_id, unit_of}
 use Rattle.script_lines.specs.Words.{◌>>=◌, after_spaces, after_word, end_of, in_word, map_ok, text_of, word_in, words}
-use Rattle.script_lines.specs.declared.commands.TheConstants.{MAX_DPI, MAX_WINDOW, MIN_DPI}
+use Rattle.script_lines.specs.declared.commands.TheConstants.{MAX_DPI, MAX_POINT, MAX_WINDOW, MIN_DPI}
 use Rattle.script_lines.specs.declared.fault.LineFault.{LineFault}
 use Rattle.script_lines.specs.declared.resources.TheConstants.{MAX_MANTISSA, MIN_MANTISSA}
 
@@ -66,10 +68,10 @@ none_short : (n : ℕ) → 0 ≤ n
 none_short n = omega arith
 
 given_by-short : (kind rest : List ℕ) → IfOk (given_by kind rest) (GivenShort (length rest))
-unfolding given_by color_given dimen_given
+unfolding given_by last_color dimen_given
 given_by-short kind rest =
     let P = GivenShort (length rest) in
-    if_either P (bytes_eq kind (codes "color")) _ _ (if_then P (word_in (words rest)) _ (λ c. if_then P (color_of c.0) _ (λ color. if_then P (end_of c.1) _ (λ _. none_short (length rest)))))
+    if_either P (bytes_eq kind (codes "color")) _ _ (if_map P Color (last_color (words rest)) (λ _. none_short (length rest)))
     (if_either P (bytes_eq kind (codes "dimen")) _ _
     (if_then P (integer_in (words rest)) _ (λ n. if_then P (word_in n.1) _ (λ u. if_then P (unit_of u.0) _ (λ unit. if_then P (end_of u.1) _
     (λ _. if_then P (within_of MIN_MANTISSA MAX_MANTISSA n.0) _ (λ _. none_short (length rest)))))))
@@ -106,8 +108,17 @@ set_of-short : (n : ℕ) (head : List ℕ) (words : List (List ℕ)) → IfOk (s
 unfolding set_of
 set_of-short n head words = if_then (Short n) (name_in words) _ (λ view. if_map (Short n) (Act view.0) (act_of head view.1) (λ _. none_short n))
 
+pixels_of-short : (n : ℕ) (words : List (List ℕ)) → IfOk (pixels_of words) (Short n)
+unfolding pixels_of part_of
+pixels_of-short n words =
+    let P = Short n in
+    if_then P (integer_in words) _ (λ x. if_then P (integer_in x.1) _ (λ y. if_then P (integer_in y.1) _ (λ w. if_then P (integer_in w.1) _ (λ h. if_then P (end_of h.1) _ (λ _.
+    if_then P (within_of (pos 0) MAX_POINT x.0) _ (λ left. if_then P (within_of (pos 0) MAX_POINT y.0) _ (λ top.
+    if_then P (within_of (pos 1) MAX_WINDOW w.0) _ (λ width. if_then P (within_of (pos 1) MAX_WINDOW h.0) _ (λ height.
+    if_either P (is_small width height) _ _ (none_short n) tt)))))))))
+
 command_by-short : (n : ℕ) (head : List ℕ) (words : List (List ℕ)) → IfOk (command_by head words) (Short n)
-unfolding command_by dpi_of inflate_of add_of remove_of frame_of
+unfolding command_by dpi_of inflate_of add_of remove_of frame_of digest_of
 command_by-short n head words =
     let P = Short n in
     if_either P (bytes_eq head (codes "window")) _ _ (if_map P (λ (pair : ℤ × ℤ). Window pair.0 pair.1) (pair_of (pos 1) MAX_WINDOW words) (λ _. none_short n))
@@ -117,7 +128,9 @@ command_by-short n head words =
     (if_then P (parent_in words) _ (λ parent. if_then P (word_in parent.1) _ (λ c. if_then P (class_of c.0) _ (λ class. if_map P _ (extents_of c.1) (λ _. none_short n)))))
     (if_either P (bytes_eq head (codes "remove")) _ _ (if_then P (name_in words) _ (λ view. if_then P (end_of view.1) _ (λ _. none_short n)))
     (if_either P (bytes_eq head (codes "frame")) _ _ (if_then P (end_of words) _ (λ _. none_short n))
-    (if_either P (bytes_eq head (codes "bounds")) _ _ (bounds_of-short n words) (set_of-short n head words)))))))
+    (if_either P (bytes_eq head (codes "bounds")) _ _ (bounds_of-short n words)
+    (if_either P (bytes_eq head (codes "pixels")) _ _ (pixels_of-short n words)
+    (if_either P (bytes_eq head (codes "digest")) _ _ (if_then P (end_of words) _ (λ _. none_short n)) (set_of-short n head words)))))))))
 
 pub command_of-short : (line : List ℕ) → IfOk (command_of line) (Short (length line))
 unfolding command_of command_in

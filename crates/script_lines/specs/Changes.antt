@@ -11,12 +11,14 @@ use Rattle.view_model.specs.declared.changes.Flag.{Flag}
 use Rattle.view_model.specs.declared.changes.Flag.TheVariants as flag
 use Rattle.view_model.specs.declared.kinds.Visibility.{Visibility}
 use Rattle.view_model.specs.declared.kinds.Visibility.TheVariants as visibility
+use Rattle.script_lines.specs.Colors.{last_color}
 use Rattle.script_lines.specs.Dimensions.{IsExtent, extents_of}
 use Rattle.script_lines.specs.Gravities.{gravity_of}
 use Rattle.script_lines.specs.Names.{id_in}
 use Rattle.script_lines.specs.Numbers.{IsWithin, integer_in, pair_of, within_of}
+use Rattle.script_lines.specs.Rules.{rule_of}
 use Rattle.script_lines.specs.Weights.{weight_of}
-use Rattle.script_lines.specs.Words.{◌>>=◌, map_ok, word_in, end_of}
+use Rattle.script_lines.specs.Words.{◌>>=◌, map_ok, on_of, word_in, end_of}
 use Rattle.script_lines.specs.declared.changes.Sides.{Sides}
 use Rattle.script_lines.specs.declared.fault.LineFault.{LineFault}
 use Rattle.script_lines.specs.declared.fault.LineFault.TheVariants.{Syntax}
@@ -81,6 +83,10 @@ gravity_change_of words = do
   _ ← end_of g.1
   Ok (change.Gravity kids gravity)
 
+-- `C`
+abbrev pub background_of : List (List ℕ) → Result Change LineFault
+background_of words = map_ok change.Background (last_color words)
+
 -- a change by the first word of its line and the words behind the view
 unfoldable pub change_of : List ℕ → List (List ℕ) → Result Change LineFault
 change_of head words =
@@ -89,8 +95,9 @@ change_of head words =
     if bytes_eq head (codes "margins") then margins_of words else (
     if bytes_eq head (codes "padding") then padding_of words else (
     if bytes_eq head (codes "weight") then weight_change_of words else (
-    if bytes_eq head (codes "gravity") then gravity_change_of words else
-    Err Syntax)))))
+    if bytes_eq head (codes "gravity") then gravity_change_of words else (
+    if bytes_eq head (codes "bg") then background_of words else
+    Err Syntax))))))
 
 unfoldable pub visibility_of : List ℕ → Result Visibility LineFault
 visibility_of word =
@@ -132,17 +139,13 @@ orient_of words = do
   _ ← end_of way.1
   Ok (act.Orient vertical)
 
--- whether something is on
-unfoldable pub on_of : List ℕ → Result Bool LineFault
-on_of word =
-    if bytes_eq word (codes "yes") then Ok true else (
-    if bytes_eq word (codes "no") then Ok false else
+unfoldable pub flag_named : List ℕ → Result Flag LineFault
+flag_named word =
+    if bytes_eq word (codes "clip") then Ok flag.Clip else (
+    if bytes_eq word (codes "fill") then Ok flag.Fill else
     Err Syntax)
 
-unfoldable pub flag_named : List ℕ → Result Flag LineFault
-flag_named word = if bytes_eq word (codes "fill") then Ok flag.Fill else Err Syntax
-
--- `fill yes` or `fill no`
+-- `F yes` or `F no`, a flag and whether it is on
 unfoldable pub flag_of : List (List ℕ) → Result Act LineFault
 flag_of words = do
   f ← word_in words
@@ -151,6 +154,10 @@ flag_of words = do
   on ← on_of b.0
   _ ← end_of b.1
   Ok (act.Flag flag on)
+
+-- `C`
+abbrev pub ink_of : List (List ℕ) → Result Act LineFault
+ink_of words = map_ok act.Ink (last_color words)
 
 -- `Y`, an offset
 unfoldable pub scroll_of : List (List ℕ) → Result Act LineFault
@@ -167,8 +174,10 @@ act_of head words =
     if bytes_eq head (codes "weightsum") then weight_sum_of words else (
     if bytes_eq head (codes "orient") then orient_of words else (
     if bytes_eq head (codes "flag") then flag_of words else (
-    if bytes_eq head (codes "scroll") then scroll_of words else
-    map_ok act.Change (change_of head words))))))
+    if bytes_eq head (codes "scroll") then scroll_of words else (
+    if bytes_eq head (codes "rule") then rule_of words else (
+    if bytes_eq head (codes "ink") then ink_of words else
+    map_ok act.Change (change_of head words))))))))
 
 abbrev pub AreWithin : ℤ → ℤ → Insets → Type 0
 AreWithin low high sides = IsWithin low high sides.left × IsWithin low high sides.top × IsWithin low high sides.right × IsWithin low high sides.bottom

@@ -10,7 +10,8 @@ use Rattle.script_lines.specs.FileNames.{file_name_in, is_file_name}
 use Rattle.script_lines.specs.Names.{name_in, parent_in}
 use Rattle.script_lines.specs.declared.naming.Name.{Name}
 use Rattle.script_lines.specs.Numbers.{IsWithin, integer_in, natural_within, pair_of}
-use Rattle.script_lines.specs.PlainCommands.{PlainCommand, Window, Dpi, Res, Inflate, Add, Remove, Act, SetText, Frame, Bounds}
+use Rattle.script_lines.specs.Pixels.{IsPart, pixels_of}
+use Rattle.script_lines.specs.PlainCommands.{PlainCommand, Window, Dpi, Res, Inflate, Add, Remove, Act, SetText, Frame, Bounds, Pixels, Digest}
 use Rattle.script_lines.specs.Resources.{IsGivenInBounds, res_of}
 use Rattle.script_lines.specs.Words.{after_word, ◌>>=◌, map_ok, literal_in, word_in, end_of, words}
 use Rattle.script_lines.specs.declared.commands.TheConstants.{MAX_DPI, MAX_WINDOW, MIN_DPI}
@@ -71,6 +72,10 @@ remove_of words = do
 unfoldable pub frame_of : List (List ℕ) → Result PlainCommand LineFault
 frame_of words = end_of words >>= λ _. Ok Frame
 
+-- nothing
+unfoldable pub digest_of : List (List ℕ) → Result PlainCommand LineFault
+digest_of words = end_of words >>= λ _. Ok Digest
+
 -- nothing, or `V`
 unfoldable pub bounds_of : List (List ℕ) → Result PlainCommand LineFault
 bounds_of [] = Ok (Bounds None)
@@ -100,8 +105,10 @@ command_by head words =
     if bytes_eq head (codes "add") then add_of words else (
     if bytes_eq head (codes "remove") then remove_of words else (
     if bytes_eq head (codes "frame") then frame_of words else (
-    if bytes_eq head (codes "bounds") then bounds_of words else
-    set_of head words))))))
+    if bytes_eq head (codes "bounds") then bounds_of words else (
+    if bytes_eq head (codes "pixels") then pixels_of words else (
+    if bytes_eq head (codes "digest") then digest_of words else
+    set_of head words))))))))
 
 -- a command by the first word of its line and the bytes behind that: the spaces in a text count
 unfoldable pub command_in : List ℕ → List ℕ → Result PlainCommand LineFault
@@ -126,3 +133,5 @@ IsInBounds (Act view act) = IsActInBounds act
 IsInBounds (SetText view text) = IsTrue (has_escapes text)
 IsInBounds Frame = Unit {0}
 IsInBounds (Bounds view) = Unit {0}
+IsInBounds (Pixels x y w h) = IsPart x y w h
+IsInBounds Digest = Unit {0}

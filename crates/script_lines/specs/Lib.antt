@@ -1,4 +1,5 @@
 pub mod Changes
+pub mod Colors
 pub mod Commands
 pub mod Dimensions
 pub mod Escapes
@@ -9,8 +10,10 @@ pub mod Lines
 pub mod Names
 pub mod Numbers
 pub mod Pieces
+pub mod Pixels
 pub mod PlainCommands
 pub mod Resources
+pub mod Rules
 pub mod Spelled
 pub mod Weights
 pub mod Words

@@ -27,6 +27,8 @@ pub data PlainCommand : Type 0 where
   SetText : (view : Name) (text : List ℕ) → PlainCommand
   Frame : PlainCommand
   Bounds : (view : Option Name) → PlainCommand
+  Pixels : (x y w h : ℤ) → PlainCommand
+  Digest : PlainCommand
 
 abbrev pub plain_given : Given → PlainGiven
 plain_given (given.Color color) = Color color
@@ -44,6 +46,8 @@ plain_command (command.Act view act) = Act view act
 plain_command (command.Text view text) = SetText view text.now
 plain_command command.Frame = Frame
 plain_command (command.Bounds view) = Bounds view
+plain_command (command.Pixels x y w h) = Pixels x y w h
+plain_command command.Digest = Digest
 
 -- how many bytes the text of a value has
 abbrev pub given_text_length : PlainGiven → ℕ
@@ -63,3 +67,5 @@ text_length (Act view act) = 0
 text_length (SetText view text) = length text
 text_length Frame = 0
 text_length (Bounds view) = 0
+text_length (Pixels x y w h) = 0
+text_length Digest = 0

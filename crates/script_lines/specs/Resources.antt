@@ -1,9 +1,9 @@
 -- What a line gives a resource, behind the resource's id.
-use Rattle.std.specs.Prelude.{◌≡◌, ℕ, ◌+◌, ◌*◌, ◌-◌, ◌^◌, ◌==◌, ◌&&◌, IsTrue, if◌then◌else◌, ℤ, pos, negsuc, List, drop, length, codes, Result, Ok, Err}
+use Rattle.std.specs.Prelude.{◌≡◌, ℕ, ◌+◌, ◌*◌, ◌-◌, ◌^◌, ◌==◌, IsTrue, if◌then◌else◌, ℤ, pos, negsuc, List, codes, Result, Ok, Err}
 use Rattle.std.specs.Str.{bytes_eq}
-use Rattle.geom_core.specs.declared.color.Argb.{Argb}
+use Rattle.script_lines.specs.Colors.{last_color}
 use Rattle.script_lines.specs.Escapes.{has_escapes, rest_of}
-use Rattle.script_lines.specs.Names.{begins_with, hex_of, id_in, known}
+use Rattle.script_lines.specs.Names.{id_in}
 use Rattle.script_lines.specs.Numbers.{IsWithin, integer_in, within_of}
 use Rattle.script_lines.specs.PlainCommands.{PlainCommand, PlainGiven, Res, Color, Dimen, Text}
 use Rattle.script_lines.specs.Words.{◌>>=◌, after_word, map_ok, word_in, end_of, words}
@@ -13,17 +13,9 @@ use Rattle.script_lines.specs.declared.resources.LengthUnit.TheVariants.{Px, Dp,
 use Rattle.script_lines.specs.declared.fault.LineFault.{LineFault}
 use Rattle.script_lines.specs.declared.fault.LineFault.TheVariants.{Syntax, Range}
 
--- `#` and eight hexadecimal digits, alpha first
-unfoldable pub color_of : List ℕ → Result Argb LineFault
-color_of word = if begins_with 35 word && length word == 9 then map_ok (λ n. record { 0 = n }) (known (hex_of (drop 1 word))) else Err Syntax
-
 -- `C`
-unfoldable pub color_given : List (List ℕ) → Result PlainGiven LineFault
-color_given words = do
-  c ← word_in words
-  color ← color_of c.0
-  _ ← end_of c.1
-  Ok (Color color)
+abbrev pub color_given : List (List ℕ) → Result PlainGiven LineFault
+color_given words = map_ok Color (last_color words)
 
 unfoldable pub unit_of : List ℕ → Result LengthUnit LineFault
 unit_of word =

@@ -1,8 +1,9 @@
 -- The text of a command: one way to write it, of those that the grammar reads.
-use Rattle.std.specs.Prelude.{◌≡◌, ℕ, zero, suc, ◌<◌, ◌^◌, ◌/◌, ◌%◌, ◌==◌, not, ◌&&◌, ◌||◌, true, false, IsTrue, if◌then◌else◌, ℤ, pos, negsuc, ◌⊎◌, List, [], ◌∷◌, ◌++◌, codes, Option, Some, None, IfSome}
+use Rattle.std.specs.Prelude.{◌≡◌, ℕ, zero, suc, ◌<◌, ◌^◌, ◌/◌, ◌%◌, ◌==◌, not, ◌&&◌, ◌||◌, true, false, IsTrue, if◌then◌else◌, ℤ, pos, negsuc, ◌⊎◌, List, [], ◌∷◌, ◌++◌, codes, Option, Some, None, IfSome, slice_index_or}
 use Rattle.std.specs.Fmt.{decimal, signed_decimal, digits, digit_glyph}
 use Rattle.std.specs.List.{join_with_byte}
 use Rattle.std.specs.Str.{is_utf8}
+use Rattle.geom_core.specs.declared.color.Argb.{Argb}
 use Rattle.geom_core.specs.declared.geometry.Insets.{Insets}
 use Rattle.view_model.specs.Dimensions.{mantissa}
 use Rattle.view_model.specs.Facts.{no_gravity}
@@ -24,6 +25,7 @@ use Rattle.view_model.specs.declared.placing.Gravity.{Gravity}
 use Rattle.script_lines.specs.Gravities.{is_set_across, is_set_down}
 use Rattle.script_lines.specs.PlainCommands.{PlainCommand, PlainGiven}
 use Rattle.script_lines.specs.PlainCommands as plain
+use Rattle.script_lines.specs.Rules.{names_sibling, verbs}
 use Rattle.script_lines.specs.declared.naming.Name.{Name}
 use Rattle.script_lines.specs.declared.naming.Name.TheVariants.{Number, Id}
 
@@ -83,7 +85,16 @@ visibility_text visibility.Gone = codes "gone"
 abbrev pub weight_words : ℕ → List (List ℕ)
 weight_words weight = decimal (weight / 256) ∷ decimal (weight % 256) ∷ []
 
--- the first word of the line that makes a change; no line gives a background
+-- the lowest hexadecimal digits of a number, so many of them
+abbrev pub hex_places : ℕ → ℕ → List ℕ
+hex_places zero n = []
+hex_places (suc places) n = hex_places places (n / 16) ++ digit_glyph false (n % 16) ∷ []
+
+-- `#` and eight hexadecimal digits, alpha first
+abbrev pub color_text : Argb → List ℕ
+color_text color = codes "#" ++ hex_places 8 color.0
+
+-- the first word of the line that makes a change
 abbrev pub change_head : Change → List ℕ
 change_head (change.Size width height) = codes "size"
 change_head (change.Min size) = codes "min"
@@ -91,7 +102,7 @@ change_head (change.Margins sides) = codes "margins"
 change_head (change.Padding sides) = codes "padding"
 change_head (change.Weight weight) = codes "weight"
 change_head (change.Gravity kids gravity) = codes "gravity"
-change_head (change.Background color) = []
+change_head (change.Background color) = codes "bg"
 
 -- the words behind the view
 abbrev pub change_words : Change → List (List ℕ)
@@ -101,13 +112,24 @@ change_words (change.Margins sides) = insets_words sides
 change_words (change.Padding sides) = insets_words sides
 change_words (change.Weight weight) = weight_words weight
 change_words (change.Gravity kids gravity) = (if kids then codes "kids" else codes "self") ∷ gravity_text gravity ∷ []
-change_words (change.Background color) = []
+change_words (change.Background color) = color_text color ∷ []
 
 -- a flag; some no line sets
 abbrev pub flag_text : Flag → List ℕ
-flag_text flag.Clip = []
+flag_text flag.Clip = codes "clip"
 flag_text flag.Fill = codes "fill"
 flag_text flag.Split = []
+
+abbrev pub verb_text : ℕ → List ℕ
+verb_text verb = slice_index_or verbs verb []
+
+abbrev pub answer_text : ℕ → List ℕ
+answer_text zero = codes "no"
+answer_text (suc n) = codes "yes"
+
+-- the id of a sibling, or whether a rule on the parent counts
+abbrev pub rule_value_text : ℕ → ℕ → List ℕ
+rule_value_text verb value = if names_sibling verb then name_text (Id value) else answer_text value
 
 -- the first word of the line that sets this; some things no line sets
 abbrev pub act_head : Act → List ℕ
@@ -116,9 +138,9 @@ act_head (act.WeightSum sum) = codes "weightsum"
 act_head (act.Orient vertical) = codes "orient"
 act_head (act.Flag flag on) = codes "flag"
 act_head (act.Visible visibility) = codes "visible"
-act_head (act.Ink color) = []
+act_head (act.Ink color) = codes "ink"
 act_head (act.Id id) = codes "id"
-act_head (act.Rule verb value) = []
+act_head (act.Rule verb value) = codes "rule"
 act_head (act.Answer answer) = []
 act_head (act.Intercept actions) = []
 act_head (act.Scroll offset) = codes "scroll"
@@ -130,17 +152,12 @@ act_words (act.WeightSum sum) = weight_words sum
 act_words (act.Orient vertical) = (if vertical then codes "vertical" else codes "horizontal") ∷ []
 act_words (act.Flag flag on) = flag_text flag ∷ (if on then codes "yes" else codes "no") ∷ []
 act_words (act.Visible visibility) = visibility_text visibility ∷ []
-act_words (act.Ink color) = []
+act_words (act.Ink color) = color_text color ∷ []
 act_words (act.Id id) = name_text (Id id) ∷ []
-act_words (act.Rule verb value) = []
+act_words (act.Rule verb value) = verb_text verb ∷ rule_value_text verb value ∷ []
 act_words (act.Answer answer) = []
 act_words (act.Intercept actions) = []
 act_words (act.Scroll offset) = signed_decimal offset ∷ []
-
--- the lowest hexadecimal digits of a number, so many of them
-abbrev pub hex_places : ℕ → ℕ → List ℕ
-hex_places zero n = []
-hex_places (suc places) n = hex_places places (n / 16) ++ digit_glyph false (n % 16) ∷ []
 
 -- a unit by its number in the word of a dimension
 abbrev pub unit_text : ℕ → List ℕ
@@ -154,7 +171,7 @@ unit_text unit =
 
 -- what is given to a resource: its kind, and the words behind that; a text stands as the last word, whatever it has
 abbrev pub given_words : PlainGiven → List (List ℕ)
-given_words (plain.Color color) = codes "color" ∷ (codes "#" ++ hex_places 8 color.0) ∷ []
+given_words (plain.Color color) = codes "color" ∷ color_text color ∷ []
 given_words (plain.Dimen word) = codes "dimen" ∷ signed_decimal (mantissa word) ∷ unit_text (word % 256) ∷ []
 given_words (plain.Text text) = codes "text" ∷ text ∷ []
 
@@ -172,6 +189,8 @@ command_words (plain.SetText view text) = codes "text" ∷ name_text view ∷ te
 command_words plain.Frame = codes "frame" ∷ []
 command_words (plain.Bounds None) = codes "bounds" ∷ []
 command_words (plain.Bounds (Some view)) = codes "bounds" ∷ name_text view ∷ []
+command_words (plain.Pixels x y w h) = codes "pixels" ∷ signed_decimal x ∷ signed_decimal y ∷ signed_decimal w ∷ signed_decimal h ∷ []
+command_words plain.Digest = codes "digest" ∷ []
 
 -- the text of a command, with single spaces between its words
 abbrev pub spelled : PlainCommand → List ℕ
@@ -194,11 +213,11 @@ ChangeHasLine (change.Margins sides) = Unit {0}
 ChangeHasLine (change.Padding sides) = Unit {0}
 ChangeHasLine (change.Weight weight) = Unit {0}
 ChangeHasLine (change.Gravity kids gravity) = HasWord gravity
-ChangeHasLine (change.Background color) = ⊥
+ChangeHasLine (change.Background color) = color.0 < 2 ^ 32
 
 -- a flag that a line can set
 abbrev pub FlagHasLine : Flag → Type 0
-FlagHasLine flag.Clip = ⊥
+FlagHasLine flag.Clip = Unit {0}
 FlagHasLine flag.Fill = Unit {0}
 FlagHasLine flag.Split = ⊥
 
@@ -209,9 +228,9 @@ ActHasLine (act.WeightSum sum) = Unit {0}
 ActHasLine (act.Orient vertical) = Unit {0}
 ActHasLine (act.Flag flag on) = FlagHasLine flag
 ActHasLine (act.Visible visibility) = Unit {0}
-ActHasLine (act.Ink color) = ⊥
+ActHasLine (act.Ink color) = color.0 < 2 ^ 32
 ActHasLine (act.Id id) = HasText (Id id)
-ActHasLine (act.Rule verb value) = ⊥
+ActHasLine (act.Rule verb value) = value < (if names_sibling verb then 2 ^ 32 else 2)
 ActHasLine (act.Answer answer) = ⊥
 ActHasLine (act.Intercept actions) = ⊥
 ActHasLine (act.Scroll offset) = Unit {0}
@@ -234,3 +253,5 @@ HasLine (plain.Act view act) = HasText view × ActHasLine act
 HasLine (plain.SetText view text) = HasText view × IsTrue (is_utf8 text)
 HasLine plain.Frame = Unit {0}
 HasLine (plain.Bounds view) = IfSome view HasText
+HasLine (plain.Pixels x y w h) = Unit {0}
+HasLine plain.Digest = Unit {0}

@@ -1,5 +1,5 @@
 -- The words of a line, and how readings follow each other.
-use Rattle.std.specs.Prelude.{ℕ, nat_lt, Bool, not, List, [], ◌∷◌, if◌then◌else◌, length, take, drop, filter, Result, Ok, Err}
+use Rattle.std.specs.Prelude.{ℕ, nat_lt, Bool, true, false, not, List, [], ◌∷◌, if◌then◌else◌, length, take, drop, filter, codes, Result, Ok, Err}
 use Rattle.std.specs.List.{slice_split, prefix_len}
 use Rattle.std.specs.Str.{bytes_eq, is_utf8}
 use Rattle.script_lines.specs.Lines.{is_space}
@@ -55,3 +55,10 @@ end_of (word ∷ words) = Err Syntax
 -- bytes as a text, if they are valid UTF-8
 unfoldable pub text_of : List ℕ → Result (List ℕ) LineFault
 text_of bytes = if is_utf8 bytes then Ok bytes else Err Syntax
+
+-- whether something is on
+unfoldable pub on_of : List ℕ → Result Bool LineFault
+on_of word =
+    if bytes_eq word (codes "yes") then Ok true else (
+    if bytes_eq word (codes "no") then Ok false else
+    Err Syntax)

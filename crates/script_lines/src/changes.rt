@@ -1,17 +1,19 @@
 //! What a line sets of a view.
 
 ghost use Rattle.std.specs.Prelude.{◌≡◌, pos, negsuc, ◌≤ℤ◌, IfOk};
-ghost use Rattle.script_lines.specs.Changes.{IsActInBounds, IsChangeInBounds, act_of, change_of, flag_named, flag_of, gravity_change_of, insets_of, kids_of, margins_of, min_of, new_id_of, on_of, orient_of, padding_of, scroll_of, sides_of, size_of, vertical_of, visibility_of, visible_of, weight_change_of, weight_sum_of};
+ghost use Rattle.script_lines.specs.Changes.{IsActInBounds, IsChangeInBounds, act_of, background_of, change_of, flag_named, flag_of, gravity_change_of, ink_of, insets_of, kids_of, margins_of, min_of, new_id_of, orient_of, padding_of, scroll_of, sides_of, size_of, vertical_of, visibility_of, visible_of, weight_change_of, weight_sum_of};
 ghost use Rattle.script_lines.specs.Numbers.{IsWithin};
 ghost use Rattle.script_lines.specs.Words.{words};
 
+use crate::colors::last_color;
 use crate::dimension::extents;
 use crate::fault::LineFault;
 use crate::gravity::read_gravity;
 use crate::naming::id_word;
 use crate::number::{number, pair, within};
+use crate::rules::rule;
 use crate::weights::read_weight;
-use crate::words::{end, is, word};
+use crate::words::{end, is, read_on, word};
 use geom_core::{Insets, Size};
 use view_model::limits::{MAX_INSET, MAX_SIZE, MIN_MARGIN};
 use view_model::{Act, Change, Flag, Visibility};
@@ -132,6 +134,14 @@ fn gravity(bytes: &[u8]) -> Result<Change, LineFault>
     Ok(Change::Gravity { kids, gravity })
 }
 
+fn background(bytes: &[u8]) -> Result<Change, LineFault>
+    ensures value { result ≡ background_of (words bytes.now) }
+    ensures bounds { IfOk result IsChangeInBounds }
+{
+    let color = last_color(bytes)?;
+    Ok(Change::Background(color))
+}
+
 /// A change by the first word of its line and what stands behind the view.
 #[tactic(auto, unfolding(crate::specs::Changes::change_of))]
 fn read_change(head: &[u8], bytes: &[u8]) -> Result<Change, LineFault>
@@ -155,6 +165,9 @@ fn read_change(head: &[u8], bytes: &[u8]) -> Result<Change, LineFault>
     }
     if is(head, b"gravity") {
         return gravity(bytes);
+    }
+    if is(head, b"bg") {
+        return background(bytes);
     }
     Err(LineFault::Syntax)
 }
@@ -228,24 +241,13 @@ fn orient(bytes: &[u8]) -> Result<Act, LineFault>
     Ok(Act::Orient { vertical })
 }
 
-/// Whether something is on.
-#[tactic(auto, unfolding(crate::specs::Changes::on_of))]
-fn read_on(word: &[u8]) -> Result<bool, LineFault>
-    ensures { result ≡ on_of word.now }
-{
-    if is(word, b"yes") {
-        return Ok(true);
-    }
-    if is(word, b"no") {
-        return Ok(false);
-    }
-    Err(LineFault::Syntax)
-}
-
 #[tactic(auto, unfolding(crate::specs::Changes::flag_named))]
 fn read_flag(word: &[u8]) -> Result<Flag, LineFault>
     ensures { result ≡ flag_named word.now }
 {
+    if is(word, b"clip") {
+        return Ok(Flag::Clip);
+    }
     if is(word, b"fill") {
         return Ok(Flag::Fill);
     }
@@ -263,6 +265,14 @@ fn flag(bytes: &[u8]) -> Result<Act, LineFault>
     let on = read_on(answer)?;
     end(rest)?;
     Ok(Act::Flag { flag, on })
+}
+
+fn ink(bytes: &[u8]) -> Result<Act, LineFault>
+    ensures value { result ≡ ink_of (words bytes.now) }
+    ensures bounds { IfOk result IsActInBounds }
+{
+    let color = last_color(bytes)?;
+    Ok(Act::Ink(color))
 }
 
 #[tactic(auto, unfolding(crate::specs::Changes::scroll_of))]
@@ -299,6 +309,12 @@ pub fn read_act(head: &[u8], bytes: &[u8]) -> Result<Act, LineFault>
     }
     if is(head, b"scroll") {
         return scroll(bytes);
+    }
+    if is(head, b"rule") {
+        return rule(bytes);
+    }
+    if is(head, b"ink") {
+        return ink(bytes);
     }
     let change = read_change(head, bytes)?;
     Ok(Act::Change(change))

@@ -6,6 +6,10 @@ use view_model::{Act, Class};
 
 /// The greatest side of a window, in pixels.
 pub const MAX_WINDOW: i64 = 4096;
+/// The greatest coordinate of a point of a window, in pixels.
+pub const MAX_POINT: i64 = 4095;
+/// The greatest number of pixels that a line tells.
+pub const MAX_PIXELS: i64 = 65536;
 /// The least density, in dots an inch.
 pub const MIN_DPI: u32 = 40;
 /// The greatest density, in dots an inch.
@@ -64,4 +68,14 @@ pub enum Command<'a> {
     Frame,
     /// Tells of the bounds of this view, or of each view in preorder where that is none.
     Bounds(Option<Name>),
+    /// Tells the colours of a part of the picture. Its corner is from 0 to `MAX_POINT`, its sides from 1 to `MAX_WINDOW` and its
+    /// area at most `MAX_PIXELS`, in window coordinates.
+    Pixels {
+        x: i32,
+        y: i32,
+        w: i32,
+        h: i32,
+    },
+    /// Tells the digest of the picture.
+    Digest,
 }

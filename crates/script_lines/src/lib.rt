@@ -1,11 +1,12 @@
 //! The lines of a script, and the command that each line gives. Nothing here takes memory.
 //!
 //! `cutting` cuts bytes that come in pieces into lines. On the way from a line to its command: `words` parts it,
-//! `number`, `naming`, `dimension` and `gravity` read a word, `changes` reads what is set of a view, and `reading` reads
+//! `number`, `naming`, `dimension`, `colors` and `gravity` read a word, `changes` and `rules` read what is set of a view, and `reading` reads
 //! the whole line.
 #![tactic(auto)]
 
 mod changes;
+mod colors;
 mod commands;
 mod cutting;
 mod dimension;
@@ -15,9 +16,11 @@ mod file_name;
 mod gravity;
 mod naming;
 mod number;
+mod pixels;
 mod places;
 mod reading;
 mod resources;
+mod rules;
 mod weights;
 mod words;
 

@@ -1,7 +1,7 @@
 //! The command of a line.
 
 ghost use Rattle.std.specs.Prelude.{◌≡◌, ◌≤◌, true, length, Ok, Err, IfOk};
-ghost use Rattle.script_lines.specs.Commands.{IsInBounds, add_of, bounds_of, class_of, command_by, command_in, command_of, dpi_of, frame_of, inflate_of, into_of, remove_of, set_of, set_text_of, window_of};
+ghost use Rattle.script_lines.specs.Commands.{IsInBounds, add_of, bounds_of, class_of, command_by, command_in, command_of, digest_of, dpi_of, frame_of, inflate_of, into_of, remove_of, set_of, set_text_of, window_of};
 ghost use Rattle.script_lines.specs.Lines.{is_passed_over};
 ghost use Rattle.script_lines.specs.PlainCommands.{PlainCommand, plain_command, text_length};
 ghost use Rattle.script_lines.specs.Spelled.{HasLine, spelled};
@@ -15,6 +15,7 @@ use crate::fault::LineFault;
 use crate::file_name::file_name_word;
 use crate::naming::{Name, name_word, parent_word};
 use crate::number::{natural_within, number, pair};
+use crate::pixels::pixels;
 use crate::resources::res;
 use crate::words::{end, is, is_text, literal, word};
 use view_model::Class;
@@ -122,6 +123,15 @@ fn frame(bytes: &[u8]) -> Result<Command<'_>, LineFault>
     Ok(Command::Frame)
 }
 
+#[tactic(auto, unfolding(crate::specs::Commands::digest_of))]
+fn digest(bytes: &[u8]) -> Result<Command<'_>, LineFault>
+    ensures value { map_ok plain_command result ≡ digest_of (words bytes.now) }
+    ensures bounds { IfOk result (λ command. IsInBounds (plain_command command)) }
+{
+    end(bytes)?;
+    Ok(Command::Digest)
+}
+
 #[tactic(auto, unfolding(crate::specs::Commands::bounds_of))]
 fn bounds(bytes: &[u8]) -> Result<Command<'_>, LineFault>
     ensures value { map_ok plain_command result ≡ bounds_of (words bytes.now) }
@@ -183,6 +193,12 @@ fn read_command<'a>(head: &[u8], bytes: &'a [u8]) -> Result<Command<'a>, LineFau
     }
     if is(head, b"bounds") {
         return bounds(bytes);
+    }
+    if is(head, b"pixels") {
+        return pixels(bytes);
+    }
+    if is(head, b"digest") {
+        return digest(bytes);
     }
     set(head, bytes)
 }

@@ -4,16 +4,16 @@ ghost use Rattle.std.specs.Prelude.{◌≡◌, ◌≢◌, ◌<◌, pos, negsuc, 
 ghost use Rattle.script_lines.specs.Numbers.{IsWithin};
 ghost use Rattle.script_lines.specs.PlainCommands.{plain_command, plain_given};
 ghost use Rattle.script_lines.specs.Commands.{IsInBounds};
-ghost use Rattle.script_lines.specs.Resources.{IsGivenInBounds, color_given, color_of, dimen_given, dimen_word, given_by, given_of, in_24_bits, res_of, resource_id, unit_number, unit_of};
+ghost use Rattle.script_lines.specs.Resources.{IsGivenInBounds, color_given, dimen_given, dimen_word, given_by, given_of, in_24_bits, res_of, resource_id, unit_number, unit_of};
 ghost use Rattle.script_lines.specs.Words.{map_ok, words};
 
+use crate::colors::last_color;
 use crate::commands::{Command, Given};
 use crate::escapes::rest_text;
 use crate::fault::LineFault;
-use crate::naming::{hex, id_word};
+use crate::naming::id_word;
 use crate::number::{number, within};
 use crate::words::{end, is, word};
-use geom_core::Argb;
 
 /// The greatest number of a dimension.
 pub const MAX_MANTISSA: i64 = 8388607;
@@ -48,27 +48,11 @@ impl LengthUnit {
     }
 }
 
-#[tactic(auto, unfolding(crate::specs::Resources::color_of))]
-fn read_color(word: &[u8]) -> Result<Argb, LineFault>
-    ensures { result ≡ color_of word.now }
-{
-    if word.len() != 9 || word[0] != b'#' {
-        return Err(LineFault::Syntax);
-    }
-    match hex(&word[1..]) {
-        None => Err(LineFault::Syntax),
-        Some(color) => Ok(Argb(color)),
-    }
-}
-
-#[tactic(auto, unfolding(crate::specs::Resources::color_given))]
 fn color(bytes: &[u8]) -> Result<Given<'_>, LineFault>
     ensures value { map_ok plain_given result ≡ color_given (words bytes.now) }
     ensures bounds { IfOk result (λ given. IsGivenInBounds (plain_given given)) }
 {
-    let (word, rest) = word(bytes)?;
-    let color = read_color(word)?;
-    end(rest)?;
+    let color = last_color(bytes)?;
     Ok(Given::Color(color))
 }
 

@@ -4,7 +4,7 @@ ghost use Rattle.std.specs.Prelude.{◌≡◌, ◌≤◌, length, IfOk};
 ghost use Rattle.std.specs.List.{prefix_len};
 ghost use Rattle.std.specs.Str.{bytes_eq, is_utf8};
 ghost use Rattle.script_lines.specs.Lines.{is_space};
-ghost use Rattle.script_lines.specs.Words.{after_word, end_of, first_word, in_word, literal_in, map_ok, text_of, word_in, words};
+ghost use Rattle.script_lines.specs.Words.{after_word, end_of, first_word, in_word, literal_in, map_ok, on_of, text_of, word_in, words};
 
 use crate::fault::LineFault;
 
@@ -103,4 +103,18 @@ pub fn text(bytes: &[u8]) -> Result<&str, LineFault>
         Ok(text) => Ok(text),
         Err(_) => Err(LineFault::Syntax),
     }
+}
+
+/// Whether something is on.
+#[tactic(auto, unfolding(crate::specs::Words::on_of))]
+pub fn read_on(word: &[u8]) -> Result<bool, LineFault>
+    ensures { result ≡ on_of word.now }
+{
+    if is(word, b"yes") {
+        return Ok(true);
+    }
+    if is(word, b"no") {
+        return Ok(false);
+    }
+    Err(LineFault::Syntax)
 }

@@ -1,5 +1,5 @@
 -- The plain tree once offsets are brought into their ranges.
-use Rattle.std.proofs.Common.{◌≡◌, ℕ, ◌<◌, ℤ, Option, refl, sym, ◌∙◌, ap, arith}
+use Rattle.std.proofs.Common.{◌≡◌, ℕ, ◌<◌, ℤ, Option, refl, sym, ◌∙◌, ap, subst, arith}
 use Rattle.geom_core.specs.declared.geometry.Rect.{Rect}
 use Rattle.scroll_offsets.specs.Bringing.{brought_at, child_rect, first_range, range_at}
 use Rattle.scroll_offsets.proofs.BringingWalk.{brought_more}
@@ -8,10 +8,13 @@ use Rattle.view_model.specs.Forest.{Forest, Nothing, Branch}
 use Rattle.view_model.specs.Geometry.{rect_in}
 use Rattle.view_model.specs.Offsets.{brought, first_rect, range_by, ranged}
 use Rattle.view_model.specs.PlainTree.{PlainView}
+use Rattle.view_tree.specs.declared.state.State.{State}
+use Rattle.view_tree.specs.Hidden.{HidesGone, IsConsistent}
 use Rattle.view_tree.specs.Rows.{Row, count_of_key, first_tree, head_view, later_siblings}
-use Rattle.view_tree.specs.Views.{Held, IsTree, Views, geometry_of, held_of, number_of, plain_of, plain_rows}
+use Rattle.view_tree.specs.Views.{Held, IsTree, Views, geometry_of, held_of, laid_rows, number_of, plain_of, plain_rows}
 use Rattle.view_tree.proofs.forest.KeyLaws.{Within, count_of_key-within, from_within, here, in_after, in_below, times_self}
-use Rattle.view_tree.proofs.values.GeometryLaws.{rect_live}
+use Rattle.view_tree.proofs.values.GeometryLaws.{laid_along, rect_live}
+use Rattle.view_tree.proofs.values.HiddenLaws.{hides_along}
 
 within_kids : {row : Row} {kids siblings tree : Forest Row} → Within (Branch row kids siblings) tree → Within kids tree
 within_kids here = in_below here

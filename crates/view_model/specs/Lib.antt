@@ -6,6 +6,7 @@ pub mod Facts
 pub mod Forest
 pub mod FrameLayout
 pub mod Geometry
+pub mod Glyphs
 pub mod Grafts
 pub mod Growth
 pub mod Layout
@@ -14,6 +15,7 @@ pub mod LinearLayout
 pub mod Measuring
 pub mod Offsets
 pub mod Orders
+pub mod Painting
 pub mod Placing
 pub mod PlainTree
 pub mod Refusals
@@ -24,4 +26,5 @@ pub mod ScrollView
 pub mod SiblingRules
 pub mod Sprouts
 pub mod TextView
+pub mod Visible
 pub mod World

@@ -24,3 +24,5 @@ measured_later (command.Remove view) outcome before after calls other idle count
 measured_later (command.Act view act) outcome before after calls other idle counted = stays before after (other (λ e. cc))
 measured_later (command.SetText view text) outcome before after calls other idle counted = stays before after (other (λ e. cc))
 measured_later (command.Bounds view) outcome before after calls other idle counted = stays before after (other (λ e. cc))
+measured_later (command.Pixels x y w h) outcome before after calls other idle counted = stays before after (other (λ e. cc))
+measured_later command.Digest outcome before after calls other idle counted = stays before after (other (λ e. cc))

@@ -66,7 +66,7 @@ impl LineRunner {
         ensures numbers { self.new.world.views.next ≤ self.old.world.views.next + MAX_VIEWS }
         ensures files_stay { F.files shelf.new ≡ F.files shelf.old }
         ensures shelf_failed { CountsFetches (F.faults shelf.old) (F.faults shelf.new) result }
-        ensures painted { work.new.painted ≡ work.old.painted }
+        ensures painted { work.old.painted ≤ work.new.painted }
         ensures measured { min work.old.measured (2 ^ 64 - 1) ≤ work.new.measured }
         ensures counted { (K.state sink.new).faults ≡ writes_counted result (K.state sink.old).faults }
     {
@@ -103,7 +103,7 @@ impl LineRunner {
         ensures numbers { self.new.world.views.next ≤ self.old.world.views.next + MAX_VIEWS }
         ensures files_stay { F.files shelf.new ≡ F.files shelf.old }
         ensures shelf_failed { CountsFetches (F.faults shelf.old) (F.faults shelf.new) result }
-        ensures painted { work.new.painted ≡ work.old.painted }
+        ensures painted { work.old.painted ≤ work.new.painted }
         ensures measured { min work.old.measured (2 ^ 64 - 1) ≤ work.new.measured }
         ensures counted { (K.state sink.new).faults ≡ writes_counted result (K.state sink.old).faults }
     {
@@ -158,7 +158,7 @@ fn carry_out<K: Sink, F: Shelf>(
     ensures files_stay { F.files shelf.new ≡ F.files shelf.old }
     ensures shelf_failed { CountsShelf (F.faults shelf.old) (F.faults shelf.new) result }
     ensures asked { result ≡ Err StepFault.Shelf → Asks (world_of world.old) (line_now bytes.entry) }
-    ensures painted { work.new.painted ≡ work.old.painted }
+    ensures painted { work.old.painted ≤ work.new.painted }
     ensures measured { min work.old.measured (2 ^ 64 - 1) ≤ work.new.measured }
 {
     let Some(bytes) = bytes else {
@@ -240,7 +240,7 @@ impl Run {
         ensures numbers { self.new.runner.world.views.next ≤ self.old.runner.world.views.next + MAX_VIEWS }
         ensures files_stay { F.files shelf.new ≡ F.files shelf.old }
         ensures shelf_failed { CountsFetches (F.faults shelf.old) (F.faults shelf.new) result }
-        ensures painted { work.new.painted ≡ work.old.painted }
+        ensures painted { work.old.painted ≤ work.new.painted }
         ensures measured { min work.old.measured (2 ^ 64 - 1) ≤ work.new.measured }
         ensures counted { (K.state sink.new).faults ≡ writes_counted result (K.state sink.old).faults }
     {
@@ -273,7 +273,7 @@ impl Run {
         ensures numbers { self.new.runner.world.views.next ≤ self.old.runner.world.views.next + MAX_VIEWS * length piece.now }
         ensures files_stay { F.files shelf.new ≡ F.files shelf.old }
         ensures shelf_failed { CountsFetches (F.faults shelf.old) (F.faults shelf.new) result }
-        ensures painted { work.new.painted ≡ work.old.painted }
+        ensures painted { work.old.painted ≤ work.new.painted }
         ensures measured { min work.old.measured (2 ^ 64 - 1) ≤ work.new.measured }
         ensures counted { (K.state sink.new).faults ≡ writes_counted result (K.state sink.old).faults }
     {
@@ -305,7 +305,7 @@ impl Run {
             → IfErr result (StopsIn files first (K.state sink.new).gone (lines_of script)) }
         ensures files_stay { F.files shelf.new ≡ F.files shelf.old }
         ensures shelf_failed { CountsFetches (F.faults shelf.old) (F.faults shelf.new) result }
-        ensures painted { work.new.painted ≡ work.old.painted }
+        ensures painted { work.old.painted ≤ work.new.painted }
         ensures measured { min work.old.measured (2 ^ 64 - 1) ≤ work.new.measured }
         ensures counted { (K.state sink.new).faults ≡ writes_counted result (K.state sink.old).faults }
     {

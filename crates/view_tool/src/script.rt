@@ -60,7 +60,7 @@ fn carry_piece<K: Sink, F: Shelf>(
     ensures numbers { IfOk result (λ n. run.new.runner.world.views.next ≤ run.old.runner.world.views.next + MAX_VIEWS * n) }
     ensures files_stay { F.files shelf.new ≡ F.files shelf.old }
     ensures shelf_failed { CountsEnd (F.faults shelf.old) (F.faults shelf.new) result }
-    ensures painted { work.new.painted ≡ work.old.painted }
+    ensures painted { work.old.painted ≤ work.new.painted }
     ensures measured { min work.old.measured (2 ^ 64 - 1) ≤ work.new.measured }
     ensures no_failed_read { (faults : ℕ) → reads_counted result faults ≡ faults }
     ensures counted { (K.state sink.new).faults ≡ ends_counted result (K.state sink.old).faults }
@@ -98,7 +98,7 @@ fn read_piece<S: Source, K: Sink, F: Shelf>(
     ensures numbers { IfOk result (λ n. run.new.runner.world.views.next ≤ run.old.runner.world.views.next + MAX_VIEWS * n) }
     ensures files_stay { F.files shelf.new ≡ F.files shelf.old }
     ensures shelf_failed { CountsEnd (F.faults shelf.old) (F.faults shelf.new) result }
-    ensures painted { work.new.painted ≡ work.old.painted }
+    ensures painted { work.old.painted ≤ work.new.painted }
     ensures measured { min work.old.measured (2 ^ 64 - 1) ≤ work.new.measured }
     ensures source_failed { S.faults source.new ≡ reads_counted result (S.faults source.old) }
     ensures sink_failed { (K.state sink.new).faults ≡ ends_counted result (K.state sink.old).faults }
@@ -123,7 +123,7 @@ fn run_to_end<S: Source, K: Sink, F: Shelf>(
     ensures runs { RunsFrom (F.files shelf.old) (S.left source.old) (S.left source.new) (K.state sink.old).gone (K.state sink.new).gone result }
     ensures files_stay { F.files shelf.new ≡ F.files shelf.old }
     ensures shelf_failed { CountsEnd (F.faults shelf.old) (F.faults shelf.new) result }
-    ensures painted { work.new.painted ≡ work.old.painted }
+    ensures painted { work.old.painted ≤ work.new.painted }
     ensures measured { min work.old.measured (2 ^ 64 - 1) ≤ work.new.measured }
     ensures source_failed { S.faults source.new ≡ reads_counted result (S.faults source.old) }
     ensures sink_failed { (K.state sink.new).faults ≡ ends_counted result (K.state sink.old).faults }
@@ -163,7 +163,7 @@ pub fn run_source<S: Source, K: Sink, F: Shelf>(
     ensures runs { RunsFrom (F.files shelf.old) (S.left source.old) (S.left source.new) (K.state sink.old).gone (K.state sink.new).gone result }
     ensures files_stay { F.files shelf.new ≡ F.files shelf.old }
     ensures shelf_failed { CountsEnd (F.faults shelf.old) (F.faults shelf.new) result }
-    ensures painted { work.new.painted ≡ work.old.painted }
+    ensures painted { work.old.painted ≤ work.new.painted }
     ensures measured { min work.old.measured (2 ^ 64 - 1) ≤ work.new.measured }
     ensures source_failed { S.faults source.new ≡ reads_counted result (S.faults source.old) }
     ensures sink_failed { (K.state sink.new).faults ≡ ends_counted result (K.state sink.old).faults }

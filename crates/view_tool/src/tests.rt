@@ -93,8 +93,31 @@ struct Run {
     text: &'static [u8],
 }
 
+// A translucent view over an opaque one, cut off where the padding of its parent begins.
+const BLENDING: &[u8] =
+    b"window 4 3\nadd root FrameLayout match match\nbg v1 #ff0000ff\npadding v1 1 1 1 1\nadd v1 View 10 10\nmargins v2 -1 -1 0 0\nbg v2 #80ff0000\nframe\npixels 0 0 4 3\n";
+
+const BLENDED: &[u8] =
+    b"v1\nv2\nsettled 0\n0000ff 0000ff 0000ff 0000ff\n0000ff 80007f 80007f 0000ff\n0000ff 0000ff 0000ff 0000ff\n";
+
+// The upper two rows of a letter.
+const WRITING: &[u8] =
+    b"window 6 8\nadd root TextView match match\ntext v1 I\nframe\npixels 0 0 6 2\n";
+
+const WRITTEN: &[u8] =
+    b"v1\nsettled 0\n000000 ffffff ffffff ffffff 000000 000000\n000000 000000 ffffff 000000 000000 000000\n";
+
+const DIGESTED: &[u8] =
+    b"v1\nsettled 0\nba7816bf8f01cfea414140de5dae2223b00361a396177a9cb410ff61f20015ad\n";
+
+const PICTURING: &[u8] =
+    b"pixels 0 0 1 1\nwindow 2 1\ndigest\nadd root View 1 1\nbg v1 #ff102030\nframe\npixels 1 0 2 1\nremove v1\npixels 0 0 2 1\npixels 0 0 256 257\n";
+
+const PICTURED: &[u8] =
+    b"line 1: refused 33 NoWindow\nline 3: refused 37 NoFrame\nv1\nsettled 0\nline 7: refused 30 Range\n102030 000000\nline 10: refused 30 Range\n";
+
 #[rattlefmt::skip]
-const RUNS: [Run; 15] = [
+const RUNS: [Run; 19] = [
     Run { script: b"", reads: &[], writes: &[], status: 0, text: b"" },
     Run { script: SIMPLE, reads: &[], writes: &[], status: 0, text: SIMPLE_BOUNDS },
     // The window stands after the first read, and the first view after three.
@@ -116,6 +139,11 @@ const RUNS: [Run; 15] = [
     Run { script: SCROLLING, reads: &[], writes: &[], status: 0, text: SCROLLED },
     Run { script: CROWDING, reads: &[], writes: &[], status: 1, text: CROWDED },
     Run { script: NESTING, reads: &[], writes: &[], status: 0, text: NESTED },
+    Run { script: BLENDING, reads: &[], writes: &[], status: 0, text: BLENDED },
+    Run { script: WRITING, reads: &[], writes: &[], status: 0, text: WRITTEN },
+    Run { script: b"window 1 1\nadd root View match match\nbg v1 #ff616263\nframe\ndigest\n", reads: &[], writes: &[], status: 0, text: DIGESTED },
+    // The picture of a frame is told of its window alone, and after a frame alone.
+    Run { script: PICTURING, reads: &[], writes: &[], status: 1, text: PICTURED },
 ];
 
 /// Words, a file that the shelf holds as `a.xml`, the numbers of the fetches that fail, and how the call ends.

@@ -36,8 +36,8 @@ pub fn tool<S: Source, K: Sink, F: Shelf>(
     // dispatch rules alone; where memory was wanting or a handed-in source, sink or shelf failed, they are a prefix of
     // these.
     //
-    // It covers the lines that there are: a tree of views is built, edited, inflated from layout files, measured and laid
-    // out, and bounds are told. There is no painting, and there are no touches.
+    // It covers the lines that there are: a tree of views is built, edited, inflated from layout files, measured, laid out
+    // and painted, and bounds, colours and digests are told. There are no touches.
     ensures headline { (script : List ℕ) (files : Files)
         → IsRunOf (usage words.now) (S.left source.old) (F.files shelf.old) script files
         → length script ≤ max_script
@@ -132,7 +132,7 @@ pub fn tool<S: Source, K: Sink, F: Shelf>(
         × Consumes (S.left source.old) (S.left source.new) taken
         × (length taken ≤ max_script + 1) }
     ensures files_stay { F.files shelf.new ≡ F.files shelf.old }
-    ensures nothing_painted { work.new.painted ≡ work.old.painted }
+    ensures painted_later { work.old.painted ≤ work.new.painted }
     ensures measured_later { min work.old.measured (2 ^ 64 - 1) ≤ work.new.measured }
     ensures dump_measures_nothing { (name : List ℕ) → usage words.now ≡ Dump name → work.new ≡ work.old }
 {
@@ -168,7 +168,7 @@ fn run<S: Source, K: Sink, F: Shelf>(
         → F.faults shelf.new ≡ (if result == 6 then raised (F.faults shelf.old) else F.faults shelf.old) }
     ensures shelf_later { F.faults shelf.old ≤ F.faults shelf.new }
     ensures files_stay { F.files shelf.new ≡ F.files shelf.old }
-    ensures painted { work.new.painted ≡ work.old.painted }
+    ensures painted { work.old.painted ≤ work.new.painted }
     ensures measured { min work.old.measured (2 ^ 64 - 1) ≤ work.new.measured }
 {
     status(run_source(alloc, source, shelf, sink, work))

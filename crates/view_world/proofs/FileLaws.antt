@@ -25,6 +25,8 @@ unaided files world (command.Act view act) none = refl
 unaided files world (command.SetText view text) none = refl
 unaided files world command.Frame none = refl
 unaided files world (command.Bounds view) none = refl
+unaided files world (command.Pixels x y w h) none = refl
+unaided files world command.Digest none = refl
 
 -- a command that takes a file inflates that
 pub inflates : (files : Files) (world : World) (line : PlainCommand) (file : List ℕ × Option Name) → inflation_of line ≡ Some file → step files world line ≡ inflation files world file.0 file.1
@@ -40,6 +42,8 @@ inflates files world (command.Act view act) file some = absurd cc
 inflates files world (command.SetText view text) file some = absurd cc
 inflates files world command.Frame file some = absurd cc
 inflates files world (command.Bounds view) file some = absurd cc
+inflates files world (command.Pixels x y w h) file some = absurd cc
+inflates files world command.Digest file some = absurd cc
 
 -- a command that met no failed call of a shelf leaves its count
 pub counts_nothing : {A : Type 0} (before : ℕ) (result : Result A StepFault) → result ≢ Err fault.Shelf → CountsShelf before before result

@@ -77,8 +77,8 @@ views_of-bytes files name resources dpi bytes e = rw e refl
 
 geometry_in-same : (stage : Stage) (old new : Views) → geometry_of new ≡ geometry_of old → geometry_in stage new ≡ geometry_in stage old
 geometry_in-same NoWindow old new same = refl
-geometry_in-same (NoFrame size) old new same = refl
-geometry_in-same (Settled size) old new same = same
+geometry_in-same NoFrame old new same = refl
+geometry_in-same Settled old new same = same
 
 -- the world once the views of a file have come
 pub grafted_world : (old : KeyedWorld) (new : Views) (number parent : Option ℕ) (plan : Plan) (key ignored : ℕ) → IsPlace old.views number parent → Grafted old.views parent plan.seeds key new

@@ -63,6 +63,8 @@ inflation_of (command.Act view act) = None
 inflation_of (command.SetText view text) = None
 inflation_of command.Frame = None
 inflation_of (command.Bounds view) = None
+inflation_of (command.Pixels x y w h) = None
+inflation_of command.Digest = None
 
 -- the name of a file, where its tree has a place
 abbrev pub asked_at : List ℕ → Result (Option ℕ) PlainRefusal → Option (List ℕ)

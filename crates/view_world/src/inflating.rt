@@ -36,7 +36,9 @@ pub fn inflation_of<'a>(command: Command<'a>) -> Option<(&'a str, Option<Name>)>
         | Command::Act { .. }
         | Command::Text { .. }
         | Command::Frame
-        | Command::Bounds(_) => None,
+        | Command::Bounds(_)
+        | Command::Pixels { .. }
+        | Command::Digest => None,
     }
 }
 

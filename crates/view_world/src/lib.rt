@@ -6,6 +6,8 @@ mod fault;
 mod inflating;
 mod laying;
 mod naming;
+mod painting;
+mod pixels;
 mod replies;
 mod resources;
 mod response;

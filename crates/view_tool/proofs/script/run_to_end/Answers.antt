@@ -14,7 +14,7 @@ loop-n-init g c = record {
   taken = record { bytes = []; consumed = Consumes-nil (g.S.Source.left c.args.source.now); count = refl; behind = c.requires.behind (g.F.Shelf.files c.args.shelf.now) (g.K.Sink.state c.args.sink.now).gone };
   files = refl;
   fetches = refl;
-  painted = refl;
+  painted = omega arith;
   measured = omega arith;
   reads = refl;
   writes = refl;
@@ -29,7 +29,7 @@ loop-n-preserved g c =
       taken = rw c.read_piece.ensures.files_stay (taken_on _ _ _ _ _ _ _ _ _ c.loop-n.left c.in_ok-n.n t c.in_ok-n.ensures.most (c.in_ok-n.ensures.reads _ t.bytes t.count t.behind));
       files = c.read_piece.ensures.files_stay ∙ c.loop-n.invariant.files;
       fetches = c.in_ok-n.ensures.shelf_failed ∙ c.loop-n.invariant.fetches;
-      painted = c.read_piece.ensures.painted ∙ c.loop-n.invariant.painted;
+      painted = omega (arith, c.loop-n.invariant.painted, c.read_piece.ensures.painted);
       measured = omega (arith, c.loop-n.invariant.measured, c.read_piece.ensures.measured);
       reads = c.in_ok-n.ensures.source_failed ∙ c.loop-n.invariant.reads;
       writes = c.in_ok-n.ensures.sink_failed ∙ c.loop-n.invariant.writes;

@@ -12,7 +12,7 @@ invariant-loop-n g l = record {
   taken : HasTaken (g.F.Shelf.files l.shelf) (g.S.Source.left l.fn.source) (g.S.Source.left l.source) (g.K.Sink.state l.fn.sink).gone (g.K.Sink.state l.sink).gone l.run l.left;
   files : g.F.Shelf.files l.shelf ≡ g.F.Shelf.files l.fn.shelf;
   fetches : g.F.Shelf.faults l.shelf ≡ g.F.Shelf.faults l.fn.shelf;
-  painted : l.work.painted ≡ l.fn.work.painted;
+  painted : l.fn.work.painted ≤ l.work.painted;
   measured : min l.fn.work.measured (2 ^ 64 - 1) ≤ l.work.measured;
   reads : g.S.Source.faults l.source ≡ g.S.Source.faults l.fn.source;
   writes : (g.K.Sink.state l.sink).faults ≡ (g.K.Sink.state l.fn.sink).faults;

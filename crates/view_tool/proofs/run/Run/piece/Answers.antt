@@ -21,7 +21,7 @@ loop-at-preserved g c =
       numbers = omega (arith, c.loop-at.invariant.numbers, c.take.ensures.numbers, some);
       files = c.take.ensures.files_stay ∙ c.loop-at.invariant.files;
       fetches = c.in_ok-at.ensures.shelf_failed ∙ c.loop-at.invariant.fetches;
-      painted = c.take.ensures.painted ∙ c.loop-at.invariant.painted;
+      painted = omega (arith, c.loop-at.invariant.painted, c.take.ensures.painted);
       measured = omega (arith, c.loop-at.invariant.measured, c.take.ensures.measured);
       counted = c.in_ok-at.ensures.counted ∙ c.loop-at.invariant.counted;
     }

@@ -12,7 +12,7 @@ invariant-loop-at g l = record {
   numbers : l.self.runner.world.views.next ≤ l.fn.self.runner.world.views.next + MAX_VIEWS * l.at;
   files : g.F.Shelf.files l.shelf ≡ g.F.Shelf.files l.fn.shelf;
   fetches : g.F.Shelf.faults l.shelf ≡ g.F.Shelf.faults l.fn.shelf;
-  painted : l.work.painted ≡ l.fn.work.painted;
+  painted : l.fn.work.painted ≤ l.work.painted;
   measured : min l.fn.work.measured (2 ^ 64 - 1) ≤ l.work.measured;
   counted : (g.K.Sink.state l.sink).faults ≡ (g.K.Sink.state l.fn.sink).faults;
 }

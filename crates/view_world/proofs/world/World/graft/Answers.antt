@@ -10,7 +10,7 @@ use Rattle.view_world.proofs.world.World.graft.Goals.{in-Ok, in-Err-Refused, in-
 
 pub returns-clause-changed : goal.returns-clause-changed
 returns-clause-changed c number plan place grown =
-    let old : KeyedWorld = record { views = c.self.inside.tree; stage = c.self.inside.stage; dpi = c.self.inside.dpi; resources = c.self.inside.resources } in
+    let old : KeyedWorld = record { views = c.self.inside.tree; stage = c.self.inside.stage; surface = c.self.inside.surface; dpi = c.self.inside.dpi; resources = c.self.inside.resources } in
     let new : KeyedWorld = record old { views = c.graft.new.self } in
     let at : IsPlace old.views number c.args.place = subst (λ (w : KeyedWorld). IsPlace w.views number c.args.place) (sym c.self.view_is) place in
     let reason = λ (w : KeyedWorld). graft_refusal (plain_of w.views) number plan.seeds in

@@ -13,7 +13,7 @@ use Rattle.view_world.proofs.world.World.inflate.Goals as goal
 
 pub returns-clause-changed : goal.returns-clause-changed
 returns-clause-changed g c files at =
-    let old : KeyedWorld = record { views = c.self.inside.tree; stage = c.self.inside.stage; dpi = c.self.inside.dpi; resources = c.self.inside.resources } in
+    let old : KeyedWorld = record { views = c.self.inside.tree; stage = c.self.inside.stage; surface = c.self.inside.surface; dpi = c.self.inside.dpi; resources = c.self.inside.resources } in
     let name = c.args.name.now in
     let place = c.in_ok-place.ensures.place in
     let asked = subst (λ (w : KeyedWorld). AreAtHand files (g.F.Shelf.files c.args.shelf.now) (asked_for (plain_of w.views) (Some (name, c.args.into)))) (sym c.self.view_is) at in

@@ -1,0 +1,21 @@
+-- A picture on which nothing was painted keeps what every picture keeps.
+use Rattle.std.proofs.Common.{◌≡◌, ℕ, zero, suc, ◌*◌, ◌<◌, ◌^◌, List, replicate, refl}
+use Rattle.std.proofs.lemmas.List.{length-replicate}
+use Rattle.geom_core.specs.Color.{alpha_of}
+use Rattle.geom_core.specs.declared.color.Argb.{Argb}
+use Rattle.geom_core.specs.declared.color.TheConstants.{BLACK}
+use Rattle.pixel_raster.specs.Raster.{AllOpaque, IsRaster}
+
+black-opaque : alpha_of BLACK ≡ 255
+unfolding alpha_of
+black-opaque = refl
+
+all-opaque : (count : ℕ) → AllOpaque (replicate count BLACK)
+all-opaque zero place = black-opaque
+all-opaque (suc count) zero = black-opaque
+all-opaque (suc count) (suc place) = all-opaque count place
+
+pub black-is_raster : (width height : ℕ) (items : List Argb) → items ≡ replicate (width * height) BLACK → width < 2 ^ 31 → height < 2 ^ 31
+    → IsRaster (record { width = width; height = height; pixels = items; filled = 0 })
+black-is_raster width height items is wide high =
+    rw is (record { size = length-replicate (width * height) BLACK; width = wide; height = high; opaque = all-opaque (width * height) })

@@ -1,0 +1,17 @@
+-- What is made of a list piece by piece.
+use Rattle.std.proofs.Common.{◌≡◌, ℕ, ◌+◌, ◌-◌, ◌≤◌, List, ◌++◌, take, drop, arith, ap, sym, ◌∙◌}
+use Rattle.std.specs.List.{flat_map}
+use Rattle.std.proofs.lemmas.List.{take-append-drop, take-take, drop-take}
+use Rattle.std.proofs.lemmas.Grind.{flat_map-append}
+
+take-more : {X : Type 0} (items : List X) (low more : ℕ) → take (low + more) items ≡ take low items ++ take more (drop low items)
+take-more items low more =
+    let whole = take-append-drop low (take (low + more) items) in
+    sym (rw (take-take low (low + more) items (omega arith), drop-take low more items) at whole)
+
+pub flat_map-next_piece : {X : Type 0} (f : X → List ℕ) (items : List X) (low high : ℕ) → low ≤ high
+    → flat_map f (take low items) ++ flat_map f (take (high - low) (drop low items)) ≡ flat_map f (take high items)
+flat_map-next_piece f items low high le =
+    sym (flat_map-append f (take low items) (take (high - low) (drop low items)))
+    ∙ ap (flat_map f) (sym (take-more items low (high - low)))
+    ∙ ap (λ (n : ℕ). flat_map f (take n items)) (omega arith)

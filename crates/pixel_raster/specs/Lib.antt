@@ -1,0 +1,4 @@
+pub mod Bytes
+pub mod Cuts
+pub mod Raster
+pub mod Surfaces

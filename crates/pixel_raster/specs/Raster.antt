@@ -1,0 +1,67 @@
+-- What contracts see of a picture in memory.
+use Rattle.std.specs.Prelude.{ℕ, ℤ, pos, ◌≡◌, ◌<◌, ◌≤◌, ◌<ℤ◌, ◌≤ℤ◌, ◌+◌, ◌-◌, ◌*◌, ◌^◌, min, List, [], length, replicate, slice_index_or, if◌then◌else◌}
+use Rattle.geom_core.specs.Color.{alpha_of, blend_of}
+use Rattle.geom_core.specs.Rects.{holds}
+use Rattle.geom_core.specs.declared.color.Argb.{Argb}
+use Rattle.geom_core.specs.declared.color.TheConstants.{BLACK}
+use Rattle.geom_core.specs.declared.geometry.Rect.{Rect}
+use Rattle.geom_core.specs.declared.geometry.Size.{Size}
+use Rattle.pixel_raster.specs.Cuts.{area_within, from_zero}
+
+pub record Raster : Type 0 where
+  pub width : ℕ
+  pub height : ℕ
+  -- row by row, from the top
+  pub pixels : List Argb
+  -- how many pixels were filled since the picture was made; it stays at the greatest number
+  pub filled : ℕ
+
+-- the colour of a pixel in rows of this width
+abbrev pub pixel_at : ℕ → List Argb → ℕ → ℕ → Argb
+pixel_at width pixels x y = slice_index_or pixels (y * width + x) BLACK
+
+abbrev pub color_at : Raster → ℕ → ℕ → Argb
+color_at raster x y = pixel_at raster.width raster.pixels x y
+
+-- a picture on which nothing was painted
+abbrev pub black_raster : Size → Raster
+black_raster size = record {
+  width = from_zero size.w;
+  height = from_zero size.h;
+  pixels = replicate (from_zero size.w * from_zero size.h) BLACK;
+  filled = 0;
+}
+
+-- a picture without a pixel
+abbrev pub empty_raster : Raster
+empty_raster = record { width = 0; height = 0; pixels = []; filled = 0 }
+
+-- the size of the window whose picture it is
+abbrev pub size_of : Raster → Size
+size_of raster = record { w = pos raster.width; h = pos raster.height }
+
+abbrev pub AllOpaque : List Argb → Type 0
+AllOpaque pixels = (place : ℕ) → alpha_of (slice_index_or pixels place BLACK) ≡ 255
+
+-- what every picture keeps
+pub record IsRaster (raster : Raster) : Type 0 where
+  pub size : length raster.pixels ≡ raster.width * raster.height
+  pub width : raster.width < 2 ^ 31
+  pub height : raster.height < 2 ^ 31
+  pub opaque : AllOpaque raster.pixels
+
+-- a point of a picture
+pub record IsInside (raster : Raster) (x y : ℤ) : Type 0 where
+  pub right_of : pos 0 ≤ℤ x
+  pub left_of : x <ℤ pos raster.width
+  pub below : pos 0 ≤ℤ y
+  pub above : y <ℤ pos raster.height
+
+-- a colour is blended over the pixels of a rectangle
+pub record Fills (rect : Rect) (color : Argb) (old new : Raster) : Type 0 where
+  pub width : new.width ≡ old.width
+  pub height : new.height ≡ old.height
+  pub colors : (x y : ℕ) → x < old.width → y < old.height
+      → color_at new x y ≡ (if holds rect (pos x) (pos y) then blend_of color (color_at old x y) else color_at old x y)
+  pub filled : new.filled ≡ min (old.filled + area_within old.width old.height rect) (2 ^ 64 - 1)
+  pub grew : old.filled ≤ new.filled

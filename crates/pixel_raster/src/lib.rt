@@ -1,0 +1,15 @@
+//! A picture in memory, into which rectangles of a colour are blended. Only making one takes memory.
+//!
+//! `surface` has the picture itself, `cut` the part of one that a rectangle covers, `rows` how a colour comes over the
+//! rows of such a part, and `digest` the digest of all pixels.
+#![tactic(auto)]
+
+mod cut;
+mod digest;
+mod rows;
+mod surface;
+
+pub use surface::Surface;
+
+#[cfg(test)]
+mod tests;

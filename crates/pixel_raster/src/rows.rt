@@ -1,0 +1,53 @@
+//! How a colour comes over the rows of a part of a picture.
+ghost use Rattle.std.specs.Prelude.{◌≡◌, ◌<◌, ◌≤◌, ◌*◌, ℕ, length, map, if◌then◌else◌};
+ghost use Rattle.geom_core.specs.Color.{blend_of};
+ghost use Rattle.pixel_raster.specs.Cuts.{has_pixel};
+ghost use Rattle.pixel_raster.specs.Raster.{AllOpaque, pixel_at};
+
+use crate::cut::Cut;
+use geom_core::{Argb, blend};
+
+/// Puts a colour in the place of each pixel of a run.
+fn cover_run(run: &mut [Argb], color: Argb)
+    ensures { run.new ≡ map (λ _. color) run.old }
+{
+    for pixel in run.iter_mut() {
+        *pixel = color;
+    }
+}
+
+/// Blends a colour over each pixel of a run, one by one.
+fn blend_run(run: &mut [Argb], color: Argb)
+    ensures { run.new ≡ map (blend_of color) run.old }
+{
+    for pixel in run.iter_mut() {
+        *pixel = blend(color, *pixel);
+    }
+}
+
+/// Blends a colour over each pixel of a run. An opaque one needn't look at what was there.
+fn fill_run(run: &mut [Argb], color: Argb)
+    ensures { run.new ≡ map (blend_of color) run.old }
+{
+    if color.alpha() == 255 {
+        cover_run(run, color);
+    } else {
+        blend_run(run, color);
+    }
+}
+
+/// Blends a colour over a part of a picture whose rows have this many pixels.
+pub fn fill_rows(pixels: &mut [Argb], width: usize, cut: Cut, color: Argb)
+    requires across { cut.left ≤ cut.right }
+    requires inside { cut.right ≤ width }
+    requires down { cut.top ≤ cut.bottom }
+    requires rows { cut.bottom * width ≤ length pixels.old }
+    ensures opaque { AllOpaque pixels.old → AllOpaque pixels.new }
+    ensures colors { (x y : ℕ) → x < width
+        → pixel_at width pixels.new x y ≡ (if has_pixel cut x y then blend_of color (pixel_at width pixels.old x y) else pixel_at width pixels.old x y) }
+{
+    for y in cut.top..cut.bottom {
+        let start = y * width;
+        fill_run(&mut pixels[start + cut.left..start + cut.right], color);
+    }
+}

@@ -1,0 +1,139 @@
+//! A picture in memory.
+ghost use Rattle.std.specs.Prelude.{◌≡◌, ◌<◌, ◌≤◌, ◌+◌, ◌-◌, ◌*◌, ◌^◌, IfOk, length, min};
+ghost use Rattle.pixel_raster.specs.Bytes.{digest_of};
+ghost use Rattle.pixel_raster.specs.Cuts.{area_within, from_zero};
+ghost use Rattle.pixel_raster.specs.Raster.{Fills, IsInside, IsRaster, black_raster, color_at, empty_raster, size_of};
+
+use crate::cut::{Cut, from_zero};
+use crate::digest::digest_of;
+use crate::rows::fill_rows;
+use geom_core::{Argb, BLACK, Rect, Size};
+use std::alloc::{AllocError, Global};
+use std::marker::Model;
+use view_model::Work;
+
+/// The picture of a window, which contracts see as a `Raster`. Every pixel is opaque. The point 0 0 is the left one of
+/// the top row.
+#[derive(Drop)]
+pub struct Surface {
+    width: usize,
+    height: usize,
+    /// Row by row, from the top.
+    pixels: Vec<Argb>,
+    filled: u64,
+}
+
+impl Model for Surface {
+    ghost use Rattle.pixel_raster.specs.Raster.{IsRaster, Raster};
+
+    ghost Value = { Raster };
+
+    ghost use Rattle.pixel_raster.specs.Surfaces.{raster_of};
+
+    ghost view = { raster_of };
+
+    ghost invariant = { λ s. IsRaster (raster_of s) };
+}
+
+impl Surface {
+    /// A black picture of this size in pixels. A side below 0 counts as 0.
+    pub fn new(alloc: Global, size: Size) -> Result<Surface, AllocError>
+        ensures value { IfOk result (λ s. s ≡ black_raster size) }
+        ensures raster { IfOk result IsRaster }
+    {
+        let width = from_zero(size.w);
+        let height = from_zero(size.h);
+        let pixels = vec![in alloc; BLACK; width * height]?;
+        Ok(Surface {
+            width,
+            height,
+            pixels,
+            filled: 0,
+        })
+    }
+
+    /// A picture without a pixel, for a window that is not there yet.
+    pub fn empty(alloc: Global) -> Surface
+        ensures { result ≡ empty_raster }
+    {
+        Surface {
+            width: 0,
+            height: 0,
+            pixels: Vec::new(alloc),
+            filled: 0,
+        }
+    }
+
+    /// The size of the window whose picture it is, in pixels.
+    pub fn size(&self) -> Size
+        ensures value { result ≡ size_of self.now }
+        ensures raster { IsRaster self.now }
+    {
+        Size {
+            w: self.width as i32,
+            h: self.height as i32,
+        }
+    }
+
+    /// Blends a colour over the pixels of a rectangle, in window coordinates, as far as they are in the picture. Both
+    /// counts rise by the number of these pixels, also where the colour covers nothing of them.
+    pub fn fill(&mut self, rect: Rect, color: Argb, work: &mut Work)
+        ensures fills { Fills rect color self.old self.new }
+        ensures raster { IsRaster self.new }
+        ensures counted { work.new ≡ record work.old { painted = min (work.old.painted + area_within self.old.width self.old.height rect) (2 ^ 64 - 1) } }
+        ensures grew { work.old.painted ≤ work.new.painted }
+    {
+        let cut = Cut::of(self.width, self.height, rect);
+        let area = cut.area();
+        self.filled = self.filled.saturating_add(area);
+        work.painted = work.painted.saturating_add(area);
+        if area == 0 {
+            return;
+        }
+        if color.alpha() == 0 {
+            return;
+        }
+        fill_rows(&mut self.pixels, self.width, cut, color);
+    }
+
+    /// How many pixels were filled since the picture was made, one that was filled twice counting twice. It stays at the
+    /// greatest number.
+    pub fn filled(&self) -> u64
+        ensures { result ≡ self.now.filled }
+    {
+        self.filled
+    }
+
+    /// The colour of a pixel, which is opaque, by its window coordinates.
+    pub fn pixel(&self, x: i32, y: i32) -> Argb
+        requires { IsInside self.now x y }
+        ensures { result ≡ color_at self.now (from_zero x) (from_zero y) }
+    {
+        self.pixels[self.place(x, y)]
+    }
+
+    /// The colour of a pixel, which is opaque, by its column and its row.
+    pub fn color_at(&self, column: usize, row: usize) -> Argb
+        requires column { column < self.now.width }
+        requires row { row < self.now.height }
+        ensures { result ≡ color_at self.now column row }
+    {
+        self.pixels[row * self.width + column]
+    }
+
+    /// Where a pixel stands in the rows, by its window coordinates.
+    fn place(&self, x: i32, y: i32) -> usize
+        requires { IsInside self.now x y }
+        ensures value { result ≡ from_zero y * self.now.width + from_zero x }
+        ensures inside { result < length self.now.pixels }
+    {
+        from_zero(y) * self.width + from_zero(x)
+    }
+
+    /// The SHA-256 of the red, green and blue of each pixel, row by row from the top.
+    pub fn digest(&self) -> [u8; 32]
+        ensures { result ≡ digest_of self.now.pixels }
+    {
+        digest_of(&self.pixels)
+    }
+}

@@ -1,0 +1,42 @@
+-- How a line ties a child of a relative layout.
+use Rattle.std.specs.Prelude.{ℕ, nat_lt, Bool, if◌then◌else◌, List, map, position, Result, Ok}
+use Rattle.std.specs.Str.{bytes_eq}
+use Rattle.view_model.specs.declared.changes.Act.{Act}
+use Rattle.view_model.specs.declared.changes.Act.TheVariants as act
+use Rattle.view_model.specs.declared.verbs.TheConstants.{PARENT_LEFT}
+use Rattle.script_lines.specs.Names.{id_in, known}
+use Rattle.script_lines.specs.Words.{◌>>=◌, end_of, on_of, word_in}
+use Rattle.script_lines.specs.declared.fault.LineFault.{LineFault}
+use Rattle.script_lines.specs.declared.rules.TheConstants.{VERBS}
+
+-- the words of the verbs, by their places
+abbrev pub verbs : List (List ℕ)
+verbs = map (λ word. word.now) VERBS
+
+-- the place of a verb
+unfoldable pub verb_of : List ℕ → Result ℕ LineFault
+verb_of word = known (position (λ verb. bytes_eq verb.now word) VERBS)
+
+-- the verbs that name a sibling come before those that name the parent
+abbrev pub names_sibling : ℕ → Bool
+names_sibling verb = nat_lt verb PARENT_LEFT
+
+-- `yes` or `no`
+abbrev pub answer_in : List (List ℕ) → Result (ℕ × List (List ℕ)) LineFault
+answer_in words = do
+  b ← word_in words
+  on ← on_of b.0
+  Ok (if on then 1 else 0, b.1)
+
+-- `@HEX`, the id of a sibling, or whether a rule on the parent counts
+unfoldable pub rule_value_in : ℕ → List (List ℕ) → Result (ℕ × List (List ℕ)) LineFault
+rule_value_in verb words = if names_sibling verb then id_in words else answer_in words
+
+-- `VERB X`
+unfoldable pub rule_of : List (List ℕ) → Result Act LineFault
+rule_of words = do
+  v ← word_in words
+  verb ← verb_of v.0
+  value ← rule_value_in verb v.1
+  _ ← end_of value.1
+  Ok (act.Rule verb value.0)

@@ -1,0 +1,7 @@
+mod AreaLaws
+mod InkLaws
+mod OwnLaws
+mod PainterLaws
+mod PartLaws
+mod TreeLaws
+mod UnderWay

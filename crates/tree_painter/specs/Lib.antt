@@ -1,0 +1,4 @@
+pub mod Areas
+pub mod Frames
+pub mod Inks
+pub mod Painted

@@ -1,0 +1,58 @@
+-- What painting leaves of a picture, and of the counts.
+use Rattle.std.specs.Prelude.{◌≡◌, Some, None, ℕ, ◌+◌, ◌-◌, ◌<◌, ◌≤◌, ◌^◌, ℤ, pos, ◌-ℤ◌, if◌then◌else◌, Option}
+use Rattle.geom_core.specs.Rects.{holds}
+use Rattle.geom_core.specs.declared.geometry.Rect.{Rect}
+use Rattle.pixel_raster.specs.Cuts.{area_within}
+use Rattle.pixel_raster.specs.Raster.{Raster, color_at}
+use Rattle.view_model.specs.declared.work.Work.{Work}
+use Rattle.view_model.specs.Forest.{Forest, map_rows, sum_of}
+use Rattle.view_model.specs.Painting.{Painter, PlacedView}
+use Rattle.view_tree.specs.Rows.{Row}
+use Rattle.view_tree.specs.Views.{Held, scrolled}
+use Rattle.tree_painter.specs.declared.frame.Canvas.{Canvas}
+use Rattle.tree_painter.specs.declared.frame.Frame.{Frame}
+
+-- each pixel in a rectangle is what a painter makes of the colour that was there, and the others are as they were
+pub record IsPainted (paint : Painter) (clip : Rect) (old new : Raster) : Type 0 where
+  pub width : new.width ≡ old.width
+  pub height : new.height ≡ old.height
+  pub colors : (x y : ℕ) → x < old.width → y < old.height
+      → color_at new x y ≡ (if holds clip (pos x) (pos y) then paint (pos x) (pos y) (color_at old x y) else color_at old x y)
+
+-- a painter whose coordinates have their origin at this point
+abbrev pub from_origin : ℤ → ℤ → Painter → Painter
+from_origin left top paint x y under = paint (x -ℤ left) (y -ℤ top) under
+
+abbrev pub PaintedIn : Canvas → Painter → Raster → Raster → Type 0
+PaintedIn canvas paint old new = IsPainted (from_origin canvas.left canvas.top paint) canvas.clip old new
+
+-- the views of a list with the rectangles that are kept of them
+abbrev pub placed_rows : (ℕ → Held) → Forest Row → Forest PlacedView
+placed_rows held list = map_rows (λ (row : Row). record { view = scrolled held row; bounds = (held row.key).state.bounds }) list
+
+-- the area of a rectangle within a picture
+abbrev pub area_in : Raster → Rect → ℕ
+area_in picture rect = area_within picture.width picture.height rect
+
+-- the count of painted pixels rose, by no more than this, and that of a picture's filled pixels by the same, unless one
+-- of them has come to the greatest number; nothing was measured
+pub record IsCounted (most : ℕ) (old new : Raster) (before after : Work) : Type 0 where
+  pub grew : before.painted ≤ after.painted
+  pub filled_grew : old.filled ≤ new.filled
+  pub bound : after.painted ≤ before.painted + most
+  pub alike : after.painted < 2 ^ 64 - 1 → new.filled < 2 ^ 64 - 1 → after.painted + old.filled ≡ before.painted + new.filled
+  pub measured : after.measured ≡ before.measured
+
+-- a canvas whose origin is that of the children of a view in this frame, with this offset
+pub record IsBelow (frame : Frame) (offset : ℤ) (canvas : Canvas) : Type 0 where
+  pub left : canvas.left ≡ frame.left
+  pub top : canvas.top ≡ frame.top -ℤ offset
+
+-- what is left to paint of a view was painted: its children, if they are seen anywhere
+abbrev pub ChildrenPainted : Option Canvas → Painter → Raster → Raster → Type 0
+ChildrenPainted None children mid end = end ≡ mid
+ChildrenPainted (Some canvas) children mid end = PaintedIn canvas children mid end
+
+-- twice this area for each view of a list
+abbrev pub share_of : ℕ → Forest Row → ℕ
+share_of area list = sum_of (λ (row : Row). area + area) list

@@ -1,0 +1,16 @@
+//! Painting of a tree of views into a picture, over black and within a rectangle. Nothing here takes memory.
+//!
+//! `painting` walks over the tree, `own` paints what one view shows itself, `text` and `ink` its characters; `frame`
+//! has the arithmetic of rectangles that may lie far outside.
+#![tactic(auto)]
+
+mod frame;
+mod ink;
+mod own;
+mod painting;
+mod text;
+
+pub use painting::paint;
+
+#[cfg(test)]
+mod tests;

@@ -1,0 +1,184 @@
+//! What one view shows itself.
+ghost use Rattle.std.specs.Prelude.{◌≡◌, ℤ, ◌+◌, ◌<◌, ◌≤◌, ◌^◌, ◌+ℤ◌, ◌-ℤ◌, ◌≤ℤ◌, ◌&&◌, pos, true, IfSome, Some};
+ghost use Rattle.geom_core.specs.Rects.{holds};
+ghost use Rattle.pixel_raster.specs.Raster.{Raster};
+ghost use Rattle.view_model.specs.Facts.{padding_across, padding_left};
+ghost use Rattle.view_model.specs.Painting.{Painter, drawn_in, is_drawn, reaches_children, shows_text};
+ghost use Rattle.view_model.specs.TextView.{cells_in};
+ghost use Rattle.view_tree.specs.Views.{IsLive, facts_of, view_at};
+ghost use Rattle.tree_painter.specs.Frames.{IsCanvas, IsInReach, IsInside, IsSeen, canvas_holds, frame_size};
+ghost use Rattle.tree_painter.specs.Inks.{own_ink};
+ghost use Rattle.tree_painter.specs.Painted.{ChildrenPainted, IsBelow, IsCounted, IsPainted, PaintedIn, area_in, from_origin};
+
+use crate::frame::{Canvas, Frame, Length, before, inner_frame, moved, part_in, past};
+use crate::text::ink_text;
+use geom_core::Rect;
+use pixel_raster::Surface;
+use view_model::limits::CELL_WIDTH;
+use view_model::{Class, Facts, Work};
+use view_tree::{Key, ViewTree};
+
+/// Paints what a visible view shows itself where it lies so in a canvas. The answer is where its children are to be
+/// painted, if they are seen anywhere.
+pub fn paint_own(
+    tree: &ViewTree,
+    view: Key,
+    bounds: Rect,
+    surface: &mut Surface,
+    canvas: Canvas,
+    work: &mut Work,
+) -> Option<Canvas>
+    requires live { IsLive tree.now view }
+    requires drawn { is_drawn (facts_of tree.now view).visibility ≡ true }
+    requires canvas { IsCanvas (2 ^ 37) canvas }
+    ensures painted { (children : Painter) (end : Raster) → ChildrenPainted result children surface.new end
+        → PaintedIn canvas (drawn_in (Some bounds) (view_at tree.now view) children) surface.old end }
+    ensures size { (surface.new.width ≡ surface.old.width) × (surface.new.height ≡ surface.old.height) }
+    ensures canvas { IfSome result (IsCanvas (2 ^ 37)) }
+    ensures narrower { IfSome result (λ inner. area_in surface.old inner.clip ≤ area_in surface.old canvas.clip) }
+    ensures counted { IsCounted (area_in surface.old canvas.clip + area_in surface.old canvas.clip) surface.old surface.new work.old work.new }
+{
+    let frame = moved(bounds, canvas);
+    let Some(part) = part_in(canvas.clip, frame) else {
+        return None;
+    };
+    surface.fill(part, tree.facts(view).background, work);
+    paint_ink(tree, view, frame, part, surface, work);
+    children_canvas(tree.facts(view), frame, part)
+}
+
+/// Blends the ink of a view that lies in this frame, as far as it is seen in a part of it.
+fn paint_ink(
+    tree: &ViewTree,
+    view: Key,
+    frame: Frame,
+    part: Rect,
+    surface: &mut Surface,
+    work: &mut Work,
+)
+    requires live { IsLive tree.now view }
+    requires reach { IsInReach frame }
+    requires seen { IsSeen frame }
+    ensures painted { IsPainted (from_origin frame.left frame.top (own_ink (view_at tree.now view) (frame_size frame))) part surface.old surface.new }
+    ensures counted { IsCounted (area_in surface.old part) surface.old surface.new work.old work.new }
+{
+    if shows_text(tree.class(view)) {
+        paint_text(tree, view, frame, part, surface, work);
+    }
+}
+
+/// Whether a view of this class shows its text.
+fn shows_text(class: Class) -> bool
+    ensures { result ≡ shows_text class }
+{
+    match class {
+        Class::TextView => true,
+        Class::View | Class::FrameLayout | Class::LinearLayout | Class::ScrollView => false,
+    }
+}
+
+/// The same of a view that shows its text.
+fn paint_text(
+    tree: &ViewTree,
+    view: Key,
+    frame: Frame,
+    part: Rect,
+    surface: &mut Surface,
+    work: &mut Work,
+)
+    requires live { IsLive tree.now view }
+    requires shows { shows_text (view_at tree.now view).class ≡ true }
+    requires reach { IsInReach frame }
+    requires seen { IsSeen frame }
+    ensures painted { IsPainted (from_origin frame.left frame.top (own_ink (view_at tree.now view) (frame_size frame))) part surface.old surface.new }
+    ensures counted { IsCounted (area_in surface.old part) surface.old surface.new work.old work.new }
+{
+    let facts = tree.facts(view);
+    if let Some(clip) = part_in(part, inner_frame(facts, frame)) {
+        let cells = cells_in(room_across(facts, frame));
+        let text = tree.text(view).characters();
+        ink_text(
+            text,
+            cells,
+            surface,
+            text_canvas(facts, frame, clip),
+            facts.ink,
+            work,
+        );
+    }
+}
+
+/// The width of a frame without the padding of the view that lies in it.
+fn room_across(facts: &Facts, frame: Frame) -> Length
+    requires { IsInReach frame }
+    ensures value { result.pixels ≡ frame.right -ℤ frame.left -ℤ padding_across facts.now }
+    ensures bound { result.pixels ≤ℤ pos (2 ^ 34) }
+{
+    Length {
+        pixels: frame.right - frame.left - facts.padding_across(),
+    }
+}
+
+/// How many cells a line has in so many pixels.
+#[tactic(auto, unfolding(view_model::specs::TextView::cells_in))]
+fn cells_in(room: Length) -> u32
+    requires { room.pixels ≤ℤ pos (2 ^ 34) }
+    ensures value { result ≡ cells_in room.pixels }
+    ensures some { 0 < result }
+{
+    if room.pixels < 0 {
+        return 1;
+    }
+    ((room.pixels / i64::from(CELL_WIDTH)) as u32).max(1)
+}
+
+/// The canvas of the text of a view that lies in this frame, which is seen within `clip`.
+fn text_canvas(facts: &Facts, frame: Frame, clip: Rect) -> Canvas
+    requires reach { IsInReach frame }
+    requires seen { IsSeen frame }
+    ensures left { result.left ≡ frame.left +ℤ padding_left facts.now }
+    ensures top { result.top ≡ frame.top +ℤ facts.now.padding.top }
+    ensures clip { result.clip ≡ clip }
+    ensures near { IsCanvas (2 ^ 35) result }
+{
+    Canvas {
+        left: past(frame.left, facts.padding_left()),
+        top: past(frame.top, facts.padding.top),
+        clip,
+    }
+}
+
+/// Where the children of a view that lies in this frame are painted, if a part of it is seen: higher by the view's
+/// offset, and where its padding cuts them off within that.
+fn children_canvas(facts: &Facts, frame: Frame, part: Rect) -> Option<Canvas>
+    requires reach { IsInReach frame }
+    requires seen { IsSeen frame }
+    ensures points { (x y : ℤ) → canvas_holds result x y
+        ≡ (holds part x y && reaches_children facts.now (frame_size frame) (x -ℤ frame.left) (y -ℤ frame.top)) }
+    ensures below { IfSome result (IsBelow frame facts.now.offset) }
+    ensures canvas { IfSome result (IsCanvas (2 ^ 37)) }
+    ensures inside { IfSome result (λ inner. IsInside part inner.clip) }
+{
+    if !facts.clip {
+        return Some(canvas_below(frame, facts.offset, part));
+    }
+    match part_in(part, inner_frame(facts, frame)) {
+        Some(inner) => Some(canvas_below(frame, facts.offset, inner)),
+        None => None,
+    }
+}
+
+/// The canvas of children whose parent lies in this frame and has this offset.
+fn canvas_below(frame: Frame, offset: i32, clip: Rect) -> Canvas
+    requires reach { IsInReach frame }
+    requires seen { IsSeen frame }
+    ensures below { IsBelow frame offset result }
+    ensures clip { result.clip ≡ clip }
+    ensures canvas { IsCanvas (2 ^ 37) result }
+{
+    Canvas {
+        left: frame.left,
+        top: before(frame.top, offset),
+        clip,
+    }
+}

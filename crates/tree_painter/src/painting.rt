@@ -1,0 +1,83 @@
+//! The walk over a tree of views that paints each of them.
+ghost use Rattle.std.specs.Prelude.{◌≡◌, ◌+◌, ◌-◌, ◌*◌, ◌≤◌, ◌^◌, min};
+ghost use Rattle.view_model.specs.Forest.{count_of};
+ghost use Rattle.view_model.specs.Painting.{is_drawn, painted, pixel_color};
+ghost use Rattle.view_tree.specs.Rows.{children_of_first, first_tree, part_from};
+ghost use Rattle.view_tree.specs.Views.{IsLive, geometry_of, held_of, plain_of};
+ghost use Rattle.tree_painter.specs.Frames.{IsCanvas};
+ghost use Rattle.tree_painter.specs.Painted.{IsCounted, IsPainted, PaintedIn, area_in, placed_rows, share_of};
+
+use crate::frame::Canvas;
+use crate::own::paint_own;
+use geom_core::{BLACK, Rect};
+use pixel_raster::Surface;
+use view_model::{Visibility, Work};
+use view_tree::{Key, ViewTree};
+
+/// Paints a whole tree anew, over black, in a rectangle of the window; the rest of the picture stays. The views lie
+/// where their last layout left them.
+pub fn paint(tree: &ViewTree, surface: &mut Surface, damage: Rect, work: &mut Work)
+    ensures painted { IsPainted (λ x y under. pixel_color (geometry_of tree.now) (plain_of tree.now) x y) damage surface.old surface.new }
+    ensures counted { IsCounted ((2 * count_of tree.now.tree + 1) * area_in surface.old damage) surface.old surface.new work.old work.new }
+    ensures least { min (work.old.painted + area_in surface.old damage) (2 ^ 64 - 1) ≤ work.new.painted }
+{
+    surface.fill(damage, BLACK, work);
+    if let Some(root) = tree.root() {
+        let window = Canvas {
+            left: 0,
+            top: 0,
+            clip: damage,
+        };
+        paint_view(tree, root, surface, window, work);
+    }
+}
+
+/// Paints a view and all below it. The canvas is that of its siblings.
+#[cycle(paint)]
+fn paint_view(tree: &ViewTree, view: Key, surface: &mut Surface, canvas: Canvas, work: &mut Work)
+    requires live { IsLive tree.now view }
+    requires canvas { IsCanvas (2 ^ 37) canvas }
+    ensures painted { PaintedIn canvas (painted (placed_rows (held_of tree.now) (first_tree (part_from view tree.now.tree)))) surface.old surface.new }
+    ensures counted { IsCounted (share_of (area_in surface.old canvas.clip) (first_tree (part_from view tree.now.tree))) surface.old surface.new work.old work.new }
+{
+    let Some(bounds) = tree.state(view).bounds else {
+        return;
+    };
+    if !is_drawn(tree.facts(view).visibility) {
+        return;
+    }
+    if let Some(inner) = paint_own(tree, view, bounds, surface, canvas, work) {
+        paint_children(tree, view, surface, inner, work);
+    }
+}
+
+/// Paints the children of a view, the first one first. The canvas is theirs.
+#[cycle(paint)]
+fn paint_children(
+    tree: &ViewTree,
+    view: Key,
+    surface: &mut Surface,
+    canvas: Canvas,
+    work: &mut Work,
+)
+    requires live { IsLive tree.now view }
+    requires canvas { IsCanvas (2 ^ 37) canvas }
+    ensures painted { PaintedIn canvas (painted (placed_rows (held_of tree.now) (children_of_first (part_from view tree.now.tree)))) surface.old surface.new }
+    ensures counted { IsCounted (share_of (area_in surface.old canvas.clip) (children_of_first (part_from view tree.now.tree))) surface.old surface.new work.old work.new }
+{
+    let mut next = tree.first(view);
+    while let Some(child) = next {
+        paint_view(tree, child, surface, canvas, work);
+        next = tree.next(child);
+    }
+}
+
+/// Whether a view of this visibility is drawn.
+fn is_drawn(visibility: Visibility) -> bool
+    ensures { result ≡ is_drawn visibility }
+{
+    match visibility {
+        Visibility::Visible => true,
+        Visibility::Invisible | Visibility::Gone => false,
+    }
+}

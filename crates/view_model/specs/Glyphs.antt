@@ -1,0 +1,15 @@
+-- The pixels of characters.
+use Rattle.std.specs.Prelude.{ℕ, ◌-◌, ◌/◌, ◌%◌, ◌^◌, ◌==◌, Bool, nat_lt, if◌then◌else◌, List, slice_index_or}
+use Rattle.view_model.specs.declared.font.TheConstants.{FIRST_GLYPH, FONT, OTHER_GLYPH}
+
+-- the columns of a character, from the left: every one that the font does not have looks alike
+abbrev pub columns_of : ℕ → List ℕ
+columns_of c = if nat_lt c FIRST_GLYPH then OTHER_GLYPH else slice_index_or FONT (c - FIRST_GLYPH) OTHER_GLYPH
+
+-- a column of a character's cell, as a number whose bits are its pixels: those right of the glyph are empty
+unfoldable pub glyph_of : ℕ → ℕ → ℕ
+glyph_of c column = slice_index_or (columns_of c) column 0
+
+-- whether a bit is set, the lowest being the bit 0
+abbrev pub has_bit : ℕ → ℕ → Bool
+has_bit bits k = bits / 2 ^ k % 2 == 1
