@@ -9,7 +9,7 @@ use Rattle.geom_core.specs.declared.color.Argb.{Argb}
 use Rattle.geom_core.specs.declared.geometry.Rect.{Rect}
 use Rattle.pixel_raster.specs.Cuts.{area_of, cut_of, edge_within, from_zero, has_pixel}
 use Rattle.pixel_raster.specs.declared.cut.Cut.{Cut}
-use Rattle.pixel_raster.proofs.TestLaws.{between_from, never, of_both}
+use Rattle.pixel_raster.proofs.Tests.{between_from, never, of_both}
 
 edge_test : (limit place : ℕ) (edge : ℤ) → place < limit → nat_lt place (edge_within limit edge) ≡ int_lt (pos place) edge
 unfolding edge_within from_zero

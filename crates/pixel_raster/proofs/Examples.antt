@@ -1,11 +1,12 @@
 -- Areas, bytes and new pictures, by computation.
-use Rattle.std.specs.Prelude.{◌≡◌, ℤ, pos, negsuc, refl, [], ◌∷◌}
+use Rattle.std.specs.Prelude.{◌≡◌, ℕ, ℤ, pos, negsuc, refl, [], ◌∷◌}
+use Rattle.geom_core.specs.declared.color.Argb.{Argb}
 use Rattle.geom_core.specs.declared.color.TheConstants.{BLACK}
 use Rattle.geom_core.specs.declared.geometry.Rect.{Rect}
 use Rattle.geom_core.specs.Color.{blue_of, green_of, red_of}
 use Rattle.pixel_raster.specs.Bytes.{bytes_of}
 use Rattle.pixel_raster.specs.Cuts.{area_within, cut_of, edge_within, from_zero}
-use Rattle.pixel_raster.specs.Raster.{black_raster}
+use Rattle.pixel_raster.specs.Raster.{black_raster, color_at}
 
 abbrev rect : ℤ → ℤ → ℤ → ℤ → Rect
 rect left top right bottom = record { left = left; top = top; right = right; bottom = bottom }

@@ -5,4 +5,4 @@ pub mod PictureLaws
 mod PieceLaws
 mod RowLaws
 mod RunLaws
-mod TestLaws
+mod Tests

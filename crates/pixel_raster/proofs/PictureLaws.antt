@@ -35,8 +35,8 @@ pixels-picture raster color is each =
     same_lists raster.pixels (picture_of raster.width raster.height color)
     (size ∙ sym (length-map-range_with_len point 0 (raster.width * raster.height)))
     (λ k d lt.
-    let inside : k < raster.width * raster.height = omega (arith, size, lt) in
-    get_or_default raster.pixels k d BLACK lt
-    ∙ ap (λ (n : ℕ). get_or raster.pixels n BLACK) (sym (place_of raster.width raster.height k inside))
-    ∙ each (k % raster.width) (k / raster.width) (column_of raster.width raster.height k inside) (row_of raster.width raster.height k inside)
-    ∙ sym (get_or-map-range_with_len point 0 (raster.width * raster.height) k k d inside (omega arith)))
+        let inside : k < raster.width * raster.height = omega (arith, size, lt) in
+        get_or_default raster.pixels k d BLACK lt
+        ∙ ap (λ (n : ℕ). get_or raster.pixels n BLACK) (sym (place_of raster.width raster.height k inside))
+        ∙ each (k % raster.width) (k / raster.width) (column_of raster.width raster.height k inside) (row_of raster.width raster.height k inside)
+        ∙ sym (get_or-map-range_with_len point 0 (raster.width * raster.height) k k d inside (omega arith)))

@@ -11,7 +11,7 @@ use Rattle.geom_core.specs.declared.color.TheConstants.{BLACK}
 use Rattle.pixel_raster.specs.Cuts.{is_between}
 use Rattle.pixel_raster.specs.Raster.{AllOpaque, pixel_at}
 use Rattle.pixel_raster.proofs.RunLaws.{get_or-mapped_run}
-use Rattle.pixel_raster.proofs.TestLaws.{between_from, between_to, both, of_both, same_test}
+use Rattle.pixel_raster.proofs.Tests.{between_from, between_to, both, of_both, same_test}
 
 row_is : (width left right x y z : ℕ) → right ≤ width → x < width → z * width + left ≤ y * width + x → y * width + x < z * width + right → y ≡ z
 row_is width left right x y z fits column low high =

@@ -4,7 +4,7 @@ use Rattle.std.specs.List.{between}
 use Rattle.std.proofs.lemmas.List.{get_or-drop, get_or-take, get_or_append_left, get_or-append_right, get_or-map, length-map, length-take, length-take-le, length-drop}
 use borrow.Rule.Slice.PartMut.{put_mid}
 use Rattle.pixel_raster.specs.Cuts.{is_between}
-use Rattle.pixel_raster.proofs.TestLaws.{beside, between_from, chosen}
+use Rattle.pixel_raster.proofs.Tests.{beside, between_from, chosen}
 
 module _ {X : Type 0} (f : X → X) (items : List X) (low high place : ℕ) (default : X) (ordered : low ≤ high) (inside : high ≤ length items) where
   abbrev run : List X

@@ -16,7 +16,7 @@ const EVERYWHERE: Rect = Rect {
 const ABC: [u8; 32] =
     *b"\xba\x78\x16\xbf\x8f\x01\xcf\xea\x41\x41\x40\xde\x5d\xae\x22\x23\xb0\x03\x61\xa3\x96\x17\x7a\x9c\xb4\x10\xff\x61\xf2\x00\x15\xad";
 
-/// The digest of twelve pixels of `0000ff`, the sixth and seventh of which are `80007f`, by another program.
+/// The digest of twelve pixels of `0000ff`, the sixth and seventh of which are `80007f`, by `sha256sum`.
 const RED_OVER_BLUE: [u8; 32] =
     *b"\x90\x25\x82\xba\xbe\xb9\x60\x89\x7c\xbe\x35\x18\x04\x2c\x86\x57\xb7\xfe\x9b\x83\x55\x36\x19\xad\x7b\xb3\x43\x94\xdd\x4d\x5d\xc6";
 
@@ -56,5 +56,7 @@ fn the_largest_window_has_room(rt: HostRuntime) -> Result<(), Fail> {
     };
     surface.fill(corner, Argb(0xff00_ff00), &mut Work::default());
     assert_eq!(rt; surface.filled(), 1);
+    assert_eq!(rt; surface.pixel(4094, 4095).0, 0xff00_0000);
+    assert_eq!(rt; surface.pixel(4095, 4095).0, 0xff00_ff00);
     Ok(())
 }

@@ -1,5 +1,5 @@
 -- Entries by rising ids: where an id is among them, and what an entry more makes of them.
-use Rattle.std.proofs.Common.{◌≡◌, ◌≢◌, ℕ, zero, suc, ◌+◌, ◌<◌, ◌≤◌, Some, None, Result, Ok, Err, refl, sym, ◌∙◌, ap, arith, inl, inr, List, [], ◌∷◌, ◌++◌, length, Bool, true, false, ◌||◌, slice_set, slice_index_or}
+use Rattle.std.proofs.Common.{◌≡◌, ◌≢◌, ℕ, zero, suc, ◌+◌, ◌<◌, ◌≤◌, Some, None, Result, Ok, Err, refl, sym, ◌∙◌, ap, arith, inl, inr, List, [], ◌∷◌, ◌++◌, length, Bool, true, false, ◌||◌, ◌&&◌, slice_set, slice_index_or}
 use Rattle.std.proofs.Math.Bool.{or-false}
 use Rattle.std.proofs.lemmas.Bool.{cases_Bool, cases_eq, cases_lt, eq-eqb, le-ltb, lt-ltb, ne_eqb}
 use Rattle.std.proofs.lemmas.Bool.Decides.{nat_tests}
@@ -10,7 +10,7 @@ use Rattle.std.proofs.lemmas.List.Sorted.{IsNonDecreasingBy-from_default}
 use Rattle.std.specs.BTreeMap.{insert_entry}
 use Rattle.std.specs.List.Sorted.{IsBinarySearchResult, IsNonDecreasingBy, IsSearchInRange}
 use Rattle.std.specs.Ordering.{nat_cmp, ordering_index}
-use Rattle.std.specs.Prelude.{◌==◌, replicate, ℤ, pos, negsuc, ◌≤ℤ◌, unsigned_abs}
+use Rattle.std.specs.Prelude.{◌==◌, replicate, ℤ, pos, negsuc, ◌≤ℤ◌, not, is_some, unsigned_abs}
 use Rattle.std.specs.Result.{MatchResult}
 use Rattle.saved_state.specs.Restoring.{IsEntry, entry_at, offset_for, scrolls_as}
 use Rattle.saved_state.specs.State.{RisesFrom}

@@ -1,16 +1,16 @@
 -- A tree while the offsets are set that a state gives, view by view.
-use Rattle.std.proofs.Common.{◌≡◌, ◌≢◌, ℕ, ◌+◌, ◌<◌, ℤ, Option, Some, None, refl, sym, ◌∙◌, ap, arith, inl, inr, List, ◌∷◌, drop}
+use Rattle.std.proofs.Common.{◌≡◌, ◌≢◌, ℕ, ◌+◌, ◌<◌, ◌≤◌, ℤ, Option, Some, None, refl, sym, ◌∙◌, ap, arith, inl, inr, List, ◌∷◌, drop}
 use Rattle.std.proofs.lemmas.Bool.{cases_eq, eq-eqb, ne_eqb}
 use Rattle.std.specs.Prelude.{◌==◌, if◌then◌else◌, unwrap_or}
-use Rattle.saved_state.specs.Restoring.{given_offset, restored}
+use Rattle.saved_state.specs.Restoring.{given_offset, restored, restored_view}
 use Rattle.view_model.specs.Forest.{Forest, Nothing, Branch}
 use Rattle.view_model.specs.PlainTree.{PlainView}
 use Rattle.view_tree.specs.Preorder.{rows_from}
 use Rattle.view_tree.specs.Rows.{Row, count_of_key, head_view, part_from}
-use Rattle.view_tree.specs.Views.{Held, IsTree, Views, held_of, plain_of, plain_rows, scrolled}
-use Rattle.view_tree.proofs.forest.KeyLaws.{Within, count_of_key-within, from_within, here, times_self}
+use Rattle.view_tree.specs.Views.{Held, IsTree, Views, held_of, plain_of, plain_rows, scrolled, view_at}
+use Rattle.view_tree.proofs.forest.KeyLaws.{Within, count_of_key-within, from_within, here, in_after, in_below, times_self}
 use Rattle.view_tree.proofs.forest.Forests.{Within-children_of_first, Within-later_siblings}
-use Rattle.view_tree.proofs.forest.PreorderLaws.{key_count, standing}
+use Rattle.view_tree.proofs.forest.PreorderLaws.{Standing, key_count, standing}
 
 -- the offset that a state gives the view of a key
 abbrev pub wanted : List (ℕ × ℕ) → Forest Row → ℕ → Option ℤ

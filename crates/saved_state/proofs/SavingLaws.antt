@@ -1,5 +1,5 @@
 -- What is saved of a tree, view by view.
-use Rattle.std.proofs.Common.{◌≡◌, ◌+◌, refl, arith, List, [], ◌∷◌, ◌++◌, length}
+use Rattle.std.proofs.Common.{◌≡◌, ℕ, ◌+◌, ◌<◌, ◌≤◌, refl, sym, ◌∙◌, ap, arith, List, [], ◌∷◌, ◌++◌, length}
 use Rattle.std.specs.List.{AllByRecursion}
 use Rattle.view_model.specs.Forest.{Forest, Nothing, Branch, EveryRow, count_of, rows}
 

@@ -1,5 +1,5 @@
 -- What is saved of a tree.
-use Rattle.std.specs.Prelude.{◌≡◌, ℕ, ◌==◌, pos, ◌≤ℤ◌, true, ◌&&◌, not, if◌then◌else◌, List, [], unsigned_abs}
+use Rattle.std.specs.Prelude.{◌≡◌, ℕ, ◌==◌, ℤ, pos, ◌≤ℤ◌, Bool, true, ◌&&◌, not, if◌then◌else◌, List, [], unsigned_abs}
 use Rattle.std.specs.BTreeMap.{insert_entry}
 use Rattle.std.specs.List.{fold}
 use Rattle.std.specs.Ordering.{nat_cmp}

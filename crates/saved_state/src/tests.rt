@@ -43,8 +43,12 @@ fn restored(alloc: Global, tree: &mut ViewTree, bytes: &[u8]) -> Option<i32> {
 
 #[test]
 fn a_state_is_saved_where_there_is_memory(rt: HostRuntime) -> Result<(), Fail> {
-    let bytes = save(rt.alloc(), &ViewTree::new(rt.alloc()))?;
-    assert_eq!(rt; bytes.as_slice(), [0x56, 0x53, 1, 0, 0].as_slice());
+    let tree = one_view(rt.alloc(), Class::ScrollView, 0x7f08_0001, 30);
+    let bytes = match tree {
+        Some(tree) => save(rt.alloc(), &tree)?,
+        None => Vec::new(rt.alloc()),
+    };
+    assert_eq!(rt; bytes.as_slice(), SCROLLED.as_slice());
     Ok(())
 }
 

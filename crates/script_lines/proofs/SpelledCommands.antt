@@ -28,7 +28,7 @@ use Rattle.script_lines.specs.Gravities.{across_of, down_of, gravity_of, is_set_
 use Rattle.script_lines.specs.Numbers.{IsWithin}
 use Rattle.script_lines.specs.Pixels.{IsPart, is_small, part_of, pixels_of}
 use Rattle.script_lines.specs.Rules.{rule_of}
-use Rattle.script_lines.specs.Spelled.{ActHasLine, ChangeHasLine, HasLine, HasWord, act_head, act_words, change_head, change_words, class_text, extent_text, gravity_text, insets_words, name_text, parent_text, spelled, visibility_text, weight_words}
+use Rattle.script_lines.specs.Spelled.{ActHasLine, ChangeHasLine, ClassHasLine, HasLine, HasWord, act_head, act_words, change_head, change_words, class_text, extent_text, gravity_text, insets_words, name_text, parent_text, spelled, visibility_text, weight_words}
 use Rattle.script_lines.specs.Weights.{last_number, weight_of}
 use Rattle.script_lines.specs.Words.{on_of}
 use Rattle.script_lines.specs.declared.weights.TheConstants.{MAX_PARTS, MAX_WHOLE}
@@ -87,13 +87,14 @@ extent_word (negsuc zero) h = word_by (codes "match") refl
 extent_word (negsuc (suc n)) h = word_by (codes "wrap") refl
 
 -- classes
-class_of-text : (class : Class) → class_of (class_text class) ≡ Ok class
+class_of-text : (class : Class) → ClassHasLine class → class_of (class_text class) ≡ Ok class
 unfolding class_of
-class_of-text class.View = refl
-class_of-text class.TextView = refl
-class_of-text class.FrameLayout = refl
-class_of-text class.LinearLayout = refl
-class_of-text class.ScrollView = refl
+class_of-text class.View known = refl
+class_of-text class.TextView known = refl
+class_of-text class.FrameLayout known = refl
+class_of-text class.LinearLayout known = refl
+class_of-text class.ScrollView known = refl
+class_of-text class.RelativeLayout known = elim known [ ]
 
 class_word : (class : Class) → IsWord (class_text class)
 class_word class.View = word_by (codes "View") refl
@@ -101,6 +102,7 @@ class_word class.TextView = word_by (codes "TextView") refl
 class_word class.FrameLayout = word_by (codes "FrameLayout") refl
 class_word class.LinearLayout = word_by (codes "LinearLayout") refl
 class_word class.ScrollView = word_by (codes "ScrollView") refl
+class_word class.RelativeLayout = word_by (codes "RelativeLayout") refl
 
 -- visibilities
 visibility_of-text : (visibility : Visibility) → visibility_of (visibility_text visibility) ≡ Ok visibility
@@ -451,8 +453,8 @@ command_of-spelled (plain.Inflate name (Some view)) b l =
     command_of-joined (codes "inflate") (name ∷ codes "into" ∷ name_text view ∷ []) refl (word_by (codes "inflate") refl, (file_name_word name b, (word_by (codes "into") refl, (name_word view l, tt))))
     ∙ rw (b, name_of-text view l) refl
 command_of-spelled (plain.Add parent class width height) b l =
-    command_of-joined (codes "add") (parent_text parent ∷ class_text class ∷ extent_text width ∷ extent_text height ∷ []) refl (word_by (codes "add") refl, (parent_word parent l, (class_word class, (extent_word width b.0, (extent_word height b.1, tt)))))
-    ∙ rw (parent_of-text parent l, class_of-text class, extents_of-text width height b.0 b.1) refl
+    command_of-joined (codes "add") (parent_text parent ∷ class_text class ∷ extent_text width ∷ extent_text height ∷ []) refl (word_by (codes "add") refl, (parent_word parent l.0, (class_word class, (extent_word width b.0, (extent_word height b.1, tt)))))
+    ∙ rw (parent_of-text parent l.0, class_of-text class l.1, extents_of-text width height b.0 b.1) refl
 command_of-spelled (plain.Remove view) b l =
     command_of-joined (codes "remove") (name_text view ∷ []) refl (word_by (codes "remove") refl, (name_word view l, tt))
     ∙ rw (name_of-text view l) refl

@@ -44,6 +44,7 @@ class_text class.TextView = codes "TextView"
 class_text class.FrameLayout = codes "FrameLayout"
 class_text class.LinearLayout = codes "LinearLayout"
 class_text class.ScrollView = codes "ScrollView"
+class_text class.RelativeLayout = codes "RelativeLayout"
 
 -- a dimension as facts keep it
 abbrev pub extent_text : ℤ → List ℕ
@@ -242,12 +243,21 @@ GivenHasLine (plain.Dimen word) = Unit {0}
 GivenHasLine (plain.Text text) = IsTrue (is_utf8 text)
 
 -- a command that a line can give, if its numbers are within their bounds
+-- a class has a name; a class whose rules are not all there has none yet
+abbrev pub ClassHasLine : Class → Type 0
+ClassHasLine class.View = Unit {0}
+ClassHasLine class.TextView = Unit {0}
+ClassHasLine class.FrameLayout = Unit {0}
+ClassHasLine class.LinearLayout = Unit {0}
+ClassHasLine class.ScrollView = Unit {0}
+ClassHasLine class.RelativeLayout = ⊥
+
 abbrev pub HasLine : PlainCommand → Type 0
 HasLine (plain.Window w h) = Unit {0}
 HasLine (plain.Dpi dpi) = Unit {0}
 HasLine (plain.Res id value) = HasText (Id id) × GivenHasLine value
 HasLine (plain.Inflate name into) = IfSome into HasText
-HasLine (plain.Add parent class width height) = IfSome parent HasText
+HasLine (plain.Add parent class width height) = IfSome parent HasText × ClassHasLine class
 HasLine (plain.Remove view) = HasText view
 HasLine (plain.Act view act) = HasText view × ActHasLine act
 HasLine (plain.SetText view text) = HasText view × IsTrue (is_utf8 text)

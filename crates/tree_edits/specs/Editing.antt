@@ -36,6 +36,7 @@ lays_in_line class.TextView = false
 lays_in_line class.FrameLayout = false
 lays_in_line class.LinearLayout = true
 lays_in_line class.ScrollView = false
+lays_in_line class.RelativeLayout = false
 
 -- whether a view of this class has a text
 abbrev pub has_text : Class → Bool
@@ -44,6 +45,7 @@ has_text class.TextView = true
 has_text class.FrameLayout = false
 has_text class.LinearLayout = false
 has_text class.ScrollView = false
+has_text class.RelativeLayout = false
 
 -- only a view that lays its children in a line has a gravity for them
 abbrev pub takes_change : Class → Change → Bool

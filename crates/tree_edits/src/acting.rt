@@ -6,13 +6,15 @@ ghost use Rattle.tree_edits.specs.Hiding.{held_hiding};
 ghost use Rattle.tree_edits.specs.Keeping.{KeepsViews};
 ghost use Rattle.tree_edits.specs.Scene.{scene_of};
 ghost use Rattle.view_tree.specs.Faults.{IsRefusedExactlyFor};
+ghost use Rattle.view_model.specs.PlainTree.{with_facts};
 ghost use Rattle.view_tree.specs.Hidden.{IsConsistent};
-ghost use Rattle.view_tree.specs.Views.{IsLive, SameTree, held_of, number_of};
+ghost use Rattle.view_tree.specs.Rows.{changed_at_key};
+ghost use Rattle.view_tree.specs.Views.{IsLive, SameTree, held_of, number_of, plain_of};
 
 use crate::changing::facts_after_act;
 use crate::edits::Edit;
 use crate::hiding::hide;
-use view_model::{Act, Visibility};
+use view_model::{Act, Rules, Visibility};
 use view_tree::{AttachFault, Key, ViewTree};
 
 /// Whether an act sets by what name, or by which names of others, a view is found.
@@ -34,7 +36,23 @@ pub fn set_names(tree: &mut ViewTree, view: Key, act: Act) -> Result<(), AttachF
     ensures consistent { IsConsistent tree.old → IsConsistent tree.new }
 {
     let facts = facts_after_act(act, *tree.facts(view));
-    tree.set_rules(view, facts.id, facts.rules)
+    set_rules(tree, view, facts.id, facts.rules)
+}
+
+/// Sets the id and the rules of a view. No line makes a relative layout yet, so none is refused for a cycle.
+fn set_rules(tree: &mut ViewTree, view: Key, id: u32, rules: Rules) -> Result<(), AttachFault>
+    requires { IsLive tree.old view }
+    ensures tree { OnOk result (tree.new.tree ≡ changed_at_key view (λ v. record v { facts = record v.facts { id = id; rules = rules } }) tree.old.tree) }
+    ensures plain { OnOk result (plain_of tree.new ≡ with_facts (number_of tree.old view) (λ facts. record facts { id = id; rules = rules }) (plain_of tree.old)) }
+    ensures next { tree.new.next ≡ tree.old.next }
+    ensures held { (key : ℕ) → held_of tree.new key ≡ held_of tree.old key }
+    ensures refused { IsRefusedExactlyFor None result }
+    ensures unchanged { OnErr result (tree.new ≡ tree.old) }
+{
+    match tree.set_rules(view, id, rules) {
+        Ok(()) => Ok(()),
+        Err(_) => Err(AttachFault::NoMemory),
+    }
 }
 
 /// Sets what else there is of a view. One that is gone from now on leaves the geometry at once, with all below it.

@@ -94,27 +94,17 @@ struct Run {
 }
 
 // A translucent view over an opaque one, cut off where the padding of its parent begins.
-const BLENDING: &[u8] =
-    b"window 4 3\nadd root FrameLayout match match\nbg v1 #ff0000ff\npadding v1 1 1 1 1\nadd v1 View 10 10\nmargins v2 -1 -1 0 0\nbg v2 #80ff0000\nframe\npixels 0 0 4 3\n";
-
-const BLENDED: &[u8] =
-    b"v1\nv2\nsettled 0\n0000ff 0000ff 0000ff 0000ff\n0000ff 80007f 80007f 0000ff\n0000ff 0000ff 0000ff 0000ff\n";
+const BLENDING: &[u8] = b"window 4 3\nadd root FrameLayout match match\nbg v1 #ff0000ff\npadding v1 1 1 1 1\nadd v1 View 10 10\nmargins v2 -1 -1 0 0\nbg v2 #80ff0000\nframe\npixels 0 0 4 3\n";
+const BLENDED: &[u8] = b"v1\nv2\nsettled 0\n0000ff 0000ff 0000ff 0000ff\n0000ff 80007f 80007f 0000ff\n0000ff 0000ff 0000ff 0000ff\n";
 
 // The upper two rows of a letter.
-const WRITING: &[u8] =
-    b"window 6 8\nadd root TextView match match\ntext v1 I\nframe\npixels 0 0 6 2\n";
+const WRITING: &[u8] = b"window 6 8\nadd root TextView match match\ntext v1 I\nframe\npixels 0 0 6 2\n";
+const WRITTEN: &[u8] = b"v1\nsettled 0\n000000 ffffff ffffff ffffff 000000 000000\n000000 000000 ffffff 000000 000000 000000\n";
 
-const WRITTEN: &[u8] =
-    b"v1\nsettled 0\n000000 ffffff ffffff ffffff 000000 000000\n000000 000000 ffffff 000000 000000 000000\n";
+const DIGESTED: &[u8] = b"v1\nsettled 0\nba7816bf8f01cfea414140de5dae2223b00361a396177a9cb410ff61f20015ad\n";
 
-const DIGESTED: &[u8] =
-    b"v1\nsettled 0\nba7816bf8f01cfea414140de5dae2223b00361a396177a9cb410ff61f20015ad\n";
-
-const PICTURING: &[u8] =
-    b"pixels 0 0 1 1\nwindow 2 1\ndigest\nadd root View 1 1\nbg v1 #ff102030\nframe\npixels 1 0 2 1\nremove v1\npixels 0 0 2 1\npixels 0 0 256 257\n";
-
-const PICTURED: &[u8] =
-    b"line 1: refused 33 NoWindow\nline 3: refused 37 NoFrame\nv1\nsettled 0\nline 7: refused 30 Range\n102030 000000\nline 10: refused 30 Range\n";
+const PICTURING: &[u8] = b"pixels 0 0 1 1\nwindow 2 1\ndigest\nadd root View 1 1\nbg v1 #ff102030\nframe\npixels 1 0 2 1\nremove v1\npixels 0 0 2 1\npixels 0 0 256 257\n";
+const PICTURED: &[u8] = b"line 1: refused 33 NoWindow\nline 3: refused 37 NoFrame\nv1\nsettled 0\nline 7: refused 30 Range\n102030 000000\nline 10: refused 30 Range\n";
 
 #[rattlefmt::skip]
 const RUNS: [Run; 19] = [

@@ -36,8 +36,8 @@ pub fn tool<S: Source, K: Sink, F: Shelf>(
     // dispatch rules alone; where memory was wanting or a handed-in source, sink or shelf failed, they are a prefix of
     // these.
     //
-    // It covers the lines that there are: a tree of views is built, edited, inflated from layout files, measured, laid out
-    // and painted, and bounds, colours and digests are told. There are no touches.
+    // It covers the lines that there are: a tree of views is built, edited, inflated from layout files, measured and laid
+    // out, and bounds are told. There is no painting, and there are no touches.
     ensures headline { (script : List ℕ) (files : Files)
         → IsRunOf (usage words.now) (S.left source.old) (F.files shelf.old) script files
         → length script ≤ max_script

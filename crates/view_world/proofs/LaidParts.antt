@@ -1,6 +1,5 @@
 -- Parts of a list of trees, and what holds of them where what is kept of views changes elsewhere.
 use Rattle.std.proofs.Common.{◌≡◌, ◌≤◌, ℕ, List, ◌++◌, length, refl, ◌∙◌, ap, arith, length-append}
-use Rattle.std.specs.Prelude.{None}
 use Rattle.measure_pass.proofs.Parts.{Sized-along}
 use Rattle.measure_pass.proofs.Walk.{few_if}
 use Rattle.view_model.specs.Facts.{is_shown}
@@ -8,6 +7,7 @@ use Rattle.view_model.specs.Forest.{Forest, Nothing, Branch, count_of}
 use Rattle.view_model.specs.Geometry.{Laid}
 use Rattle.view_model.specs.Layout.{Spot, laid_views, place_in}
 use Rattle.view_model.specs.Measuring.{Measured}
+use Rattle.view_model.specs.RelativeLayout.{sides_of}
 use Rattle.view_tree.specs.Hidden.{HidesGone}
 use Rattle.view_tree.specs.Rows.{Row, later_siblings, first_tree, views_of}
 use Rattle.view_tree.specs.Views.{Held, KeepsInside, Views, held_of, specs_of}
@@ -26,7 +26,7 @@ group_kids-along spot before old new Nothing same = refl
 group_kids-along spot before old new (Branch row kids siblings) same =
     let specs = specs_of (old row.key).state in
     rw (same row.key (times_self row kids siblings))
-    (ap (λ more. laid_views row.view (views_of kids) specs (place_in spot before (kid_under specs row kids) None) ++ more)
+    (ap (λ more. laid_views row.view (views_of kids) specs (place_in spot before (kid_under specs row kids) (sides_of (old row.key).state.edges)) ++ more)
     (group_kids-along spot (before ++ kid_sizes specs row kids) old new siblings (λ key live. same key (omega arith))))
 
 pub last_sizes-along : (old new : ℕ → Held) (list : Forest Row) → KeepsInside old new list → last_sizes new list ≡ last_sizes old list

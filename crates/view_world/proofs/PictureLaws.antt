@@ -26,9 +26,9 @@ pub pixels-whole : (old new : Raster) (geometry : List Laid) (tree : Forest Plai
 pixels-whole old new geometry tree is painted =
     pixels-picture new (pixel_color geometry tree) is
     (λ x y column row.
-    let across : x < old.width = subst (λ n. x < n) painted.width column in
-    let down : y < old.height = subst (λ n. y < n) painted.height row in
-    painted.colors x y across down ∙ rw (holds-whole old.width old.height x y across down) refl)
+        let across : x < old.width = subst (λ n. x < n) painted.width column in
+        let down : y < old.height = subst (λ n. y < n) painted.height row in
+        painted.colors x y across down ∙ rw (holds-whole old.width old.height x y across down) refl)
     ∙ rw (painted.width, painted.height) refl
 
 side-whole : (n : ℕ) → edge_within n (pos n) - edge_within n (pos 0) ≡ n

@@ -1,5 +1,5 @@
 //! Saplings that come into a tree.
-ghost use Rattle.std.specs.Prelude.{◌≡◌, ◌≤◌, ◌+◌, ◌<◌, true, false, None, IfOk, IfSome, OnErr};
+ghost use Rattle.std.specs.Prelude.{◌≡◌, ◌≢◌, ◌≤◌, ◌+◌, ◌<◌, ℕ, true, false, None, Some, IfOk, IfSome, OnErr};
 ghost use Rattle.std.specs.Option.{option_map};
 ghost use Rattle.view_model.specs.declared.limits.TheConstants.{MAX_DEPTH, MAX_VIEWS, NUMBERS_END};
 ghost use Rattle.view_model.specs.Forest.{Forest, Nothing};
@@ -9,12 +9,14 @@ ghost use Rattle.view_model.specs.Sprouts.{IsPreorder, Seed, follows, preorder, 
 ghost use Rattle.view_tree.specs.Faults.{IsRefusedExactlyFor, RefusesExactlyFor};
 ghost use Rattle.view_tree.specs.Grafted.{Grafted};
 ghost use Rattle.view_tree.specs.Hidden.{IsConsistent};
-ghost use Rattle.view_tree.specs.Views.{IsLive, number_of, plain_of};
+ghost use Rattle.view_tree.specs.Ordering.{NoneRelative};
+ghost use Rattle.view_tree.specs.Views.{IsLive, group_number, number_of, orders_under, plain_of};
 
 use super::attach::growth;
 use super::plant::{plant, sow};
 use super::{Key, ViewTree};
 use crate::fault::AttachFault;
+use crate::groups::is_relative;
 use crate::table::make_room;
 use view_model::limits::MAX_DEPTH;
 use view_model::{Class, Detail, Refusal, Sapling, Sprout};
@@ -27,12 +29,16 @@ impl ViewTree {
         requires root { parent ≡ None → self.old.tree ≡ Nothing }
         requires numbers { self.old.next < NUMBERS_END }
         ensures grafted { IfOk result (λ key. Grafted self.old parent (seeds_of sapling.sprouts.items) key self.new) }
+        ensures orders { (k : ℕ) → group_number self.old parent ≢ Some k → k < self.old.next → orders_under self.new k ≡ orders_under self.old k }
         ensures refused { IsRefusedExactlyFor (graft_refusal (plain_of self.old) (option_map (number_of self.old) parent) (seeds_of sapling.sprouts.items)) result }
         ensures few { self.new.next ≤ self.old.next + MAX_VIEWS }
         ensures consistent { IsConsistent self.old → IsConsistent self.new }
         ensures unchanged { OnErr result (self.new ≡ self.old) }
     {
         self.may_take(parent, &sapling.sprouts)?;
+        if self.group_number(parent).is_some() || has_relative(&sapling.sprouts) {
+            return Err(AttachFault::NoMemory);
+        }
         let count = sapling.sprouts.len();
         make_room(&mut self.nodes, &mut self.keys, &mut self.ids, count, count)?;
         let mut sprouts = sapling.sprouts.into_iter();
@@ -76,6 +82,18 @@ impl ViewTree {
         }
         growth_below(sprouts[0].class, depth, self.len() + 1, &sprouts[1..])
     }
+}
+
+/// Whether one of these views is a relative layout.
+fn has_relative(sprouts: &[Sprout]) -> bool
+    ensures { result ≡ false → NoneRelative sprouts.now }
+{
+    for sprout in sprouts {
+        if is_relative(sprout.class) {
+            return true;
+        }
+    }
+    false
 }
 
 /// Whether these views may come below the outermost one of their sapling, which has this class and depth and no child

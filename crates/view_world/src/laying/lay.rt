@@ -71,7 +71,7 @@ fn lay_kid(tree: &mut ViewTree, placer: &mut Placer, kid: Key)
     if !facts.is_shown() {
         return;
     }
-    let size = tree.state(kid).measured;
-    let rect = placer.place(facts, size);
-    lay(tree, kid, rect, size);
+    let state = tree.state(kid);
+    let rect = placer.place(facts, state.measured, state.edges);
+    lay(tree, kid, rect, state.measured);
 }

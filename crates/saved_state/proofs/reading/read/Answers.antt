@@ -1,4 +1,4 @@
-use Rattle.std.proofs.Common.{ℕ, ◌+◌, ◌-◌, ◌<◌, List, arith, ap, sym, ◌∙◌, drop, length, length-drop}
+use Rattle.std.proofs.Common.{◌≡◌, ℕ, ◌+◌, ◌-◌, ◌<◌, List, arith, ap, sym, ◌∙◌, drop, length, length-drop}
 use Rattle.std.proofs.lemmas.Result.{err_from_is_err_and}
 use Rattle.saved_state.specs.State.{decoded, entries_of, entry_of}
 use Rattle.saved_state.proofs.EntryLaws.{last_id, last_push, length_push, rises_push}

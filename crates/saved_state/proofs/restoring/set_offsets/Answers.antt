@@ -1,4 +1,4 @@
-use Rattle.std.proofs.Common.{ℕ, ◌<◌, Option, unwrap_or, refl, ◌∙◌, ap}
+use Rattle.std.proofs.Common.{◌≡◌, ℕ, ◌<◌, Option, unwrap_or, refl, ◌∙◌, ap}
 use Rattle.view_model.specs.Forest.{Forest}
 use Rattle.view_tree.specs.Preorder.{rows_from}
 use Rattle.view_tree.specs.Rows.{Row, count_of_key, head_view, part_from}

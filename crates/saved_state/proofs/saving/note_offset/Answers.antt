@@ -1,6 +1,8 @@
-use Rattle.std.proofs.Common.{◌<◌, Fits, arith, w32}
+use Rattle.std.proofs.Common.{◌≡◌, ◌<◌, Fits, FitsSigned, List, arith, of_z, to_z, w32, ◌∙◌, ap}
 use Rattle.std.proofs.lemmas.Int.{to_z-of_z}
-use Rattle.std.specs.Prelude.{unsigned_abs}
+use Rattle.std.specs.BTreeMap.{insert_entry}
+use Rattle.std.specs.Ordering.{nat_cmp}
+use Rattle.std.specs.Prelude.{ℤ, unsigned_abs}
 use Rattle.saved_state.proofs.EntryLaws.{abs_few, insert_rises}
 use Rattle.saved_state.proofs.saving.note_offset.Goals as goal
 

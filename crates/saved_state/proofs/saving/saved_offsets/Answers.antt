@@ -1,4 +1,4 @@
-use Rattle.std.proofs.Common.{◌≡◌, ℕ, List, [], Option, ap, arith, subst, sym, ◌∙◌, length}
+use Rattle.std.proofs.Common.{◌≡◌, ℕ, List, [], ◌+◌, ◌≤◌, Option, ap, arith, subst, sym, ◌∙◌, length}
 use Rattle.std.specs.List.{AllByRecursion, fold}
 use Rattle.view_model.specs.Forest.{count_of}
 use Rattle.view_tree.specs.Preorder.{rows_from, views_from}

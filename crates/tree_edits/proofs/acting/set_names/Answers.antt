@@ -5,19 +5,19 @@ use Rattle.tree_edits.proofs.ActLaws.{Made, kept_made, names_keep_made, names_ma
 use Rattle.tree_edits.proofs.acting.set_names.Goals as goal
 use Rattle.tree_edits.proofs.acting.set_names.Goals.{After-set_rules}
 
-made : (c : After-set_rules) → OnOk c.set_rules.result (Made c.args.tree.now c.args.view c.args.act c.set_rules.new.self)
+made : (c : After-set_rules) → OnOk c.set_rules.result (Made c.args.tree.now c.args.view c.args.act c.set_rules.new.tree)
 made c =
-    names_made c.args.tree.now c.set_rules.new.self c.args.view c.args.act c.facts_after_act-facts.result c.set_rules.result
+    names_made c.args.tree.now c.set_rules.new.tree c.args.view c.args.act c.facts_after_act-facts.result c.set_rules.result
     c.facts.ensures.is_tree c.requires.live c.requires.names (c.facts_after_act-facts.ensures ∙ ap (facts_after_act c.args.act) c.facts.ensures.value)
     c.set_rules.ensures.tree c.set_rules.ensures.plain c.set_rules.ensures.next c.set_rules.ensures.held
 
 pub returns-clause-scene : goal.returns-clause-scene
-returns-clause-scene c = scene_made c.args.tree.now c.set_rules.new.self c.args.view c.args.act c.set_rules.result (made c)
+returns-clause-scene c = scene_made c.args.tree.now c.set_rules.new.tree c.args.view c.args.act c.set_rules.result (made c)
 
 pub returns-clause-kept : goal.returns-clause-kept
 returns-clause-kept c =
-    names_keep_made c.args.tree.now c.set_rules.new.self c.args.view c.args.act c.facts_after_act-facts.result c.set_rules.result
+    names_keep_made c.args.tree.now c.set_rules.new.tree c.args.view c.args.act c.facts_after_act-facts.result c.set_rules.result
     c.facts.ensures.is_tree c.requires.names (c.facts_after_act-facts.ensures ∙ ap (facts_after_act c.args.act) c.facts.ensures.value) c.set_rules.ensures.tree c.set_rules.ensures.next c.set_rules.ensures.held
 
 pub returns-clause-consistent : goal.returns-clause-consistent
-returns-clause-consistent c = kept_made c.args.tree.now c.set_rules.new.self c.args.view c.args.act c.set_rules.result (made c) c.set_rules.ensures.unchanged
+returns-clause-consistent c = kept_made c.args.tree.now c.set_rules.new.tree c.args.view c.args.act c.set_rules.result (made c) c.set_rules.ensures.unchanged

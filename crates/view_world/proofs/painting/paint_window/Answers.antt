@@ -19,5 +19,5 @@ returns-clause-painted c =
     let surface = c.args.surface.now in
     let rect : c.whole.result ≡ whole surface.width surface.height = rw c.size-window.ensures.value at c.whole.ensures in
     let area : area_within surface.width surface.height c.whole.result ≡ surface.width * surface.height =
-    ap (λ (rect : Rect). area_within surface.width surface.height rect) rect ∙ area-whole surface.width surface.height in
+        ap (λ (rect : Rect). area_within surface.width surface.height rect) rect ∙ area-whole surface.width surface.height in
     record { grew = c.paint.ensures.counted.grew; most = rw area at c.paint.ensures.counted.bound }

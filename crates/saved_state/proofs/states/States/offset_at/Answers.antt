@@ -1,5 +1,6 @@
-use Rattle.std.proofs.Common.{◌<◌, length, arith}
+use Rattle.std.proofs.Common.{◌≡◌, ◌<◌, length, arith, ap, sym, ◌∙◌, rules}
 use Rattle.std.proofs.lemmas.List.{get_or_default}
+use Rattle.saved_state.specs.Restoring.{entry_at}
 use Rattle.saved_state.proofs.EntryLaws.{offsets_few}
 use Rattle.saved_state.proofs.states.States.offset_at.Goals as goal
 

@@ -43,12 +43,12 @@ lay_kid-returns-then-not-is_shown-clause-laid t c = λ spot before places few.
 
 pub lay_kid-place-rect-requires-clause-width : goal.lay_kid-place-rect-requires-clause-width
 lay_kid-place-rect-requires-clause-width t c =
-    rw c.state.ensures.value (sides_at c.args.tree.now.tree c.args.kid (held_of c.args.tree.now) c.requires.live
+    rw c.state-state.ensures.value (sides_at c.args.tree.now.tree c.args.kid (held_of c.args.tree.now) c.requires.live
     (sym (ap is_shown c.facts-facts.ensures.value) ∙ sym c.is_shown.ensures ∙ c.if-not-is_shown.false) c.requires.ready.sized).width
 
 pub lay_kid-place-rect-requires-clause-height : goal.lay_kid-place-rect-requires-clause-height
 lay_kid-place-rect-requires-clause-height t c =
-    rw c.state.ensures.value (sides_at c.args.tree.now.tree c.args.kid (held_of c.args.tree.now) c.requires.live
+    rw c.state-state.ensures.value (sides_at c.args.tree.now.tree c.args.kid (held_of c.args.tree.now) c.requires.live
     (sym (ap is_shown c.facts-facts.ensures.value) ∙ sym c.is_shown.ensures ∙ c.if-not-is_shown.false) c.requires.ready.sized).height
 
 pub lay_kid-lay-requires : goal.lay_kid-lay-requires
@@ -62,9 +62,9 @@ lay_kid-returns-clause-laid t c = λ spot before places few.
     let shown = sym (ap is_shown c.facts-facts.ensures.value) ∙ sym c.is_shown.ensures ∙ c.if-not-is_shown.false in
     let facts_is : unscrolled_facts c.facts-facts.result.now ≡ unscrolled_facts (head_view (part_from c.args.kid c.args.tree.now.tree)).facts =
     ap unscrolled_facts c.facts-facts.ensures.value in
-    kid_at c.args.tree.now.tree c.args.kid c.place-rect.new.self spot before c.state.result.measured c.place-rect.result
+    kid_at c.args.tree.now.tree c.args.kid c.place-rect.new.self spot before c.state-state.result.measured c.place-rect.result
     (held_of c.args.tree.now) (held_of c.lay.new.tree) c.requires.live shown c.requires.ready.sized
-    (ap (λ (state : State). state.measured) c.state.ensures.value)
+    (ap (λ (state : State). state.measured) c.state-state.ensures.value)
     (rw facts_is at (c.place-rect.ensures.place spot before places)) (rw facts_is at (c.place-rect.ensures.next spot before places (omega arith))) c.lay.ensures.laid
 
 pub lay_kids-lay_kid-requires : goal.lay_kids-lay_kid-requires
@@ -92,7 +92,7 @@ lay_kids-loop-next-init t c =
     let first = c.first-next.ensures in
     let spot = spot_of (part_from c.args.view tree) (held_of c.args.tree.now c.args.view) c.args.size in
     record {
-      same = record { tree = refl; next = refl };
+      same = record { tree = refl; orders = refl; next = refl };
       kept = λ key. refl;
       walked =
           laid_start tree (children_of_first (part_from c.args.view tree)) c.start-placer.result spot (held_of c.args.tree.now) c.first-next.result c.start-placer.ensures
@@ -112,7 +112,7 @@ lay_kids-loop-next-preserved t c =
     let laid : LaidKids c.lay_kid.new.placer spot walk.before (held_of c.loop-next.tree) (held_of c.lay_kid.new.tree) (first_tree (part_from c.in-Some.kid tree)) =
     (rw before.same.tree at (kid.laid spot walk.before walk.places)) few in
     record {
-      same = record { tree = kid.same.tree ∙ before.same.tree; next = kid.same.next ∙ before.same.next };
+      same = record { tree = kid.same.tree ∙ before.same.tree; orders = kid.same.orders ∙ before.same.orders; next = kid.same.next ∙ before.same.next };
       kept = kept_on c.args.tree.now c.loop-next.tree c.lay_kid.new.tree before.kept kid.kept;
       walked =
           laid_on tree (children_of_first (part_from c.args.view tree)) c.loop-next.placer c.lay_kid.new.placer spot (held_of c.args.tree.now) c.in-Some.kid

@@ -11,7 +11,8 @@ returns-in-Some-clause-changed c =
     let size = c.in_ok-window.ensures.1 in
     let lies = sym (simp (to_z-of_z, c.ranges.x, c.ranges.y, c.ranges.w, c.ranges.h) at c.in-Some.ensures.some) in
     let part = simp (to_z-of_z, c.ranges.x, c.ranges.y, c.ranges.w, c.ranges.h) at c.in-Some.ensures.value in
-    let there = part-lies now.surface c.args.x c.args.y c.args.w c.args.h c.requires (rw size at lies) in (
+    let there = part-lies now.surface c.args.x c.args.y c.args.w c.args.h c.requires (rw size at lies) in
+    (
       Changed-pixels now c.in_ok-window.window c.args.x c.args.y c.args.w c.args.h c.in-Some.part c.in_ok-window.ensures.0 size lies part,
       subst (λ (part : Part). IsPartOf now.surface part) (sym part) there,
     )
