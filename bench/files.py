@@ -102,6 +102,23 @@ def lengths(count, kind, words):
     return [attribute(2, 3 + k, kind, word) for k, word in zip(range(count), words)]
 
 
+# what tied_views_file names: two classes, the namespace, and the attributes of its views
+TIED_NAMES = [b"RelativeLayout", b"View", b"http://schemas.android.com/apk/res/android"]
+TIED_NAMES += [b"layout_width", b"layout_height", b"id", b"layout_toRightOf"]
+
+
+def tied_views_file(kib, views, is_chain):
+    """A layout file of so many KiB: a relative layout, and in it views with the ids 1, 2, .., each right of the one before in a
+    chain."""
+    inner = []
+    for number in range(1, views + 1):
+        size = lengths(2, 0x05, [0x100 * (1 + number % 3), 0x100 * (1 + number % 9)])
+        tie = [attribute(2, 5, 0x01, number), attribute(2, 6, 0x01, number - 1 if is_chain else 0)]
+        inner.append(begin_with(size + tie, 1) + end(1))
+    first = begin_with(lengths(2, 0x10, [NONE, NONE]))
+    return layout_file(kib, pool(TIED_NAMES), b"".join(inner), first)
+
+
 def views_file(kib, views, words_of, kind=0x05):
     """A layout file of so many KiB: a frame layout, and in it views with as many attributes as there are words for each."""
     inner = []

@@ -176,6 +176,43 @@ def frames_of_nested_groups(n):
     return b"".join(lines) + b"frame\n" * n
 
 
+def group(children, is_chain, lines):
+    """A relative layout of so many children with the ids 1, 2, .., each right of the one before in a chain, and these lines."""
+    begun = b"window 4096 1000\ninflate layout.xml\n"
+    return Inflating(begun + lines, files.tied_views_file(2 + children // 7, children, is_chain), 1 + children)
+
+
+def frames_of_a_chain(children):
+    return group(children, True, b"frame\n" * 200)
+
+
+def rules_in_a_chain(children):
+    """200 rules more, each of which makes the orders of all children anew."""
+    lines = [b"rule v%d below @1\n" % (3 + k * 7 % (children - 1)) for k in range(200)]
+    return group(children, True, b"".join(lines) + b"frame\n")
+
+
+def ids_in_a_chain(children):
+    """A child in the middle gets another id, so that the one behind it is tied to nobody, or its own again."""
+    middle = children // 2
+    lines = [b"id v%d @%x\n" % (1 + middle, middle if k % 2 else 0x7f000000) for k in range(200)]
+    return group(children, True, b"".join(lines) + b"frame\n")
+
+
+def ends_of_a_chain(children):
+    """The last child is removed, and another one takes its place."""
+    lines = [b"remove v%d\nadd v1 View 1 1\n" % (1 + children + k) for k in range(200)]
+    ties = [b"rule v%d right_of @%x\n" % (2 + children + k, children - 1) for k in range(200)]
+    return group(children, True, b"".join(line + tie for line, tie in zip(lines, ties)) + b"frame\n")
+
+
+def rules_in_a_group(children):
+    """2000 rules, each of which ties a child to the one before it."""
+    places = [k * 7 % (children - 1) for k in range(2000)]
+    lines = [b"rule v%d right_of @%x\n" % (3 + place, 1 + place) for place in places]
+    return group(children, False, b"".join(lines) + b"frame\n")
+
+
 def short_edits(mib):
     """So many MiB of short edits."""
     line = b"min v1 1 1\n"

@@ -3,7 +3,7 @@ use Rattle.std.specs.Prelude.{ℕ, List, [], ◌∷◌, Option, Some, None, code
 use Rattle.std.specs.Map.{lookup}
 use Rattle.std.specs.Str.{bytes_eq}
 use Rattle.view_model.specs.declared.kinds.Class.{Class}
-use Rattle.view_model.specs.declared.kinds.Class.TheVariants.{View, TextView, FrameLayout, LinearLayout, ScrollView}
+use Rattle.view_model.specs.declared.kinds.Class.TheVariants.{View, TextView, FrameLayout, LinearLayout, RelativeLayout, ScrollView}
 
 -- each class by its name alone, and with its package before it
 abbrev pub class_names : List (List ℕ × Class)
@@ -12,6 +12,7 @@ class_names =
     (codes "TextView", TextView) ∷ (codes "android.widget.TextView", TextView) ∷
     (codes "FrameLayout", FrameLayout) ∷ (codes "android.widget.FrameLayout", FrameLayout) ∷
     (codes "LinearLayout", LinearLayout) ∷ (codes "android.widget.LinearLayout", LinearLayout) ∷
+    (codes "RelativeLayout", RelativeLayout) ∷ (codes "android.widget.RelativeLayout", RelativeLayout) ∷
     (codes "ScrollView", ScrollView) ∷ (codes "android.widget.ScrollView", ScrollView) ∷ []
 
 -- the class that a name stands for, if it is known

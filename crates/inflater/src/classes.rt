@@ -14,6 +14,7 @@ pub fn class_of(name: &str) -> Option<Class>
         "TextView" | "android.widget.TextView" => Some(Class::TextView),
         "FrameLayout" | "android.widget.FrameLayout" => Some(Class::FrameLayout),
         "LinearLayout" | "android.widget.LinearLayout" => Some(Class::LinearLayout),
+        "RelativeLayout" | "android.widget.RelativeLayout" => Some(Class::RelativeLayout),
         "ScrollView" | "android.widget.ScrollView" => Some(Class::ScrollView),
         _ => None,
     }

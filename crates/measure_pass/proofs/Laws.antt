@@ -1,5 +1,5 @@
 -- The rule of each class is lawful: one arm a class.
-use Rattle.std.proofs.Common.{ℕ, ℤ, List}
+use Rattle.std.proofs.Common.{◌≡◌, ℕ, ℤ, Bool, List, subst}
 use Rattle.geom_core.proofs.Sides.{default_size_of-is_side, resolve_of-is_side}
 use Rattle.geom_core.specs.Limits.{IsSide}
 use Rattle.geom_core.specs.declared.measuring.Spec.{Spec}
@@ -10,11 +10,12 @@ use Rattle.measure_pass.proofs.LinearLaws.{linear_lawful}
 use Rattle.measure_pass.proofs.ScrollLaws.{scroll_lawful}
 use Rattle.view_model.specs.declared.facts.Facts.{Facts}
 use Rattle.view_model.specs.declared.kinds.Class.{Class}
-use Rattle.view_model.specs.declared.kinds.Class.TheVariants.{View, TextView, FrameLayout, LinearLayout, ScrollView}
+use Rattle.view_model.specs.declared.kinds.Class.TheVariants.{View, TextView, FrameLayout, LinearLayout, ScrollView, RelativeLayout}
+use Rattle.view_model.specs.Course.{Child}
 use Rattle.view_model.specs.Growth.{is_group}
-use Rattle.view_model.specs.Layout.{rule_by, rule_of}
+use Rattle.view_model.specs.Layout.{course_in, manner_by, manner_of, measured_by}
 use Rattle.view_model.specs.Leaf.{view_size}
-use Rattle.view_model.specs.Measuring.{Specs}
+use Rattle.view_model.specs.Measuring.{Manner, ByRule, BySiblings, Rule, Specs}
 use Rattle.view_model.specs.PlainTree.{PlainView}
 use Rattle.view_model.specs.TextView.{text_height, text_size, text_width}
 
@@ -26,7 +27,12 @@ text_height-is_side : (own : Facts) (text : List ℕ) (spec : Spec) (width : ℤ
 unfolding text_height
 text_height-is_side own text spec width = resolve_of-is_side _ spec
 
-lawful_by : (class : Class) (view : PlainView) (specs : Specs) → IsLawful (is_group class) (rule_by class view specs)
+-- so is a view that measures in this manner, as far as it goes by a rule
+abbrev pub IsLawfulIn : Bool → Manner → Type 0
+IsLawfulIn group (ByRule rule) = IsLawful group rule
+IsLawfulIn group BySiblings = Unit {0}
+
+lawful_by : (class : Class) (view : PlainView) (specs : Specs) → IsLawfulIn (is_group class) (manner_by class view specs)
 lawful_by View view specs = leaf_lawful (view_size view.facts specs) (default_size_of-is_side _ _) (default_size_of-is_side _ _)
 lawful_by TextView view specs =
     let width = text_width view.facts view.text specs.across in
@@ -34,6 +40,16 @@ lawful_by TextView view specs =
 lawful_by FrameLayout view specs = frame_lawful view.facts specs
 lawful_by LinearLayout view specs = linear_lawful view.facts specs
 lawful_by ScrollView view specs = scroll_lawful view.facts specs
+lawful_by RelativeLayout view specs = tt
 
-pub lawful_of : (view : PlainView) (specs : Specs) → IsLawful (is_group view.class) (rule_of view specs)
-lawful_of view specs = lawful_by view.class view specs
+pub lawful_of : (view : PlainView) (specs : Specs) (rule : Rule) → manner_of view specs ≡ ByRule rule → IsLawful (is_group view.class) rule
+lawful_of view specs rule is = subst (IsLawfulIn (is_group view.class)) is (lawful_by view.class view specs)
+
+-- a measured view has the sides of a size
+sides_in : (group : Bool) (manner : Manner) (view : PlainView) (kids : List Child) (specs : Specs) → IsLawfulIn group manner
+    → IsSide (course_in manner view kids specs).size.w × IsSide (course_in manner view kids specs).size.h
+sides_in group (ByRule rule) view kids specs lawful = (lawful.width _, lawful.height _)
+sides_in group BySiblings view kids specs lawful = (resolve_of-is_side _ specs.across, resolve_of-is_side _ specs.down)
+
+pub measured_sides : (view : PlainView) (kids : List Child) (specs : Specs) → IsSide (measured_by view kids specs).w × IsSide (measured_by view kids specs).h
+measured_sides view kids specs = sides_in (is_group view.class) (manner_of view specs) view kids specs (lawful_by view.class view specs)

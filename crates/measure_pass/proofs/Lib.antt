@@ -1,3 +1,4 @@
+pub mod AnchorKeys
 mod Examples
 pub mod Counts
 pub mod FrameLaws
@@ -8,7 +9,10 @@ pub mod LinearLaws
 pub mod MeasureKid
 pub mod Own
 pub mod Parts
+pub mod Places
 pub mod ScrollLaws
+pub mod SettledLaws
+pub mod SiblingTurns
 pub mod Turns
 pub mod Walk
 pub mod Whole

@@ -1,11 +1,11 @@
 -- A child that was handed to the plan of its group: gone, skipped or measured; and a view whose whole measuring is over.
-use Rattle.std.proofs.Common.{◌≡◌, ℤ, ℕ, ◌<◌, true, false, Some, None, List, [], ◌∷◌, ◌++◌, ap, sym, subst}
+use Rattle.std.proofs.Common.{◌≡◌, ℤ, ℕ, ◌<◌, true, false, Some, None, List, [], ◌∷◌, ◌++◌, ap, refl, sym, subst}
 use Rattle.std.specs.Option.{option_map}
 use Rattle.geom_core.specs.declared.geometry.Size.{Size}
 use Rattle.measure_pass.specs.declared.plan.Plan.{Plan}
 use Rattle.measure_pass.specs.Courses.{AfterAll, AfterPhase, CanTurn, InCourse, IsMeasuredBelow}
 use Rattle.measure_pass.specs.Measured.{Costs, Sized, calls_under, size_under}
-use Rattle.measure_pass.specs.Plans.{Group, Stands, group_of, rule_in}
+use Rattle.measure_pass.specs.Plans.{Group, IsPlanOf, Stands, group_by, rule_in}
 use Rattle.measure_pass.proofs.Laws.{lawful_of}
 use Rattle.measure_pass.proofs.Parts.{facts_in}
 use Rattle.measure_pass.proofs.Turns.{asked_row, gone_row, left_row}
@@ -14,9 +14,10 @@ use Rattle.view_model.specs.Course.{Requested, begun}
 use Rattle.view_model.specs.Facts.{is_shown}
 use Rattle.view_model.specs.Forest.{Forest, Nothing, Branch}
 use Rattle.view_model.specs.Growth.{is_group}
-use Rattle.view_model.specs.Layout.{children_of, unscrolled}
-use Rattle.view_model.specs.Measuring.{Measured, Specs, pair_of, taken_as}
-use Rattle.view_tree.specs.Rows.{Row, first_tree, children_of_first, part_from, count_of_key, views_of}
+use Rattle.view_model.specs.Layout.{children_of, manner_of, unscrolled}
+use Rattle.view_model.specs.Measuring.{Manner, ByRule, BySiblings, Measured, Rule, Specs, pair_of, taken_as}
+use Rattle.view_model.specs.PlainTree.{PlainView}
+use Rattle.view_tree.specs.Rows.{Row, first_tree, head_view, children_of_first, part_from, count_of_key, views_of}
 use Rattle.view_tree.specs.Views.{Held, IsLive, IsTree, Views, specs_of}
 use Rattle.view_tree.proofs.values.KeptLaws.{no_children_of}
 use Rattle.view_tree.proofs.forest.KeyLaws.{located}
@@ -64,16 +65,32 @@ measured_kid plan group past taken tree kid asked before held present size specs
     rw x.is (asked_row plan group past taken x.row x.kids x.siblings asked before held present size specs old new here present_is (rw x.is at answer) measured sized last (rw x.is at stands)
     costs course can)
 
--- a view whose whole measuring is over
-pub measured_whole : (views : Views) (view : ℕ) (specs : Specs) (before held : ℕ → Held) (answer : Size) (total : ℤ) (old new : ℕ) → IsTree views → IsLive views view
+-- a view whose whole measuring by a rule is over
+pub measured_whole : (views : Views) (view : ℕ) (specs : Specs) (rule : Rule) (before held : ℕ → Held) (answer : Size) (total : ℤ) (old new : ℕ) → IsTree views → IsLive views view
     → (let part = part_from view views.tree in
-    AfterAll (group_of part specs) 2 (begun (children_of (views_of (children_of_first part)))) before held (children_of_first part) answer total old new
+    manner_of (unscrolled (head_view part)) specs ≡ ByRule rule
+    → AfterAll (group_by rule (unscrolled (head_view part)) specs) 2 (begun (children_of (views_of (children_of_first part)))) before held (children_of_first part) answer total old new
     → IsMeasuredBelow part specs before held answer total old new)
-measured_whole views view specs before held answer total old new is_tree live after =
+measured_whole views view specs rule before held answer total old new is_tree live is after =
     let x = located view views.tree live in
-    let part = Branch x.row x.kids x.siblings in
-    let after : AfterAll (group_of part specs) 2 (begun (children_of (views_of x.kids))) before held x.kids answer total old new = rw x.is at after in
+    let is : manner_of (unscrolled x.row.view) specs ≡ ByRule rule = rw x.is at is in
+    let after : AfterAll (group_by rule (unscrolled x.row.view) specs) 2 (begun (children_of (views_of x.kids))) before held x.kids answer total old new = rw x.is at after in
     let childless : is_group x.row.view.class ≡ false → x.kids ≡ Nothing = rw x.is at (no_children_of views view is_tree) in
-    let lawful = lawful_of (unscrolled x.row.view) specs in
+    let lawful = lawful_of (unscrolled x.row.view) specs rule is in
     let asked = lawful.asked (children_of (views_of x.kids)) (λ leaf. ap (λ kids. children_of (views_of kids)) (childless leaf)) in
-    rw x.is (whole_row x.row x.kids x.siblings specs before held answer total old new asked (rw after.size (lawful.width _)) (rw after.size (lawful.height _)) after)
+    rw x.is (whole_row x.row x.kids x.siblings specs rule before held answer total old new is asked (rw after.size (lawful.width _)) (rw after.size (lawful.height _)) after)
+
+-- a view with a plan measures by a rule
+pub record Planned (manner : Manner) (plan : Plan) (view : PlainView) (specs : Specs) : Type 0 where
+  pub rule : Rule
+  pub is : manner ≡ ByRule rule
+  pub stands : Stands plan (group_by rule view specs) [] []
+
+pub planned : (manner : Manner) (plan : Plan) (view : PlainView) (specs : Specs) → IsPlanOf manner (Some plan) view specs → Planned manner plan view specs
+planned (ByRule rule) plan view specs h = record { rule = rule; is = refl; stands = h }
+planned BySiblings plan view specs h = absurd h
+
+-- and one without a plan by the siblings of each child
+pub unplanned : (manner : Manner) (view : PlainView) (specs : Specs) → IsPlanOf manner None view specs → manner ≡ BySiblings
+unplanned (ByRule rule) view specs h = absurd h
+unplanned BySiblings view specs h = refl

@@ -6,7 +6,7 @@ use Rattle.geom_core.specs.declared.geometry.Size.{Size}
 use Rattle.measure_pass.specs.Courses.{IsMeasuredBelow}
 use Rattle.measure_pass.specs.Measured.{Costs, IsMeasured, IsSized, Keeps, Sized, calls_under, done_with, size_under}
 use Rattle.measure_pass.proofs.Counts.{costs_stored}
-use Rattle.measure_pass.proofs.Parts.{Sized-along, last_specs-along}
+use Rattle.measure_pass.proofs.Parts.{Sized-along, last_edges-along, last_specs-along}
 use Rattle.view_model.specs.Forest.{Forest, Nothing, Branch}
 use Rattle.view_model.specs.Measuring.{Specs}
 use Rattle.view_tree.specs.Rows.{Row, first_tree, children_of_first, part_from, count_of_key}
@@ -59,7 +59,7 @@ new_row : (held mid new : ℕ → Held) (row : Row) (kids siblings : Forest Row)
 new_row held mid new row kids siblings specs size total old between count once m keeps others w more =
     let own = done_with (mid row.key) specs size total in
     let same = KeepsInside-below mid new row kids Nothing (once row.key) w.others in
-    let is : IsSized new own row kids = record { size = m.size; finals = last_specs-along mid new kids same ∙ m.finals; total = m.length } in
+    let is : IsSized new own row kids = record { size = m.size; finals = last_specs-along mid new kids same ∙ m.finals; total = m.length; edges = λ class. last_edges-along mid new kids same ∙ m.edges class } in
     let sized : Sized new kids = Sized-along mid new kids same m.sized in
     record {
       size = m.size;

@@ -3,7 +3,7 @@ use Rattle.std.proofs.Common.{◌≡◌, ℕ, ◌+◌, List, [], ◌∷◌, ◌+
 use Rattle.std.specs.Prelude.{Option}
 use Rattle.std.proofs.lemmas.List.{append-nil}
 use Rattle.measure_pass.specs.Courses.{CanTurn, InCourse, MeasuredFor, phase_calls}
-use Rattle.measure_pass.specs.Measured.{IsSized, Sized, last_specs}
+use Rattle.measure_pass.specs.Measured.{IsSized, Sized, last_edges, last_specs}
 use Rattle.view_model.specs.declared.facts.Facts.{Facts}
 use Rattle.view_model.specs.Course.{Requested, after_phase, after_turn, last_of, size_in, sizes_of}
 use Rattle.view_model.specs.Facts.{unscrolled_facts}
@@ -24,8 +24,20 @@ last_specs-along old new (Branch row kids siblings) same =
     let rest = last_specs-along old new siblings (KeepsInside-siblings old new row kids siblings same) in
     rw (own, rest) refl
 
+pub last_edges-along : (old new : ℕ → Held) (list : Forest Row) → KeepsInside old new list → last_edges new list ≡ last_edges old list
+last_edges-along old new Nothing same = refl
+last_edges-along old new (Branch row kids siblings) same =
+    let own = KeepsInside-self old new row kids siblings same in
+    let rest = last_edges-along old new siblings (KeepsInside-siblings old new row kids siblings same) in
+    rw (own, rest) refl
+
 pub IsSized-along : (old new : ℕ → Held) (own : Held) (row : Row) (kids : Forest Row) → KeepsInside old new kids → IsSized old own row kids → IsSized new own row kids
-IsSized-along old new own row kids same h = record { size = h.size; finals = last_specs-along old new kids same ∙ h.finals; total = h.total }
+IsSized-along old new own row kids same h = record {
+  size = h.size;
+  finals = last_specs-along old new kids same ∙ h.finals;
+  total = h.total;
+  edges = λ is. last_edges-along old new kids same ∙ h.edges is;
+}
 
 pub Sized-along : (old new : ℕ → Held) (list : Forest Row) → KeepsInside old new list → Sized old list → Sized new list
 Sized-along old new Nothing same h = tt

@@ -8,13 +8,13 @@ use Rattle.geom_core.specs.Limits.{IsSide}
 use Rattle.measure_pass.specs.declared.plan.Plan.{Plan}
 use Rattle.measure_pass.specs.Courses.{AfterAll, AfterPhase, CanTurn, InCourse, IsMeasuredBelow, MeasuredFor, StaysReady, calls_for, calls_of, from_here, has_requests, phase_calls}
 use Rattle.measure_pass.specs.Measured.{IsSized, Sized, calls_under, last_specs}
-use Rattle.measure_pass.specs.Plans.{Group, group_of, rule_in}
+use Rattle.measure_pass.specs.Plans.{Group, group_by, rule_in}
 use Rattle.measure_pass.proofs.Counts.{costs_own, costs_same, costs_twice}
-use Rattle.view_model.specs.Course.{Child, Progress, Requested, after_phase, after_turn, asked_for, begun, course_of, last_of, measured_of, one_phase, phases_on, size_in}
+use Rattle.view_model.specs.Course.{Child, Course, Progress, Requested, after_phase, after_turn, asked_for, begun, course_of, last_of, measured_of, one_phase, phases_on, size_in}
 use Rattle.view_model.specs.Facts.{is_shown}
 use Rattle.view_model.specs.Forest.{Forest, Nothing, Branch}
-use Rattle.view_model.specs.Layout.{Final, children_of}
-use Rattle.view_model.specs.Measuring.{Measured, Rule, Specs}
+use Rattle.view_model.specs.Layout.{Final, children_of, course_by, course_in, manner_by, manner_of, unscrolled}
+use Rattle.view_model.specs.Measuring.{ByRule, BySiblings, Measured, Rule, Specs}
 use Rattle.view_tree.specs.Rows.{Row, children_of_first, views_of}
 use Rattle.view_tree.specs.Views.{Held, specs_of}
 
@@ -124,7 +124,7 @@ abbrev pub AllAsked : List Requested → Type 0
 AllAsked [] = Unit {0}
 AllAsked (kid ∷ kids) = (is_shown kid.child.facts ≡ true → has_requests kid.requests ≡ true) × AllAsked kids
 
-abbrev GoneLeft : List Requested → Type 0
+abbrev pub GoneLeft : List Requested → Type 0
 GoneLeft [] = Unit {0}
 GoneLeft (kid ∷ kids) = (is_shown kid.child.facts ≡ false → kid.requests ≡ []) × GoneLeft kids
 
@@ -200,13 +200,16 @@ measured_last : (held : ℕ → Held) (row : Row) (kids : Forest Row) (specs : S
 measured_last held row kids specs [] m has = let e : true ≡ false = sym has in absurd (cc)
 measured_last held row kids specs (first ∷ more) m has = m.0
 
--- the last specs of those that take part in layout
-abbrev lasts_of : Specs → List Requested → List Specs
-lasts_of specs kids =
-    map (λ (kid : Final). kid.specs) (map (λ (kid : Requested). record { child = kid.child; specs = last_of specs kid.requests; edges = kid.edges })
-    (filter (λ (kid : Requested). is_shown kid.child.facts) kids))
+-- those that take part in layout in the end, and their last specs
+abbrev pub finals_of : Specs → List Requested → List Final
+finals_of specs kids =
+    map (λ (kid : Requested). record { child = kid.child; specs = last_of specs kid.requests; edges = kid.edges })
+    (filter (λ (kid : Requested). is_shown kid.child.facts) kids)
 
-course_lasts : (held : ℕ → Held) (list : Forest Row) (specs : Specs) (kids : List Requested) → InCourse held list kids → AllAsked kids → last_specs held list ≡ lasts_of specs kids
+abbrev pub lasts_of : Specs → List Requested → List Specs
+lasts_of specs kids = map (λ (kid : Final). kid.specs) (finals_of specs kids)
+
+pub course_lasts : (held : ℕ → Held) (list : Forest Row) (specs : Specs) (kids : List Requested) → InCourse held list kids → AllAsked kids → last_specs held list ≡ lasts_of specs kids
 course_lasts held Nothing specs [] h all = refl
 course_lasts held Nothing specs (kid ∷ more) h all = absurd h
 course_lasts held (Branch row children_of_first siblings) specs [] h all = absurd h
@@ -221,7 +224,14 @@ course_lasts held (Branch row children_of_first siblings) specs (kid ∷ more) h
       | inr gone ↦ let gone' = same ∙ gone in rw (gone, gone', rest) refl
     ]
 
-shown_calls : (kids : List Requested) → GoneLeft kids → sum_by (λ (kid : Requested). sum_by kid.child.calls kid.requests) (filter (λ (kid : Requested). is_shown kid.child.facts) kids) ≡ calls_of kids
+-- how many views are measured for the requests of those that take part in layout
+abbrev pub calls_shown : List Requested → ℕ
+calls_shown kids = sum_by (λ (kid : Requested). sum_by kid.child.calls kid.requests) (filter (λ (kid : Requested). is_shown kid.child.facts) kids)
+
+by_rule : {A : Type 0} {rule : Rule} → BySiblings ≡ ByRule rule → A
+by_rule e = absurd (cc)
+
+pub shown_calls : (kids : List Requested) → GoneLeft kids → sum_by (λ (kid : Requested). sum_by kid.child.calls kid.requests) (filter (λ (kid : Requested). is_shown kid.child.facts) kids) ≡ calls_of kids
 shown_calls [] h = refl
 shown_calls (kid ∷ kids) h =
     let calls : Requested → ℕ = λ kid. sum_by kid.child.calls kid.requests in
@@ -236,27 +246,30 @@ shown_calls (kid ∷ kids) h =
           rw gone (omega arith)
     ]
 
--- a view that was measured whole
-pub whole_row : (row : Row) (kids siblings : Forest Row) (specs : Specs) (before held : ℕ → Held) (answer : Size) (total : ℤ) (old new : ℕ)
-    → (let group = group_of (Branch row kids siblings) specs in
-    AllAsked (course_of (rule_in group) (children_of (views_of kids))).kids
+-- a view that was measured whole by a rule
+pub whole_row : (row : Row) (kids siblings : Forest Row) (specs : Specs) (rule : Rule) (before held : ℕ → Held) (answer : Size) (total : ℤ) (old new : ℕ)
+    → manner_of (unscrolled row.view) specs ≡ ByRule rule
+    → AllAsked (course_of rule (children_of (views_of kids))).kids
     → IsSide answer.w → IsSide answer.h
-    → AfterAll group 2 (begun (children_of (views_of kids))) before held kids answer total old new
-    → IsMeasuredBelow (Branch row kids siblings) specs before held answer total old new)
-whole_row row kids siblings specs before held answer total old new asked width height after =
-    let rule = rule_in (group_of (Branch row kids siblings) specs) in
+    → AfterAll (group_by rule (unscrolled row.view) specs) 2 (begun (children_of (views_of kids))) before held kids answer total old new
+    → IsMeasuredBelow (Branch row kids siblings) specs before held answer total old new
+whole_row row kids siblings specs rule before held answer total old new is asked width height after =
     let course = course_of rule (children_of (views_of kids)) in
+    let same : course_by (unscrolled row.view) (children_of (views_of kids)) specs ≡ course = ap (λ manner. course_in manner (unscrolled row.view) (children_of (views_of kids)) specs) is in
     let none = calls_begun (children_of (views_of kids)) in
     let all : calls_of course.kids ≡ after.more = after.calls ∙ ap (λ n. n + after.more) none ∙ zero_on after.more in
     let shown = shown_calls course.kids (gone_course rule (children_of (views_of kids))) in
+    let calls : calls_under (Branch row kids siblings) specs ≡ 1 + after.more =
+    ap (λ (course : Course). 1 + calls_shown course.kids) same ∙ ap (λ n. 1 + n) (shown ∙ all) in
     record {
-      size = after.size;
-      length = after.length;
+      size = after.size ∙ ap (λ (course : Course). course.size) (sym same);
+      length = after.length ∙ ap (λ (course : Course). course.total) (sym same);
       width = width;
       height = height;
       sized = course_sized held kids course.kids after.stands asked;
-      finals = course_lasts held kids specs course.kids after.stands asked;
-      costs = costs_same kids before held old (1 + after.more) (calls_under (Branch row kids siblings) specs) (new + 1) (ap (λ n. 1 + n) (shown ∙ all))
+      finals = course_lasts held kids specs course.kids after.stands asked ∙ ap (λ (course : Course). lasts_of specs course.kids) (sym same);
+      edges = λ class. absurd (by_rule (ap (λ class. manner_by class (unscrolled row.view) specs) (sym class) ∙ is));
+      costs = costs_same kids before held old (1 + after.more) (calls_under (Branch row kids siblings) specs) (new + 1) calls
           (costs_own kids kids before held held old after.more new after.costs);
     }
   where

@@ -3,14 +3,15 @@ use Rattle.std.specs.Prelude.{◌≡◌, ℤ, ℕ, ◌+◌, zero, suc, Bool, tru
 use Rattle.geom_core.specs.Limits.{IsSide}
 use Rattle.geom_core.specs.declared.geometry.Size.{Size}
 use Rattle.measure_pass.specs.declared.plan.Plan.{Plan}
-use Rattle.measure_pass.specs.Measured.{Costs, IsSized, Sized, calls_under, finals_under, last_specs, size_under, total_under}
+use Rattle.measure_pass.specs.Measured.{Costs, IsSized, Sized, calls_under, edges_under, finals_under, last_edges, last_specs, size_under, total_under}
 use Rattle.measure_pass.specs.Plans.{Group, Stands, rule_in}
+use Rattle.view_model.specs.declared.kinds.Class.TheVariants.{RelativeLayout}
 use Rattle.view_model.specs.Course.{Child, Progress, Requested, after_phase, after_turn, last_of, measured_of, one_phase, phases_on, size_after, size_in, sizes_of}
 use Rattle.view_model.specs.Facts.{is_shown}
 use Rattle.view_model.specs.Forest.{Forest, Nothing, Branch}
 use Rattle.view_model.specs.Layout.{child_under}
 use Rattle.view_model.specs.Measuring.{Measured, Rule, Specs, counted_as}
-use Rattle.view_tree.specs.Rows.{Row, children_of_first, views_of}
+use Rattle.view_tree.specs.Rows.{Row, children_of_first, head_view, views_of}
 use Rattle.view_tree.specs.Views.{Held, specs_of}
 
 -- a row as a child
@@ -82,6 +83,7 @@ pub record IsMeasuredBelow (part : Forest Row) (specs : Specs) (before held : �
   pub height : IsSide answer.h
   pub sized : Sized held (children_of_first part)
   pub finals : last_specs held (children_of_first part) ≡ finals_under part specs
+  pub edges : (head_view part).class ≡ RelativeLayout → last_edges held (children_of_first part) ≡ edges_under part specs
   pub costs : Costs (children_of_first part) before held old (calls_under part specs) (new + 1)
 
 -- a plan has taken the views of a list, which are these children, behind others of the same phase

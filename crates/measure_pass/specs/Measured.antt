@@ -1,10 +1,13 @@
 -- What a measuring leaves with the views of a tree.
-use Rattle.std.specs.Prelude.{◌≡◌, ℕ, ℤ, ◌+◌, ◌-◌, ◌^◌, min, pos, true, if◌then◌else◌, List, [], ◌∷◌}
+use Rattle.std.specs.Prelude.{◌≡◌, ℕ, ℤ, ◌+◌, ◌-◌, ◌^◌, min, pos, true, if◌then◌else◌, List, [], ◌∷◌, Option}
+use Rattle.geom_core.specs.declared.geometry.Rect.{Rect}
 use Rattle.geom_core.specs.declared.geometry.Size.{Size}
+use Rattle.view_model.specs.declared.kinds.Class.TheVariants.{RelativeLayout}
 use Rattle.view_model.specs.Facts.{is_shown}
 use Rattle.view_model.specs.Forest.{Forest, Nothing, Branch}
-use Rattle.view_model.specs.Layout.{final_specs, measure_calls, measured_size, total_size}
+use Rattle.view_model.specs.Layout.{final_edges, final_specs, measure_calls, measured_size, total_size}
 use Rattle.view_model.specs.Measuring.{Specs}
+use Rattle.view_model.specs.RelativeLayout.{sides_of}
 use Rattle.view_tree.specs.Rows.{Row, first_tree, part_from, views_of}
 use Rattle.view_tree.specs.Views.{Held, Views, IsLive, held_of, specs_of, state_of}
 
@@ -34,12 +37,24 @@ last_specs held Nothing = []
 last_specs held (Branch row kids siblings) =
     if is_shown row.view.facts then specs_of (held row.key).state ∷ last_specs held siblings else last_specs held siblings
 
+-- the sides that a relative layout found for its children that take part in layout
+abbrev pub last_edges : (ℕ → Held) → Forest Row → List (Option Rect)
+last_edges held Nothing = []
+last_edges held (Branch row kids siblings) =
+    if is_shown row.view.facts then sides_of (held row.key).state.edges ∷ last_edges held siblings else last_edges held siblings
+
+-- those that it is to find
+abbrev pub edges_under : Forest Row → Specs → List (Option Rect)
+edges_under Nothing specs = []
+edges_under (Branch row kids siblings) specs = final_edges row.view (views_of kids) specs
+
 -- a view, with which this is kept, has its size under the specs of its last measuring, and its children were last measured
--- under its final specs for them
+-- under its final specs for them; those of a relative layout have their sides
 pub record IsSized (held : ℕ → Held) (own : Held) (row : Row) (kids : Forest Row) : Type 0 where
   pub size : own.state.measured ≡ measured_size row.view (views_of kids) (specs_of own.state)
   pub finals : last_specs held kids ≡ final_specs row.view (views_of kids) (specs_of own.state)
   pub total : own.state.total ≡ total_size row.view (views_of kids) (specs_of own.state)
+  pub edges : row.view.class ≡ RelativeLayout → last_edges held kids ≡ final_edges row.view (views_of kids) (specs_of own.state)
 
 -- so is each view of a list that takes part in layout
 abbrev pub Sized : (ℕ → Held) → Forest Row → Type 0

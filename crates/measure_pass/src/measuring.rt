@@ -1,19 +1,29 @@
 //! Measuring a view through all views below it: the walk, which is the same for every class.
-ghost use Rattle.std.specs.Prelude.{◌≡◌, ◌≤◌, ◌+◌, ◌-◌, ◌^◌, min, [], ◌∷◌, ◌++◌, List, length};
+ghost use Rattle.std.specs.Prelude.{◌≡◌, ◌≤◌, ◌<◌, ◌+◌, ◌-◌, ◌^◌, ℕ, min, [], ◌∷◌, ◌++◌, List, length};
 ghost use Rattle.geom_core.specs.Limits.{IsSide};
 ghost use Rattle.measure_pass.specs.Courses.{AfterAll, AfterPhase, CanTurn, InCourse, IsMeasuredBelow, StaysReady};
 ghost use Rattle.measure_pass.specs.Measured.{IsMeasured, IsReady, Keeps, calls_under, done_with, size_under};
 ghost use Rattle.measure_pass.specs.Plans.{Group, Stands, rule_in};
+ghost use Rattle.measure_pass.specs.Siblings.{AfterTurn, AfterTurns, FirstHasSize, FirstIsKnown, TurnIsFixed, kept_spans, kids_in, order_on, phase_of};
+ghost use Rattle.relative_layout.specs.RelativePlan.{StandsRelative};
+ghost use Rattle.view_model.specs.declared.facts.Facts.{Facts as FactsValue};
 ghost use Rattle.view_model.specs.declared.limits.TheConstants.{MAX_VIEWS};
 ghost use Rattle.view_model.specs.Course.{Requested};
 ghost use Rattle.view_model.specs.Forest.{count_of};
-ghost use Rattle.view_model.specs.Measuring.{Measured};
-ghost use Rattle.view_tree.specs.Rows.{first_tree, children_of_first, part_from};
-ghost use Rattle.view_tree.specs.Views.{IsLive, IsTree, KeepsOthers, KeepsOutside, SameTree, held_of};
+ghost use Rattle.view_model.specs.Measuring.{Measured, Specs};
+ghost use Rattle.view_model.specs.RelativeLayout.{Spanned, phase_axis};
+ghost use Rattle.view_model.specs.Cycles.{links_in};
+ghost use Rattle.view_tree.specs.Ordering.{AreOrders};
+ghost use Rattle.view_tree.specs.Rows.{first_tree, children_of_first, part_from, siblings_from, views_of};
+ghost use Rattle.view_model.specs.declared.kinds.Class.TheVariants.{RelativeLayout};
+ghost use Rattle.view_tree.specs.Views.{IsLive, IsTree, KeepsOthers, KeepsOutside, SameTree, class_of, held_of, orders_of};
 
+use crate::anchors::anchors_of;
 use crate::plan::Plan;
+use crate::siblings::{edges_before, keep_edges, kid_in_turn, settle, turns};
 use geom_core::{Size, Spec};
-use view_model::Work;
+use relative_layout::RelativePlan;
+use view_model::{Axis, Work};
 use view_tree::{Key, ViewTree};
 
 /// Measures a view under these specs, for its width and for its height; the answer is its size. What is below it is
@@ -69,8 +79,107 @@ fn measure_below(tree: &mut ViewTree, view: Key, ws: Spec, hs: Spec, work: &mut 
     ensures others { KeepsOutside (held_of tree.old) (held_of tree.new) (children_of_first (part_from view tree.old.tree)) }
     ensures painted { work.new.painted ≡ work.old.painted }
 {
-    let mut plan = Plan::start(tree, view, ws, hs);
-    measure_phases(tree, view, &mut plan, 2, work)
+    match Plan::start(tree, view, ws, hs) {
+        Some(mut plan) => measure_phases(tree, view, &mut plan, 2, work),
+        None => measure_siblings(tree, view, ws, hs, work),
+    }
+}
+
+/// Measures what is below a relative layout under these specs: each child on the horizontal axis and then each on the
+/// vertical one, in the orders of their rules.
+#[cycle(measure)]
+fn measure_siblings(tree: &mut ViewTree, view: Key, ws: Spec, hs: Spec, work: &mut Work) -> Outcome
+    requires live { IsLive tree.old view }
+    requires siblings { class_of tree.old view ≡ RelativeLayout }
+    ensures is_tree { IsTree tree.old }
+    ensures measured { IsMeasuredBelow (part_from view tree.old.tree) (record { across = ws; down = hs }) (held_of tree.old) (held_of tree.new)
+        result.size result.total work.old.measured work.new.measured }
+    ensures same { SameTree tree.old tree.new }
+    ensures keeps { Keeps (held_of tree.old) (held_of tree.new) }
+    ensures others { KeepsOutside (held_of tree.old) (held_of tree.new) (children_of_first (part_from view tree.old.tree)) }
+    ensures painted { work.new.painted ≡ work.old.painted }
+{
+    let mut plan = RelativePlan::start(tree.facts(view), ws, hs);
+    measure_turns(tree, view, Axis::Horizontal, &mut plan, work);
+    plan.turn();
+    measure_turns(tree, view, Axis::Vertical, &mut plan, work);
+    settle(tree, view, &plan);
+    Outcome {
+        size: plan.finish(),
+        total: 0,
+    }
+}
+
+/// One phase of a relative layout's measuring: each of its children in turn, by the order of the axis.
+#[cycle(measure)]
+fn measure_turns(
+    tree: &mut ViewTree,
+    view: Key,
+    axis: Axis,
+    plan: &mut RelativePlan,
+    work: &mut Work,
+)
+    requires live { IsLive tree.old view }
+    requires siblings { class_of tree.old view ≡ RelativeLayout }
+    ensures turns { (own : FactsValue) (specs : Specs) (past : List (List Spanned))
+        → StandsRelative plan.old own specs past []
+        → phase_axis past ≡ axis
+        → ((place : ℕ) → FirstIsKnown axis (held_of tree.old) ((phase_of axis own specs (kids_in (children_of_first (part_from view tree.old.tree)))).before place)
+        (siblings_from place (children_of_first (part_from view tree.old.tree))))
+        → AfterTurns plan.new own specs past (phase_of axis own specs (kids_in (children_of_first (part_from view tree.old.tree)))) (order_on axis (orders_of tree.old view))
+        (held_of tree.old) (held_of tree.new) (children_of_first (part_from view tree.old.tree)) work.old.measured work.new.measured }
+    ensures ordered { AreOrders (links_in (views_of (children_of_first (part_from view tree.old.tree)))) (orders_of tree.old view) }
+    ensures sizes { (place : ℕ) → place < length (kids_in (children_of_first (part_from view tree.old.tree)))
+        → FirstHasSize (held_of tree.new) (siblings_from place (children_of_first (part_from view tree.old.tree))) }
+    ensures same { SameTree tree.old tree.new }
+    ensures keeps { Keeps (held_of tree.old) (held_of tree.new) }
+    ensures others { KeepsOutside (held_of tree.old) (held_of tree.new) (children_of_first (part_from view tree.old.tree)) }
+    ensures painted { work.new.painted ≡ work.old.painted }
+{
+    for turn in 0..turns(tree, view) {
+        let kid = kid_in_turn(tree, view, axis, turn);
+        measure_in_turn(tree, view, kid, axis, plan, work);
+    }
+}
+
+/// Measures a child of a relative layout in its turn, if it takes part in layout, and keeps its sides.
+#[cycle(measure)]
+fn measure_in_turn(
+    tree: &mut ViewTree,
+    view: Key,
+    kid: Key,
+    axis: Axis,
+    plan: &mut RelativePlan,
+    work: &mut Work,
+)
+    requires live { IsLive tree.old view }
+    requires siblings { class_of tree.old view ≡ RelativeLayout }
+    requires kid { IsLive tree.old kid }
+    ensures turn { (own : FactsValue) (specs : Specs) (past : List (List Spanned)) (taken : List Spanned) (place : ℕ)
+        → StandsRelative plan.old own specs past taken
+        → phase_axis past ≡ axis
+        → part_from kid tree.old.tree ≡ siblings_from place (children_of_first (part_from view tree.old.tree))
+        → TurnIsFixed axis own specs (kids_in (children_of_first (part_from view tree.old.tree)))
+        (kept_spans axis (held_of tree.old) (children_of_first (part_from view tree.old.tree))) place
+        → FirstIsKnown axis (held_of tree.old) ((phase_of axis own specs (kids_in (children_of_first (part_from view tree.old.tree)))).before place) (part_from kid tree.old.tree)
+        → AfterTurn plan.new own specs past taken (phase_of axis own specs (kids_in (children_of_first (part_from view tree.old.tree))))
+        (kids_in (children_of_first (part_from view tree.old.tree))) place (held_of tree.old) (held_of tree.new) (part_from kid tree.old.tree)
+        work.old.measured work.new.measured }
+    ensures size { FirstHasSize (held_of tree.new) (part_from kid tree.old.tree) }
+    ensures same { SameTree tree.old tree.new }
+    ensures keeps { Keeps (held_of tree.old) (held_of tree.new) }
+    ensures others { KeepsOutside (held_of tree.old) (held_of tree.new) (first_tree (part_from kid tree.old.tree)) }
+    ensures painted { work.new.painted ≡ work.old.painted }
+{
+    if !tree.facts(kid).is_shown() {
+        return;
+    }
+    let anchors = anchors_of(tree, view, kid, axis);
+    let edges = edges_before(tree, kid, axis);
+    let (across, down) = plan.ask(tree.facts(kid), edges, &anchors);
+    let got = measure(tree, kid, across, down, work);
+    let edges = plan.take(tree.facts(kid), edges, &anchors, got);
+    keep_edges(tree, kid, edges);
 }
 
 /// The phases of a view's measuring that are left, up to so many after the next, and what they come to.

@@ -1,12 +1,13 @@
 //! The measuring of one view, by its class. What is here has one arm a class.
 ghost use Rattle.std.specs.Prelude.{◌≡◌, ◌<◌, [], ◌∷◌, ◌++◌, List, length};
 ghost use Rattle.std.specs.Option.{option_map};
-ghost use Rattle.measure_pass.specs.Plans.{Group, Stands, Turned, group_of, rule_in};
+ghost use Rattle.measure_pass.specs.Plans.{Group, IsPlanOf, Stands, Turned, rule_in};
 ghost use Rattle.view_model.specs.declared.limits.TheConstants.{MAX_VIEWS};
 ghost use Rattle.view_model.specs.Facts.{unscrolled_facts};
+ghost use Rattle.view_model.specs.Layout.{manner_of, unscrolled};
 ghost use Rattle.view_model.specs.Leaf.{view_size};
 ghost use Rattle.view_model.specs.Measuring.{Measured, pair_of, taken_as};
-ghost use Rattle.view_tree.specs.Rows.{part_from};
+ghost use Rattle.view_tree.specs.Rows.{head_view, part_from};
 ghost use Rattle.view_tree.specs.Views.{IsLive};
 
 use crate::text_size::text_size;
@@ -28,17 +29,21 @@ pub enum Plan {
 }
 
 impl Plan {
-    /// The plan of a view before its first child, measured under these specs.
-    pub fn start(tree: &ViewTree, view: Key, ws: Spec, hs: Spec) -> Plan
+    /// The plan of a view before its first child, measured under these specs; None where its children are measured after the
+    /// siblings to which they are tied.
+    pub fn start(tree: &ViewTree, view: Key, ws: Spec, hs: Spec) -> Option<Plan>
         requires live { IsLive tree.now view }
-        ensures { Stands result (group_of (part_from view tree.now.tree) (record { across = ws; down = hs })) [] [] }
+        ensures { IsPlanOf (manner_of (unscrolled (head_view (part_from view tree.now.tree))) (record { across = ws; down = hs })) result
+            (unscrolled (head_view (part_from view tree.now.tree))) (record { across = ws; down = hs }) }
     {
+        let facts = tree.facts(view);
         match tree.class(view) {
-            Class::View => Plan::Leaf(minimal_size(tree.facts(view), ws, hs)),
-            Class::TextView => { Plan::Leaf(text_size(tree.facts(view), tree.text(view), ws, hs)) }
-            Class::FrameLayout => Plan::Frame(FramePlan::start(tree.facts(view), ws, hs)),
-            Class::LinearLayout => Plan::Linear(LinearPlan::start(tree.facts(view), ws, hs)),
-            Class::ScrollView => Plan::Scroll(ScrollPlan::start(tree.facts(view), ws, hs)),
+            Class::View => Some(Plan::Leaf(minimal_size(facts, ws, hs))),
+            Class::TextView => Some(Plan::Leaf(text_size(facts, tree.text(view), ws, hs))),
+            Class::FrameLayout => Some(Plan::Frame(FramePlan::start(facts, ws, hs))),
+            Class::LinearLayout => Some(Plan::Linear(LinearPlan::start(facts, ws, hs))),
+            Class::ScrollView => Some(Plan::Scroll(ScrollPlan::start(facts, ws, hs))),
+            Class::RelativeLayout => None,
         }
     }
 

@@ -1,5 +1,7 @@
+pub mod AnchorLaws
 mod Counting
-mod NamingLaws
+pub mod CourseLaws
+pub mod NamingLaws
 pub mod OrderLaws
 pub mod PlanLaws
 mod PartLaws
@@ -7,3 +9,4 @@ mod PointLaws
 mod SearchLaws
 mod SettleLaws
 mod TakingLaws
+pub mod TurnLaws

@@ -1,5 +1,5 @@
 -- What a plan stands for: a group, its specs, and the children that it has taken in each phase, with their sides.
-use Rattle.std.specs.Prelude.{◌≡◌, Bool, true, false, List, [], ◌∷◌, ◌++◌}
+use Rattle.std.specs.Prelude.{◌≡◌, ℕ, ℤ, Bool, true, false, List, [], ◌∷◌, ◌++◌, filter, map}
 use Rattle.geom_core.specs.declared.geometry.Size.{Size}
 use Rattle.relative_layout.specs.declared.extent.Extent.{Extent}
 use Rattle.relative_layout.specs.declared.plan.RelativePlan.{RelativePlan}
@@ -8,7 +8,10 @@ use Rattle.view_model.specs.declared.relative.Anchors.{Anchors}
 use Rattle.view_model.specs.declared.relative.Axis.{Axis}
 use Rattle.view_model.specs.declared.relative.Axis.TheVariants.{Horizontal, Vertical}
 use Rattle.view_model.specs.declared.relative.Edges.{Edges}
+use Rattle.view_model.specs.Course.{Child}
+use Rattle.view_model.specs.Facts.{is_shown}
 use Rattle.view_model.specs.Measuring.{Specs}
+use Rattle.view_model.specs.RelativeCourse.{child_at}
 use Rattle.view_model.specs.RelativeLayout.{Spanned, band_on, edges_with, greatest_reach, phase_axis, span_on}
 
 -- an axis of a group on which these children lie
@@ -45,3 +48,11 @@ pub record TurnsRelative (plan : RelativePlan) (own : Facts) (specs : Specs) (pa
   pub answers : answer ≡ is_first past
   pub follows : answer ≡ true → StandsRelative plan own specs (past ++ taken ∷ []) []
   pub ends : answer ≡ false → StandsRelative plan own specs past taken
+
+-- a child in its place, with its sides on an axis
+abbrev pub spanned_at : List Child → (ℕ → ℤ × ℤ) → ℕ → Spanned
+spanned_at kids spans place = record { facts = (child_at kids place).facts; span = spans place }
+
+-- the children that take part in layout, in the turns of an order
+abbrev pub spanned_in : List Child → (ℕ → ℤ × ℤ) → List ℕ → List Spanned
+spanned_in kids spans order = filter (λ (kid : Spanned). is_shown kid.facts) (map (spanned_at kids spans) order)

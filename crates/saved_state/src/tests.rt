@@ -17,7 +17,8 @@ fn one_view(alloc: Global, class: Class, id: u32, offset: i32) -> Option<ViewTre
         offset,
         ..Facts::new(0, 0)
     };
-    let root = tree.attach(None, class, facts, text).ok()?;
+    tree.attach(None, class, facts, text).ok()?;
+    let root = tree.root()?;
     let rules = Rules { values: [0; 21] };
     tree.set_rules(root, id, rules).ok()?;
     Some(tree)

@@ -93,6 +93,7 @@ class_of-text class.View = refl
 class_of-text class.TextView = refl
 class_of-text class.FrameLayout = refl
 class_of-text class.LinearLayout = refl
+class_of-text class.RelativeLayout = refl
 class_of-text class.ScrollView = refl
 
 class_word : (class : Class) → IsWord (class_text class)
@@ -100,6 +101,7 @@ class_word class.View = word_by (codes "View") refl
 class_word class.TextView = word_by (codes "TextView") refl
 class_word class.FrameLayout = word_by (codes "FrameLayout") refl
 class_word class.LinearLayout = word_by (codes "LinearLayout") refl
+class_word class.RelativeLayout = word_by (codes "RelativeLayout") refl
 class_word class.ScrollView = word_by (codes "ScrollView") refl
 
 -- visibilities

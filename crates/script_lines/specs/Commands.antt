@@ -50,8 +50,9 @@ class_of word =
     if bytes_eq word (codes "TextView") then Ok class.TextView else (
     if bytes_eq word (codes "FrameLayout") then Ok class.FrameLayout else (
     if bytes_eq word (codes "LinearLayout") then Ok class.LinearLayout else (
+    if bytes_eq word (codes "RelativeLayout") then Ok class.RelativeLayout else (
     if bytes_eq word (codes "ScrollView") then Ok class.ScrollView else
-    Err Syntax))))
+    Err Syntax)))))
 
 -- `P C W H`, a parent, and the view that is added to it
 unfoldable pub add_of : List (List ℕ) → Result PlainCommand LineFault

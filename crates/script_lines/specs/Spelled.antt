@@ -43,6 +43,7 @@ class_text class.View = codes "View"
 class_text class.TextView = codes "TextView"
 class_text class.FrameLayout = codes "FrameLayout"
 class_text class.LinearLayout = codes "LinearLayout"
+class_text class.RelativeLayout = codes "RelativeLayout"
 class_text class.ScrollView = codes "ScrollView"
 
 -- a dimension as facts keep it

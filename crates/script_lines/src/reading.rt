@@ -81,6 +81,9 @@ fn read_class(word: &[u8]) -> Result<Class, LineFault>
     if is(word, b"LinearLayout") {
         return Ok(Class::LinearLayout);
     }
+    if is(word, b"RelativeLayout") {
+        return Ok(Class::RelativeLayout);
+    }
     if is(word, b"ScrollView") {
         return Ok(Class::ScrollView);
     }

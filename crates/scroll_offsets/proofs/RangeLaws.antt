@@ -7,7 +7,7 @@ use Rattle.geom_core.specs.declared.geometry.Rect.{Rect}
 use Rattle.scroll_offsets.specs.Bringing.{child_rect, first_range, range_at}
 use Rattle.view_model.specs.declared.facts.Facts.{Facts}
 use Rattle.view_model.specs.declared.kinds.Class.{Class}
-use Rattle.view_model.specs.declared.kinds.Class.TheVariants.{View, TextView, FrameLayout, LinearLayout, ScrollView}
+use Rattle.view_model.specs.declared.kinds.Class.TheVariants.{View, TextView, FrameLayout, LinearLayout, ScrollView, RelativeLayout}
 use Rattle.view_model.specs.Facts.{unscrolled_facts}
 use Rattle.view_model.specs.Forest.{Forest, Nothing, Branch}
 use Rattle.view_model.specs.Offsets.{brought, range_by}
@@ -24,6 +24,7 @@ range_unscrolled View own offset rect child = refl
 range_unscrolled TextView own offset rect child = refl
 range_unscrolled FrameLayout own offset rect child = refl
 range_unscrolled LinearLayout own offset rect child = refl
+range_unscrolled RelativeLayout own offset rect child = refl
 range_unscrolled ScrollView own offset None child = refl
 range_unscrolled ScrollView own offset (Some rect) None = refl
 range_unscrolled ScrollView own offset (Some rect) (Some child) = refl

@@ -71,7 +71,11 @@ fn range_of(tree: &ViewTree, view: Key) -> Option<i32>
     ensures { result ≡ range_at tree.now view }
 {
     match tree.class(view) {
-        Class::View | Class::TextView | Class::FrameLayout | Class::LinearLayout => None,
+        Class::View
+        | Class::TextView
+        | Class::FrameLayout
+        | Class::LinearLayout
+        | Class::RelativeLayout => None,
         Class::ScrollView => range_where_it_lies(tree, view),
     }
 }

@@ -1,15 +1,18 @@
 -- What acts make of scenes.
 use Rattle.std.proofs.Common.{◌≡◌, ℕ, ◌<◌, Bool, true, false, List, refl, sym, ◌∙◌, ap, subst, inl, inr}
 use Rattle.std.proofs.lemmas.Bool.{cases_Bool, cases_eq}
-use Rattle.std.specs.Prelude.{◌==◌, if◌then◌else◌, OnErr, OnOk, Result, Ok, Err}
+use Rattle.std.specs.Prelude.{◌==◌, if◌then◌else◌, None, OnErr, OnOk, Result, Ok, Err}
 use Rattle.view_model.specs.Changes.{facts_after_act}
+use Rattle.view_model.specs.Cycles.{first_cycle}
 use Rattle.view_model.specs.declared.facts.Facts.{Facts}
+use Rattle.view_model.specs.declared.refusal.Member.TheVariants as member
 use Rattle.view_model.specs.declared.changes.Act.{Act}
 use Rattle.view_model.specs.Facts.{is_shown, unscrolled_facts}
 use Rattle.view_model.specs.Forest.{Forest}
 use Rattle.view_model.specs.Geometry.{Laid}
 use Rattle.view_model.specs.PlainTree.{PlainView, with_facts}
 use Rattle.view_tree.specs.declared.fault.AttachFault.{AttachFault}
+use Rattle.view_tree.specs.Faults.{IsRefusedOrCyclic}
 use Rattle.view_tree.specs.Hidden.{HidesGone, IsConsistent, NoBounds}
 use Rattle.view_tree.specs.Rows.{Row, first_tree, part_from, head_view, changed_at_key, count_of_key}
 use Rattle.view_tree.specs.Views.{Held, IsLive, IsTree, KeepsOthers, SameTree, Views, facts_of, geometry_of, held_of, laid_rows, number_of, plain_of, plain_rows}
@@ -17,8 +20,7 @@ use Rattle.view_tree.proofs.values.GeometryLaws.{geometry-hidden, geometry-put, 
 use Rattle.view_tree.proofs.values.HiddenLaws.{hidden-part, hides-put, hides_along, no_bounds_along}
 use Rattle.view_tree.proofs.forest.KeyLaws.{Within, here, in_below, in_after, located}
 use Rattle.view_tree.proofs.forest.PlainLaws.{plain_along}
-use Rattle.tree_edits.specs.Applied.{names_views}
-use Rattle.tree_edits.specs.Editing.{after_act, hidden, hides}
+use Rattle.tree_edits.specs.Editing.{after_act, hidden, hides, names_views}
 use Rattle.tree_edits.specs.declared.edits.Edit.TheVariants as edit
 use Rattle.tree_edits.specs.Hiding.{held_hiding, hidden_at, unplaced}
 use Rattle.tree_edits.specs.Keeping.{KeepsViews}
@@ -210,3 +212,12 @@ pub names_keep_made : (old new : Views) (view : ℕ) (act : Act) (facts : Facts)
     → OnOk result (KeepsViews old new (edit.Act view act))
 names_keep_made old new view act facts (Ok done) is names made tree next held = names_keep old new view act facts is names made tree next held
 names_keep_made old new view act facts (Err fault) is names made tree next held = tt
+
+-- the cycle of the tree with other names is that of the tree after the act
+pub names_refused : (old : Views) (view : ℕ) (act : Act) (facts : Facts) (result : Result (Unit {0}) AttachFault) → IsTree old → IsLive old view → names_views act ≡ true
+    → facts ≡ facts_after_act act (facts_of old view)
+    → IsRefusedOrCyclic None (first_cycle member.View (with_facts (number_of old view) (renamed facts) (plain_of old))) result
+    → IsRefusedOrCyclic None (first_cycle member.View (with_facts (number_of old view) (facts_after_act act) (plain_of old))) result
+names_refused old view act facts result is live names made refused =
+    subst (λ (tree : Forest PlainView). IsRefusedOrCyclic None (first_cycle member.View tree) result)
+    (same_change old view (renamed facts) (facts_after_act act) is live (ap (λ (f : Facts). renamed f (facts_of old view)) made ∙ names_alone act (facts_of old view) names)) refused

@@ -1,33 +1,37 @@
 -- What edits make of scenes.
-use Rattle.std.proofs.Common.{◌≡◌, ℕ, ℤ, Bool, List, [], Option, Some, None, Result, Ok, Err, refl, sym, ◌∙◌, ap, subst}
+use Rattle.std.proofs.Common.{◌≡◌, ℕ, ℤ, Bool, true, List, [], Option, Some, None, Result, Ok, Err, refl, sym, ◌∙◌, ap, subst}
 use Rattle.std.specs.Option.{option_map}
 use Rattle.std.specs.Prelude.{if◌then◌else◌}
 use Rattle.std.specs.Result.{IsErrAnd}
+use Rattle.view_model.specs.Changes.{facts_after_act}
+use Rattle.view_model.specs.Cycles.{first_cycle}
 use Rattle.view_model.specs.declared.facts.Facts.{Facts}
 use Rattle.view_model.specs.declared.changes.Act.{Act}
 use Rattle.view_model.specs.declared.kinds.Class.{Class}
+use Rattle.view_model.specs.declared.refusal.Member.TheVariants as member
 use Rattle.view_model.specs.Facts.{new_facts}
 use Rattle.view_model.specs.Forest.{Forest, Nothing}
 use Rattle.view_model.specs.Growth.{refusal_at}
-use Rattle.view_model.specs.PlainTree.{PlainView, pruned, view_in, with_text}
+use Rattle.view_model.specs.PlainTree.{PlainView, pruned, view_in, with_facts, with_text}
 use Rattle.view_model.specs.Refusals.{refusal_numbered}
 use Rattle.view_model.specs.declared.refusals.TheConstants.{WRONG_CLASS}
 use Rattle.view_tree.specs.Attached.{Attached}
 use Rattle.view_tree.specs.declared.fault.AttachFault.{AttachFault}
 use Rattle.view_tree.specs.declared.fault.AttachFault.TheVariants as attach
-use Rattle.view_tree.specs.Faults.{IsRefusedExactlyFor}
+use Rattle.view_tree.specs.Faults.{IsRefusedExactlyFor, IsRefusedOrCyclic}
 use Rattle.view_tree.specs.Hidden.{HidesGone, IsConsistent}
 use Rattle.view_tree.specs.Rows.{Row, first_tree, pruned_at_key, part_from, changed_at_key}
 use Rattle.view_tree.specs.Views.{Held, IsLive, IsTree, KeepsOutside, Views, class_of, held_of, laid_rows, number_of, plain_of}
 use Rattle.view_tree.proofs.values.GeometryLaws.{geometry-pruned_at_key, geometry-with_child}
 use Rattle.view_tree.proofs.values.HiddenLaws.{hidden-pruned_at_key, hidden-with_child}
 use Rattle.view_tree.proofs.forest.PlainLaws.{number_there}
-use Rattle.tree_edits.specs.Applied.{AppliesEdit, IsAddable, fault_of}
+use Rattle.tree_edits.specs.Applied.{AppliesEdit, IsAddable, IsDoneOrCyclic, fault_of}
 use Rattle.tree_edits.specs.declared.fault.EditFault.{EditFault}
 use Rattle.tree_edits.specs.declared.fault.EditFault.TheVariants as fault
-use Rattle.tree_edits.specs.Editing.{Add, Outcome, outcome_of_add, after_act, outcome_of_act, outcome_of_edit, new_view, outcome_of_remove, takes, has_text, outcome_of_text}
+use Rattle.tree_edits.specs.Editing.{Add, Outcome, cycle_of_act, names_views, outcome_of_add, outcome_of_act, outcome_of_edit, outcome_unless, new_view, outcome_of_remove, takes, has_text, outcome_of_text}
 use Rattle.tree_edits.specs.Scene.{Scene, scene_of}
 use Rattle.tree_edits.proofs.ActLaws.{same_scene, stays}
+use Rattle.tree_edits.proofs.CycleLaws.{cycle_named, taken_or_cyclic}
 
 -- a root is added only where there is none
 pub added_root : (views : Views) (parent : Option ℕ) → IsAddable views parent → parent ≡ None → views.tree ≡ Nothing
@@ -79,7 +83,7 @@ not_attached old after parent class width height (attach.Refused refusal) (Err f
     (ap (outcome_of_add (scene_of old) (option_map (number_of old) parent) class width height) refused)
 not_attached old after parent class width height attach.NoMemory (Err fault) refused is =
     subst (λ (f : EditFault). AppliesEdit (outcome_of_edit (scene_of old) (Add (option_map (number_of old) parent) class width height)) after (Err f)) (sym is)
-    (_, _, ap (outcome_of_add (scene_of old) (option_map (number_of old) parent) class width height) refused)
+    (subst IsDoneOrCyclic (sym (ap (outcome_of_add (scene_of old) (option_map (number_of old) parent) class width height) refused)) tt)
 
 -- a view and all below it were taken away
 pub detached_scene : (old new : Views) (view : ℕ) → IsTree old → IsLive old view
@@ -104,10 +108,10 @@ detached_kept old new view is tree others kept = record {
 pub done_by : (views : Views) (view : ℕ) (act : Act) (class : Class) (taken : Bool) → IsTree views → IsLive views view → class ≡ class_of views view
     → taken ≡ takes class act
     → outcome_of_act (scene_of views) (number_of views view) act (view_in (plain_of views) (number_of views view))
-    ≡ (if taken then Ok (after_act (scene_of views) (number_of views view) act, None) else Err (refusal_numbered WRONG_CLASS))
+    ≡ (if taken then outcome_unless (scene_of views) (number_of views view) act (cycle_of_act (plain_of views) (number_of views view) act) else Err (refusal_numbered WRONG_CLASS))
 done_by views view act class taken is live class_is taken_is =
     ap (outcome_of_act (scene_of views) (number_of views view) act) (number_there views view is live)
-    ∙ ap (λ (b : Bool). if b then Ok (after_act (scene_of views) (number_of views view) act, None) else Err (refusal_numbered WRONG_CLASS))
+    ∙ ap (λ (b : Bool). if b then outcome_unless (scene_of views) (number_of views view) act (cycle_of_act (plain_of views) (number_of views view) act) else Err (refusal_numbered WRONG_CLASS))
     (sym (taken_is ∙ ap (λ (k : Class). takes k act) class_is))
 
 -- a text is set or refused, by the class of its view
@@ -120,21 +124,23 @@ written_by views view text class has is live class_is has_is =
     ∙ ap (λ (b : Bool). if b then Ok (record (scene_of views) { tree = with_text (number_of views view) text (plain_of views) }, None) else Err (refusal_numbered WRONG_CLASS))
     (sym (has_is ∙ ap has_text class_is))
 
--- an act that is done, but for want of memory
-pub not_named : (outcome : Outcome) (made after : Scene) (given : AttachFault) (answer : Result (Option ℕ) EditFault) → outcome ≡ Ok (made, None)
-    → IsRefusedExactlyFor {A = Unit {0}} None (Err given)
+-- an act that names views was not done
+pub not_named : (scene : Scene) (number : ℕ) (act : Act) (outcome : Outcome) (after : Scene) (given : AttachFault) (answer : Result (Option ℕ) EditFault) → names_views act ≡ true
+    → outcome ≡ outcome_unless scene number act (cycle_of_act scene.tree number act)
+    → IsRefusedOrCyclic {A = Unit {0}} None (first_cycle member.View (with_facts number (facts_after_act act) scene.tree)) (Err given)
     → IsErrAnd answer (λ fault. fault ≡ fault_of given)
     → AppliesEdit outcome after answer
-not_named outcome made after given (Ok number) is refused fault_is = absurd fault_is
-not_named outcome made after (attach.Refused refusal) (Err fault) is refused fault_is = absurd (cc)
-not_named outcome made after attach.NoMemory (Err fault) is refused fault_is =
-    subst (λ (f : EditFault). AppliesEdit outcome after (Err f)) (sym fault_is) (made, None, is)
+not_named scene number act outcome after given (Ok made) names is refused fault_is = absurd fault_is
+not_named scene number act outcome after (attach.Refused refusal) (Err fault) names is refused fault_is =
+    subst (λ (f : EditFault). AppliesEdit outcome after (Err f)) (sym fault_is) (is ∙ ap (outcome_unless scene number act) (cycle_named scene number act names ∙ refused))
+not_named scene number act outcome after attach.NoMemory (Err fault) names is refused fault_is =
+    subst (λ (f : EditFault). AppliesEdit outcome after (Err f)) (sym fault_is) (subst IsDoneOrCyclic (sym is) (taken_or_cyclic scene number act names))
 
 -- what is done, but for want of memory
 pub no_memory : (outcome : Outcome) (made after : Scene) (answer : Result (Option ℕ) EditFault) → outcome ≡ Ok (made, None)
     → IsErrAnd answer (λ given. given ≡ fault.NoMemory) → AppliesEdit outcome after answer
 no_memory outcome made after (Ok number) is fault_is = absurd fault_is
-no_memory outcome made after (Err fault) is fault_is = subst (λ (f : EditFault). AppliesEdit outcome after (Err f)) (sym fault_is) (made, None, is)
+no_memory outcome made after (Err fault) is fault_is = subst (λ (f : EditFault). AppliesEdit outcome after (Err f)) (sym fault_is) (subst IsDoneOrCyclic (sym is) tt)
 
 -- a text was set
 pub record TextSet (old : Views) (view : ℕ) (text : List ℕ) (new : Views) : Type 0 where

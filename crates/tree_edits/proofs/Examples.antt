@@ -1,5 +1,5 @@
 -- Worked edits, by computation: what the definitions make of a small scene.
-use Rattle.std.specs.Prelude.{◌≡◌, ℕ, pos, refl, List, [], ◌∷◌, Some, None, Ok, Err, true, false}
+use Rattle.std.specs.Prelude.{◌≡◌, ℕ, pos, refl, List, [], ◌∷◌, Some, None, Ok, Err, true, false, replicate, slice_set}
 use Rattle.geom_core.specs.declared.geometry.Insets.{Insets}
 use Rattle.view_model.specs.declared.facts.Facts.{Facts}
 use Rattle.view_model.specs.declared.changes.Act.TheVariants as act
@@ -15,7 +15,11 @@ use Rattle.view_model.specs.Forest.{Forest, Nothing, Branch}
 use Rattle.view_model.specs.Geometry.{Laid}
 use Rattle.view_model.specs.Growth.{growth_refusal}
 use Rattle.view_model.specs.PlainTree.{PlainView}
-use Rattle.view_model.specs.Refusals.{refusal_numbered}
+use Rattle.view_model.specs.declared.refusal.Member.TheVariants as member
+use Rattle.view_model.specs.declared.refusals.TheConstants.{CYCLE}
+use Rattle.view_model.specs.declared.verbs.TheConstants.{ABOVE, BELOW, LEFT_OF, RIGHT_OF}
+use Rattle.view_model.specs.Refusals.{Cycle, refusal_numbered}
+use Rattle.view_model.specs.SiblingRules.{leads, names}
 use Rattle.tree_edits.specs.Editing.{Add, ActOn, Remove, SetText, outcome_of_edit, new_view}
 use Rattle.tree_edits.specs.Keeping.{held_acted}
 use Rattle.tree_edits.specs.Scene.{Scene}
@@ -182,3 +186,21 @@ gone_takes_bounds views = refl
 gone_leaves_siblings : (views : Views) → held_acted (kept views) 7 (act.Visible Gone) 9 ≡ held_of views 9
 unfolding kept rows frame
 gone_leaves_siblings views = refl
+
+-- a relative layout 1 with views 2 and 3, of which the first is beside the second and above it
+tied : Forest PlainView
+tied =
+    let facts = (leaf 2).facts in
+    let rules = slice_set (slice_set (replicate 21 0) RIGHT_OF 102) ABOVE 102 in
+    Branch (new_view 1 class.RelativeLayout (pos 40) (pos 30))
+    (Branch (record (leaf 2) { facts = record facts { id = 101; rules = record { values = rules } } }) Nothing
+    (Branch (record (leaf 3) { facts = record facts { id = 102 } }) Nothing Nothing)) Nothing
+
+-- a rule of the second that names the first is refused on either axis
+circle_is_refused : outcome_of_edit (scene tied 4 everywhere) (ActOn 3 (act.Rule LEFT_OF 101)) ≡ Err (record { number = CYCLE; reason = Cycle false (member.View 2 ∷ member.View 3 ∷ []) })
+unfolding scene tied everywhere leaf laid leads names
+circle_is_refused = refl
+
+circle_down_is_refused : outcome_of_edit (scene tied 4 everywhere) (ActOn 3 (act.Rule BELOW 101)) ≡ Err (record { number = CYCLE; reason = Cycle true (member.View 2 ∷ member.View 3 ∷ []) })
+unfolding scene tied everywhere leaf laid leads names
+circle_down_is_refused = refl

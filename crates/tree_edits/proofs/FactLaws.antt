@@ -16,8 +16,7 @@ use Rattle.view_tree.specs.Rows.{Row, part_from, count_of_key}
 use Rattle.view_tree.specs.Views.{Held, IsLive, IsTree, Views, facts_of, held_of, number_of, plain_of, plain_rows, scrolled}
 use Rattle.view_tree.proofs.forest.KeyLaws.{Agree, absent, located, zero_or_more}
 use Rattle.view_tree.proofs.forest.PlainLaws.{agree_live}
-use Rattle.tree_edits.specs.Applied.{names_views}
-use Rattle.tree_edits.specs.Editing.{hides}
+use Rattle.tree_edits.specs.Editing.{hides, names_views}
 
 -- a view that is gone after an act was gone before, or the act hides it
 pub gone_after : (act : Act) (facts : Facts) → hides act ≡ false → is_shown (facts_after_act act facts) ≡ false → is_shown facts ≡ false

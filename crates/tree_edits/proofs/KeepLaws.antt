@@ -14,11 +14,10 @@ use Rattle.view_tree.specs.Rows.{Row, first_tree, pruned_at_key, part_from, head
 use Rattle.view_tree.specs.Views.{Held, IsLive, IsTree, KeepsOthers, KeepsOutside, SameTree, Unscrolled, Views, facts_of, held_of, offset_of}
 use Rattle.view_tree.proofs.forest.KeyLaws.{absent, or_else_live, zero_or_more}
 use Rattle.view_tree.proofs.forest.NumberLaws.{live-pruned_at_key, count_of_key-cut_le, count_of_key-put, put_absent}
-use Rattle.tree_edits.specs.Applied.{names_views}
 use Rattle.tree_edits.specs.declared.edits.Edit.{Edit}
 use Rattle.tree_edits.specs.declared.edits.Edit.TheVariants as edit
 use Rattle.tree_edits.specs.declared.fault.EditFault.{EditFault}
-use Rattle.tree_edits.specs.Editing.{hides, new_view}
+use Rattle.tree_edits.specs.Editing.{hides, names_views, new_view}
 use Rattle.tree_edits.specs.Hiding.{held_hiding}
 use Rattle.tree_edits.specs.Keeping.{KeepsViews, acted_view, held_acted, held_after, next_after, tree_after}
 use Rattle.tree_edits.proofs.FactLaws.{acted-named, acted-offset, names_offset, names_stay, renamed}

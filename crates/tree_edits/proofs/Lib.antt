@@ -1,4 +1,5 @@
 mod ActLaws
+mod CycleLaws
 mod EditLaws
 mod Examples
 mod FactLaws

@@ -1,11 +1,12 @@
 -- How an edit was applied to a tree of the code.
-use Rattle.std.specs.Prelude.{◌≡◌, ℕ, ◌^◌, ◌<◌, Bool, true, false, chars, length, Option, Some, None, Result, Ok, Err}
+use Rattle.std.specs.Prelude.{◌≡◌, ℕ, ◌^◌, ◌<◌, true, chars, length, Option, Some, None, Result, Ok, Err}
 use Rattle.std.specs.Option.{option_map}
 use Rattle.view_model.specs.declared.changes.Act.{Act}
 use Rattle.view_model.specs.declared.changes.Act.TheVariants as act
 use Rattle.view_model.specs.declared.limits.TheConstants.{NUMBERS_END}
 use Rattle.view_model.specs.Forest.{Nothing}
 use Rattle.view_model.specs.Refusals.{plain_refusal}
+use Rattle.view_model.specs.declared.refusals.TheConstants.{CYCLE}
 use Rattle.view_tree.specs.declared.fault.AttachFault.{AttachFault}
 use Rattle.view_tree.specs.declared.fault.AttachFault.TheVariants as attach
 use Rattle.view_tree.specs.Views.{Views, IsLive, number_of}
@@ -13,7 +14,7 @@ use Rattle.tree_edits.specs.declared.edits.Edit.{Edit}
 use Rattle.tree_edits.specs.declared.edits.Edit.TheVariants as edit
 use Rattle.tree_edits.specs.declared.fault.EditFault.{EditFault}
 use Rattle.tree_edits.specs.declared.fault.EditFault.TheVariants as fault
-use Rattle.tree_edits.specs.Editing.{NumberedEdit, Add, Remove, ActOn, SetText, Outcome}
+use Rattle.tree_edits.specs.Editing.{NumberedEdit, Add, Remove, ActOn, SetText, Outcome, names_views}
 use Rattle.tree_edits.specs.Scene.{Scene}
 
 -- an edit with the numbers of the views in place of their keys, and with the characters of its text
@@ -49,20 +50,6 @@ IsEdit views (edit.Remove view) = IsLive views view
 IsEdit views (edit.Act view act) = IsLive views view × IsVerb act
 IsEdit views (edit.Text view text) = IsLive views view × (length text.now < 2 ^ 31)
 
--- whether an act sets by what name, or by which names of others, a view is found
-abbrev pub names_views : Act → Bool
-names_views (act.Rule verb value) = true
-names_views (act.Id id) = true
-names_views (act.Change change) = false
-names_views (act.WeightSum sum) = false
-names_views (act.Orient vertical) = false
-names_views (act.Flag flag on) = false
-names_views (act.Visible visibility) = false
-names_views (act.Ink color) = false
-names_views (act.Answer answer) = false
-names_views (act.Intercept actions) = false
-names_views (act.Scroll offset) = false
-
 -- an edit that may want memory: a new view, a text, an id or a rule
 abbrev pub MayWantMemory : Edit → Type 0
 MayWantMemory (edit.Add parent class width height) = Unit {0}
@@ -70,11 +57,17 @@ MayWantMemory (edit.Remove view) = ⊥
 MayWantMemory (edit.Act view act) = names_views act ≡ true
 MayWantMemory (edit.Text view text) = Unit {0}
 
--- The answer is the outcome: the scene and the number of the new view, or the refusal. Want of memory comes where there is none.
+-- an edit that is not refused, or only for a cycle
+abbrev pub IsDoneOrCyclic : Outcome → Type 0
+IsDoneOrCyclic (Ok outcome) = Unit {0}
+IsDoneOrCyclic (Err refusal) = refusal.number ≡ CYCLE
+
+-- The answer is the outcome: the scene and the number of the new view, or the refusal. Want of memory comes where there is
+-- no refusal, or only that of a cycle, since memory is taken before a cycle is known.
 abbrev pub AppliesEdit : Outcome → Scene → Result (Option ℕ) EditFault → Type 0
 AppliesEdit outcome after (Ok number) = outcome ≡ Ok (after, number)
 AppliesEdit outcome after (Err (fault.Refused refusal)) = outcome ≡ Err (plain_refusal refusal)
-AppliesEdit outcome after (Err fault.NoMemory) = (scene : Scene) × (number : Option ℕ) × (outcome ≡ Ok (scene, number))
+AppliesEdit outcome after (Err fault.NoMemory) = IsDoneOrCyclic outcome
 
 -- the fault of an edit by which the tree did not take a view
 abbrev pub fault_of : AttachFault → EditFault

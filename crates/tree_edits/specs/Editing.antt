@@ -9,7 +9,10 @@ use Rattle.view_model.specs.declared.changes.Flag.{Flag}
 use Rattle.view_model.specs.declared.changes.Flag.TheVariants as flag
 use Rattle.view_model.specs.declared.kinds.Class.{Class}
 use Rattle.view_model.specs.declared.kinds.Class.TheVariants as class
+use Rattle.view_model.specs.declared.refusal.Member.TheVariants as member
+use Rattle.view_model.specs.Cycles.{first_cycle}
 use Rattle.view_model.specs.Facts.{new_facts, takes_part}
+use Rattle.view_model.specs.Forest.{Forest}
 use Rattle.view_model.specs.Geometry.{Laid, without}
 use Rattle.view_model.specs.Growth.{grown_at, is_group, refusal_at}
 use Rattle.view_model.specs.Offsets.{scrolls}
@@ -36,6 +39,7 @@ lays_in_line class.TextView = false
 lays_in_line class.FrameLayout = false
 lays_in_line class.LinearLayout = true
 lays_in_line class.ScrollView = false
+lays_in_line class.RelativeLayout = false
 
 -- whether a view of this class has a text
 abbrev pub has_text : Class → Bool
@@ -44,6 +48,7 @@ has_text class.TextView = true
 has_text class.FrameLayout = false
 has_text class.LinearLayout = false
 has_text class.ScrollView = false
+has_text class.RelativeLayout = false
 
 -- only a view that lays its children in a line has a gravity for them
 abbrev pub takes_change : Class → Change → Bool
@@ -89,6 +94,24 @@ hides (act.Answer answer) = false
 hides (act.Intercept actions) = false
 hides (act.Scroll offset) = false
 
+-- whether an act sets by what name, or by which names of others, a view is found
+abbrev pub names_views : Act → Bool
+names_views (act.Rule verb value) = true
+names_views (act.Id id) = true
+names_views (act.Change change) = false
+names_views (act.WeightSum sum) = false
+names_views (act.Orient vertical) = false
+names_views (act.Flag flag on) = false
+names_views (act.Visible visibility) = false
+names_views (act.Ink color) = false
+names_views (act.Answer answer) = false
+names_views (act.Intercept actions) = false
+names_views (act.Scroll offset) = false
+
+-- the cycle that a tree would have once an act names views
+abbrev pub cycle_of_act : Forest PlainView → ℕ → Act → Option PlainRefusal
+cycle_of_act tree number act = if names_views act then first_cycle member.View (with_facts number (facts_after_act act) tree) else None
+
 -- the geometry without a view and all below it
 abbrev pub hidden : ℕ → Scene → List Laid
 hidden number scene = without (numbers_of (part_of number scene.tree)) scene.geometry
@@ -112,10 +135,16 @@ abbrev pub after_act : Scene → ℕ → Act → Scene
 after_act scene number act =
     record scene { tree = with_facts number (facts_after_act act) scene.tree; geometry = if hides act then hidden number scene else scene.geometry }
 
+-- an act that a view takes is done, unless there would be a cycle
+abbrev pub outcome_unless : Scene → ℕ → Act → Option PlainRefusal → Outcome
+outcome_unless scene number act None = Ok (after_act scene number act, None)
+outcome_unless scene number act (Some refusal) = Err refusal
+
 -- an act on a view, by what is found under its number
 abbrev pub outcome_of_act : Scene → ℕ → Act → Option PlainView → Outcome
 outcome_of_act scene number act None = Ok (scene, None)
-outcome_of_act scene number act (Some view) = if takes view.class act then Ok (after_act scene number act, None) else Err (refusal_numbered WRONG_CLASS)
+outcome_of_act scene number act (Some view) =
+    if takes view.class act then outcome_unless scene number act (cycle_of_act scene.tree number act) else Err (refusal_numbered WRONG_CLASS)
 
 -- a text of a view, by what is found under its number
 abbrev pub outcome_of_text : Scene → ℕ → List ℕ → Option PlainView → Outcome

@@ -1,18 +1,21 @@
 //! Acts on a view of a tree.
 ghost use Rattle.std.specs.Prelude.{◌≡◌, ℕ, true, false, None, OnErr, OnOk};
-ghost use Rattle.tree_edits.specs.Applied.{IsVerb, names_views};
-ghost use Rattle.tree_edits.specs.Editing.{after_act, hides};
+ghost use Rattle.tree_edits.specs.Applied.{IsVerb};
+ghost use Rattle.tree_edits.specs.Editing.{after_act, hides, names_views};
 ghost use Rattle.tree_edits.specs.Hiding.{held_hiding};
 ghost use Rattle.tree_edits.specs.Keeping.{KeepsViews};
 ghost use Rattle.tree_edits.specs.Scene.{scene_of};
-ghost use Rattle.view_tree.specs.Faults.{IsRefusedExactlyFor};
+ghost use Rattle.view_model.specs.Changes.{facts_after_act};
+ghost use Rattle.view_model.specs.Cycles.{first_cycle};
+ghost use Rattle.view_tree.specs.Faults.{IsRefusedOrCyclic};
+ghost use Rattle.view_model.specs.PlainTree.{with_facts};
 ghost use Rattle.view_tree.specs.Hidden.{IsConsistent};
-ghost use Rattle.view_tree.specs.Views.{IsLive, SameTree, held_of, number_of};
+ghost use Rattle.view_tree.specs.Views.{IsLive, SameTree, held_of, number_of, plain_of};
 
 use crate::changing::facts_after_act;
 use crate::edits::Edit;
 use crate::hiding::hide;
-use view_model::{Act, Visibility};
+use view_model::{Act, Member, Visibility};
 use view_tree::{AttachFault, Key, ViewTree};
 
 /// Whether an act sets by what name, or by which names of others, a view is found.
@@ -22,14 +25,14 @@ pub fn names_views(act: Act) -> bool
     matches!(act, Act::Id(_) | Act::Rule { .. })
 }
 
-/// Sets the id or a rule of a view.
+/// Sets the id or a rule of a view, unless children of a relative layout then name one another in a circle.
 pub fn set_names(tree: &mut ViewTree, view: Key, act: Act) -> Result<(), AttachFault>
     requires live { IsLive tree.old view }
     requires verb { IsVerb act }
     requires names { names_views act ≡ true }
     ensures scene { OnOk result (scene_of tree.new ≡ after_act (scene_of tree.old) (number_of tree.old view) act) }
     ensures kept { OnOk result (KeepsViews tree.old tree.new (Edit.Act view act)) }
-    ensures refused { IsRefusedExactlyFor None result }
+    ensures refused { IsRefusedOrCyclic None (first_cycle Member.View (with_facts (number_of tree.old view) (facts_after_act act) (plain_of tree.old))) result }
     ensures unchanged { OnErr result (tree.new ≡ tree.old) }
     ensures consistent { IsConsistent tree.old → IsConsistent tree.new }
 {

@@ -2,8 +2,8 @@
 
 ghost use Rattle.std.specs.Prelude.{◌≡◌, ◌<◌, ◌^◌, true, chars, length, Err, OnErr, OnOk, None, Ok};
 ghost use Rattle.std.specs.Option.{option_map};
-ghost use Rattle.tree_edits.specs.Applied.{AppliesEdit, IsAddable, IsEdit, IsVerb, MayWantMemory, names_views, numbered};
-ghost use Rattle.tree_edits.specs.Editing.{Add, ActOn, SetText, outcome_of_edit, outcome_of_remove};
+ghost use Rattle.tree_edits.specs.Applied.{AppliesEdit, IsAddable, IsEdit, IsVerb, MayWantMemory, numbered};
+ghost use Rattle.tree_edits.specs.Editing.{Add, ActOn, SetText, names_views, outcome_of_edit, outcome_of_remove};
 ghost use Rattle.tree_edits.specs.Keeping.{KeepsViews};
 ghost use Rattle.tree_edits.specs.Scene.{scene_of};
 ghost use Rattle.view_tree.specs.Hidden.{IsConsistent};

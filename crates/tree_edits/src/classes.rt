@@ -26,7 +26,11 @@ pub fn has_text(class: Class) -> bool
 {
     match class {
         Class::TextView => true,
-        Class::View | Class::FrameLayout | Class::LinearLayout | Class::ScrollView => false,
+        Class::View
+        | Class::FrameLayout
+        | Class::LinearLayout
+        | Class::ScrollView
+        | Class::RelativeLayout => false,
     }
 }
 
@@ -35,7 +39,11 @@ fn lays_in_line(class: Class) -> bool
     ensures { result ≡ lays_in_line class }
 {
     match class {
-        Class::View | Class::TextView | Class::FrameLayout | Class::ScrollView => false,
+        Class::View
+        | Class::TextView
+        | Class::FrameLayout
+        | Class::ScrollView
+        | Class::RelativeLayout => false,
         Class::LinearLayout => true,
     }
 }

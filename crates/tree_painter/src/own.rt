@@ -73,7 +73,11 @@ fn shows_text(class: Class) -> bool
 {
     match class {
         Class::TextView => true,
-        Class::View | Class::FrameLayout | Class::LinearLayout | Class::ScrollView => false,
+        Class::View
+        | Class::FrameLayout
+        | Class::LinearLayout
+        | Class::ScrollView
+        | Class::RelativeLayout => false,
     }
 }
 

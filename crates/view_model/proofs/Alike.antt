@@ -1,16 +1,10 @@
 -- A view is the same to its group, whatever is below those of its children that are gone: these count by their facts alone.
-use Rattle.std.proofs.Common.{◌≡◌, ℕ, zero, suc, ◌+◌, Bool, true, false, Option, None, List, [], ◌∷◌, ◌++◌, ap, ◌∙◌, sym, refl, subst, inl, inr}
-use mathlib.Core.Path.{fun_ext}
+use Rattle.std.proofs.Common.{◌≡◌, ℕ, zero, suc, Bool, true, false, Option, None, List, [], ◌∷◌, ◌++◌, ap, ◌∙◌, sym, refl, subst, inl, inr}
 use Rattle.std.proofs.lemmas.Bool.{cases_Bool}
-use Rattle.std.specs.Prelude.{ℤ, if◌then◌else◌, map, filter, sum_by}
-use Rattle.std.specs.List.{flat_map}
-use Rattle.geom_core.specs.declared.geometry.Rect.{Rect}
-use Rattle.view_model.specs.Course.{Child, Course, Progress, Requested, after_phase, after_turn, asked_for, begun, course_of, last_of, measured_of, one_phase, phases_on, size_in, sizes_of}
+use Rattle.std.specs.Prelude.{if◌then◌else◌, filter}
+use Rattle.view_model.specs.Course.{Child, Course, Progress, Requested, after_phase, after_turn, asked_for, begun, course_of, measured_of, one_phase, phases_on, size_in, sizes_of}
 use Rattle.view_model.specs.Facts.{is_shown}
-use Rattle.view_model.specs.Geometry.{Laid, size_of_rect}
-use Rattle.view_model.specs.Layout.{Placed, calls_by, child_by, course_by, laid_by, measured_by, placed_from, requested_by, rule_of, total_by}
 use Rattle.view_model.specs.Measuring.{Measured, Rule, Specs}
-use Rattle.view_model.specs.PlainTree.{PlainView}
 
 -- the same children, but for what is below those that are gone
 abbrev pub Alike : List Requested → List Requested → Type 0
@@ -134,31 +128,3 @@ shown_alike (a ∷ some) (b ∷ more) h = elim (cases_Bool (is_shown a.child.fac
       let two : shown_of (b ∷ more) ≡ shown_of more = rw gone' refl in
       one ∙ shown_alike some more h.2 ∙ sym two
 ]
-
-pub child_alike : (view : PlainView) (some more : List Child) → KidsAlike some more → child_by view some ≡ child_by view more
-child_alike view some more h =
-    let alike = λ (specs : Specs). course_alike (rule_of view specs) some more h in
-    let measure : measured_by view some ≡ measured_by view more = fun_ext (λ specs. (alike specs).size) in
-    let requested : (specs : Specs) → requested_by view some specs ≡ requested_by view more specs =
-    λ specs. shown_alike (course_by view some specs).kids (course_by view more specs).kids (alike specs).kids in
-    let calls : calls_by view some ≡ calls_by view more =
-    fun_ext (λ specs. ap (λ (kids : List Requested). 1 + sum_by (λ (kid : Requested). sum_by kid.child.calls kid.requests) kids) (requested specs)) in
-    let lay : laid_by view some ≡ laid_by view more = fun_ext (λ specs. fun_ext (λ rect. lays specs rect (requested specs) (alike specs).total)) in
-    ap (λ m. let c : Child = record { facts = view.facts; measure = m; calls = calls_by view some; lay = laid_by view some } in c) measure
-    ∙ ap (λ m. let c : Child = record { facts = view.facts; measure = measured_by view more; calls = m; lay = laid_by view some } in c) calls
-    ∙ ap (λ m. let c : Child = record { facts = view.facts; measure = measured_by view more; calls = calls_by view more; lay = m } in c) lay
-  where
-    laid_for : Specs → Rect → ℤ → List Requested → List Laid
-    laid_for specs rect total kids =
-        if is_shown view.facts
-        then record { number = view.number; rect = rect }
-        ∷ flat_map (λ (kid : Placed). kid.child.lay kid.specs kid.rect)
-        (placed_from (record { view = view; specs = specs; room = size_of_rect rect; total = total }) []
-        (map (λ (kid : Requested). record { child = kid.child; specs = last_of specs kid.requests; edges = kid.edges }) kids))
-        else []
-
-    lays : (specs : Specs) (rect : Rect) → requested_by view some specs ≡ requested_by view more specs → total_by view some specs ≡ total_by view more specs
-        → laid_by view some specs rect ≡ laid_by view more specs rect
-    lays specs rect kids total =
-        ap (λ (kids : List Requested). laid_for specs rect (total_by view some specs) kids) kids
-        ∙ ap (λ total. laid_for specs rect total (requested_by view more specs)) total

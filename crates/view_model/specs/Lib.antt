@@ -1,6 +1,7 @@
 pub mod CellText
 pub mod Changes
 pub mod Course
+pub mod Cycles
 pub mod Dimensions
 pub mod Facts
 pub mod Forest

@@ -4,7 +4,7 @@ use Rattle.std.specs.Option.{option_map}
 use Rattle.geom_core.specs.declared.geometry.Rect.{Rect}
 use Rattle.view_model.specs.declared.facts.Facts.{Facts}
 use Rattle.view_model.specs.declared.kinds.Class.{Class}
-use Rattle.view_model.specs.declared.kinds.Class.TheVariants.{View, TextView, FrameLayout, LinearLayout, ScrollView}
+use Rattle.view_model.specs.declared.kinds.Class.TheVariants.{View, TextView, FrameLayout, LinearLayout, ScrollView, RelativeLayout}
 use Rattle.view_model.specs.Forest.{Forest, Nothing, Branch}
 use Rattle.view_model.specs.Geometry.{Laid, rect_in, size_of_rect}
 use Rattle.view_model.specs.PlainTree.{PlainView}
@@ -18,6 +18,7 @@ scrolls TextView = false
 scrolls FrameLayout = false
 scrolls LinearLayout = false
 scrolls ScrollView = true
+scrolls RelativeLayout = false
 
 -- the range of the offset of a view in this rectangle, whose child lies in that one: only a scroll view that lies somewhere
 -- has one, and a child that lies nowhere counts as none
@@ -26,6 +27,7 @@ range_by View own rect child = None
 range_by TextView own rect child = None
 range_by FrameLayout own rect child = None
 range_by LinearLayout own rect child = None
+range_by RelativeLayout own rect child = None
 range_by ScrollView own rect child = option_map (λ (rect : Rect). scroll_range own (size_of_rect rect) (option_map size_of_rect child)) rect
 
 -- an offset brought into a range, if there is one

@@ -1,5 +1,6 @@
 -- Relations between the places of a list: what a place reaches, orders that go by a relation, and its cycles.
-use Rattle.std.specs.Prelude.{◌≡◌, ℕ, ◌<◌, Bool, true, List, length, slice_index}
+use Rattle.std.specs.Prelude.{◌≡◌, ℕ, zero, suc, ◌<◌, Bool, ◌||◌, ◌&&◌, true, List, filter, length, slice_index}
+use Rattle.std.specs.List.{range_with_len}
 
 -- a leads to b, at once or by others between
 pub data Reaches (leads : ℕ → ℕ → Bool) : ℕ → ℕ → Type 0 where
@@ -33,3 +34,11 @@ pub record AreMembers (leads : ℕ → ℕ → Bool) (count : ℕ) (members : Li
 pub record IsCycle (leads : ℕ → ℕ → Bool) (count : ℕ) (members : List ℕ) : Type 0 where
   pub some : 0 < length members
   pub exact : AreMembers leads count members
+
+-- the same as can be computed: a leads to b, at once or by others below a number alone
+abbrev pub leads_by : (ℕ → ℕ → Bool) → ℕ → ℕ → ℕ → Bool
+leads_by leads zero a b = leads a b
+leads_by leads (suc other) a b = leads_by leads other a b || (leads_by leads other a other && leads_by leads other other b)
+
+abbrev pub members_of : (ℕ → ℕ → Bool) → ℕ → List ℕ
+members_of leads count = filter (λ place. leads_by leads count place place) (range_with_len 0 count)

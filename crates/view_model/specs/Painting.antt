@@ -9,7 +9,7 @@ use Rattle.geom_core.specs.declared.geometry.Rect.{Rect}
 use Rattle.geom_core.specs.declared.geometry.Size.{Size}
 use Rattle.view_model.specs.declared.facts.Facts.{Facts}
 use Rattle.view_model.specs.declared.kinds.Class.{Class}
-use Rattle.view_model.specs.declared.kinds.Class.TheVariants.{View, TextView, FrameLayout, LinearLayout, ScrollView}
+use Rattle.view_model.specs.declared.kinds.Class.TheVariants.{View, TextView, FrameLayout, LinearLayout, ScrollView, RelativeLayout}
 use Rattle.view_model.specs.declared.kinds.Visibility.{Visibility}
 use Rattle.view_model.specs.declared.kinds.Visibility.TheVariants.{Visible, Invisible, Gone}
 use Rattle.view_model.specs.declared.limits.TheConstants.{CELL_HEIGHT, CELL_WIDTH}
@@ -47,6 +47,7 @@ shows_text TextView = true
 shows_text FrameLayout = false
 shows_text LinearLayout = false
 shows_text ScrollView = false
+shows_text RelativeLayout = false
 
 -- whether a pixel of a cell with this character is set, if there is one
 abbrev pub cell_pixel : Option ℕ → ℕ → ℕ → Bool

@@ -1,6 +1,6 @@
 -- The course of a relative layout's measuring, over the list of its children: what each is asked, its sides, and the
 -- size of the whole.
-use Rattle.std.specs.Prelude.{ℕ, zero, suc, ℤ, pos, if◌then◌else◌, List, [], ◌∷◌, filter, length, map, Option, Some, None, slice_index_or}
+use Rattle.std.specs.Prelude.{ℕ, zero, suc, ℤ, pos, if◌then◌else◌, List, [], ◌∷◌, filter, length, map, Option, Some, None, slice_index_or, unwrap_or}
 use Rattle.std.specs.Option.{option_map}
 use Rattle.geom_core.specs.declared.geometry.Rect.{Rect}
 use Rattle.geom_core.specs.declared.geometry.Size.{Size}
@@ -10,12 +10,15 @@ use Rattle.view_model.specs.declared.relative.Anchor.{Anchor}
 use Rattle.view_model.specs.declared.relative.Anchors.{Anchors}
 use Rattle.view_model.specs.declared.relative.Axis.{Axis}
 use Rattle.view_model.specs.declared.relative.Axis.TheVariants.{Horizontal, Vertical}
+use Rattle.view_model.specs.declared.relative.Tie.{Tie}
+use Rattle.view_model.specs.declared.relative.Tie.TheVariants.{Before, After, AlignNear, AlignFar}
 use Rattle.view_model.specs.declared.relative.Link.{Link}
 use Rattle.view_model.specs.Course.{Child, Requested, Course}
 use Rattle.view_model.specs.Facts.{is_shown, new_facts}
+use Rattle.view_model.specs.Geometry.{rect_at}
 use Rattle.view_model.specs.Measuring.{Specs}
-use Rattle.view_model.specs.RelativeLayout.{Spanned, across_specs, down_specs, final_span, rect_between, relative_size, span_on, tied_on}
-use Rattle.view_model.specs.SiblingRules.{Tie, Before, After, AlignNear, AlignFar, anchor_of}
+use Rattle.view_model.specs.RelativeLayout.{Spanned, across_specs, down_specs, final_rect, relative_size, span_on, tied_on}
+use Rattle.view_model.specs.SiblingRules.{anchor_of}
 
 -- a place beyond the list has a child that is gone
 abbrev pub no_child : Child
@@ -128,9 +131,7 @@ abbrev pub edges_at : Facts → Specs → List Child → Arrangement → ℕ →
 edges_at own specs kids found place =
     let kid = child_at kids place in
     let size = kid.measure (asked_down own specs kids found.across found.down place) in
-    let across = final_span Horizontal own specs found.size.w kid.facts (found.across place) size in
-    let down = final_span Vertical own specs found.size.h kid.facts (found.down place) size in
-    record { left = across.0; top = down.0; right = across.1; bottom = down.1 }
+    final_rect own specs found.size kid.facts (record { across = Some (found.across place); down = Some (found.down place) }) size
 
 abbrev pub requested_at : Facts → Specs → List Child → Arrangement → ℕ → Child → Requested
 requested_at own specs kids found place kid =
@@ -144,6 +145,6 @@ relative_course own specs kids =
     let found = arranged own specs kids in
     record { kids = each_from 0 (requested_at own specs kids found) kids; size = found.size; total = pos 0 }
 
--- where a child with these sides lies
-abbrev pub relative_place : Rect → Rect
-relative_place edges = rect_between (edges.left, edges.right) (edges.top, edges.bottom)
+-- where a child of this size lies: between its sides, or at the origin where it has none
+abbrev pub relative_place : Size → Option Rect → Rect
+relative_place size edges = unwrap_or edges (rect_at (pos 0) (pos 0) size)

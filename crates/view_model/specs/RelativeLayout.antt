@@ -277,6 +277,15 @@ abbrev pub edges_with : Axis → ℤ × ℤ → Edges → Edges
 edges_with Horizontal span edges = record edges { across = Some span }
 edges_with Vertical span edges = record edges { down = Some span }
 
+-- all four sides, once both axes are known
+abbrev pub sides_by : Option (ℤ × ℤ) → Option (ℤ × ℤ) → Option Rect
+sides_by None down = None
+sides_by (Some across) None = None
+sides_by (Some across) (Some down) = Some (record { left = across.0; top = down.0; right = across.1; bottom = down.1 })
+
+abbrev pub sides_of : Edges → Option Rect
+sides_of edges = sides_by edges.across edges.down
+
 -- the sides at which it lies in the end
 abbrev pub final_span : Axis → Facts → Specs → ℤ → Facts → ℤ × ℤ → Size → ℤ × ℤ
 final_span axis own specs size kid span kid_size = moved_span (band_on axis own specs) (tied_on axis kid) size span (length_on axis kid_size)

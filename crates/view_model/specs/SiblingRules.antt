@@ -5,6 +5,8 @@ use Rattle.view_model.specs.declared.facts.Rules.{Rules}
 use Rattle.view_model.specs.declared.relative.Axis.{Axis}
 use Rattle.view_model.specs.declared.relative.Axis.TheVariants.{Horizontal, Vertical}
 use Rattle.view_model.specs.declared.relative.Link.{Link}
+use Rattle.view_model.specs.declared.relative.Tie.{Tie}
+use Rattle.view_model.specs.declared.relative.Tie.TheVariants.{Before, After, AlignNear, AlignFar}
 use Rattle.view_model.specs.declared.verbs.TheConstants.{LEFT_OF, RIGHT_OF, ABOVE, BELOW, ALIGN_LEFT, ALIGN_TOP, ALIGN_RIGHT, ALIGN_BOTTOM, START_OF, END_OF, ALIGN_START, ALIGN_END}
 
 -- the verbs of an axis that name a sibling
@@ -26,13 +28,6 @@ nobody = record { id = 0; rules = record { values = [] } }
 -- the rule relation of an axis: a child leads to each other child whose id it names, gone or not
 unfoldable pub leads : Axis → List Link → ℕ → ℕ → Bool
 leads axis kids a b = not (a == b) && names axis (slice_index_or kids a nobody).rules (slice_index_or kids b nobody).id
-
--- how a child is tied to a sibling on an axis: it ends before it, begins after it, begins with it or ends with it
-pub data Tie : Type 0 where
-  Before : Tie
-  After : Tie
-  AlignNear : Tie
-  AlignFar : Tie
 
 -- a start or end form, where set, takes the place of the left or right form
 abbrev pub form_of : ℕ → ℕ → ℕ

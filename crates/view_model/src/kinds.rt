@@ -13,6 +13,8 @@ pub enum Class {
     LinearLayout,
     /// A group of at most one child, which may be higher than the group and is moved up by an offset.
     ScrollView,
+    /// A group whose children are tied to its sides and to one another.
+    RelativeLayout,
 }
 
 impl Class {
@@ -26,7 +28,8 @@ impl Class {
     {
         match self {
             Class::View | Class::TextView => false,
-            Class::FrameLayout | Class::LinearLayout | Class::ScrollView => true,
+            Class::FrameLayout | Class::LinearLayout | Class::ScrollView | Class::RelativeLayout =>
+                true,
         }
     }
 
@@ -35,7 +38,11 @@ impl Class {
         ensures { result ≡ scrolls self }
     {
         match self {
-            Class::View | Class::TextView | Class::FrameLayout | Class::LinearLayout => false,
+            Class::View
+            | Class::TextView
+            | Class::FrameLayout
+            | Class::LinearLayout
+            | Class::RelativeLayout => false,
             Class::ScrollView => true,
         }
     }
@@ -45,7 +52,11 @@ impl Class {
         ensures { result ≡ takes_one_child self }
     {
         match self {
-            Class::View | Class::TextView | Class::FrameLayout | Class::LinearLayout => false,
+            Class::View
+            | Class::TextView
+            | Class::FrameLayout
+            | Class::LinearLayout
+            | Class::RelativeLayout => false,
             Class::ScrollView => true,
         }
     }

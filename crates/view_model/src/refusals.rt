@@ -12,6 +12,8 @@ pub const TOO_MANY_RESOURCES: u8 = 15;
 pub const DUPLICATE: u8 = 16;
 /// An element has no width or no height.
 pub const NO_SIZE: u8 = 17;
+/// Children of a relative layout name one another in a circle.
+pub const CYCLE: u8 = 18;
 /// A view would be one more than a tree may have.
 pub const TOO_MANY_VIEWS: u8 = 19;
 /// A view would be deeper than a tree may be.

@@ -1,11 +1,13 @@
 //! What a relative layout looks at on an axis: the group, a child, and the siblings to which it is tied. Lengths are in
 //! pixels.
 ghost use Rattle.std.specs.Prelude.{◌≡◌};
+ghost use Rattle.view_model.specs.SiblingRules.{form_of};
 
 use crate::facts::{Facts, Rules};
 use crate::verbs::{
-    CENTER, CENTER_H, CENTER_V, PARENT_BOTTOM, PARENT_END, PARENT_LEFT, PARENT_RIGHT, PARENT_START,
-    PARENT_TOP,
+    ABOVE, ALIGN_BOTTOM, ALIGN_END, ALIGN_LEFT, ALIGN_RIGHT, ALIGN_START, ALIGN_TOP, BELOW, CENTER,
+    CENTER_H, CENTER_V, END_OF, LEFT_OF, PARENT_BOTTOM, PARENT_END, PARENT_LEFT, PARENT_RIGHT,
+    PARENT_START, PARENT_TOP, RIGHT_OF, START_OF,
 };
 use geom_core::{Size, Spec};
 
@@ -14,6 +16,19 @@ use geom_core::{Size, Spec};
 pub enum Axis {
     Horizontal,
     Vertical,
+}
+
+/// How a child is tied to a sibling on an axis.
+#[derive(Clone, Copy, Debug, PartialEq, Eq)]
+pub enum Tie {
+    /// It ends before it: by left_of or above.
+    Before,
+    /// It begins after it: by right_of or below.
+    After,
+    /// It begins with it: by align_left or align_top.
+    AlignNear,
+    /// It ends with it: by align_right or align_bottom.
+    AlignFar,
 }
 
 /// What the order of a relative layout's children hangs on: a child's id, and the ids that it names.
@@ -134,4 +149,49 @@ impl Axis {
             Axis::Vertical => size.h,
         }
     }
+}
+
+impl Tie {
+    ghost use Rattle.view_model.specs.SiblingRules.{anchor_id};
+
+    /// The id of the sibling to which rules tie a child on an axis, or 0.
+    pub fn anchor_id(self, axis: Axis, rules: &Rules) -> u32
+        ensures { result ≡ anchor_id axis self rules.now }
+    {
+        match axis {
+            Axis::Horizontal => self.anchor_across(rules),
+            Axis::Vertical => self.anchor_down(rules),
+        }
+    }
+
+    fn anchor_across(self, rules: &Rules) -> u32
+        ensures { result ≡ anchor_id Axis.Horizontal self rules.now }
+    {
+        let values = rules.values;
+        match self {
+            Tie::Before => form_of(values[START_OF], values[LEFT_OF]),
+            Tie::After => form_of(values[END_OF], values[RIGHT_OF]),
+            Tie::AlignNear => form_of(values[ALIGN_START], values[ALIGN_LEFT]),
+            Tie::AlignFar => form_of(values[ALIGN_END], values[ALIGN_RIGHT]),
+        }
+    }
+
+    fn anchor_down(self, rules: &Rules) -> u32
+        ensures { result ≡ anchor_id Axis.Vertical self rules.now }
+    {
+        let values = rules.values;
+        match self {
+            Tie::Before => values[ABOVE],
+            Tie::After => values[BELOW],
+            Tie::AlignNear => values[ALIGN_TOP],
+            Tie::AlignFar => values[ALIGN_BOTTOM],
+        }
+    }
+}
+
+/// A start or end form, where it is set, takes the place of the left or right form.
+fn form_of(start: u32, left: u32) -> u32
+    ensures { result ≡ form_of start left }
+{
+    if start == 0 { left } else { start }
 }

@@ -117,7 +117,7 @@ const PICTURED: &[u8] =
     b"line 1: refused 33 NoWindow\nline 3: refused 37 NoFrame\nv1\nsettled 0\nline 7: refused 30 Range\n102030 000000\nline 10: refused 30 Range\n";
 
 #[rattlefmt::skip]
-const RUNS: [Run; 19] = [
+const RUNS: [Run; 22] = [
     Run { script: b"", reads: &[], writes: &[], status: 0, text: b"" },
     Run { script: SIMPLE, reads: &[], writes: &[], status: 0, text: SIMPLE_BOUNDS },
     // The window stands after the first read, and the first view after three.
@@ -139,6 +139,11 @@ const RUNS: [Run; 19] = [
     Run { script: SCROLLING, reads: &[], writes: &[], status: 0, text: SCROLLED },
     Run { script: CROWDING, reads: &[], writes: &[], status: 1, text: CROWDED },
     Run { script: NESTING, reads: &[], writes: &[], status: 0, text: NESTED },
+    // Where a sibling is gone, its own rule is followed; no rule may lead back.
+    Run { script: TYING, reads: &[], writes: &[], status: 1, text: TIED },
+    // Of two siblings with one id the last counts.
+    Run { script: b"window 100 100\nadd root RelativeLayout match match\nadd v1 View 10 10\nadd v1 View 20 10\nadd v1 View 5 5\nid v2 @1\nid v3 @1\nrule v4 right_of @1\nframe\nbounds v4\n", reads: &[], writes: &[], status: 0, text: b"v1\nv2\nv3\nv4\nsettled 0\nv4 20 0 25 5\n" },
+    Run { script: SCREEN, reads: &[], writes: &[], status: 0, text: SHOWN },
     Run { script: BLENDING, reads: &[], writes: &[], status: 0, text: BLENDED },
     Run { script: WRITING, reads: &[], writes: &[], status: 0, text: WRITTEN },
     Run { script: b"window 1 1\nadd root View match match\nbg v1 #ff616263\nframe\ndigest\n", reads: &[], writes: &[], status: 0, text: DIGESTED },
@@ -211,6 +216,36 @@ const NESTED: &[u8] = b"v1\nv2\nv3\nv4\nsettled 0\nv1 0 0 100 20\nv2 0 0 94 20\n
     v4 94 0 100 20\nsettled 0\nv1 0 0 100 20\nv2 0 0 82 20\nv3 0 0 82 20\n\
     v4 82 0 100 20\nsettled 0\nv1 0 0 100 20\nv2 0 0 94 20\nv3 0 0 94 20\n\
     v4 94 0 100 20\n";
+
+/// Siblings that name one another, one of which is hidden; the last rule would lead in a circle.
+const TYING: &[u8] = b"window 100 100\nadd root RelativeLayout match match\nadd v1 View 20 10\n\
+    add v1 View 30 10\nadd v1 View 10 10\nid v2 @1\nid v3 @2\nrule v3 right_of @1\n\
+    rule v4 right_of @2\nframe\nvisible v3 gone\nframe\nbounds\nrule v2 right_of @2\nbounds v4\n";
+
+const TIED: &[u8] = b"v1\nv2\nv3\nv4\nsettled 0\nsettled 0\nv1 0 0 100 100\nv2 0 0 20 10\n\
+    v3 none\nv4 20 0 30 10\nline 14: refused 18 Cycle horizontal v2 v3\nv4 20 0 30 10\n";
+
+/// A screen that gets narrower: a bar with two texts at its sides, a list that scrolls, and two buttons.
+const SCREEN: &[u8] = b"window 320 480\nadd root LinearLayout match match\norient v1 vertical\n\
+    add v1 RelativeLayout match 48\npadding v2 8 8 8 8\n\
+    add v2 TextView wrap wrap\ntext v3 Inbox\nrule v3 parent_left yes\nrule v3 center_v yes\n\
+    add v2 TextView wrap wrap\ntext v4 12\nrule v4 parent_right yes\nrule v4 center_v yes\n\
+    add v1 ScrollView match 0\nweight v5 1\nadd v5 LinearLayout match wrap\norient v6 vertical\n\
+    add v6 TextView match wrap\nadd v6 TextView match wrap\nadd v6 TextView match wrap\n\
+    padding v7 8 8 8 8\npadding v8 8 8 8 8\npadding v9 8 8 8 8\n\
+    text v7 Meeting moved to Friday\n\
+    text v8 The build is green again and the release can go out on Monday\ntext v9 Lunch?\n\
+    add v1 LinearLayout match 48\nadd v10 TextView 0 match\nadd v10 TextView 0 match\n\
+    text v11 OK\ntext v12 Cancel\nweight v11 1\nweight v12 1\nframe\nbounds\n\
+    window 200 480\nframe\nbounds v4\nbounds v5\nbounds v6\nbounds v7\nbounds v8\nbounds v9\n\
+    bounds v11\nbounds v12\n";
+
+const SHOWN: &[u8] = b"v1\nv2\nv3\nv4\nv5\nv6\nv7\nv8\nv9\nv10\nv11\nv12\nsettled 0\n\
+    v1 0 0 320 480\nv2 0 0 320 48\nv3 8 20 38 28\nv4 300 20 312 28\n\
+    v5 0 48 320 432 scroll 0\nv6 0 0 320 80\nv7 0 0 320 24\nv8 0 24 320 56\nv9 0 56 320 80\n\
+    v10 0 432 320 480\nv11 0 0 160 48\nv12 160 0 320 48\nsettled 0\nv4 180 20 192 28\n\
+    v5 0 48 200 432 scroll 0\nv6 0 0 200 88\nv7 0 0 200 24\nv8 0 24 200 64\nv9 0 64 200 88\n\
+    v11 0 0 100 48\nv12 100 0 200 48\n";
 
 /// The sample, and what may be made of it.
 #[derive(Clone, Copy)]

@@ -4,3 +4,4 @@ pub mod values
 mod calls
 mod grafts
 mod nodes
+mod orders

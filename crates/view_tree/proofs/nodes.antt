@@ -12,3 +12,4 @@ pub mod NodeWrites
 pub mod PrunedPart
 pub mod PrunedTree
 pub mod UnlinkedNodes
+pub mod WholeTree

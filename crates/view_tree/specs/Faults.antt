@@ -1,5 +1,6 @@
 -- Why a tree does not take what it is handed.
 use Rattle.std.specs.Prelude.{◌≡◌, Option, Some, None, Result, Ok, Err}
+use Rattle.std.specs.Option.{option_or}
 use Rattle.view_model.specs.Refusals.{PlainRefusal, plain_refusal}
 use Rattle.view_model.specs.declared.refusal.Refusal.{Refusal}
 use Rattle.view_tree.specs.declared.fault.AttachFault.{AttachFault}
@@ -11,6 +12,13 @@ abbrev pub IsRefusedExactlyFor : {A : Type 0} → Option PlainRefusal → Result
 IsRefusedExactlyFor reason (Ok answer) = reason ≡ None
 IsRefusedExactlyFor reason (Err (fault.Refused refusal)) = reason ≡ Some (plain_refusal refusal)
 IsRefusedExactlyFor reason (Err fault.NoMemory) = reason ≡ None
+
+-- an answer is a refusal exactly where there is a reason, or else a cycle, and then tells it; memory can be wanting only
+-- where there is no reason
+abbrev pub IsRefusedOrCyclic : {A : Type 0} → Option PlainRefusal → Option PlainRefusal → Result A AttachFault → Type 0
+IsRefusedOrCyclic reason cycle (Ok answer) = option_or reason cycle ≡ None
+IsRefusedOrCyclic reason cycle (Err (fault.Refused refusal)) = option_or reason cycle ≡ Some (plain_refusal refusal)
+IsRefusedOrCyclic reason cycle (Err fault.NoMemory) = reason ≡ None
 
 -- the same of an answer that never wants memory
 abbrev pub RefusesExactlyFor : {A : Type 0} → Option PlainRefusal → Result A Refusal → Type 0

@@ -1,10 +1,14 @@
 pub mod Attached
 pub mod Codes
+pub mod Cycles
 pub mod Faults
 pub mod Grafted
+pub mod Grafting
 pub mod Hidden
 pub mod Holders
 pub mod Nodes
+pub mod Ordering
+pub mod Places
 pub mod Preorder
 pub mod Rows
 pub mod Sowing

@@ -1,15 +1,17 @@
 -- How the nodes of a tree stand for its views.
 use Rattle.std.specs.declared.hash.BuildHasherDefault.{BuildHasherDefault}
 use Rattle.std.specs.declared.hash.FoldHasher.{FoldHasher}
-use Rattle.std.specs.Prelude.{ℕ, zero, suc, ◌≡◌, ◌<◌, ◌≤◌, ◌==◌, ◌^◌, nat_eq, map, Bool, Option, Some, None, if◌then◌else◌, option_map, ◌⊎◌}
+use Rattle.std.specs.Prelude.{ℕ, zero, suc, ◌≡◌, ◌<◌, ◌≤◌, ◌==◌, ◌^◌, nat_eq, map, Bool, [], Option, Some, None, if◌then◌else◌, option_map, ◌⊎◌}
 use Rattle.slab.specs.Slab.{Slab, get, slab_len}
-use Rattle.indexmap.specs.IndexMap.{IndexMap, get as get_key}
+use Rattle.indexmap.specs.IndexMap.{IndexMap, get as get_key, hasher_of}
+use Rattle.indexmap.specs.Layout.{hash_map}
 use Rattle.view_model.specs.Forest.{Forest, Nothing, Branch, count_of}
 use Rattle.view_model.specs.Layout.{unscrolled}
 use Rattle.view_model.specs.PlainTree.{PlainView}
 use Rattle.view_tree.specs.Holders.{holders}
+use Rattle.view_tree.specs.Ordering.{IsGrouped, group_at, orders_in}
 use Rattle.view_tree.specs.Rows.{Row, later_siblings, count_where, first_key, key_where, keys_where, last_key, count_of_key}
-use Rattle.view_tree.specs.Views.{Held, IsTree, Views}
+use Rattle.view_tree.specs.Views.{Held, IsTree, Views, plain_of}
 use Rattle.view_tree.specs.declared.ids.Holders.{Holders}
 use Rattle.view_tree.specs.declared.node.Node.{Node}
 use Rattle.view_tree.specs.declared.tree.ViewTree.TheInside.{Inside}
@@ -139,19 +141,21 @@ pub record RepresentsTree (at : ℕ → Option Links) (root : Option ℕ) (next 
   pub distinct : (key : ℕ) → count_of_key key tree ≤ 1
   pub few : count_of tree < next
 
--- the fields of a tree
+-- the fields of a tree, apart from what is kept of relative layouts
 abbrev pub fields : Slab Node → IndexMap ℕ ℕ (BuildHasherDefault FoldHasher) → IndexMap ℕ Holders (BuildHasherDefault FoldHasher) → Option ℕ → ℕ → Inside
-fields nodes keys ids root next = record { nodes = nodes; keys = keys; ids = ids; root = root; next = next }
+fields nodes keys ids root next =
+    record { nodes = nodes; keys = keys; ids = ids; groups = hash_map [] (hasher_of keys) 0; root = root; next = next }
 
 abbrev pub tree_of : Inside → Forest Row
 tree_of inside = forest inside.next (links_at inside.nodes) inside.root
 
--- what contracts see of a tree with this root, where this is the number of the view that is made next
+-- what contracts see of a tree with this root, where this is the number of the view that is made next, but for the orders
+-- of relative layouts
 abbrev pub views_in : Slab Node → Option ℕ → ℕ → Views
-views_in nodes root next = record { tree = forest next (links_at nodes) root; held = map held_in nodes.slots; next = next }
+views_in nodes root next = record { tree = forest next (links_at nodes) root; held = map held_in nodes.slots; orders = []; next = next }
 
 abbrev pub value_of : Inside → Views
-value_of inside = views_in inside.nodes inside.root inside.next
+value_of inside = record (views_in inside.nodes inside.root inside.next) { orders = orders_in inside.groups.entries }
 
 abbrev pub has_id : ℕ → PlainView → Bool
 has_id id view = view.facts.id == id
@@ -161,10 +165,15 @@ abbrev pub holders_of : ℕ → Forest Row → Option Holders
 holders_of id tree = if id == 0 then None else holders (count_where (has_id id) tree) (keys_where (has_id id) tree)
 
 -- each view has a node, each node a view, each number its key, and each id its views
-pub record IsSound (inside : Inside) : Type 0 where
+pub record IsPlanted (inside : Inside) : Type 0 where
   pub stands : RepresentsTree (links_at inside.nodes) inside.root inside.next (tree_of inside)
   pub kept : IsTree (value_of inside)
   pub full : slab_len inside.nodes ≡ count_of (tree_of inside)
   pub found : (number : ℕ) → get_key nat_eq inside.keys number ≡ key_where (λ view. view.number == number) (tree_of inside)
   pub named : (id : ℕ) → get_key nat_eq inside.ids id ≡ holders_of id (tree_of inside)
   pub small : (key : ℕ) → 0 < count_of_key key (tree_of inside) → key < 2 ^ 64
+
+-- and what is kept of each relative layout is right
+pub record IsSound (inside : Inside) : Type 0 where
+  pub planted : IsPlanted inside
+  pub grouped : IsGrouped (group_at inside.groups) (plain_of (value_of inside))

@@ -13,8 +13,11 @@ mod look_up;
 mod plain;
 mod plant;
 mod preorder;
+mod relatives;
+mod rules;
 mod setters;
 
+use crate::groups::Group;
 use crate::ids::Holders;
 use crate::node::Node;
 use indexmap::IndexMap;
@@ -33,6 +36,8 @@ pub struct ViewTree {
     keys: IndexMap<u64, usize>,
     /// The views of each id that some view has.
     ids: IndexMap<u32, Holders>,
+    /// What is kept of the children of each relative layout, by the number of that.
+    groups: IndexMap<u64, Group>,
     root: Option<usize>,
     next: u64,
 }
@@ -61,6 +66,7 @@ impl ViewTree {
             nodes: Slab::new(alloc),
             keys: IndexMap::new(alloc),
             ids: IndexMap::new(alloc),
+            groups: IndexMap::new(alloc),
             root: None,
             next: 1,
         }

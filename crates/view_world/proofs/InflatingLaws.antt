@@ -8,7 +8,6 @@ use Rattle.script_lines.specs.declared.naming.Name.{Name}
 use Rattle.tool_io.specs.Fetched.{Files, file_of}
 use Rattle.view_model.specs.Forest.{Forest, Nothing, Branch}
 use Rattle.view_model.specs.Geometry.{Laid}
-use Rattle.view_model.specs.Grafts.{graft_refusal}
 use Rattle.view_model.specs.Growth.{grown_at}
 use Rattle.view_model.specs.Sprouts.{numbered}
 use Rattle.view_model.specs.PlainTree.{PlainView}
@@ -27,7 +26,7 @@ use Rattle.view_world.specs.Inflating.{asked_for, bytes_in, place_in, place_name
 use Rattle.view_world.specs.Naming.{named}
 use Rattle.view_world.specs.KeyedWorld.{KeyedWorld, geometry_in, world_of}
 use Rattle.view_world.specs.Replies.{inflated_text}
-use Rattle.view_world.specs.Step.{Reply, Done, Refused, grafted, inflation, reply_with}
+use Rattle.view_world.specs.Step.{Reply, Done, Refused, graft_reason, grafted, inflation, reply_with}
 use Rattle.view_world.specs.declared.fault.StepFault.{StepFault}
 use Rattle.view_world.specs.declared.fault.StepFault.TheVariants as fault
 use Rattle.view_world.specs.declared.response.Response.{Response}
@@ -66,7 +65,7 @@ pub refused_views : (files : Files) (world : World) (name : List ℕ) (into : Op
 refused_views files world name into place refusal e f = rw (e, f) refl
 
 pub inflated_as : (files : Files) (world : World) (name : List ℕ) (into : Option Name) (place : Option ℕ) (plan : Plan) → place_in world.tree into ≡ Ok place
-    → views_of files name world.resources world.dpi ≡ Ok plan → inflation files world name into ≡ grafted world place plan (graft_refusal world.tree place plan.seeds)
+    → views_of files name world.resources world.dpi ≡ Ok plan → inflation files world name into ≡ grafted world place plan (graft_reason world.tree place world.next plan.seeds)
 inflated_as files world name into place plan e f = rw (e, f) refl
 
 pub views_of-refused : (files : Files) (name : List ℕ) (resources : Entries) (dpi : ℕ) (refusal : PlainRefusal) → bytes_in (file_of files name) ≡ Err refusal → views_of files name resources dpi ≡ Err refusal
@@ -134,14 +133,14 @@ unfolding inflated_text ◌⧺◌
 grafted_tells world after place plan (Some refusal) e = absurd cc
 grafted_tells world after place plan None e = absurd cc
 
-views_tell : (world after : World) (place : Option ℕ) (views : Result Plan PlainRefusal) → reply_with views (λ plan. grafted world place plan (graft_refusal world.tree place plan.seeds)) ≢ Done after []
-views_tell world after place (Ok plan) e = grafted_tells world after place plan (graft_refusal world.tree place plan.seeds) e
+views_tell : (world after : World) (place : Option ℕ) (views : Result Plan PlainRefusal) → reply_with views (λ plan. grafted world place plan (graft_reason world.tree place world.next plan.seeds)) ≢ Done after []
+views_tell world after place (Ok plan) e = grafted_tells world after place plan (graft_reason world.tree place world.next plan.seeds) e
 views_tell world after place (Err refusal) e = absurd cc
 
 pub inflation_tells : (files : Files) (world after : World) (name : List ℕ) (into : Option Name) → inflation files world name into ≢ Done after []
 inflation_tells files world after name into = placed (place_in world.tree into)
   where
     placed : (place : Result (Option ℕ) PlainRefusal)
-        → reply_with place (λ at. reply_with (views_of files name world.resources world.dpi) (λ plan. grafted world at plan (graft_refusal world.tree at plan.seeds))) ≢ Done after []
+        → reply_with place (λ at. reply_with (views_of files name world.resources world.dpi) (λ plan. grafted world at plan (graft_reason world.tree at world.next plan.seeds))) ≢ Done after []
     placed (Ok place) e = views_tell world after place (views_of files name world.resources world.dpi) e
     placed (Err refusal) e = absurd cc

@@ -5,12 +5,14 @@ use Rattle.geom_core.specs.Limits.{IsSide}
 use Rattle.geom_core.specs.declared.geometry.Rect.{Rect}
 use Rattle.geom_core.specs.declared.geometry.Size.{Size}
 use Rattle.measure_pass.specs.Measured.{Sized}
-use Rattle.measure_pass.proofs.Laws.{lawful_of}
+use Rattle.measure_pass.proofs.Laws.{measured_sides}
+use Rattle.view_model.specs.declared.kinds.Class.TheVariants.{RelativeLayout}
 use Rattle.view_model.specs.Facts.{is_shown, unscrolled_facts}
 use Rattle.view_model.specs.Forest.{Forest, Nothing, Branch}
 use Rattle.view_model.specs.Geometry.{Laid, size_of_rect}
-use Rattle.view_model.specs.Layout.{Spot, laid_views, measured_size, place_in, total_size, unscrolled}
+use Rattle.view_model.specs.Layout.{Spot, children_of, laid_views, measured_size, place_in, total_size, unscrolled}
 use Rattle.view_model.specs.Measuring.{Measured, Specs}
+use Rattle.view_model.specs.RelativeLayout.{sides_of}
 use Rattle.view_tree.specs.Hidden.{HidesGone}
 use Rattle.view_tree.specs.Rows.{Row, first_tree, children_of_first, part_from, head_view, count_of_key, views_of}
 use Rattle.view_tree.specs.Views.{Held, KeepsInside, KeepsOutside, laid_rows, specs_of}
@@ -19,9 +21,11 @@ use Rattle.view_tree.proofs.forest.KeyLaws.{located}
 use Rattle.view_tree.proofs.forest.Walks.{KeepsInside-below, not_below, not_own, once_from}
 use Rattle.view_world.specs.declared.laying.placer.Placer.{Placer}
 use Rattle.view_world.specs.Laying.{CanBeLaid, IsLaid, group_kids, kid_under, last_sizes, layout_of, spot_of}
+use Rattle.view_world.specs.Narrow.{AreNarrow}
 use Rattle.view_world.specs.Placing.{LaidKids, PlacesAs}
 use Rattle.view_world.proofs.LaidKids.{laid_group}
-use Rattle.view_world.proofs.LaidParts.{CanBeLaid-along, group_kids-along}
+use Rattle.view_world.proofs.LaidParts.{AreNarrow-along, CanBeLaid-along, group_kids-along}
+use Rattle.view_world.proofs.NarrowSides.{group_narrow}
 
 -- one view got bounds, and nothing else changed
 pub record Wrote (old new : ℕ → Held) (view : ℕ) (rect : Rect) : Type 0 where
@@ -68,7 +72,7 @@ group_laid row kids siblings view rect old mid new is once shown ready wrote lai
     append-nil (laid_rows new kids) ∙ laid.lies
     ∙ group_kids-along spot [] old mid kids (same_below row kids siblings view rect old mid is once wrote) in
     let whole =
-    laid_group old row kids specs rect spot shown (ready.sized.0 shown).0.finals (spot_is row kids siblings view rect old mid is shown ready.sized wrote) in
+    laid_group old row kids specs rect spot shown (ready.sized.0 shown).0.finals (ready.sized.0 shown).0.edges (spot_is row kids siblings view rect old mid is shown ready.sized wrote) in
     record {
       lies = rw bounds (ap (λ (list : List Laid). entry ∷ list) children ∙ sym whole
           ∙ ap (λ (k : ℕ). laid_views row.view (views_of kids) (specs_of (old k).state) rect) is);
@@ -100,6 +104,19 @@ below_ready tree view rect old mid live keys shown ready wrote =
     let kids : CanBeLaid old f.kids = record { sized = (ready.sized.0 (rw f.is at shown)).1; hidden = ready.hidden.1 } in
     rw f.is (CanBeLaid-along old mid f.kids (same_below f.row f.kids f.siblings view rect old mid f.key_is once wrote) kids)
 
+-- those of a relative layout have sides that are near to one another
+pub below_narrow : (tree : Forest Row) (view : ℕ) (rect : Rect) (old mid : ℕ → Held) → 0 < count_of_key view tree → ((key : ℕ) → count_of_key key tree ≤ 1)
+    → is_shown (head_view (part_from view tree)).facts ≡ true → Sized old (first_tree (part_from view tree)) → Wrote old mid view rect
+    → (head_view (part_from view tree)).class ≡ RelativeLayout → AreNarrow mid (children_of_first (part_from view tree))
+below_narrow tree view rect old mid live keys shown sized wrote class =
+    let f = located view tree live in
+    let once : count_of_key f.row.key (Branch f.row f.kids f.siblings) ≤ 1 =
+    rw f.is at (once_from tree view keys live f.row.key) in
+    let sized : Sized old (Branch f.row f.kids Nothing) = rw f.is at sized in
+    let class : f.row.view.class ≡ RelativeLayout = rw f.is at class in
+    let kids = group_narrow old (old f.row.key) f.row f.kids (sized.0 (rw f.is at shown)).0 class in
+    rw f.is (AreNarrow-along old mid f.kids (same_below f.row f.kids f.siblings view rect old mid f.key_is once wrote) kids)
+
 -- what is kept of all views outside
 pub outside_at : (tree : Forest Row) (view : ℕ) (rect : Rect) (old mid new : ℕ → Held) → 0 < count_of_key view tree → Wrote old mid view rect
     → KeepsOutside mid new (children_of_first (part_from view tree)) → KeepsOutside old new (first_tree (part_from view tree))
@@ -119,8 +136,8 @@ sides_at tree view held live shown sized =
     let f = located view tree live in
     let sized : Sized held (Branch f.row f.kids Nothing) = rw f.is at sized in
     let own = (sized.0 (rw f.is at shown)).0 in
-    let lawful = lawful_of (unscrolled f.row.view) (specs_of (held f.row.key).state) in
-    subst (λ (k : ℕ). HasSides (held k).state.measured) f.key_is (rw own.size (record { width = lawful.width _; height = lawful.height _ }))
+    let sides = measured_sides (unscrolled f.row.view) (children_of (views_of f.kids)) (specs_of (held f.row.key).state) in
+    subst (λ (k : ℕ). HasSides (held k).state.measured) f.key_is (rw own.size (record { width = sides.0; height = sides.1 }))
 
 -- a child that is gone has no layout, and lies nowhere
 pub kid_gone : (tree : Forest Row) (kid : ℕ) (placer : Placer) (spot : Spot) (before : List Measured) (held : ℕ → Held) → 0 < count_of_key kid tree
@@ -142,7 +159,7 @@ kid_gone tree kid placer spot before held live gone hidden places =
 pub kid_at : (tree : Forest Row) (kid : ℕ) (placer : Placer) (spot : Spot) (before : List Measured) (size : Size) (rect : Rect) (old new : ℕ → Held) → 0 < count_of_key kid tree
     → is_shown (head_view (part_from kid tree)).facts ≡ true → Sized old (first_tree (part_from kid tree)) → size ≡ (old kid).state.measured
     → (let measured : Measured = record { facts = unscrolled_facts (head_view (part_from kid tree)).facts; size = size } in
-    rect ≡ place_in spot before measured None
+    rect ≡ place_in spot before measured (sides_of (old kid).state.edges)
     → PlacesAs placer spot (before ++ measured ∷ [])
     → IsLaid new (first_tree (part_from kid tree)) (layout_of (part_from kid tree) (specs_of (old kid).state) rect)
     → LaidKids placer spot before old new (first_tree (part_from kid tree)))
@@ -155,7 +172,7 @@ kid_at tree kid placer spot before size rect old new live shown sized size_is pl
     let size_same : size ≡ measured_size f.row.view (views_of f.kids) specs = size_is ∙ ap (λ (k : ℕ). (old k).state.measured) (sym f.key_is) ∙ (sized.0 here).0.size in
     let as_child : Size → Measured = λ size. record { facts = unscrolled_facts f.row.view.facts; size = size } in
     let measured : as_child size ≡ kid_under specs f.row f.kids = ap as_child size_same in
-    let place : rect ≡ place_in spot before (as_child size) None = rw f.is at place in
+    let place : rect ≡ place_in spot before (as_child size) (sides_of (old f.row.key).state.edges) = (rw f.is at place) ∙ ap (λ (k : ℕ). place_in spot before (as_child size) (sides_of (old k).state.edges)) (sym f.key_is) in
     let places : PlacesAs placer spot (before ++ as_child size ∷ []) = rw f.is at places in
     let laid : IsLaid new (Branch f.row f.kids Nothing) (laid_views f.row.view (views_of f.kids) (specs_of (old kid).state) rect) = rw f.is at laid in
     let one : last_sizes old (Branch f.row f.kids Nothing) ≡ kid_under specs f.row f.kids ∷ [] = rw here refl in
@@ -163,8 +180,8 @@ kid_at tree kid placer spot before size rect old new live shown sized size_is pl
       laid = record {
         lies = laid.lies
             ∙ ap (λ (specs : Specs). laid_views f.row.view (views_of f.kids) specs rect) same_key
-            ∙ ap (λ (rect : Rect). laid_views f.row.view (views_of f.kids) specs rect) (place ∙ ap (λ kid. place_in spot before kid None) measured)
-            ∙ sym (append-nil (laid_views f.row.view (views_of f.kids) specs (place_in spot before (kid_under specs f.row f.kids) None)));
+            ∙ ap (λ (rect : Rect). laid_views f.row.view (views_of f.kids) specs rect) (place ∙ ap (λ kid. place_in spot before kid (sides_of (old f.row.key).state.edges)) measured)
+            ∙ sym (append-nil (laid_views f.row.view (views_of f.kids) specs (place_in spot before (kid_under specs f.row f.kids) (sides_of (old f.row.key).state.edges))));
         hidden = laid.hidden;
       };
       places = subst (λ more. PlacesAs placer spot (before ++ more)) (ap (λ m. m ∷ []) measured ∙ sym one) places;

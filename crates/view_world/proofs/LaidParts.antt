@@ -1,6 +1,5 @@
 -- Parts of a list of trees, and what holds of them where what is kept of views changes elsewhere.
-use Rattle.std.proofs.Common.{◌≡◌, ◌≤◌, ℕ, List, ◌++◌, length, refl, ◌∙◌, ap, arith, length-append}
-use Rattle.std.specs.Prelude.{None}
+use Rattle.std.proofs.Common.{◌≡◌, ◌≤◌, ℕ, List, ◌++◌, length, refl, sym, ◌∙◌, ap, subst, arith, length-append}
 use Rattle.measure_pass.proofs.Parts.{Sized-along}
 use Rattle.measure_pass.proofs.Walk.{few_if}
 use Rattle.view_model.specs.Facts.{is_shown}
@@ -8,6 +7,7 @@ use Rattle.view_model.specs.Forest.{Forest, Nothing, Branch, count_of}
 use Rattle.view_model.specs.Geometry.{Laid}
 use Rattle.view_model.specs.Layout.{Spot, laid_views, place_in}
 use Rattle.view_model.specs.Measuring.{Measured}
+use Rattle.view_model.specs.RelativeLayout.{sides_of}
 use Rattle.view_tree.specs.Hidden.{HidesGone}
 use Rattle.view_tree.specs.Rows.{Row, later_siblings, first_tree, views_of}
 use Rattle.view_tree.specs.Views.{Held, KeepsInside, Views, held_of, specs_of}
@@ -15,6 +15,7 @@ use Rattle.view_tree.proofs.values.GeometryLaws.{laid_along}
 use Rattle.view_tree.proofs.values.HiddenLaws.{hides_along}
 use Rattle.view_tree.proofs.forest.KeyLaws.{times_self}
 use Rattle.view_world.specs.Laying.{CanBeLaid, IsLaid, KeepsAllButBounds, group_kids, kid_sizes, kid_under, last_sizes}
+use Rattle.view_world.specs.Narrow.{AreNarrow, AreSidesNarrow}
 
 -- so views that are gone lie nowhere still
 pub hides_same : (old new : ℕ → Held) (list : Forest Row) → KeepsInside old new list → HidesGone old list → HidesGone new list
@@ -26,7 +27,7 @@ group_kids-along spot before old new Nothing same = refl
 group_kids-along spot before old new (Branch row kids siblings) same =
     let specs = specs_of (old row.key).state in
     rw (same row.key (times_self row kids siblings))
-    (ap (λ more. laid_views row.view (views_of kids) specs (place_in spot before (kid_under specs row kids) None) ++ more)
+    (ap (λ more. laid_views row.view (views_of kids) specs (place_in spot before (kid_under specs row kids) (sides_of (old row.key).state.edges)) ++ more)
     (group_kids-along spot (before ++ kid_sizes specs row kids) old new siblings (λ key live. same key (omega arith))))
 
 pub last_sizes-along : (old new : ℕ → Held) (list : Forest Row) → KeepsInside old new list → last_sizes new list ≡ last_sizes old list
@@ -50,6 +51,17 @@ CanBeLaid-first_tree held (Branch row kids siblings) ready =
 pub CanBeLaid-later_siblings : (held : ℕ → Held) (list : Forest Row) → CanBeLaid held list → CanBeLaid held (later_siblings list)
 CanBeLaid-later_siblings held Nothing ready = ready
 CanBeLaid-later_siblings held (Branch row kids siblings) ready = record { sized = ready.sized.1; hidden = ready.hidden.2 }
+
+pub AreNarrow-along : (old new : ℕ → Held) (list : Forest Row) → KeepsInside old new list → AreNarrow old list → AreNarrow new list
+AreNarrow-along old new Nothing same narrow = narrow
+AreNarrow-along old new (Branch row kids siblings) same narrow = (
+  λ here. subst (λ (held : Held). AreSidesNarrow (sides_of held.state.edges)) (sym (same row.key (times_self row kids siblings))) (narrow.0 here),
+  AreNarrow-along old new siblings (λ key live. same key (omega arith)) narrow.1,
+)
+
+pub AreNarrow-later_siblings : (held : ℕ → Held) (list : Forest Row) → AreNarrow held list → AreNarrow held (later_siblings list)
+AreNarrow-later_siblings held Nothing narrow = narrow
+AreNarrow-later_siblings held (Branch row kids siblings) narrow = narrow.1
 
 pub kept_on : (old mid new : Views) → KeepsAllButBounds old mid → KeepsAllButBounds mid new → KeepsAllButBounds old new
 kept_on old mid new first second key =

@@ -90,6 +90,16 @@ taken views (Some parent) sprouts shape is live empty none =
       few = omega arith;
     }
 
+pub room_for : (views : Views) (parent : Option ℕ) (sprouts : List Sprout) → IsTree views → IfSome parent (λ parent. IsLive views parent) → (parent ≡ None → views.tree ≡ Nothing) → IsPreorder sprouts
+    → graft_refusal (plain_of views) (option_map (number_of views) parent) (seeds_of sprouts) ≡ None → count_of views.tree + length sprouts ≤ MAX_VIEWS
+room_for views parent sprouts is live empty pre free =
+    let shape = shaped sprouts pre in
+    let may = taken views parent sprouts shape is live empty free in
+    let few = few_below shape.seed.class false (suc (outer_of views parent)) (suc (count_of views.tree)) 2 shape.kids may.below may.few in
+    let size : length sprouts ≡ suc (length (preorder 2 shape.kids)) = ap length shape.list in
+    let all = length-preorder 2 shape.kids in
+    omega arith
+
 -- the outermost view, once it has come
 root_entry : (mid : Views) (key : ℕ) (view : PlainView) → mid.tree ≡ leaf key view → Entry mid key view.number view.class 0
 root_entry mid key view is =

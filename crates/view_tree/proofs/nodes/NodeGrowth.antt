@@ -10,8 +10,9 @@ use Rattle.view_model.specs.Growth.{refusal_at}
 use Rattle.view_model.specs.PlainTree.{PlainView}
 use Rattle.view_tree.specs.Attached.{Attached}
 use Rattle.view_tree.specs.Holders.{noted}
+use Rattle.view_tree.specs.Ordering.{orders_in}
 use Rattle.view_tree.specs.Rows.{Row, key_where, leaf, count_of_key, with_child}
-use Rattle.view_tree.specs.Nodes.{Links, links_in, links_at, held_in, linked, replaced_if_none, forest, last_child, last_named, RepresentsTree, tree_of, value_of, IsSound, holders_of}
+use Rattle.view_tree.specs.Nodes.{Links, links_in, links_at, held_in, linked, replaced_if_none, forest, last_child, last_named, RepresentsTree, tree_of, value_of, IsPlanted, holders_of}
 use Rattle.view_tree.specs.Views.{Views, Held, IsLive, IsTree, fresh_held, held_of, held_or, number_of, plain_of, plain_rows}
 use Rattle.view_tree.specs.declared.node.Node.{Node}
 use Rattle.view_tree.specs.declared.tree.ViewTree.TheInside.{Inside}
@@ -26,7 +27,7 @@ use Rattle.view_tree.proofs.forest.PlainLaws.{plain-with_child}
 use Rattle.view_tree.proofs.forest.SearchLaws.{search_new}
 
 -- the parent of a new view is there, and so is its last child
-pub parent_there : (a : Inside) (v : Views) (parent : Option ℕ) → IsSound a → value_of a ≡ v → IfSome parent (λ parent. IsLive v parent) → (k : ℕ)
+pub parent_there : (a : Inside) (v : Views) (parent : Option ℕ) → IsPlanted a → value_of a ≡ v → IfSome parent (λ parent. IsLive v parent) → (k : ℕ)
     → parent ≡ Some k → ContainsKey a.nodes k
 parent_there a v parent sound e live k is = contains_live a v k sound e (rw is at live)
 
@@ -34,13 +35,13 @@ if_some_at : (o : Option ℕ) (P : ℕ → Type 0) (k : ℕ) → o ≡ Some k �
 if_some_at None P k is h = absurd (cc)
 if_some_at (Some x) P k is h = subst P (some_is is) h
 
-last_there_at : (a : Inside) (v : Views) (k l : ℕ) (o : Option Links) → IsSound a → value_of a ≡ v → IsLive v k → links_at a.nodes k ≡ o → last_named o ≡ Some l
+last_there_at : (a : Inside) (v : Views) (k l : ℕ) (o : Option Links) → IsPlanted a → value_of a ≡ v → IsLive v k → links_at a.nodes k ≡ o → last_named o ≡ Some l
     → IsLive v l
 last_there_at a v k l None sound e live says is = absurd (cc)
 last_there_at a v k l (Some n) sound e live says is =
     if_some_at n.last (λ x. IsLive v x) l is (last_live (links_at a.nodes) a.root a.next v.tree k n (stands_for a v sound e) live says)
 
-pub last_child_there : (a : Inside) (v : Views) (parent : Option ℕ) → IsSound a → value_of a ≡ v → IfSome parent (λ parent. IsLive v parent)
+pub last_child_there : (a : Inside) (v : Views) (parent : Option ℕ) → IsPlanted a → value_of a ≡ v → IfSome parent (λ parent. IsLive v parent)
     → (l : ℕ) → last_child (links_at a.nodes) parent ≡ Some l → ContainsKey a.nodes l
 last_child_there a v None sound e live l is = absurd (cc)
 last_child_there a v (Some parent) sound e live l is = contains_live a v l sound e (last_there_at a v parent l _ sound e live refl is)
@@ -60,20 +61,21 @@ unused at root next t key stands vacant = vacant_unused at key t None None stand
 
 -- the fields after room was made
 module _ (a b : Inside) (nodes : b.nodes ≡ record a.nodes { capacity = b.nodes.capacity }) (keys : b.keys.entries ≡ a.keys.entries) (ids : b.ids.entries ≡ a.ids.entries)
-    (root : b.root ≡ a.root) (next : b.next ≡ a.next) where
+    (groups : orders_in b.groups.entries ≡ orders_in a.groups.entries) (root : b.root ≡ a.root) (next : b.next ≡ a.next) where
   said-room : links_at b.nodes ≡ links_at a.nodes
   said-room = ap links_at nodes
 
-  tree-room : tree_of b ≡ tree_of a
+  pub tree-room : tree_of b ≡ tree_of a
   tree-room = rw (root, next) (ap (λ at. forest a.next at a.root) said-room)
 
   pub value-room : value_of b ≡ value_of a
   value-room =
-      ap (λ (t : Forest Row). record { tree = t; held = map held_in b.nodes.slots; next = b.next }) tree-room
-      ∙ ap (λ (s : Slab Node). record { tree = tree_of a; held = map held_in s.slots; next = b.next }) nodes
-      ∙ ap (λ n. record { tree = tree_of a; held = map held_in a.nodes.slots; next = n }) next
+      ap (λ (t : Forest Row). record { tree = t; held = map held_in b.nodes.slots; orders = orders_in b.groups.entries; next = b.next }) tree-room
+      ∙ ap (λ (s : Slab Node). record { tree = tree_of a; held = map held_in s.slots; orders = orders_in b.groups.entries; next = b.next }) nodes
+      ∙ ap (λ orders. record { tree = tree_of a; held = map held_in a.nodes.slots; orders = orders; next = b.next }) groups
+      ∙ ap (λ n. record { tree = tree_of a; held = map held_in a.nodes.slots; orders = orders_in a.groups.entries; next = n }) next
 
-  pub sound-room : IsSound a → IsSound b
+  pub sound-room : IsPlanted a → IsPlanted b
   sound-room sound = record {
     stands = rw (root, next) (subst (λ (at : ℕ → Option Links). RepresentsTree at a.root a.next (forest a.next at a.root)) (sym said-room) sound.stands);
     kept = subst IsTree (sym value-room) sound.kept;
@@ -84,7 +86,7 @@ module _ (a b : Inside) (nodes : b.nodes ≡ record a.nodes { capacity = b.nodes
   }
 
 -- all that has become of the fields
-module _ (a b : Inside) (v : Views) (parent : Option ℕ) (key : ℕ) (view : PlainView) (sound : IsSound a) (e : value_of a ≡ v)
+module _ (a b : Inside) (v : Views) (parent : Option ℕ) (key : ℕ) (view : PlainView) (sound : IsPlanted a) (e : value_of a ≡ v)
     (live : IfSome parent (λ parent. IsLive v parent)) (empty : parent ≡ None → v.tree ≡ Nothing)
     (taken : refusal_at (plain_of v) (option_map (number_of v) parent) ≡ None)
     (vacant : get a.nodes key ≡ None)
@@ -113,7 +115,7 @@ module _ (a b : Inside) (v : Views) (parent : Option ℕ) (key : ℕ) (view : Pl
   kept-attach : IsTree (value_of b)
   kept-attach = is_tree-with_child v (value_of b) parent key view (is_tree a v sound e) live taken unused-attach number-attach tree-attach next-attach
 
-  pub sound-attach : IsSound b
+  pub sound-attach : IsPlanted b
   sound-attach = record {
     stands = subst (RepresentsTree (links_at b.nodes) b.root b.next) (sym tree-attach) stands-attach;
     kept = kept-attach;

@@ -6,7 +6,7 @@ use Rattle.slab.specs.Slab.{get, ContainsKey}
 use Rattle.view_model.specs.Forest.{Forest}
 use Rattle.view_model.specs.PlainTree.{PlainView}
 use Rattle.view_tree.specs.Rows.{Row, head_view, part_from, children_of_first, later_siblings, first_key, last_key, previous_key}
-use Rattle.view_tree.specs.Nodes.{Links, links_in, links_of, links_at, held_by, held_in, view_of_node, RepresentsTree, links_for, value_of, IsSound, holders_of}
+use Rattle.view_tree.specs.Nodes.{Links, links_in, links_of, links_at, held_by, held_in, view_of_node, RepresentsTree, links_for, value_of, IsPlanted, holders_of}
 use Rattle.view_tree.specs.Views.{Views, Held, IsLive, IsTree, held_of, held_or, facts_of, offset_of}
 use Rattle.view_tree.specs.declared.node.Node.{Node}
 use Rattle.view_tree.specs.declared.tree.ViewTree.TheInside.{Inside}
@@ -32,16 +32,16 @@ pub record NodeOf (a : Inside) (k : ℕ) (t : Forest Row) : Type 0 where
   pub before : Option ℕ
   pub says : Says (get a.nodes k) (links_for found.row parent before found.kids found.siblings)
 
-pub stands_for : (a : Inside) (v : Views) → IsSound a → value_of a ≡ v → RepresentsTree (links_at a.nodes) a.root a.next v.tree
+pub stands_for : (a : Inside) (v : Views) → IsPlanted a → value_of a ≡ v → RepresentsTree (links_at a.nodes) a.root a.next v.tree
 stands_for a v sound e = subst (λ (v : Views). RepresentsTree (links_at a.nodes) a.root a.next v.tree) e sound.stands
 
-pub node_of : (a : Inside) (v : Views) (k : ℕ) → IsSound a → value_of a ≡ v → IsLive v k → NodeOf a k v.tree
+pub node_of : (a : Inside) (v : Views) (k : ℕ) → IsPlanted a → value_of a ≡ v → IsLive v k → NodeOf a k v.tree
 node_of a v k sound e live =
     let s = seen (links_at a.nodes) k None None v.tree (stands_for a v sound e).stand live in
     record { found = s.found; parent = s.parent; before = s.before; says = says (get a.nodes k) _ s.is }
 
 -- so its key is in the slab
-pub contains_live : (a : Inside) (v : Views) (k : ℕ) → IsSound a → value_of a ≡ v → IsLive v k → ContainsKey a.nodes k
+pub contains_live : (a : Inside) (v : Views) (k : ℕ) → IsPlanted a → value_of a ≡ v → IsLive v k → ContainsKey a.nodes k
 contains_live a v k sound e live = rw (node_of a v k sound e live).says.at
 
 -- what the node under the key of a live view says
@@ -51,21 +51,21 @@ pub record NodeSays (n : Node) (k : ℕ) (t : Forest Row) : Type 0 where
   pub before : Option ℕ
   pub all : links_of n ≡ links_for found.row parent before found.kids found.siblings
 
-pub node_says : (a : Inside) (v : Views) (k : ℕ) → IsSound a → value_of a ≡ v → IsLive v k → (n : Node) → get a.nodes k ≡ Some n → NodeSays n k v.tree
+pub node_says : (a : Inside) (v : Views) (k : ℕ) → IsPlanted a → value_of a ≡ v → IsLive v k → (n : Node) → get a.nodes k ≡ Some n → NodeSays n k v.tree
 node_says a v k sound e live n at =
     let o = node_of a v k sound e live in
     let same : n ≡ o.says.node = some_is (sym at ∙ o.says.at) in
     record { found = o.found; parent = o.parent; before = o.before; all = ap links_of same ∙ o.says.all }
 
 -- what every tree keeps
-pub is_tree : (a : Inside) (v : Views) → IsSound a → value_of a ≡ v → IsTree v
+pub is_tree : (a : Inside) (v : Views) → IsPlanted a → value_of a ≡ v → IsTree v
 is_tree a v sound e = subst IsTree e sound.kept
 
 -- the table of ids, and how large keys are
-pub named_for : (a : Inside) (v : Views) → IsSound a → value_of a ≡ v → (id : ℕ) → get_key nat_eq a.ids id ≡ holders_of id v.tree
+pub named_for : (a : Inside) (v : Views) → IsPlanted a → value_of a ≡ v → (id : ℕ) → get_key nat_eq a.ids id ≡ holders_of id v.tree
 named_for a v sound e id = sound.named id ∙ ap (λ (v : Views). holders_of id v.tree) e
 
-pub small_for : (a : Inside) (v : Views) → IsSound a → value_of a ≡ v → (key : ℕ) → IsLive v key → key < 2 ^ 64
+pub small_for : (a : Inside) (v : Views) → IsPlanted a → value_of a ≡ v → (key : ℕ) → IsLive v key → key < 2 ^ 64
 small_for a v sound e = subst (λ (v : Views). (key : ℕ) → IsLive v key → key < 2 ^ 64) e sound.small
 
 -- what is kept under a key is what its node keeps
@@ -82,13 +82,13 @@ held_at a v k n e at =
     ap (λ (v : Views). held_of v k) (sym e) ∙ held_view a k ∙ ap (λ (o : Option Node). held_or (held_in o)) at
 
 -- the view of a node
-pub view_is : (a : Inside) (v : Views) (k : ℕ) → IsSound a → value_of a ≡ v → IsLive v k → (n : Node) → get a.nodes k ≡ Some n
+pub view_is : (a : Inside) (v : Views) (k : ℕ) → IsPlanted a → value_of a ≡ v → IsLive v k → (n : Node) → get a.nodes k ≡ Some n
     → view_of_node n ≡ head_view (part_from k v.tree)
 view_is a v k sound e live n at =
     let o = node_says a v k sound e live n at in
     rw o.found.is (ap (λ (s : Links). s.view) o.all)
 
-pub facts_is : (a : Inside) (v : Views) (k : ℕ) → IsSound a → value_of a ≡ v → IsLive v k → (n : Node) → get a.nodes k ≡ Some n → n.facts ≡ facts_of v k
+pub facts_is : (a : Inside) (v : Views) (k : ℕ) → IsPlanted a → value_of a ≡ v → IsLive v k → (n : Node) → get a.nodes k ≡ Some n → n.facts ≡ facts_of v k
 facts_is a v k sound e live n at =
     let off : offset_of v k ≡ n.facts.offset = ap (λ (h : Held). h.offset) (held_at a v k n e at) in
     let one : n.facts ≡ record (head_view (part_from k v.tree)).facts { offset = n.facts.offset } =
@@ -96,21 +96,21 @@ facts_is a v k sound e live n at =
     one ∙ ap (λ x. record (head_view (part_from k v.tree)).facts { offset = x }) (sym off)
 
 -- the children of a view
-pub first_is : (a : Inside) (v : Views) (k : ℕ) → IsSound a → value_of a ≡ v → IsLive v k → (n : Node) → get a.nodes k ≡ Some n
+pub first_is : (a : Inside) (v : Views) (k : ℕ) → IsPlanted a → value_of a ≡ v → IsLive v k → (n : Node) → get a.nodes k ≡ Some n
     → (n.first ≡ first_key (children_of_first (part_from k v.tree))) × Part n.first v.tree (children_of_first (part_from k v.tree))
 first_is a v k sound e live n at =
     let o = node_says a v k sound e live n at in
     let h : n.first ≡ first_key o.found.kids = ap (λ (s : Links). s.first) o.all in
     rw o.found.is (h, subst (λ x. Part x v.tree o.found.kids) (sym h) (part v.tree (is_tree a v sound e).keys o.found.kids (Within-children_of_first o.found.within)))
 
-pub last_is : (a : Inside) (v : Views) (k : ℕ) → IsSound a → value_of a ≡ v → IsLive v k → (n : Node) → get a.nodes k ≡ Some n
+pub last_is : (a : Inside) (v : Views) (k : ℕ) → IsPlanted a → value_of a ≡ v → IsLive v k → (n : Node) → get a.nodes k ≡ Some n
     → n.last ≡ last_key (children_of_first (part_from k v.tree))
 last_is a v k sound e live n at =
     let o = node_says a v k sound e live n at in
     rw o.found.is (ap (λ (s : Links). s.last) o.all)
 
 -- its later siblings
-pub next_is : (a : Inside) (v : Views) (k : ℕ) → IsSound a → value_of a ≡ v → IsLive v k → (n : Node) → get a.nodes k ≡ Some n
+pub next_is : (a : Inside) (v : Views) (k : ℕ) → IsPlanted a → value_of a ≡ v → IsLive v k → (n : Node) → get a.nodes k ≡ Some n
     → (n.next ≡ first_key (later_siblings (part_from k v.tree))) × Part n.next v.tree (later_siblings (part_from k v.tree))
 next_is a v k sound e live n at =
     let o = node_says a v k sound e live n at in
@@ -118,21 +118,21 @@ next_is a v k sound e live n at =
     rw o.found.is (h, subst (λ x. Part x v.tree o.found.siblings) (sym h) (part v.tree (is_tree a v sound e).keys o.found.siblings (Within-later_siblings o.found.within)))
 
 -- the parent of a view
-pub parent_of : (a : Inside) (v : Views) (k : ℕ) → IsSound a → value_of a ≡ v → IsLive v k → (n : Node) → get a.nodes k ≡ Some n → Up n.parent k v.tree
+pub parent_of : (a : Inside) (v : Views) (k : ℕ) → IsPlanted a → value_of a ≡ v → IsLive v k → (n : Node) → get a.nodes k ≡ Some n → Up n.parent k v.tree
 parent_of a v k sound e live n at = up_is (links_at a.nodes) a.root a.next v.tree k _ (stands_for a v sound e) live (ap links_in at)
 
 -- the root
-pub root_is : (a : Inside) (v : Views) → IsSound a → value_of a ≡ v → (a.root ≡ first_key v.tree) × Part a.root v.tree v.tree
+pub root_is : (a : Inside) (v : Views) → IsPlanted a → value_of a ≡ v → (a.root ≡ first_key v.tree) × Part a.root v.tree v.tree
 root_is a v sound e =
     let s = stands_for a v sound e in
     (sym s.outer, subst (λ o. Part o v.tree v.tree) s.outer (part v.tree s.distinct v.tree here))
 
 -- the sibling before a view
-pub previous_of : (a : Inside) (v : Views) (k : ℕ) → IsSound a → value_of a ≡ v → IsLive v k → (n : Node) → get a.nodes k ≡ Some n
+pub previous_of : (a : Inside) (v : Views) (k : ℕ) → IsPlanted a → value_of a ≡ v → IsLive v k → (n : Node) → get a.nodes k ≡ Some n
     → (n.previous ≡ previous_key None k v.tree) × IfSome n.previous (λ x. IsLive v x)
 previous_of a v k sound e live n at =
     let s = stands_for a v sound e in
     (previous_is (links_at a.nodes) k _ (ap links_in at) v.tree None None s.stand live, previous_live (links_at a.nodes) a.root a.next v.tree k _ s live (ap links_in at))
 
-pub last_of : (a : Inside) (v : Views) (k : ℕ) → IsSound a → value_of a ≡ v → IsLive v k → (n : Node) → get a.nodes k ≡ Some n → IfSome n.last (λ x. IsLive v x)
+pub last_of : (a : Inside) (v : Views) (k : ℕ) → IsPlanted a → value_of a ≡ v → IsLive v k → (n : Node) → get a.nodes k ≡ Some n → IfSome n.last (λ x. IsLive v x)
 last_of a v k sound e live n at = last_live (links_at a.nodes) a.root a.next v.tree k _ (stands_for a v sound e) live (ap links_in at)

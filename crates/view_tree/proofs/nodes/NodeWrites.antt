@@ -11,7 +11,9 @@ use Rattle.view_model.specs.Forest.{Forest, count_of}
 use Rattle.view_model.specs.PlainTree.{PlainView}
 use Rattle.view_tree.specs.Holders.{renamed}
 use Rattle.view_tree.specs.Rows.{Row, part_from, head_view, key_where, changed_at_key, count_of_key}
-use Rattle.view_tree.specs.Nodes.{Links, links_in, links_of, links_at, held_by, held_in, RepresentsTree, forest, tree_of, value_of, view_of_node, IsSound, holders_of}
+use Rattle.view_tree.specs.Nodes.{Links, links_in, links_of, links_at, held_by, held_in, RepresentsTree, forest, tree_of, value_of, view_of_node, IsPlanted, IsSound, holders_of}
+use Rattle.view_tree.specs.Ordering.{group_at}
+use Rattle.view_tree.proofs.orders.RowLaws.{grouped_kept}
 use Rattle.view_tree.specs.Views.{Views, IsLive, IsTree, SameTree, KeepsOthers, held_of, held_or}
 use Rattle.view_tree.specs.declared.node.Node.{Node}
 use Rattle.view_tree.specs.declared.tree.ViewTree.TheInside.{Inside}
@@ -69,7 +71,7 @@ module _ (a : Inside) (k : ℕ) (n m : Node) (at : get a.nodes k ≡ Some n) (sa
   tree-write : tree_of (written a k m) ≡ tree_of a
   tree-write = ap (λ (at : ℕ → Option Links). forest a.next at a.root) all_same
 
-  pub sound-write : IsSound a → IsSound (written a k m)
+  pub sound-write : IsPlanted a → IsPlanted (written a k m)
   sound-write sound = record {
     stands = subst (λ (at : ℕ → Option Links). RepresentsTree at a.root a.next (forest a.next at a.root)) (sym all_same) sound.stands;
     kept = is_tree-same (value_of a) (value_of (written a k m)) sound.kept tree-write refl;
@@ -79,8 +81,15 @@ module _ (a : Inside) (k : ℕ) (n m : Node) (at : get a.nodes k ≡ Some n) (sa
     small = subst (λ (t : Forest Row). (key : ℕ) → 0 < count_of_key key t → key < 2 ^ 64) (sym tree-write) sound.small;
   }
 
+  -- and what is kept of relative layouts
+  pub whole-write : IsSound a → IsSound (written a k m)
+  whole-write sound = record {
+    planted = sound-write sound.planted;
+    grouped = grouped_kept (group_at a.groups) (value_of a) (value_of (written a k m)) tree-write sound.grouped;
+  }
+
   pub same-write : (v : Views) → value_of a ≡ v → SameTree v (value_of (written a k m))
-  same-write v e = record { tree = tree-write ∙ ap (λ (v : Views). v.tree) e; next = ap (λ (v : Views). v.next) e }
+  same-write v e = record { tree = tree-write ∙ ap (λ (v : Views). v.tree) e; orders = ap (λ (v : Views). v.orders) e; next = ap (λ (v : Views). v.next) e }
 
 -- the same with the ids of others
 abbrev pub rewritten : Inside → Inside → ℕ → Node → Inside
@@ -88,12 +97,12 @@ rewritten a other k m = record a { nodes = with_value a.nodes k m; ids = other.i
 
 -- what a write of the node m leaves of the tree, where it changes the view
 pub record ViewPut (a other : Inside) (v : Views) (k : ℕ) (m : Node) (f : PlainView → PlainView) : Type 0 where
-  pub sound : IsSound (rewritten a other k m)
+  pub sound : IsPlanted (rewritten a other k m)
   pub tree : tree_of (written a k m) ≡ changed_at_key k f v.tree
   pub next : a.next ≡ v.next
 
 -- a write that changes the view of a node
-module _ (a : Inside) (v : Views) (k : ℕ) (n m : Node) (f : PlainView → PlainView) (sound : IsSound a) (e : value_of a ≡ v) (at : get a.nodes k ≡ Some n)
+module _ (a : Inside) (v : Views) (k : ℕ) (n m : Node) (f : PlainView → PlainView) (sound : IsPlanted a) (e : value_of a ≡ v) (at : get a.nodes k ≡ Some n)
     (changes : links_of m ≡ record (links_of n) { view = f (links_of n).view })
     (numbers : (w : PlainView) → (f w).number ≡ w.number) (classes : (w : PlainView) → (f w).class ≡ w.class)
     (offsets : (w : PlainView) → w.facts.offset ≡ pos 0 → (f w).facts.offset ≡ pos 0)
@@ -117,7 +126,7 @@ module _ (a : Inside) (v : Views) (k : ℕ) (n m : Node) (f : PlainView → Plai
   tree-put : tree_of (written a k m) ≡ changed_at_key k f v.tree
   tree-put = tree_is (links_at (with_value a.nodes k m)) a.root a.next _ stands-put
 
-  sound-put : IsSound (rewritten a other k m)
+  sound-put : IsPlanted (rewritten a other k m)
   sound-put = record {
     stands = subst (RepresentsTree (links_at (with_value a.nodes k m)) a.root a.next) (sym tree-put) stands-put;
     kept = is_tree-put v (value_of (written a k m)) k f (subst IsTree e sound.kept) numbers classes offsets tree-put (ap (λ (v : Views). v.next) e);

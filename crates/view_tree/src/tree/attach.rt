@@ -1,5 +1,5 @@
 //! Views that come into a tree.
-ghost use Rattle.std.specs.Prelude.{◌≡◌, ◌+◌, ◌<◌, length, replicate, None, Some, IfOk, IfSome, OnErr};
+ghost use Rattle.std.specs.Prelude.{◌≡◌, ◌≢◌, ◌+◌, ◌<◌, ℕ, length, replicate, None, Some, IfOk, IfSome, OnErr, OnOk};
 ghost use Rattle.std.specs.Option.{option_map};
 ghost use Rattle.view_model.specs.declared.limits.TheConstants.{NUMBERS_END};
 ghost use Rattle.view_model.specs.Forest.{Nothing};
@@ -8,11 +8,12 @@ ghost use Rattle.view_model.specs.PlainTree.{PlainView};
 ghost use Rattle.view_tree.specs.Attached.{Attached};
 ghost use Rattle.view_tree.specs.Faults.{IsRefusedExactlyFor, RefusesExactlyFor};
 ghost use Rattle.view_tree.specs.Rows.{ancestors};
-ghost use Rattle.view_tree.specs.Views.{IsLive, number_of, plain_of};
+ghost use Rattle.view_tree.specs.Views.{IsLive, group_number, number_of, orders_under, plain_of};
 
 use super::plant::plant;
 use super::{Key, ViewTree};
 use crate::fault::AttachFault;
+use crate::groups::{is_relative, join_group, make_group_room};
 use crate::table::make_room;
 use view_model::limits::{MAX_DEPTH, MAX_VIEWS};
 use view_model::refusals::{NOT_GROUP, SCROLL_FULL, TOO_DEEP, TOO_MANY_VIEWS};
@@ -34,18 +35,22 @@ impl ViewTree {
         requires numbers { self.old.next < NUMBERS_END }
         ensures attached { let view : PlainView = record { number = self.old.next; class = class; facts = facts; text = text } in
             IfOk result (λ key. Attached self.old parent view key self.new) }
+        ensures orders { OnOk result ((k : ℕ) → group_number self.old parent ≢ Some k → k ≢ self.old.next → orders_under self.new k ≡ orders_under self.old k) }
         ensures refused { IsRefusedExactlyFor (refusal_at (plain_of self.old) (option_map (number_of self.old) parent)) result }
         ensures unchanged { OnErr result (self.new ≡ self.old) }
     {
         self.may_grow(parent)?;
+        let group = self.group_number(parent);
+        let number = self.next;
         make_room(&mut self.nodes, &mut self.keys, &mut self.ids, 1, 0)?;
+        make_group_room(&mut self.groups, group, 1)?;
         let sprout = Sprout {
             class,
             facts,
             text,
             depth: 1,
         };
-        Ok(plant(
+        let key = plant(
             &mut self.nodes,
             &mut self.keys,
             &mut self.ids,
@@ -53,7 +58,21 @@ impl ViewTree {
             &mut self.next,
             parent,
             sprout,
-        ))
+        );
+        join_group(&mut self.groups, group, number, class);
+        Ok(key)
+    }
+
+    /// The number of a parent that is a relative layout.
+    pub fn group_number(&self, parent: Option<Key>) -> Option<u64>
+        requires { IfSome parent (λ parent. IsLive self.now parent) }
+        ensures { result ≡ group_number self.now parent }
+    {
+        let parent = parent?;
+        if !is_relative(self.class(parent)) {
+            return None;
+        }
+        Some(self.number(parent))
     }
 
     /// Whether a view may come below this one, or as the root.

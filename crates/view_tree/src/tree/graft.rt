@@ -1,40 +1,54 @@
 //! Saplings that come into a tree.
-ghost use Rattle.std.specs.Prelude.{◌≡◌, ◌≤◌, ◌+◌, ◌<◌, true, false, None, IfOk, IfSome, OnErr};
+ghost use Rattle.std.specs.Prelude.{◌≡◌, ◌≢◌, ◌≤◌, ◌+◌, ◌<◌, ◌∷◌, [], ℕ, true, false, length, None, Some, IfOk, IfSome, OnErr};
 ghost use Rattle.std.specs.Option.{option_map};
 ghost use Rattle.view_model.specs.declared.limits.TheConstants.{MAX_DEPTH, MAX_VIEWS, NUMBERS_END};
-ghost use Rattle.view_model.specs.Forest.{Forest, Nothing};
+ghost use Rattle.view_model.specs.Cycles.{graft_cycle, is_relative, member_from};
+ghost use Rattle.view_model.specs.Forest.{Forest, Nothing, count_of};
 ghost use Rattle.view_model.specs.Grafts.{at_element, graft_refusal, refusal_below};
 ghost use Rattle.view_model.specs.Growth.{growth_refusal};
 ghost use Rattle.view_model.specs.Sprouts.{IsPreorder, Seed, follows, preorder, seeds_of};
-ghost use Rattle.view_tree.specs.Faults.{IsRefusedExactlyFor, RefusesExactlyFor};
+ghost use Rattle.view_tree.specs.Faults.{IsRefusedOrCyclic, RefusesExactlyFor};
 ghost use Rattle.view_tree.specs.Grafted.{Grafted};
+ghost use Rattle.view_tree.specs.Grafting.{AreGrafted, IsGroupOrCycle, IsMadeUnless, IsParentEntry, entries_cycle, links_then, numbers_then, parent_cycle};
 ghost use Rattle.view_tree.specs.Hidden.{IsConsistent};
-ghost use Rattle.view_tree.specs.Views.{IsLive, number_of, plain_of};
+ghost use Rattle.view_tree.specs.Views.{IsLive, group_number, number_of, orders_under, plain_of};
 
 use super::attach::growth;
 use super::plant::{plant, sow};
+use super::relatives::{push_entry, sprout_link, with_entries};
 use super::{Key, ViewTree};
 use crate::fault::AttachFault;
+use crate::groups::{Group, is_relative, make_group_room, note_groups};
+use crate::kids::{Kids, group_of};
 use crate::table::make_room;
+use std::alloc::{AllocError, Global};
 use view_model::limits::MAX_DEPTH;
-use view_model::{Class, Detail, Refusal, Sapling, Sprout};
+use view_model::{Class, Detail, Link, Refusal, Sapling, Sprout};
 
 impl ViewTree {
     /// Makes the views of a sapling, its outermost one the last child of a parent, or the root where there is none, and
-    /// answers the key of that. They have the next numbers in preorder, and no bounds. It takes time for them alone.
+    /// answers the key of that. They have the next numbers in preorder, and no bounds. It takes time for them alone, and
+    /// for the children of a parent that is a relative layout.
     pub fn graft(&mut self, parent: Option<Key>, sapling: Sapling) -> Result<Key, AttachFault>
         requires live { IfSome parent (λ parent. IsLive self.old parent) }
         requires root { parent ≡ None → self.old.tree ≡ Nothing }
         requires numbers { self.old.next < NUMBERS_END }
         ensures grafted { IfOk result (λ key. Grafted self.old parent (seeds_of sapling.sprouts.items) key self.new) }
-        ensures refused { IsRefusedExactlyFor (graft_refusal (plain_of self.old) (option_map (number_of self.old) parent) (seeds_of sapling.sprouts.items)) result }
+        ensures orders { (k : ℕ) → group_number self.old parent ≢ Some k → k < self.old.next → orders_under self.new k ≡ orders_under self.old k }
+        ensures refused { IsRefusedOrCyclic (graft_refusal (plain_of self.old) (option_map (number_of self.old) parent) (seeds_of sapling.sprouts.items))
+            (graft_cycle (plain_of self.old) (option_map (number_of self.old) parent) self.old.next (seeds_of sapling.sprouts.items)) result }
         ensures few { self.new.next ≤ self.old.next + MAX_VIEWS }
         ensures consistent { IsConsistent self.old → IsConsistent self.new }
         ensures unchanged { OnErr result (self.new ≡ self.old) }
     {
         self.may_take(parent, &sapling.sprouts)?;
+        let entries = match self.entries(parent, &sapling.sprouts) {
+            Ok(entries) => entries,
+            Err(fault) => return Err(fault),
+        };
         let count = sapling.sprouts.len();
         make_room(&mut self.nodes, &mut self.keys, &mut self.ids, count, count)?;
+        make_group_room(&mut self.groups, None, entries.len())?;
         let mut sprouts = sapling.sprouts.into_iter();
         let Some(outermost) = sprouts.next() else {
             unreachable!()
@@ -57,7 +71,80 @@ impl ViewTree {
             key,
             sprouts,
         );
+        note_groups(&mut self.groups, entries);
         Ok(key)
+    }
+
+    /// What is kept of the parent of a sapling and of the relative layouts of the sapling once it comes, by their numbers:
+    /// of the parent first, if it is one, and then in preorder.
+    fn entries(
+        &self,
+        parent: Option<Key>,
+        sprouts: &[Sprout],
+    ) -> Result<Vec<(u64, Group)>, AttachFault>
+        requires live { IfSome parent (λ parent. IsLive self.now parent) }
+        requires some { 0 < length sprouts.now }
+        requires few { count_of self.now.tree + length sprouts.now ≤ MAX_VIEWS }
+        requires numbers { self.now.next < NUMBERS_END }
+        ensures { IsMadeUnless (entries_cycle self.now parent sprouts.now) (λ entries. AreGrafted self.now parent sprouts.now entries.items) result }
+    {
+        match self.parent_entry(parent, &sprouts[0]) {
+            Ok(entries) => with_entries(entries, self.next, sprouts),
+            Err(fault) => Err(fault),
+        }
+    }
+
+    /// What is kept of the parent below which a view comes, if it is a relative layout.
+    fn parent_entry(
+        &self,
+        parent: Option<Key>,
+        sprout: &Sprout,
+    ) -> Result<Vec<(u64, Group)>, AttachFault>
+        requires live { IfSome parent (λ parent. IsLive self.now parent) }
+        requires few { count_of self.now.tree < MAX_VIEWS }
+        requires numbers { self.now.next < NUMBERS_END }
+        ensures { IsMadeUnless (parent_cycle self.now parent sprout.now) (λ entries. IsParentEntry self.now parent sprout.now entries.items) result }
+    {
+        let alloc = *self.groups.allocator();
+        let Some(parent) = parent else {
+            return Ok(Vec::new(alloc));
+        };
+        if !is_relative(self.class(parent)) {
+            return Ok(Vec::new(alloc));
+        }
+        match self.group_then(parent, sprout_link(sprout)) {
+            Err(fault) => Err(fault),
+            Ok(group) => one_entry(alloc, self.number(parent), group),
+        }
+    }
+
+    /// What is kept of a relative layout once a view with this link comes behind its children.
+    fn group_then(&self, parent: Key, link: Link) -> Result<Group, AttachFault>
+        requires live { IsLive self.now parent }
+        requires few { count_of self.now.tree < MAX_VIEWS }
+        requires numbers { self.now.next < NUMBERS_END }
+        ensures { IsGroupOrCycle (member_from self.now.next) (links_then self.now parent link) (numbers_then self.now parent) result }
+    {
+        match self.kids_then(parent, link) {
+            Ok(kids) => group_of(*self.groups.allocator(), kids, self.next),
+            Err(_) => Err(AttachFault::NoMemory),
+        }
+    }
+
+    /// The children of a view, and behind them one with this link that comes next.
+    fn kids_then(&self, parent: Key, link: Link) -> Result<Kids, AllocError>
+        requires { IsLive self.now parent }
+        ensures links { IfOk result (λ kids. kids.links.items ≡ links_then self.now parent link) }
+        ensures numbers { IfOk result (λ kids. kids.numbers.items ≡ numbers_then self.now parent) }
+    {
+        let mut kids = Kids::new(*self.groups.allocator());
+        let mut next = self.first(parent);
+        while let Some(kid) = next {
+            kids.push(self.number(kid), self.link(kid))?;
+            next = self.next(kid);
+        }
+        kids.push(self.next, link)?;
+        Ok(kids)
     }
 
     /// Whether these views may come below a parent, or as the whole tree.
@@ -75,6 +162,17 @@ impl ViewTree {
             depth = above + 1;
         }
         growth_below(sprouts[0].class, depth, self.len() + 1, &sprouts[1..])
+    }
+}
+
+/// One group, under its number.
+fn one_entry(alloc: Global, number: u64, group: Group) -> Result<Vec<(u64, Group)>, AttachFault>
+    ensures { IsMadeUnless None (λ entries. entries.items ≡ (number, group) ∷ []) result }
+{
+    let mut entries = Vec::new(alloc);
+    match push_entry(&mut entries, number, group) {
+        Ok(()) => Ok(entries),
+        Err(fault) => Err(fault),
     }
 }
 

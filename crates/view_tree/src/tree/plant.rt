@@ -9,7 +9,7 @@ ghost use Rattle.view_model.specs.Growth.{refusal_at};
 ghost use Rattle.view_model.specs.PlainTree.{grown};
 ghost use Rattle.view_model.specs.Sprouts.{Seed, follows, numbered, preorder, seed_of, view_of};
 ghost use Rattle.view_tree.specs.Attached.{Attached};
-ghost use Rattle.view_tree.specs.Nodes.{IsSound, fields, replaced_if_none, views_in};
+ghost use Rattle.view_tree.specs.Nodes.{IsPlanted, fields, replaced_if_none, views_in};
 ghost use Rattle.view_tree.specs.Sowing.{FitsBelow, GainedBelow};
 ghost use Rattle.view_tree.specs.Views.{IsLive, number_of, plain_of};
 
@@ -34,7 +34,7 @@ pub fn plant(
     parent: Option<Key>,
     sprout: Sprout,
 ) -> Key
-    requires sound { IsSound (fields nodes.old keys.old ids.old root.old next.old) }
+    requires sound { IsPlanted (fields nodes.old keys.old ids.old root.old next.old) }
     requires room { HasRoomFor nodes.old 1 }
     requires spare { 0 < spare keys.old }
     requires named { sprout.facts.id ≢ 0 → 0 < spare ids.old }
@@ -43,7 +43,7 @@ pub fn plant(
     requires taken { let views = views_in nodes.old root.old next.old in
         refusal_at (plain_of views) (option_map (number_of views) parent) ≡ None }
     requires numbers { next.old < 2 ^ 63 }
-    ensures sound { IsSound (fields nodes.new keys.new ids.new root.new next.new) }
+    ensures sound { IsPlanted (fields nodes.new keys.new ids.new root.new next.new) }
     ensures attached { Attached (views_in nodes.old root.old next.old) parent (view_of next.old (seed_of sprout)) result (views_in nodes.new root.new next.new) }
     ensures len { slab_len nodes.new ≡ slab_len nodes.old + 1 }
     ensures capacity { nodes.new.capacity ≡ nodes.old.capacity }
@@ -90,14 +90,14 @@ pub fn sow(
     outermost: Key,
     sprouts: IntoIter<Sprout>,
 )
-    requires sound { IsSound (fields nodes.old keys.old ids.old root.old next.old) }
+    requires sound { IsPlanted (fields nodes.old keys.old ids.old root.old next.old) }
     requires room { HasRoomFor nodes.old (length (into_iter_items sprouts)) }
     requires spare { (length (into_iter_items sprouts) ≤ spare keys.old) × (length (into_iter_items sprouts) ≤ spare ids.old) }
     requires live { IsLive (views_in nodes.old root.old next.old) outermost }
     requires follow { follows 1 (into_iter_items sprouts) ≡ true }
     requires fits { FitsBelow (views_in nodes.old root.old next.old) outermost (into_iter_items sprouts) }
     requires numbers { next.old + length (into_iter_items sprouts) < 2 ^ 63 }
-    ensures sound { IsSound (fields nodes.new keys.new ids.new root.new next.new) }
+    ensures sound { IsPlanted (fields nodes.new keys.new ids.new root.new next.new) }
     ensures gained { GainedBelow (views_in nodes.old root.old next.old) outermost (views_in nodes.new root.new next.new) }
     ensures plain { (kids : Forest Seed) → preorder 2 kids ≡ into_iter_items sprouts → let old = views_in nodes.old root.old next.old in
         plain_of (views_in nodes.new root.new next.new) ≡ grown (number_of old outermost) (numbered next.old kids) (plain_of old) }

@@ -1,35 +1,38 @@
 //! Laying a measured view and all below it: the walk, which is the same for every class.
-ghost use Rattle.std.specs.Prelude.{◌≡◌, ◌+◌, ◌≤◌, true, [], List, length};
+ghost use Rattle.std.specs.Prelude.{◌≡◌, ◌+◌, ◌-ℤ◌, ◌≤◌, true, [], List, length};
+ghost use Rattle.view_model.specs.declared.kinds.Class.TheVariants.{RelativeLayout};
 ghost use Rattle.view_model.specs.declared.limits.TheConstants.{MAX_VIEWS};
 ghost use Rattle.view_model.specs.Facts.{is_shown};
 ghost use Rattle.view_model.specs.Forest.{count_of};
 ghost use Rattle.view_model.specs.Geometry.{size_of_rect};
 ghost use Rattle.view_model.specs.Layout.{Spot};
 ghost use Rattle.view_model.specs.Measuring.{Measured};
+ghost use Rattle.view_model.specs.RelativeLayout.{sides_of};
 ghost use Rattle.view_tree.specs.Rows.{first_tree, children_of_first, part_from};
-ghost use Rattle.view_tree.specs.Views.{IsLive, IsTree, KeepsOutside, SameTree, facts_of, held_of, specs_of, state_of};
+ghost use Rattle.view_tree.specs.Views.{IsLive, IsTree, KeepsOutside, SameTree, class_of, facts_of, held_of, specs_of, state_of};
 ghost use Rattle.view_world.specs.Laying.{CanBeLaid, IsLaid, KeepsAllButBounds, group_kids, layout_of, spot_of};
+ghost use Rattle.view_world.specs.Narrow.{AreNarrow, IsNarrow, IsNarrowFor, IsStretch};
 ghost use Rattle.view_world.specs.Placing.{LaidKids, PlacesAs};
 
 use super::placer::Placer;
 use geom_core::{Rect, Size};
 use view_tree::{Key, ViewTree};
 
-/// Lays a shown view, which was measured, in a rectangle of this size, and all below it.
+/// Lays a shown view, which was measured, in a rectangle, and all below it.
 #[cycle(lay)]
-pub fn lay(tree: &mut ViewTree, view: Key, rect: Rect, size: Size)
+pub fn lay(tree: &mut ViewTree, view: Key, rect: Rect)
     requires is_tree { IsTree tree.old }
     requires live { IsLive tree.old view }
     requires shown { is_shown (facts_of tree.old view) ≡ true }
     requires ready { CanBeLaid (held_of tree.old) (first_tree (part_from view tree.old.tree)) }
-    requires extent { size_of_rect rect ≡ size }
+    requires narrow { IsNarrow rect }
     ensures same { SameTree tree.old tree.new }
     ensures laid { IsLaid (held_of tree.new) (first_tree (part_from view tree.old.tree)) (layout_of (part_from view tree.old.tree) (specs_of (state_of tree.old view)) rect) }
     ensures kept { KeepsAllButBounds tree.old tree.new }
     ensures others { KeepsOutside (held_of tree.old) (held_of tree.new) (first_tree (part_from view tree.old.tree)) }
 {
     tree.set_bounds(view, Some(rect));
-    lay_kids(tree, view, size);
+    lay_kids(tree, view, extent(rect));
 }
 
 /// Lays the children of a view of this size.
@@ -37,6 +40,7 @@ pub fn lay(tree: &mut ViewTree, view: Key, rect: Rect, size: Size)
 fn lay_kids(tree: &mut ViewTree, view: Key, size: Size)
     requires live { IsLive tree.old view }
     requires ready { CanBeLaid (held_of tree.old) (children_of_first (part_from view tree.old.tree)) }
+    requires narrow { class_of tree.old view ≡ RelativeLayout → AreNarrow (held_of tree.old) (children_of_first (part_from view tree.old.tree)) }
     ensures same { SameTree tree.old tree.new }
     ensures laid { IsLaid (held_of tree.new) (children_of_first (part_from view tree.old.tree))
         (group_kids (spot_of (part_from view tree.old.tree) (held_of tree.old view) size) [] (held_of tree.old) (children_of_first (part_from view tree.old.tree))) }
@@ -59,6 +63,7 @@ fn lay_kids(tree: &mut ViewTree, view: Key, size: Size)
 fn lay_kid(tree: &mut ViewTree, placer: &mut Placer, kid: Key)
     requires live { IsLive tree.old kid }
     requires ready { CanBeLaid (held_of tree.old) (first_tree (part_from kid tree.old.tree)) }
+    requires narrow { is_shown (facts_of tree.old kid) ≡ true → IsNarrowFor placer.old (sides_of (state_of tree.old kid).edges) }
     ensures same { SameTree tree.old tree.new }
     ensures laid { (spot : Spot) (before : List Measured)
         → PlacesAs placer.old spot before
@@ -71,7 +76,26 @@ fn lay_kid(tree: &mut ViewTree, placer: &mut Placer, kid: Key)
     if !facts.is_shown() {
         return;
     }
-    let size = tree.state(kid).measured;
-    let rect = placer.place(facts, size);
-    lay(tree, kid, rect, size);
+    let state = tree.state(kid);
+    let rect = placer.place(facts, state.measured, state.edges);
+    lay(tree, kid, rect);
+}
+
+/// The size of a rectangle.
+fn extent(rect: Rect) -> Size
+    requires { IsNarrow rect }
+    ensures { result ≡ size_of_rect rect }
+{
+    Size {
+        w: stretch(rect.left, rect.right),
+        h: stretch(rect.top, rect.bottom),
+    }
+}
+
+/// How far it is from one edge to another.
+fn stretch(near: i32, far: i32) -> i32
+    requires { IsStretch (far -ℤ near) }
+    ensures { result ≡ far -ℤ near }
+{
+    far - near
 }

@@ -64,7 +64,7 @@ fn lay_root(tree: &mut ViewTree, root: Key, window: Size, work: &mut Work)
     }
     let (ws, hs) = specs_in(window, facts);
     let size = measure(tree, root, ws, hs, work);
-    lay(tree, root, rect_at(0, 0, size), size);
+    lay(tree, root, rect_at(0, 0, size));
 }
 
 /// The specs of the root in a window of this size.

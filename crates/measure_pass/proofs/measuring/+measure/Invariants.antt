@@ -1,13 +1,19 @@
-use Rattle.std.proofs.Common.{◌≡◌, ◌+◌, ◌*◌, [], List}
+use Rattle.std.proofs.Common.{◌≡◌, ◌+◌, ◌*◌, ◌<◌, ℕ, [], List}
+use Rattle.std.specs.Prelude.{slice_index}
 use Rattle.measure_pass.specs.Courses.{CanTurn, InCourse}
 use Rattle.measure_pass.specs.Measured.{Keeps}
 use Rattle.measure_pass.specs.Plans.{Group, Stands, rule_in}
+use Rattle.measure_pass.specs.Siblings.{FirstHasSize, FirstIsKnown, kids_in, order_on, phase_of}
+use Rattle.measure_pass.proofs.SiblingTurns.{Turning}
 use Rattle.measure_pass.proofs.Walk.{Phasing}
+use Rattle.relative_layout.specs.RelativePlan.{StandsRelative}
+use Rattle.view_model.specs.declared.facts.Facts.{Facts}
 use Rattle.view_model.specs.Course.{Requested}
 use Rattle.view_model.specs.Forest.{count_of}
-use Rattle.view_model.specs.Measuring.{Measured}
-use Rattle.view_tree.specs.Rows.{first_tree, children_of_first, part_from, rest_from}
-use Rattle.view_tree.specs.Views.{SameTree, held_of}
+use Rattle.view_model.specs.Measuring.{Measured, Specs}
+use Rattle.view_model.specs.RelativeLayout.{Spanned, phase_axis}
+use Rattle.view_tree.specs.Rows.{first_tree, children_of_first, part_from, rest_from, siblings_from}
+use Rattle.view_tree.specs.Views.{KeepsOutside, SameTree, held_of, orders_of}
 use Rattle.view_tree.proofs.forest.Walks.{KeepingWalk}
 use Rattle.measure_pass.proofs.measuring.+measure.Given as goal
 
@@ -20,6 +26,33 @@ decreases-measure l = 8 * count_of (first_tree (part_from l.view l.tree.now.tree
 
 abbrev pub decreases-measure_below : goal.decreases-measure_below
 decreases-measure_below l = 8 * count_of (first_tree (part_from l.view l.tree.now.tree)) + 4
+
+abbrev pub decreases-measure_siblings : goal.decreases-measure_siblings
+decreases-measure_siblings l = 8 * count_of (first_tree (part_from l.view l.tree.now.tree)) + 3
+
+abbrev pub decreases-measure_turns : goal.decreases-measure_turns
+decreases-measure_turns l = 8 * count_of (first_tree (part_from l.view l.tree.now.tree))
+
+abbrev pub decreases-measure_in_turn : goal.decreases-measure_in_turn
+decreases-measure_in_turn l = 8 * count_of (first_tree (part_from l.kid l.tree.now.tree)) + 6
+
+abbrev pub invariant-measure_turns-loop-turn : goal.invariant-measure_turns-loop-turn
+invariant-measure_turns-loop-turn l =
+    let tree = l.fn.tree.tree in
+    let list = children_of_first (part_from l.view tree) in
+    let start = held_of l.fn.tree in
+    let now = held_of l.tree in
+    let order = order_on l.axis (orders_of l.fn.tree l.view) in
+    record {
+      same : SameTree l.fn.tree l.tree;
+      turning : (own : Facts) (specs : Specs) (past : List (List Spanned)) → StandsRelative l.fn.plan own specs past [] → phase_axis past ≡ l.axis
+          → ((place : ℕ) → FirstIsKnown l.axis start ((phase_of l.axis own specs (kids_in list)).before place) (siblings_from place list))
+          → Turning l.plan l.axis own specs past order l.turn start now list l.fn.work.measured l.work.measured;
+      sizes : (q : ℕ) → q < l.turn → FirstHasSize now (siblings_from (slice_index order q) list);
+      keeps : Keeps start now;
+      others : KeepsOutside start now list;
+      painted : l.work.painted ≡ l.fn.work.painted;
+    }
 
 abbrev pub decreases-measure_phases : goal.decreases-measure_phases
 decreases-measure_phases l = 8 * count_of (first_tree (part_from l.view l.tree.now.tree)) + 1 + l.left

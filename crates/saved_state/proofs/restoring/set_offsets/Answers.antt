@@ -15,6 +15,7 @@ loop-next-init c =
     record {
       live = c.root-next.ensures.live;
       same = refl;
+      orders = refl;
       numbers = refl;
       left = λ key.
           ap (λ n. set_at n (wanted c.args.states.now tree key) (held_of c.args.tree.now key))
@@ -33,6 +34,7 @@ loop-next-preserved c =
     record {
       live = rw c.set_one.ensures.same.tree c.next_in_preorder-next.ensures.live;
       same = c.set_one.ensures.same.tree ∙ same;
+      orders = c.set_one.ensures.same.orders ∙ c.loop-next.invariant.orders;
       numbers = c.set_one.ensures.same.next ∙ c.loop-next.invariant.numbers;
       left = λ key.
           set_on c.args.states.now tree view c.next_in_preorder-next.result (held_of old) (held_of c.set_one.new.tree)

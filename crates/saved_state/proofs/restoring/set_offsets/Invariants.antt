@@ -13,6 +13,7 @@ invariant-loop-next l =
     record {
       live : IfSome l.next (λ view. IsLive l.tree view);
       same : l.tree.tree ≡ tree;
+      orders : l.tree.orders ≡ l.fn.tree.orders;
       numbers : l.tree.next ≡ l.fn.tree.next;
       -- once the views that are left are set too, all are
       left : (key : ℕ) → set_at (key_count key (rows_from l.next tree)) (wanted l.states tree key) (held_of l.tree key)

@@ -11,5 +11,6 @@ returns-in-Some-clause-same c =
       tree = c.set_facts.ensures.tree
           ∙ offset_put c.args.tree.now c.args.view c.moved-facts.result offset
           c.facts.ensures.is_tree c.requires (c.moved-facts.ensures ∙ ap with c.facts.ensures.value);
+      orders = c.set_facts.ensures.orders;
       next = c.set_facts.ensures.next;
     }

@@ -25,6 +25,7 @@ loop-next-init t c =
     let one = c.bring_one.ensures in
     record {
       same = one.same.tree;
+      orders = one.same.orders;
       numbers = one.same.next;
       walked = bringing_start c.args.tree.now.tree (children_of_first (part_from c.args.view c.args.tree.now.tree)) (range_at c.args.tree.now) (held_of c.bring_one.new.tree)
           c.first-next.result (rw one.same.tree at c.first-next.ensures.part) (rw one.same.tree at c.first-next.ensures.live);
@@ -39,6 +40,7 @@ loop-next-preserved t c =
     let ranges = range_same c.args.tree.now c.loop-next.tree same states in
     record {
       same = c.bring.ensures.same.tree ∙ same;
+      orders = c.bring.ensures.same.orders ∙ c.loop-next.invariant.orders;
       numbers = c.bring.ensures.same.next ∙ c.loop-next.invariant.numbers;
       walked =
           bringing_on c.args.tree.now.tree (children_of_first (part_from c.args.view c.args.tree.now.tree)) (range_at c.args.tree.now) (held_of c.bring_one.new.tree) c.in-Some.kid

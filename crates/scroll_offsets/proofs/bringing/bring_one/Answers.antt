@@ -13,5 +13,6 @@ returns-clause-same c =
       tree = c.set_facts.ensures.tree
           ∙ offset_put c.args.tree.now c.args.view c.facts_within-facts.result (offset_within range (facts_of c.args.tree.now c.args.view).offset)
           c.facts.ensures.is_tree c.requires (c.facts_within-facts.ensures ∙ ap within c.facts.ensures.value);
+      orders = c.set_facts.ensures.orders;
       next = c.set_facts.ensures.next;
     }

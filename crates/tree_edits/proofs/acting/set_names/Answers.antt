@@ -1,7 +1,7 @@
 use Rattle.std.proofs.Common.{◌∙◌, ap}
 use Rattle.std.specs.Prelude.{OnOk}
 use Rattle.view_model.specs.Changes.{facts_after_act}
-use Rattle.tree_edits.proofs.ActLaws.{Made, kept_made, names_keep_made, names_made, scene_made}
+use Rattle.tree_edits.proofs.ActLaws.{Made, kept_made, names_keep_made, names_made, names_refused, scene_made}
 use Rattle.tree_edits.proofs.acting.set_names.Goals as goal
 use Rattle.tree_edits.proofs.acting.set_names.Goals.{After-set_rules}
 
@@ -21,3 +21,8 @@ returns-clause-kept c =
 
 pub returns-clause-consistent : goal.returns-clause-consistent
 returns-clause-consistent c = kept_made c.args.tree.now c.set_rules.new.self c.args.view c.args.act c.set_rules.result (made c) c.set_rules.ensures.unchanged
+
+pub returns-clause-refused : goal.returns-clause-refused
+returns-clause-refused c =
+    names_refused c.args.tree.now c.args.view c.args.act c.facts_after_act-facts.result c.set_rules.result
+    c.facts.ensures.is_tree c.requires.live c.requires.names (c.facts_after_act-facts.ensures ∙ ap (facts_after_act c.args.act) c.facts.ensures.value) c.set_rules.ensures.refused

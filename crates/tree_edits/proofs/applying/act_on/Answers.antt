@@ -1,8 +1,9 @@
 use Rattle.std.proofs.Common.{◌≡◌, Err, None, Ok, ap, false, rules, sym, true, ◌∙◌}
-use Rattle.tree_edits.specs.Editing.{after_act, outcome_of_act}
+use Rattle.tree_edits.specs.Editing.{cycle_of_act, names_views, outcome_of_act, outcome_unless}
 use Rattle.tree_edits.specs.Scene.{Scene, scene_of}
 use Rattle.view_model.specs.PlainTree.{view_in}
 use Rattle.view_tree.specs.Views.{number_of, plain_of}
+use Rattle.tree_edits.proofs.CycleLaws.{cycle_named, unnamed}
 use Rattle.tree_edits.proofs.EditLaws.{done_by, not_named}
 use Rattle.tree_edits.proofs.applying.act_on.Goals as goal
 use Rattle.tree_edits.proofs.applying.act_on.Goals.{else-names_views, then-names_views+in_ok-set_names}
@@ -15,12 +16,14 @@ returns-then-not-takes-clause-applied c =
 
 pub returns-in_err-set_names-clause-applied : goal.returns-in_err-set_names-clause-applied
 returns-in_err-set_names-clause-applied c =
-    let after = after_act (scene_of c.args.tree.now) (number_of c.args.tree.now c.args.view) c.args.act in
     let taken : c.takes.result ≡ true = search rules in
-    let is : outcome_of_act (scene_of c.args.tree.now) (number_of c.args.tree.now c.args.view) c.args.act (view_in (plain_of c.args.tree.now) (number_of c.args.tree.now c.args.view)) ≡ Ok (after, None) =
+    let names : names_views c.args.act ≡ true = search rules in
+    let is : outcome_of_act (scene_of c.args.tree.now) (number_of c.args.tree.now c.args.view) c.args.act (view_in (plain_of c.args.tree.now) (number_of c.args.tree.now c.args.view))
+    ≡ outcome_unless (scene_of c.args.tree.now) (number_of c.args.tree.now c.args.view) c.args.act (cycle_of_act (plain_of c.args.tree.now) (number_of c.args.tree.now c.args.view) c.args.act) =
     done_by c.args.tree.now c.args.view c.args.act c.class.result c.takes.result c.class.ensures.is_tree c.requires.live c.class.ensures.value c.takes.ensures
     ∙ rw taken in
-    not_named _ after (scene_of c.set_names.new.tree) c.in_err-set_names.field-0.0 c.from_residual.result is c.in_err-set_names.ensures.refused c.from_residual.ensures.1
+    not_named (scene_of c.args.tree.now) (number_of c.args.tree.now c.args.view) c.args.act _ (scene_of c.set_names.new.tree) c.in_err-set_names.field-0.0 c.from_residual.result names is
+    c.in_err-set_names.ensures.refused c.from_residual.ensures.1
 
 pub returns-clause-applied : goal.returns-clause-applied
 returns-clause-applied c =
@@ -28,6 +31,13 @@ returns-clause-applied c =
     done_by c.args.tree.now c.args.view c.args.act c.class.result c.takes.result c.class.ensures.is_tree c.requires.live c.class.ensures.value c.takes.ensures
     ∙ rw taken (
     elim c.if-names_views.branch [
-      | then-names_views+in_ok-set_names w ↦ rw w.tree-is (ap (λ (scene : Scene). Ok (scene, None)) (sym w.in_ok-set_names.ensures.scene))
-      | else-names_views w ↦ rw w.tree-is (ap (λ (scene : Scene). Ok (scene, None)) (sym w.set_facts.ensures.scene))
+      | then-names_views+in_ok-set_names w ↦
+          let names : names_views c.args.act ≡ true = search rules in
+          ap (outcome_unless (scene_of c.args.tree.now) (number_of c.args.tree.now c.args.view) c.args.act)
+          (cycle_named (scene_of c.args.tree.now) (number_of c.args.tree.now c.args.view) c.args.act names ∙ w.in_ok-set_names.ensures.refused)
+          ∙ rw w.tree-is (ap (λ (scene : Scene). Ok (scene, None)) (sym w.in_ok-set_names.ensures.scene))
+      | else-names_views w ↦
+          let names : names_views c.args.act ≡ false = search rules in
+          unnamed (scene_of c.args.tree.now) (number_of c.args.tree.now c.args.view) c.args.act names
+          ∙ rw w.tree-is (ap (λ (scene : Scene). Ok (scene, None)) (sym w.set_facts.ensures.scene))
     ])

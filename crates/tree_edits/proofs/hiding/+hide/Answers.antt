@@ -22,6 +22,7 @@ loop-next-preserved t c =
     let same = c.loop-next.invariant.same in
     record {
       same = c.hide.ensures.same.tree ∙ same;
+      orders = c.hide.ensures.same.orders ∙ c.loop-next.invariant.orders;
       numbers = c.hide.ensures.same.next ∙ c.loop-next.invariant.numbers;
       walked =
           hiding_on c.args.tree.now.tree (children_of_first (part_from c.args.view c.args.tree.now.tree)) (held_of c.set_bounds.new.self) c.in-Some.kid

@@ -18,6 +18,7 @@ invariant-loop-next l =
     let tree = l.fn.tree.tree in
     record {
       same : l.tree.tree ≡ tree;
+      orders : l.tree.orders ≡ l.fn.tree.orders;
       numbers : l.tree.next ≡ l.fn.tree.next;
       walked : HidingWalk tree (children_of_first (part_from l.view tree)) (held_of l.initial.tree) l.next (held_of l.tree);
     }

@@ -6,4 +6,4 @@ pub returns-in-Linear : goal.returns-in-Linear
 returns-in-Linear c = λ group past taken stands.
     let s = rw c.in-Linear.is at stands in
     let fits : FitsSigned w64 c.total.result = search rules in
-    simp to_z-of_z (rw s.0 (c.total.ensures group.view.facts group.specs past taken s.1))
+    simp to_z-of_z (rw s.0 (c.total.ensures group.own group.specs past taken s.1))

@@ -2,6 +2,10 @@ use Rattle.std.proofs.Common.{◌≡◌, ◌+◌, ◌≤◌, length, refl, sym, 
 use Rattle.view_model.specs.declared.limits.TheConstants.{MAX_VIEWS}
 use Rattle.view_model.specs.Facts.{is_shown, unscrolled_facts}
 use Rattle.view_model.specs.Forest.{count_of}
+use Rattle.geom_core.specs.declared.geometry.Size.{Size}
+use Rattle.view_model.specs.Layout.{place_in}
+use Rattle.view_model.specs.Measuring.{Measured}
+use Rattle.view_model.specs.RelativeLayout.{sides_of}
 use Rattle.view_tree.specs.declared.state.State.{State}
 use Rattle.view_tree.specs.Rows.{first_tree, children_of_first, part_from, head_view}
 use Rattle.view_tree.specs.Views.{held_of}
@@ -9,9 +13,9 @@ use Rattle.view_tree.proofs.forest.Walks.{count_few, count_one, fewer_below}
 use Rattle.view_tree.proofs.forest.Forests.{count_alone, live_after}
 use Rattle.view_world.specs.Laying.{spot_of}
 use Rattle.view_world.specs.Placing.{LaidKids}
-use Rattle.view_world.proofs.LaidOwn.{below_ready, group_at, kid_at, kid_gone, outside_at, sides_at}
+use Rattle.view_world.proofs.LaidOwn.{below_narrow, below_ready, group_at, kid_at, kid_gone, outside_at, sides_at}
 use Rattle.view_world.proofs.LaidParts.{CanBeLaid-first_tree, CanBeLaid-along, kept_on}
-use Rattle.view_world.proofs.LaidWalk.{laid_on, laid_start}
+use Rattle.view_world.proofs.LaidWalk.{laid_on, laid_start, next_narrow}
 use Rattle.view_world.proofs.laying.lay.+lay.Goals as goal
 
 pub lay-lay_kids-requires : goal.lay-lay_kids-requires
@@ -19,7 +23,9 @@ lay-lay_kids-requires t c =
     let set = c.set_bounds.ensures in
     let ready = below_ready c.args.tree.now.tree c.args.view c.args.rect (held_of c.args.tree.now) (held_of c.set_bounds.new.self) c.requires.live
     c.requires.is_tree.keys c.requires.shown c.requires.ready (record { at = set.held; others = set.others }) in
-    rw set.same.tree (omega arith, (c.requires.live, ready))
+    let narrow = below_narrow c.args.tree.now.tree c.args.view c.args.rect (held_of c.args.tree.now) (held_of c.set_bounds.new.self) c.requires.live
+    c.requires.is_tree.keys c.requires.shown c.requires.ready.sized (record { at = set.held; others = set.others }) in
+    rw set.same.tree (omega arith, (c.requires.live, (ready, narrow)))
 
 pub lay-returns-clause-laid : goal.lay-returns-clause-laid
 lay-returns-clause-laid t c =
@@ -27,7 +33,7 @@ lay-returns-clause-laid t c =
     let kids = c.lay_kids.ensures in
     group_at c.args.tree.now.tree c.args.view c.args.rect (held_of c.args.tree.now) (held_of c.set_bounds.new.self) (held_of c.lay_kids.new.tree)
     c.requires.live c.requires.is_tree.keys c.requires.shown c.requires.ready
-    (record { at = set.held; others = set.others }) (rw c.requires.extent (rw set.same.tree at kids.laid)) (rw set.same.tree at kids.others)
+    (record { at = set.held; others = set.others }) (rw c.extent.ensures at (rw set.same.tree at kids.laid)) (rw set.same.tree at kids.others)
 
 pub lay-returns-clause-others : goal.lay-returns-clause-others
 lay-returns-clause-others t c =
@@ -43,18 +49,22 @@ lay_kid-returns-then-not-is_shown-clause-laid t c = λ spot before places few.
 
 pub lay_kid-place-rect-requires-clause-width : goal.lay_kid-place-rect-requires-clause-width
 lay_kid-place-rect-requires-clause-width t c =
-    rw c.state.ensures.value (sides_at c.args.tree.now.tree c.args.kid (held_of c.args.tree.now) c.requires.live
+    rw c.state-state.ensures.value (sides_at c.args.tree.now.tree c.args.kid (held_of c.args.tree.now) c.requires.live
     (sym (ap is_shown c.facts-facts.ensures.value) ∙ sym c.is_shown.ensures ∙ c.if-not-is_shown.false) c.requires.ready.sized).width
 
 pub lay_kid-place-rect-requires-clause-height : goal.lay_kid-place-rect-requires-clause-height
 lay_kid-place-rect-requires-clause-height t c =
-    rw c.state.ensures.value (sides_at c.args.tree.now.tree c.args.kid (held_of c.args.tree.now) c.requires.live
+    rw c.state-state.ensures.value (sides_at c.args.tree.now.tree c.args.kid (held_of c.args.tree.now) c.requires.live
     (sym (ap is_shown c.facts-facts.ensures.value) ∙ sym c.is_shown.ensures ∙ c.if-not-is_shown.false) c.requires.ready.sized).height
+
+pub lay_kid-place-rect-requires-clause-sides : goal.lay_kid-place-rect-requires-clause-sides
+lay_kid-place-rect-requires-clause-sides t c =
+    rw c.state-state.ensures.value (c.requires.narrow (sym (ap is_shown c.facts-facts.ensures.value) ∙ sym c.is_shown.ensures ∙ c.if-not-is_shown.false))
 
 pub lay_kid-lay-requires : goal.lay_kid-lay-requires
 lay_kid-lay-requires t c =
     let shown = sym (ap is_shown c.facts-facts.ensures.value) ∙ sym c.is_shown.ensures ∙ c.if-not-is_shown.false in
-    (omega arith, (c.facts-facts.ensures.is_tree, (c.requires.live, (shown, (c.requires.ready, c.place-rect.ensures.extent)))))
+    (omega arith, (c.facts-facts.ensures.is_tree, (c.requires.live, (shown, (c.requires.ready, c.place-rect.ensures.narrow)))))
 
 pub lay_kid-returns-clause-laid : goal.lay_kid-returns-clause-laid
 lay_kid-returns-clause-laid t c = λ spot before places few.
@@ -62,10 +72,12 @@ lay_kid-returns-clause-laid t c = λ spot before places few.
     let shown = sym (ap is_shown c.facts-facts.ensures.value) ∙ sym c.is_shown.ensures ∙ c.if-not-is_shown.false in
     let facts_is : unscrolled_facts c.facts-facts.result.now ≡ unscrolled_facts (head_view (part_from c.args.kid c.args.tree.now.tree)).facts =
     ap unscrolled_facts c.facts-facts.ensures.value in
-    kid_at c.args.tree.now.tree c.args.kid c.place-rect.new.self spot before c.state.result.measured c.place-rect.result
+    let kid_of : Size → Measured = λ size. record { facts = unscrolled_facts (head_view (part_from c.args.kid c.args.tree.now.tree)).facts; size = size } in
+    kid_at c.args.tree.now.tree c.args.kid c.place-rect.new.self spot before c.state-state.result.measured c.place-rect.result
     (held_of c.args.tree.now) (held_of c.lay.new.tree) c.requires.live shown c.requires.ready.sized
-    (ap (λ (state : State). state.measured) c.state.ensures.value)
-    (rw facts_is at (c.place-rect.ensures.place spot before places)) (rw facts_is at (c.place-rect.ensures.next spot before places (omega arith))) c.lay.ensures.laid
+    (ap (λ (state : State). state.measured) c.state-state.ensures.value)
+    (rw facts_is at (c.place-rect.ensures.place spot before places)
+    ∙ ap (λ (state : State). place_in spot before (kid_of c.state-state.result.measured) (sides_of state.edges)) c.state-state.ensures.value) (rw facts_is at (c.place-rect.ensures.next spot before places (omega arith))) c.lay.ensures.laid
 
 pub lay_kids-lay_kid-requires : goal.lay_kids-lay_kid-requires
 lay_kids-lay_kid-requires t c =
@@ -76,8 +88,13 @@ lay_kids-lay_kid-requires t c =
       omega arith,
       (
         walk.walked.walk.live,
-        CanBeLaid-first_tree (held_of c.loop-next.tree) (part_from c.in-Some.kid tree)
-            (CanBeLaid-along (held_of c.args.tree.now) (held_of c.loop-next.tree) (part_from c.in-Some.kid tree) walk.walked.still walk.ready),
+        (
+          CanBeLaid-first_tree (held_of c.loop-next.tree) (part_from c.in-Some.kid tree)
+              (CanBeLaid-along (held_of c.args.tree.now) (held_of c.loop-next.tree) (part_from c.in-Some.kid tree) walk.walked.still walk.ready),
+          λ shown.
+              next_narrow tree (children_of_first (part_from c.args.view tree)) c.loop-next.placer (spot_of (part_from c.args.view tree) (held_of c.args.tree.now c.args.view) c.args.size)
+              (held_of c.args.tree.now) c.in-Some.kid (held_of c.loop-next.tree) walk shown,
+        ),
       ),
     )
 
@@ -92,11 +109,11 @@ lay_kids-loop-next-init t c =
     let first = c.first-next.ensures in
     let spot = spot_of (part_from c.args.view tree) (held_of c.args.tree.now c.args.view) c.args.size in
     record {
-      same = record { tree = refl; next = refl };
+      same = record { tree = refl; orders = refl; next = refl };
       kept = λ key. refl;
       walked =
           laid_start tree (children_of_first (part_from c.args.view tree)) c.start-placer.result spot (held_of c.args.tree.now) c.first-next.result c.start-placer.ensures
-          (count_few c.args.view tree c.requires.live first.is_tree.few) first.is_tree.keys first.part first.live c.requires.ready;
+          (count_few c.args.view tree c.requires.live first.is_tree.few) first.is_tree.keys first.part first.live c.requires.ready c.requires.narrow;
     }
 
 pub lay_kids-loop-next-preserved : goal.lay_kids-loop-next-preserved
@@ -112,7 +129,7 @@ lay_kids-loop-next-preserved t c =
     let laid : LaidKids c.lay_kid.new.placer spot walk.before (held_of c.loop-next.tree) (held_of c.lay_kid.new.tree) (first_tree (part_from c.in-Some.kid tree)) =
     (rw before.same.tree at (kid.laid spot walk.before walk.places)) few in
     record {
-      same = record { tree = kid.same.tree ∙ before.same.tree; next = kid.same.next ∙ before.same.next };
+      same = record { tree = kid.same.tree ∙ before.same.tree; orders = kid.same.orders ∙ before.same.orders; next = kid.same.next ∙ before.same.next };
       kept = kept_on c.args.tree.now c.loop-next.tree c.lay_kid.new.tree before.kept kid.kept;
       walked =
           laid_on tree (children_of_first (part_from c.args.view tree)) c.loop-next.placer c.lay_kid.new.placer spot (held_of c.args.tree.now) c.in-Some.kid

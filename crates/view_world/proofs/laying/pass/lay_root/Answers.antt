@@ -1,4 +1,4 @@
-use Rattle.std.proofs.Common.{◌≡◌, ◌+◌, ◌-◌, ◌^◌, min, ℕ, arith, sym, ◌∙◌, ap}
+use Rattle.std.proofs.Common.{◌≡◌, ◌+◌, ◌-◌, ◌^◌, min, ℕ, pos, arith, sym, ◌∙◌, ap}
 use Rattle.geom_core.specs.declared.measuring.Spec.{Spec}
 use Rattle.measure_pass.specs.Measured.{size_under}
 use Rattle.view_model.specs.declared.facts.Facts.{Facts as FactsValue}
@@ -9,7 +9,7 @@ use Rattle.view_tree.specs.Hidden.{HidesGone}
 use Rattle.view_tree.specs.Rows.{first_tree, part_from}
 use Rattle.view_tree.specs.Views.{held_of, specs_of, state_of}
 use Rattle.view_tree.proofs.values.KeptLaws.{is_tree-same}
-use Rattle.view_world.proofs.LaidWhole.{calls_whole, gone_whole, laid_whole, no_calls, root_alone, whole_ready}
+use Rattle.view_world.proofs.LaidWhole.{at_narrow, calls_whole, gone_whole, laid_whole, no_calls, root_alone, whole_ready}
 use Rattle.view_world.proofs.laying.pass.lay_root.Goals as goal
 
 pub returns-then-not-is_shown-clause-geometry : goal.returns-then-not-is_shown-clause-geometry
@@ -62,3 +62,7 @@ pub lay-requires-clause-is_tree : goal.lay-requires-clause-is_tree
 lay-requires-clause-is_tree c =
     let m = c.measure-size.ensures in
     is_tree-same c.args.tree.now c.measure-size.new.tree c.facts-facts.ensures.is_tree m.same.tree m.same.next
+
+pub lay-requires-clause-narrow : goal.lay-requires-clause-narrow
+lay-requires-clause-narrow c =
+    rw c.rect_at.ensures (at_narrow (pos 0) (pos 0) c.measure-size.result c.measure-size.ensures.width c.measure-size.ensures.height)

@@ -1,12 +1,11 @@
 use Rattle.std.proofs.Common.{◌≡◌, List, ℕ, ap, sym, subst, ◌∙◌}
 use Rattle.std.specs.Prelude.{Ok, Some}
-use Rattle.view_model.specs.Grafts.{graft_refusal}
 use Rattle.view_tree.specs.Views.{plain_of}
 use Rattle.view_world.specs.Carried.{AreAtHand}
 use Rattle.view_world.specs.Changed.{IsPlace}
 use Rattle.view_world.specs.Inflating.{asked_for, views_in, views_of}
 use Rattle.view_world.specs.KeyedWorld.{KeyedWorld, world_of}
-use Rattle.view_world.specs.Step.{grafted, inflation}
+use Rattle.view_world.specs.Step.{graft_reason, grafted, inflation}
 use Rattle.view_world.proofs.FileLaws.{counts_nothing}
 use Rattle.view_world.proofs.InflatingLaws.{inflated_as, inflates_as, told_where_asked, views_of-bytes}
 use Rattle.view_world.proofs.world.World.inflate.Goals as goal
@@ -25,7 +24,7 @@ returns-clause-changed g c files at =
     let reply = inflated_as files (world_of old) name c.args.into place.0 views.0 place.1 plan in
     let changed = c.graft.ensures.changed place.0 views.0 (subst (λ (w : KeyedWorld). IsPlace w.views place.0 c.in_ok-place.place) c.self.view_is place.2) views.2 in
     let replies = λ (w : KeyedWorld). inflation files (world_of w) name c.args.into in
-    let grown = λ (w : KeyedWorld). grafted (world_of w) place.0 views.0 (graft_refusal (plain_of w.views) place.0 views.0.seeds) in
+    let grown = λ (w : KeyedWorld). grafted (world_of w) place.0 views.0 (graft_reason (plain_of w.views) place.0 w.views.next views.0.seeds) in
     inflates_as (replies c.args.self.now) c.graft.new.self c.graft.result (rw (subst (λ (w : KeyedWorld). replies w ≡ grown w) c.self.view_is reply) changed)
 
 pub returns-clause-shelf_failed : goal.returns-clause-shelf_failed

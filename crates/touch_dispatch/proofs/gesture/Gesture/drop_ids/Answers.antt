@@ -1,0 +1,17 @@
+use Rattle.std.proofs.Common.{sym, subst, inl, inr}
+use Rattle.std.proofs.lemmas.Bool.{cases_Bool}
+use Rattle.std.specs.Prelude.{◌==◌}
+use Rattle.touch_event.specs.PointerSets.{has_id}
+use Rattle.touch_targets.specs.Seats.{targets_of}
+use Rattle.touch_dispatch.specs.Once.{Distinct}
+use Rattle.touch_dispatch.proofs.DistinctLaws.{drop_distinct}
+use Rattle.touch_dispatch.proofs.gesture.Gesture.drop_ids.Goals as goal
+
+pub invariant_of-self : goal.invariant_of-self
+invariant_of-self c = record {
+  distinct = λ group.
+      subst Distinct (sym (c.drop_ids.ensures.targets group)) (elim (cases_Bool (group == c.args.group)) [
+        | inl e ↦ rw e (drop_distinct (has_id c.args.ids) (targets_of c.self.inside.targets group) (c.self.invariant.distinct group))
+        | inr e ↦ rw e (c.self.invariant.distinct group)
+      ]);
+}

@@ -1,0 +1,115 @@
+-- A tree of views and a gesture, as the dispatch of an event sees them.
+use Rattle.std.specs.Prelude.{◌∷◌, [], ◌≡◌, ◌<◌, ℕ, ◌==◌, ℤ, Bool, true, false, ◌||◌, List, Option, Some, None}
+use Rattle.std.specs.Vec.{vec_capacity}
+use Rattle.touch_dispatch.specs.Dispatch.{EventChild, Scene, event_children, reached_by, receiver}
+use Rattle.touch_dispatch.specs.Gestures.{PlainGesture}
+use Rattle.touch_dispatch.specs.Handling.{Progress, Reached, handled}
+use Rattle.touch_dispatch.specs.Kept.{Kept, gesture_of, is_open}
+use Rattle.touch_dispatch.specs.declared.log.Entry.{Entry}
+use Rattle.touch_dispatch.specs.declared.log.Log.{Log}
+use Rattle.touch_event.specs.declared.event.Event.{Event}
+use Rattle.touch_targets.specs.Captures.{Target, first_ids, from_child, is_target}
+use Rattle.view_model.specs.Forest.{Forest, Nothing, Branch}
+use Rattle.view_model.specs.PlainTree.{PlainView, part_of}
+use Rattle.view_tree.specs.Rows.{Row, ancestors, children_of_first, count_of_key, first_tree, head_view, key_where, part_from, views_of}
+use Rattle.view_tree.specs.Views.{Held, IsLive, SameTree, Views, held_of, held_or, number_of}
+
+abbrev pub held_under : Views → Option ℕ → Held
+held_under views None = held_or None
+held_under views (Some key) = held_of views key
+
+-- what is kept of the view of a number
+abbrev pub held_at : Views → ℕ → Held
+held_at views number = held_under views (key_where (λ (view : PlainView). view.number == number) views.tree)
+
+unfoldable pub scene_of : Views → ℤ → Scene
+scene_of views slop = record { rects = λ number. (held_at views number).state.bounds; slop = slop }
+
+unfoldable pub offsets_in : Views → ℕ → ℤ
+offsets_in views number = (held_at views number).offset
+
+abbrev pub progress_by : (ℕ → ℤ) → PlainGesture → List Entry → Progress
+progress_by offsets gesture entries = record { gesture = gesture; offsets = offsets; entries = entries }
+
+-- how far an event has come, by what is kept and told
+abbrev pub progress_of : Views → Kept → Log → Progress
+progress_of views kept log = progress_by (offsets_in views) (gesture_of kept) log.entries.items
+
+-- how many entries a log has room for
+abbrev pub room_of : Log → ℕ
+room_of log = vec_capacity log.entries
+
+abbrev pub below_first : Forest PlainView → Forest PlainView
+below_first Nothing = Nothing
+below_first (Branch view below after) = below
+
+-- a list of trees is another one from one of its trees on
+pub data Later (rest : Forest Row) : Forest Row → Type 0 where
+  At_first : Later rest rest
+  Later_on : {row : Row} {kids siblings : Forest Row} → Later rest siblings → Later rest (Branch row kids siblings)
+
+-- one of the trees of a list has this view as its root
+abbrev pub is_root : ℕ → Forest PlainView → Bool
+is_root number Nothing = false
+is_root number (Branch view below after) = (view.number == number) || is_root number after
+
+-- each target of a group is a child of it
+abbrev pub AreChildren : Forest PlainView → PlainGesture → Type 0
+AreChildren tree gesture =
+    (group child : ℕ) → is_target child (gesture.targets group) ≡ true → is_root child (below_first (part_of group tree)) ≡ true
+
+-- a gesture has a place for each view of a tree, and each target is a child of its group there
+pub record IsGestureIn (tree : Forest Row) (kept : Kept) : Type 0 where
+  pub opened : (key : ℕ) → 0 < count_of_key key tree → is_open kept (head_view (part_from key tree)).number ≡ true
+  pub children : AreChildren (views_of tree) (gesture_of kept)
+
+-- nothing but offsets is other
+pub record OnlyScrolls (old new : Views) : Type 0 where
+  pub same : SameTree old new
+  pub held : (key : ℕ) → held_of new key ≡ record (held_of old key) { offset = (held_of new key).offset }
+
+-- the view of a key, as if it was not scrolled
+abbrev pub own_of : Views → ℕ → PlainView
+own_of views key = head_view (part_from key views.tree)
+
+-- the children of the view of a key
+abbrev pub kids_of : Views → ℤ → ℕ → List EventChild
+kids_of views slop key = event_children (scene_of views slop) (views_of (children_of_first (part_from key views.tree)))
+
+-- the view of a key as a child
+abbrev pub child_at : Views → ℤ → ℕ → EventChild
+child_at views slop key = record {
+  view = own_of views key;
+  reach = reached_by (scene_of views slop) (own_of views key) (kids_of views slop key);
+}
+
+-- the view of a key handles an event itself
+abbrev pub handled_at : Views → ℤ → ℕ → Event → Progress → Reached
+handled_at views slop key event progress = handled (receiver (scene_of views slop) (own_of views key) (kids_of views slop key)) event progress
+
+-- the target of a child
+abbrev pub target_of : ℕ → List Target → Target
+target_of child targets = record { child = child; ids = first_ids (from_child child targets) }
+
+-- a view is a child of another
+pub record IsKidAt (views : Views) (view kid : ℕ) : Type 0 where
+  pub live : IsLive views kid
+  pub within : Later (part_from kid views.tree) (children_of_first (part_from view views.tree))
+
+abbrev pub first_number : Views → List ℕ → Option ℕ
+first_number views [] = None
+first_number views (key ∷ keys) = Some (number_of views key)
+
+-- the number of the parent of the view of a key
+abbrev pub parent_number : Views → ℕ → Option ℕ
+parent_number views key = first_number views (ancestors key views.tree)
+
+-- the view of a key with all below it
+abbrev pub part_at : Views → ℕ → Forest PlainView
+part_at views key = views_of (first_tree (part_from key views.tree))
+
+-- nothing is another
+pub record Unchanged (old_tree new_tree : Views) (old new : Kept) (old_log new_log : Log) : Type 0 where
+  pub tree : new_tree ≡ old_tree
+  pub gesture : new ≡ old
+  pub log : new_log ≡ old_log

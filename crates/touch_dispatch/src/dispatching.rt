@@ -1,0 +1,122 @@
+//! An event of all the pointers, and the cancel of a view that goes away.
+ghost use Rattle.std.specs.Prelude.{◌≡◌, ◌≤◌, ◌<◌, ◌+◌, ◌*◌, ◌&&◌, ℕ, Some, length, is_some, false};
+ghost use Rattle.touch_dispatch.specs.Dispatch.{cancelled, dispatched, reach};
+ghost use Rattle.touch_dispatch.specs.Kept.{gesture_of};
+ghost use Rattle.touch_dispatch.specs.Once.{asks, total, touches};
+ghost use Rattle.touch_dispatch.specs.TreeEvents.{IsGestureIn, OnlyScrolls, Unchanged, parent_number, part_at, progress_of, room_of, scene_of};
+ghost use Rattle.touch_event.specs.declared.event.TheConstants.{MAX_POINTERS};
+ghost use Rattle.touch_targets.specs.Captures.{is_target};
+ghost use Rattle.view_model.specs.Facts.{is_shown};
+ghost use Rattle.view_model.specs.Forest.{count_of};
+ghost use Rattle.view_tree.specs.Rows.{first_tree, part_from, views_of};
+ghost use Rattle.view_tree.specs.Views.{IsLive, IsTree, facts_of, number_of, state_of};
+
+use crate::gesture::Gesture;
+use crate::groups::is_target;
+use crate::limits::Limits;
+use crate::log::Log;
+use crate::points::cancel_event;
+use crate::reaching::reach;
+use touch_event::{Event, MAX_POINTERS};
+use view_tree::{Key, ViewTree};
+
+/// Hands an event of all the pointers to the root, in the root's coordinates, and answers what the root says. A pointer may
+/// slip by `slop` pixels before that counts. It takes no memory.
+pub fn dispatch(
+    tree: &mut ViewTree,
+    gesture: &mut Gesture,
+    event: &Event,
+    slop: i32,
+    log: &mut Log,
+) -> bool
+    requires pointer { event.now.pointer < MAX_POINTERS }
+    requires caught { IsGestureIn tree.old.tree gesture.old }
+    requires room { length log.old.entries.items + 3 * count_of tree.old.tree ≤ room_of log.old }
+    ensures dispatched { dispatched (scene_of tree.old slop) (views_of tree.old.tree) event.now (progress_of tree.old gesture.old log.old) ≡ record { yes = result; progress = progress_of tree.new gesture.new log.new } }
+    ensures touched_once { (n : ℕ) → total (touches n) log.new.entries.items ≤ total (touches n) log.old.entries.items + 1 }
+    ensures asked_once { (n : ℕ) → total (asks n) log.new.entries.items ≤ total (asks n) log.old.entries.items + 1 }
+    ensures scrolls { OnlyScrolls tree.old tree.new }
+    ensures caught { IsGestureIn tree.new.tree gesture.new }
+    ensures room { room_of log.new ≡ room_of log.old }
+{
+    let limits = Limits { slop };
+    let Some(root) = tree.root() else {
+        return false;
+    };
+    if !gets_events(tree, root) {
+        return false;
+    }
+    reach_whole(tree, gesture, log, &limits, root, event)
+}
+
+/// Whether a root gets events: it lies somewhere and is not gone.
+fn gets_events(tree: &ViewTree, root: Key) -> bool
+    requires { IsLive tree.now root }
+    ensures { result ≡ (is_some (state_of tree.now root).bounds && is_shown (facts_of tree.now root)) }
+{
+    tree.state(root).bounds.is_some() && tree.facts(root).is_shown()
+}
+
+/// Hands an event to a view, where there is room for all that it and those below it may tell.
+fn reach_whole(
+    tree: &mut ViewTree,
+    gesture: &mut Gesture,
+    log: &mut Log,
+    limits: &Limits,
+    view: Key,
+    event: &Event,
+) -> bool
+    requires tree { IsTree tree.old }
+    requires live { IsLive tree.old view }
+    requires pointer { event.now.pointer < MAX_POINTERS }
+    requires caught { IsGestureIn tree.old.tree gesture.old }
+    requires room { length log.old.entries.items + 3 * count_of tree.old.tree ≤ room_of log.old }
+    ensures reached { reach (scene_of tree.old limits.now.slop) (views_of (first_tree (part_from view tree.old.tree))) event.now (progress_of tree.old gesture.old log.old) ≡ record { yes = result; progress = progress_of tree.new gesture.new log.new } }
+    ensures touched_once { (n : ℕ) → total (touches n) log.new.entries.items ≤ total (touches n) log.old.entries.items + 1 }
+    ensures asked_once { (n : ℕ) → total (asks n) log.new.entries.items ≤ total (asks n) log.old.entries.items + 1 }
+    ensures scrolls { OnlyScrolls tree.old tree.new }
+    ensures caught { IsGestureIn tree.new.tree gesture.new }
+    ensures room { room_of log.new ≡ room_of log.old }
+{
+    gesture.tell_distinct();
+    reach(tree, gesture, log, limits, view, event)
+}
+
+/// Tells a view that is about to go away, from the tree or out of sight, that its gesture is taken away. A root is told so
+/// always, so a caller asks for it only where a pointer is down and the root is not gone. It takes no memory, and reads no
+/// place of a view, so that it may come at any time.
+pub fn cancel_view(tree: &mut ViewTree, gesture: &mut Gesture, view: Key, slop: i32, log: &mut Log)
+    requires live { IsLive tree.old view }
+    requires caught { IsGestureIn tree.old.tree gesture.old }
+    requires room { length log.old.entries.items + 3 * count_of tree.old.tree ≤ room_of log.old }
+    ensures cancelled { progress_of tree.new gesture.new log.new ≡ cancelled (scene_of tree.old slop) (parent_number tree.old view) (number_of tree.old view) (part_at tree.old view) (progress_of tree.old gesture.old log.old) }
+    ensures gone { (group : ℕ) → parent_number tree.old view ≡ Some group → is_target (number_of tree.old view) ((gesture_of gesture.new).targets group) ≡ false }
+    ensures unchanged { (group : ℕ) → parent_number tree.old view ≡ Some group → is_target (number_of tree.old view) ((gesture_of gesture.old).targets group) ≡ false → Unchanged tree.old tree.new gesture.old gesture.new log.old log.new }
+    ensures touched_once { (n : ℕ) → total (touches n) log.new.entries.items ≤ total (touches n) log.old.entries.items + 1 }
+    ensures asked_once { (n : ℕ) → total (asks n) log.new.entries.items ≤ total (asks n) log.old.entries.items + 1 }
+    ensures scrolls { OnlyScrolls tree.old tree.new }
+    ensures caught { IsGestureIn tree.new.tree gesture.new }
+    ensures room { room_of log.new ≡ room_of log.old }
+{
+    let limits = Limits { slop };
+    let event = cancel_event();
+    tell_tree(tree, view);
+    let Some(parent) = tree.parent(view) else {
+        reach_whole(tree, gesture, log, &limits, view, &event);
+        return;
+    };
+    let number = tree.number(view);
+    if !is_target(gesture, tree.number(parent), number) {
+        return;
+    }
+    reach_whole(tree, gesture, log, &limits, view, &event);
+    gesture.remove(number);
+}
+
+/// Every tree is one. This is for contracts alone.
+fn tell_tree(tree: &ViewTree, view: Key)
+    requires { IsLive tree.now view }
+    ensures { IsTree tree.now }
+{
+    let _class = tree.class(view);
+}

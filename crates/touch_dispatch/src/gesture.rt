@@ -1,0 +1,245 @@
+//! What is kept of a gesture between its events.
+ghost use Rattle.std.specs.Prelude.{◌≡◌, ◌≢◌, ◌==◌, ◌<◌, ◌&&◌, ◌||◌, not, true, false, ℕ, [], if◌then◌else◌, Some, OnErr, OnOk, is_some, nat_eq};
+ghost use Rattle.indexmap.specs.IndexMap.{get as get_key, spare};
+ghost use Rattle.touch_dispatch.specs.Gestures.{closed, set_disallow, set_drag, set_pressed, set_targets, without_target};
+ghost use Rattle.touch_dispatch.specs.Kept.{MayCapture, gesture_of, is_open, marks_or, no_marks, nothing_kept};
+ghost use Rattle.touch_dispatch.specs.Once.{AllDistinct};
+ghost use Rattle.touch_event.specs.PointerSets.{has_id};
+ghost use Rattle.touch_targets.specs.Captures.{drop_pointers, first_child, first_ids, from_child, is_target, older, put_target, targets_from, without_child};
+
+use crate::drag::Drag;
+use crate::marks::Marks;
+use indexmap::IndexMap;
+use std::alloc::{AllocError, Global};
+use std::marker::Model;
+use touch_targets::Targets;
+
+/// What is kept of a gesture between its events: the targets of groups, which groups may not take events away from them,
+/// which views are pressed, and the drags of scroll views. A view has a place here from `open` to `close`.
+#[derive(Drop)]
+pub struct Gesture {
+    targets: Targets,
+    marks: IndexMap<u64, Marks>,
+}
+
+impl Model for Gesture {
+    ghost use Rattle.touch_dispatch.specs.Kept.{Kept, kept_code};
+
+    ghost Value = { Kept };
+
+    ghost coded = { kept_code };
+
+    ghost use Rattle.touch_dispatch.specs.Kept.{IsSound, kept_in};
+
+    ghost view = { kept_in };
+
+    ghost invariant = { IsSound };
+}
+
+impl Gesture {
+    /// A gesture that has not begun, with a place for no view. It takes no memory.
+    pub fn new(alloc: Global) -> Gesture
+        ensures { result ≡ nothing_kept }
+    {
+        Gesture {
+            targets: Targets::new(alloc),
+            marks: IndexMap::new(alloc),
+        }
+    }
+
+    /// Keeps a place for a view.
+    pub fn open(&mut self, view: u64) -> Result<(), AllocError>
+        ensures opened { OnOk result ((other : ℕ) → is_open self.new other ≡ (is_open self.old other || other == view)) }
+        ensures gesture { gesture_of self.new ≡ gesture_of self.old }
+        ensures unchanged { OnErr result (self.new ≡ self.old) }
+    {
+        self.marks.reserve(1)?;
+        self.targets.open(view)?;
+        if !self.marks.contains_key(&view) {
+            note_marks(&mut self.marks, view, no_marks());
+        }
+        Ok(())
+    }
+
+    /// Takes the place of a view away, and all that is kept of it, as a group or as a child.
+    pub fn close(&mut self, view: u64)
+        ensures opened { (other : ℕ) → is_open self.new other ≡ (is_open self.old other && not (other == view)) }
+        ensures gesture { gesture_of self.new ≡ closed view (gesture_of self.old) }
+    {
+        self.targets.close(view);
+        self.marks.swap_remove(&view);
+    }
+
+    /// Tells a group that it may not take events away from its children, or that it may again. It may also once the next
+    /// gesture begins.
+    pub fn disallow(&mut self, group: u64, on: bool)
+        requires { is_open self.old group ≡ true }
+        ensures opened { (view : ℕ) → is_open self.new view ≡ is_open self.old view }
+        ensures gesture { gesture_of self.new ≡ set_disallow group on (gesture_of self.old) }
+    {
+        let marks = marks_of(&self.marks, group);
+        write_marks(
+            &mut self.marks,
+            group,
+            Marks {
+                disallows: on,
+                ..marks
+            },
+        );
+    }
+
+    pub(crate) fn press(&mut self, view: u64, on: bool)
+        requires { is_open self.old view ≡ true }
+        ensures opened { (other : ℕ) → is_open self.new other ≡ is_open self.old other }
+        ensures gesture { gesture_of self.new ≡ set_pressed view on (gesture_of self.old) }
+    {
+        let marks = marks_of(&self.marks, view);
+        write_marks(
+            &mut self.marks,
+            view,
+            Marks {
+                pressed: on,
+                ..marks
+            },
+        );
+    }
+
+    pub(crate) fn set_drag(&mut self, view: u64, drag: Drag)
+        requires { is_open self.old view ≡ true }
+        ensures opened { (other : ℕ) → is_open self.new other ≡ is_open self.old other }
+        ensures gesture { gesture_of self.new ≡ set_drag view drag (gesture_of self.old) }
+    {
+        let marks = marks_of(&self.marks, view);
+        write_marks(&mut self.marks, view, Marks { drag, ..marks });
+    }
+
+    pub(crate) fn disallows(&self, group: u64) -> bool
+        ensures { result ≡ (gesture_of self.now).disallows group }
+    {
+        marks_of(&self.marks, group).disallows
+    }
+
+    pub(crate) fn presses(&self, view: u64) -> bool
+        ensures { result ≡ (gesture_of self.now).presses view }
+    {
+        marks_of(&self.marks, view).pressed
+    }
+
+    pub(crate) fn drag(&self, view: u64) -> Drag
+        ensures { result ≡ (gesture_of self.now).drags view }
+    {
+        marks_of(&self.marks, view).drag
+    }
+
+    /// No group has a child twice. This is for contracts alone.
+    pub(crate) fn tell_distinct(&self)
+        ensures { AllDistinct (gesture_of self.now).targets }
+    {
+        let _ = &self.targets;
+    }
+
+    /// The newest target of a group.
+    pub(crate) fn newest(&self, group: u64) -> Option<u64>
+        ensures child { result ≡ first_child ((gesture_of self.now).targets group) }
+        ensures part { targets_from result ((gesture_of self.now).targets group) ≡ (gesture_of self.now).targets group }
+    {
+        self.targets.newest(group)
+    }
+
+    /// The next older target of the group that has captured a view.
+    pub(crate) fn next(&self, child: u64) -> Option<u64>
+        ensures part { (group : ℕ) → is_target child ((gesture_of self.now).targets group) ≡ true → targets_from result ((gesture_of self.now).targets group) ≡ older (from_child child ((gesture_of self.now).targets group)) }
+        ensures child { (group : ℕ) → is_target child ((gesture_of self.now).targets group) ≡ true → result ≡ first_child (older (from_child child ((gesture_of self.now).targets group))) }
+    {
+        self.targets.next(child)
+    }
+
+    /// The pointers by which a view was captured, where bit `k` stands for the id `k`.
+    pub(crate) fn ids(&self, child: u64) -> u32
+        ensures { (group : ℕ) → is_target child ((gesture_of self.now).targets group) ≡ true → has_id result ≡ first_ids (from_child child ((gesture_of self.now).targets group)) }
+    {
+        self.targets.ids(child)
+    }
+
+    /// A group captures a view by these pointers, beside those by which it has.
+    pub(crate) fn put(&mut self, group: u64, child: u64, ids: u32)
+        requires ids { ids ≢ 0 }
+        requires may { MayCapture self.old group child }
+        ensures opened { (view : ℕ) → is_open self.new view ≡ is_open self.old view }
+        ensures gesture { gesture_of self.new ≡ set_targets group (put_target child (has_id ids) ((gesture_of self.old).targets group)) (gesture_of self.old) }
+    {
+        self.targets.put(group, child, ids);
+    }
+
+    /// Takes a pointer away from all targets of a group, and the targets that have no other.
+    pub(crate) fn drop_ids(&mut self, group: u64, ids: u32)
+        ensures opened { (view : ℕ) → is_open self.new view ≡ is_open self.old view }
+        ensures gesture { gesture_of self.new ≡ set_targets group (drop_pointers (has_id ids) ((gesture_of self.old).targets group)) (gesture_of self.old) }
+    {
+        self.targets.drop_ids(group, ids);
+    }
+
+    /// Takes a view away from the group that has captured it, if one has.
+    pub(crate) fn remove(&mut self, child: u64)
+        ensures opened { (view : ℕ) → is_open self.new view ≡ is_open self.old view }
+        ensures gesture { gesture_of self.new ≡ without_target child (gesture_of self.old) }
+    {
+        self.targets.remove(child);
+    }
+
+    /// Takes all targets of a group away.
+    pub(crate) fn clear(&mut self, group: u64)
+        ensures opened { (view : ℕ) → is_open self.new view ≡ is_open self.old view }
+        ensures gesture { gesture_of self.new ≡ set_targets group [] (gesture_of self.old) }
+    {
+        self.targets.clear(group);
+    }
+}
+
+fn no_marks() -> Marks
+    ensures { result ≡ no_marks }
+{
+    Marks {
+        disallows: false,
+        pressed: false,
+        drag: Drag {
+            active: None,
+            last: 0,
+            dragging: false,
+        },
+    }
+}
+
+/// The marks of a view, or those of one that has none.
+fn marks_of(marks: &IndexMap<u64, Marks>, view: u64) -> Marks
+    ensures { result ≡ marks_or (get_key nat_eq marks.now view) }
+{
+    match marks.get(&view) {
+        None => no_marks(),
+        Some(marks) => *marks,
+    }
+}
+
+/// Changes the marks of a view that has some.
+fn write_marks(marks: &mut IndexMap<u64, Marks>, view: u64, new: Marks)
+    requires { is_some (get_key nat_eq marks.old view) ≡ true }
+    ensures { (other : ℕ) → get_key nat_eq marks.new other ≡ (if nat_eq view other then Some new else get_key nat_eq marks.old other) }
+{
+    match marks.get_mut(&view) {
+        None => unreachable!(),
+        Some(marks) => {
+            *marks = new;
+        }
+    }
+}
+
+/// Gives marks to a view that has none, where there is room for them.
+fn note_marks(marks: &mut IndexMap<u64, Marks>, view: u64, new: Marks)
+    requires { 0 < spare marks.old }
+    ensures { (other : ℕ) → get_key nat_eq marks.new other ≡ (if nat_eq view other then Some new else get_key nat_eq marks.old other) }
+{
+    match marks.insert(view, new) {
+        Ok(_) => (),
+        Err(_) => unreachable!(),
+    }
+}

@@ -1,0 +1,142 @@
+//! What a view does with an event itself, and what a group is asked about one.
+ghost use Rattle.std.specs.Prelude.{◌≡◌, ◌<◌, ◌≤◌, ◌+◌, ◌&&◌, ◌||◌, ◌++◌, ◌∷◌, [], ℕ, ℤ, pos, length, not, true};
+ghost use Rattle.touch_dispatch.specs.Handling.{answered_ask, asked, click_handled, clicks, drag_answer, handled_by, intercepts, is_down, is_nil, looked, many, pressed_after};
+ghost use Rattle.touch_dispatch.specs.Kept.{gesture_of, is_open};
+ghost use Rattle.touch_dispatch.specs.TreeEvents.{progress_by, room_of};
+
+use crate::drag::asked_drag;
+use crate::gesture::Gesture;
+use crate::log::{Entry, Kind, Log};
+use crate::points::{is_down, is_near_first, is_planned};
+use crate::receiver::Receiver;
+use touch_event::{Action, Event};
+use view_model::Answer;
+
+/// One entry more.
+pub fn note(log: &mut Log, view: u64, kind: Kind, event: &Event, yes: bool)
+    requires { length log.old.entries.items < room_of log.old }
+    ensures noted { log.new.entries.items ≡ log.old.entries.items ++ record { view = view; kind = kind; event = event.now; yes = yes; offset = pos 0 } ∷ [] }
+    ensures room { room_of log.new ≡ room_of log.old }
+{
+    log.note(Entry {
+        view,
+        kind,
+        event: event.copy(),
+        yes,
+        offset: 0,
+    });
+}
+
+/// Whether a group takes an event away from its children.
+pub fn ask(gesture: &mut Gesture, log: &mut Log, own: &Receiver, event: &Event) -> bool
+    requires open { is_open gesture.old own.now.number ≡ true }
+    requires fits { (offsets : ℕ → ℤ) → many (asked own.now event.now (progress_by offsets (gesture_of gesture.old) log.old.entries.items)).progress ≤ room_of log.old }
+    ensures asked { (offsets : ℕ → ℤ) → asked own.now event.now (progress_by offsets (gesture_of gesture.old) log.old.entries.items) ≡ record { yes = result; progress = progress_by offsets (gesture_of gesture.new) log.new.entries.items } }
+    ensures opened { (view : ℕ) → is_open gesture.new view ≡ is_open gesture.old view }
+    ensures room { room_of log.new ≡ room_of log.old }
+{
+    if !is_asked(gesture, own.number, event.action) {
+        return true;
+    }
+    if gesture.disallows(own.number) {
+        return false;
+    }
+    look(gesture, own, event);
+    let yes = intercepts(gesture, own, event);
+    note(log, own.number, Kind::Ask, event, yes);
+    yes
+}
+
+/// Whether a group is asked at all.
+fn is_asked(gesture: &Gesture, group: u64, action: Action) -> bool
+    ensures { result ≡ (is_down action || not (is_nil ((gesture_of gesture.now).targets group))) }
+{
+    is_down(action) || gesture.newest(group).is_some()
+}
+
+/// A scroll view looks at an event that it is asked about.
+fn look(gesture: &mut Gesture, own: &Receiver, event: &Event)
+    requires { is_open gesture.old own.now.number ≡ true }
+    ensures opened { (view : ℕ) → is_open gesture.new view ≡ is_open gesture.old view }
+    ensures looked { gesture_of gesture.new ≡ looked own.now event.now (gesture_of gesture.old) }
+{
+    if own.scrolls {
+        let drag = asked_drag(own, event, gesture.drag(own.number));
+        gesture.set_drag(own.number, drag);
+    }
+}
+
+fn intercepts(gesture: &Gesture, own: &Receiver, event: &Event) -> bool
+    ensures { result ≡ intercepts own.now event.now (gesture_of gesture.now) }
+{
+    is_planned(own.intercept, event.action) || (own.scrolls && gesture.drag(own.number).dragging)
+}
+
+/// A view handles an event itself, by its plan.
+pub fn handle(gesture: &mut Gesture, log: &mut Log, own: &Receiver, event: &Event) -> bool
+    requires open { is_open gesture.old own.now.number ≡ true }
+    requires fits { (offsets : ℕ → ℤ) → many (handled_by own.now.answer own.now event.now (progress_by offsets (gesture_of gesture.old) log.old.entries.items)).progress ≤ room_of log.old }
+    ensures handled { (offsets : ℕ → ℤ) → handled_by own.now.answer own.now event.now (progress_by offsets (gesture_of gesture.old) log.old.entries.items) ≡ record { yes = result; progress = progress_by offsets (gesture_of gesture.new) log.new.entries.items } }
+    ensures opened { (view : ℕ) → is_open gesture.new view ≡ is_open gesture.old view }
+    ensures room { room_of log.new ≡ room_of log.old }
+{
+    match own.answer {
+        Answer::Off => {
+            note(log, own.number, Kind::Touch, event, false);
+            false
+        }
+        Answer::Yes => {
+            note(log, own.number, Kind::Touch, event, true);
+            true
+        }
+        Answer::Click => {
+            note(log, own.number, Kind::Touch, event, true);
+            click(gesture, log, own, event);
+            true
+        }
+    }
+}
+
+fn click(gesture: &mut Gesture, log: &mut Log, own: &Receiver, event: &Event)
+    requires open { is_open gesture.old own.now.number ≡ true }
+    requires fits { (offsets : ℕ → ℤ) → many (click_handled own.now event.now (progress_by offsets (gesture_of gesture.old) log.old.entries.items)) ≤ room_of log.old }
+    ensures clicked { (offsets : ℕ → ℤ) → progress_by offsets (gesture_of gesture.new) log.new.entries.items ≡ click_handled own.now event.now (progress_by offsets (gesture_of gesture.old) log.old.entries.items) }
+    ensures opened { (view : ℕ) → is_open gesture.new view ≡ is_open gesture.old view }
+    ensures room { room_of log.new ≡ room_of log.old }
+{
+    let near = is_near_first(own, event.points.as_slice());
+    let pressed = gesture.presses(own.number);
+    gesture.press(own.number, pressed_after(event.action, near, pressed));
+    if clicks(event.action, near, pressed) {
+        note(log, own.number, Kind::Click, event, true);
+    }
+}
+
+fn pressed_after(action: Action, near: bool, pressed: bool) -> bool
+    ensures { result ≡ pressed_after action near pressed }
+{
+    match action {
+        Action::Down => near,
+        Action::Move => pressed && near,
+        Action::Up | Action::Cancel => false,
+        Action::PointerDown | Action::PointerUp => pressed,
+    }
+}
+
+fn clicks(action: Action, near: bool, pressed: bool) -> bool
+    ensures { result ≡ clicks action near pressed }
+{
+    match action {
+        Action::Up => pressed && near,
+        Action::Down | Action::Move | Action::Cancel | Action::PointerDown | Action::PointerUp => {
+            false
+        }
+    }
+}
+
+/// What a scroll view says to an event that it handles itself.
+pub fn drag_answer(own: &Receiver, action: Action) -> bool
+    ensures { result ≡ drag_answer own.now.childless action }
+{
+    !(own.childless && is_down(action))
+}

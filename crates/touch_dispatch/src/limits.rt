@@ -1,0 +1,7 @@
+//! What decides of slight moves.
+
+/// How far a pointer may slip before that counts, in pixels.
+#[derive(Clone, Copy, Debug, PartialEq, Eq)]
+pub struct Limits {
+    pub slop: i32,
+}

@@ -1,0 +1,80 @@
+//! What is told of an event.
+ghost use Rattle.std.specs.Prelude.{◌≡◌, ◌≤◌, ◌<◌, ◌+◌, ◌++◌, ◌∷◌, [], length, OnOk, OnErr};
+ghost use Rattle.touch_dispatch.specs.TreeEvents.{room_of};
+
+use std::alloc::{AllocError, Global};
+use touch_event::Event;
+
+/// What an entry tells of an event.
+#[derive(Clone, Copy, Debug, PartialEq, Eq)]
+pub enum Kind {
+    /// A group was asked whether it takes the event away from its children.
+    Ask,
+    /// A view handled the event.
+    Touch,
+    /// A view was clicked by it.
+    Click,
+    /// A scroll view moved its child by it.
+    Scroll,
+}
+
+/// A delivery of an event.
+#[derive(Debug, PartialEq, Eq, Drop)]
+pub struct Entry {
+    pub view: u64,
+    pub kind: Kind,
+    /// In the view's coordinates.
+    pub event: Event,
+    /// What the view said to it.
+    pub yes: bool,
+    /// After a scroll: the offset then, in pixels. Otherwise 0.
+    pub offset: i32,
+}
+
+/// The deliveries of events, the first one first.
+#[derive(Drop)]
+pub struct Log {
+    entries: Vec<Entry>,
+}
+
+impl Log {
+    pub fn new(alloc: Global) -> Log
+        ensures { result.entries.items ≡ [] }
+    {
+        Log {
+            entries: Vec::new(alloc),
+        }
+    }
+
+    /// Takes the memory for so many more entries.
+    pub fn reserve(&mut self, entries: usize) -> Result<(), AllocError>
+        ensures same { self.new.entries.items ≡ self.old.entries.items }
+        ensures room { OnOk result (length self.old.entries.items + entries ≤ room_of self.new) }
+        ensures kept { OnErr result (room_of self.new ≡ room_of self.old) }
+    {
+        self.entries.reserve(entries)
+    }
+
+    pub fn entries(&self) -> &[Entry]
+        ensures { result.now ≡ self.now.entries.items }
+    {
+        &self.entries
+    }
+
+    /// Forgets the entries; their memory stays for others.
+    pub fn clear(&mut self)
+        ensures entries { self.new.entries.items ≡ [] }
+        ensures room { room_of self.new ≡ room_of self.old }
+    {
+        self.entries.clear();
+    }
+
+    /// One entry more, where there is room for it.
+    pub fn note(&mut self, entry: Entry)
+        requires { length self.old.entries.items < room_of self.old }
+        ensures entries { self.new.entries.items ≡ self.old.entries.items ++ entry ∷ [] }
+        ensures room { room_of self.new ≡ room_of self.old }
+    {
+        self.entries.push_reserved(entry);
+    }
+}

@@ -1,0 +1,20 @@
+//! A view that an event is handed to.
+
+use geom_core::Rect;
+use view_model::Answer;
+
+/// What of a view decides how it handles an event itself, and what it is asked. Lengths are in pixels.
+#[derive(Clone, Copy, Debug, PartialEq, Eq)]
+pub struct Receiver {
+    pub number: u64,
+    pub scrolls: bool,
+    pub answer: Answer,
+    pub intercept: u8,
+    /// Where it lies in its parent.
+    pub rect: Option<Rect>,
+    /// How far a scroll view can move its child up; 0 for another view.
+    pub range: i32,
+    pub childless: bool,
+    /// How far a pointer may slip before that counts.
+    pub slop: i32,
+}

@@ -1,0 +1,173 @@
+//! How a scroll view moves its child at an event.
+ghost use Rattle.std.specs.Prelude.{◌≡◌, ◌≤◌, ◌≤ℤ◌, ℕ, ℤ, pos, true, IfSome};
+ghost use Rattle.touch_dispatch.specs.Dispatch.{first_rect, range_for, receiver};
+ghost use Rattle.touch_dispatch.specs.Drags.{IsWay};
+ghost use Rattle.touch_dispatch.specs.Gestures.{PlainGesture, at_number};
+ghost use Rattle.touch_dispatch.specs.Handling.{drag_handled, is_same_offset, many, moved_by, offset_after};
+ghost use Rattle.touch_dispatch.specs.Kept.{is_open};
+ghost use Rattle.touch_dispatch.specs.TreeEvents.{OnlyScrolls, kids_of, offsets_in, own_of, progress_by, progress_of, room_of, scene_of};
+ghost use Rattle.view_model.specs.ScrollView.{offset_within};
+ghost use Rattle.view_tree.specs.Views.{IsLive, IsTree, facts_of, number_of};
+
+use crate::drag::pulled;
+use crate::gesture::Gesture;
+use crate::handling::{drag_answer, note};
+use crate::limits::Limits;
+use crate::log::{Entry, Kind, Log};
+use crate::receiver::Receiver;
+use geom_core::Rect;
+use scroll_view::range_in;
+use touch_event::Event;
+use view_model::Facts;
+use view_tree::{Key, ViewTree};
+
+/// A view as it handles an event itself.
+pub fn receiver_at(tree: &ViewTree, limits: &Limits, view: Key) -> Receiver
+    requires { IsLive tree.now view }
+    ensures value { result ≡ receiver (scene_of tree.now limits.now.slop) (own_of tree.now view) (kids_of tree.now limits.now.slop view) }
+    ensures is_tree { IsTree tree.now }
+{
+    let facts = tree.facts(view);
+    let rect = tree.state(view).bounds;
+    let scrolls = tree.class(view).scrolls();
+    Receiver {
+        number: tree.number(view),
+        scrolls,
+        answer: facts.answer,
+        intercept: facts.intercept,
+        rect,
+        range: range_for(scrolls, facts, rect, first_rect(tree, view)),
+        childless: tree.first(view).is_none(),
+        slop: limits.slop,
+    }
+}
+
+/// Where the first child of a view lies.
+fn first_rect(tree: &ViewTree, view: Key) -> Option<Rect>
+    requires { IsLive tree.now view }
+    ensures { (slop : ℤ) → result ≡ first_rect (scene_of tree.now slop) (kids_of tree.now slop view) }
+{
+    match tree.first(view) {
+        None => None,
+        Some(kid) => tree.state(kid).bounds,
+    }
+}
+
+/// How far a scroll view that lies there can move up its child, which lies there.
+fn range_for(scrolls: bool, own: &Facts, rect: Option<Rect>, child: Option<Rect>) -> i32
+    ensures { result ≡ range_for scrolls own.now rect child }
+{
+    match rect {
+        Some(rect) if scrolls => range_in(own, rect, child),
+        _ => 0,
+    }
+}
+
+/// A scroll view handles an event itself.
+pub fn handle_drag(
+    tree: &mut ViewTree,
+    gesture: &mut Gesture,
+    log: &mut Log,
+    view: Key,
+    own: &Receiver,
+    event: &Event,
+) -> bool
+    requires live { IsLive tree.old view }
+    requires number { own.now.number ≡ number_of tree.old view }
+    requires open { is_open gesture.old own.now.number ≡ true }
+    requires fits { many (drag_handled own.now event.now (progress_of tree.old gesture.old log.old)).progress ≤ room_of log.old }
+    ensures handled { drag_handled own.now event.now (progress_of tree.old gesture.old log.old) ≡ record { yes = result; progress = progress_of tree.new gesture.new log.new } }
+    ensures scrolls { OnlyScrolls tree.old tree.new }
+    ensures opened { (view : ℕ) → is_open gesture.new view ≡ is_open gesture.old view }
+    ensures room { room_of log.new ≡ room_of log.old }
+{
+    let said = drag_answer(own, event.action);
+    note(log, own.number, Kind::Touch, event, said);
+    let pull = pulled(own, event, gesture.drag(own.number));
+    gesture.set_drag(own.number, pull.drag);
+    move_child(tree, log, view, own, event, pull.by);
+    said
+}
+
+/// The child of a scroll view goes up by so much, as far as the range goes, and that is told where it goes anywhere.
+fn move_child(
+    tree: &mut ViewTree,
+    log: &mut Log,
+    view: Key,
+    own: &Receiver,
+    event: &Event,
+    by: Option<i64>,
+)
+    requires live { IsLive tree.old view }
+    requires number { own.now.number ≡ number_of tree.old view }
+    requires way { IfSome by IsWay }
+    requires fits { (g : PlainGesture) → many (moved_by by own.now event.now (progress_by (offsets_in tree.old) g log.old.entries.items)) ≤ room_of log.old }
+    ensures moved { (g : PlainGesture) → progress_by (offsets_in tree.new) g log.new.entries.items ≡ moved_by by own.now event.now (progress_by (offsets_in tree.old) g log.old.entries.items) }
+    ensures scrolls { OnlyScrolls tree.old tree.new }
+    ensures room { room_of log.new ≡ room_of log.old }
+{
+    let Some(way) = by else {
+        return;
+    };
+    let facts = moved_facts(own, tree.facts(view), way);
+    if is_same_offset(tree.facts(view), &facts) {
+        return;
+    }
+    let offset = facts.offset;
+    set_offset(tree, view, facts);
+    log.note(Entry {
+        view: own.number,
+        kind: Kind::Scroll,
+        event: event.copy(),
+        yes: true,
+        offset,
+    });
+}
+
+/// The facts of a scroll view, with its child so much further up, as far as the range goes.
+fn moved_facts(own: &Receiver, facts: &Facts, way: i64) -> Facts
+    requires { IsWay way }
+    ensures { result ≡ record facts.now { offset = offset_after own.now.range facts.now.offset way } }
+{
+    Facts {
+        offset: offset_after(own, facts, way),
+        ..*facts
+    }
+}
+
+fn offset_after(own: &Receiver, facts: &Facts, way: i64) -> i32
+    requires { IsWay way }
+    ensures { result ≡ offset_after own.now.range facts.now.offset way }
+{
+    offset_within(own, i64::from(facts.offset) + way) as i32
+}
+
+/// An offset brought into the range of a view.
+#[tactic(auto, unfolding(view_model::specs::ScrollView::offset_within))]
+fn offset_within(own: &Receiver, offset: i64) -> i64
+    ensures value { result ≡ offset_within own.now.range offset }
+    ensures low { pos 0 ≤ℤ result }
+    ensures high { result ≤ℤ pos 2147483647 }
+{
+    let range = i64::from(own.range);
+    let top = if range < offset { range } else { offset };
+    if top < 0 { 0 } else { top }
+}
+
+#[tactic(auto, unfolding(crate::specs::Handling::is_same_offset))]
+fn is_same_offset(old: &Facts, new: &Facts) -> bool
+    ensures { result ≡ is_same_offset old.now.offset new.now.offset }
+{
+    old.offset == new.offset
+}
+
+/// Sets the facts of a view, of which the offset alone is another.
+fn set_offset(tree: &mut ViewTree, view: Key, facts: Facts)
+    requires live { IsLive tree.old view }
+    requires tree { IsTree tree.old }
+    requires facts { facts ≡ record (facts_of tree.old view) { offset = facts.offset } }
+    ensures scrolls { OnlyScrolls tree.old tree.new }
+    ensures offsets { offsets_in tree.new ≡ at_number (number_of tree.old view) facts.offset (offsets_in tree.old) }
+{
+    tree.set_facts(view, facts);
+}

@@ -1,0 +1,146 @@
+-- What is kept of relative layouts when a sapling comes, as it is gathered.
+use Rattle.std.proofs.Common.{◌≡◌, ℕ, zero, suc, ◌<◌, ◌≤◌, ◌+◌, Bool, true, false, List, [], ◌∷◌, ◌++◌, append_assoc, length, length-append, Option, Some, None, refl, sym, ◌∙◌, ap, subst, arith, inl, inr}
+use Rattle.std.proofs.lemmas.Bool.{cases_Bool, cases_lt}
+use Rattle.std.proofs.lemmas.List.{append-nil, get_or_append_left, get_or_push}
+use Rattle.std.specs.declared.alloc.Global.{Global}
+use Rattle.std.specs.Prelude.{Vec, Err, Ok, Result, if◌then◌else◌, nat_lt, slice_index, ◌==◌}
+use Rattle.view_model.specs.declared.limits.TheConstants.{MAX_VIEWS}
+use Rattle.view_model.specs.declared.refusal.Member.{Member}
+use Rattle.view_model.specs.declared.relative.Link.{Link}
+use Rattle.view_model.specs.declared.sprout.Sprout.{Sprout}
+use Rattle.view_model.specs.Cycles.{each, is_relative, member_from, numbers_in}
+use Rattle.view_model.specs.Forest.{Forest, count_of}
+use Rattle.view_model.specs.PlainTree.{PlainView}
+use Rattle.view_model.specs.Refusals.{PlainRefusal, plain_refusal}
+use Rattle.view_tree.specs.declared.fault.AttachFault.{AttachFault}
+use Rattle.view_tree.specs.declared.fault.AttachFault.TheVariants as fault
+use Rattle.view_tree.specs.declared.groups.Group.{Group}
+use Rattle.view_tree.specs.Faults.{IsRefusedOrCyclic}
+use Rattle.view_tree.specs.Grafting.{AreEntries, HasAdded, IsBehind, IsGroupOrCycle, IsMadeUnless, IsOwnFor, IsParentEntry, behind, cycle_of, links_behind, links_then, numbers_behind, numbers_then, parent_cycle, sprout_link}
+use Rattle.view_tree.specs.Rows.{Row, children_of_first, count_of_key, head_view, later_siblings, part_from, views_of}
+use Rattle.view_tree.specs.Views.{IsLive, IsTree, Views, class_of, number_of}
+use Rattle.view_tree.proofs.forest.KeyLaws.{located}
+use Rattle.view_tree.proofs.grafts.SownSprouts.{live_earlier}
+use Rattle.view_tree.proofs.orders.CycleLaws.{views-count}
+use Rattle.view_tree.proofs.orders.RowLaws.{child_there, count_within, few_numbers, within_children}
+
+-- one more child is gathered
+pub each_step : {X : Type 0} (f : PlainView → X) (own : X) (tree : Forest Row) (key : ℕ) (xs : List X) → 0 < count_of_key key tree → own ≡ f (head_view (part_from key tree))
+    → (xs ++ own ∷ []) ++ each f (views_of (later_siblings (part_from key tree))) ≡ xs ++ each f (views_of (part_from key tree))
+each_step f own tree key xs live is =
+    let found = located key tree live in
+    append_assoc xs (own ∷ []) (each f (views_of (later_siblings (part_from key tree))))
+    ∙ ap (λ own. xs ++ own ∷ each f (views_of (later_siblings (part_from key tree)))) is
+    ∙ rw found.is refl
+
+-- how many children there are, and what their numbers are
+module _ {X : Type 0} (f : ℕ → Sprout → X) where
+  pub behind-few : (depth number : ℕ) (sprouts : List Sprout) → length (behind f depth number sprouts) ≤ length sprouts
+  behind-few depth number [] = omega arith
+  behind-few depth number (sprout ∷ more) =
+      let rest = behind-few depth (suc number) more in
+      elim (cases_Bool (nat_lt depth sprout.depth)) [
+        | inr past ↦ rw past (omega arith)
+        | inl inner ↦ elim (cases_Bool (sprout.depth == suc depth)) [
+          | inl is ↦ rw (inner, is) (omega arith)
+          | inr isnt ↦ rw (inner, isnt) (omega arith)
+        ]
+      ]
+
+pub behind-alike : (depth number : ℕ) (sprouts : List Sprout) → length (numbers_behind depth number sprouts) ≡ length (links_behind depth number sprouts)
+behind-alike depth number [] = refl
+behind-alike depth number (sprout ∷ more) =
+    let rest = behind-alike depth (suc number) more in
+    elim (cases_Bool (nat_lt depth sprout.depth)) [
+      | inr past ↦ rw past refl
+      | inl inner ↦ elim (cases_Bool (sprout.depth == suc depth)) [
+        | inl is ↦ rw (inner, is) (ap suc rest)
+        | inr isnt ↦ rw (inner, isnt) rest
+      ]
+    ]
+
+abbrev AllBelow : ℕ → List ℕ → Type 0
+AllBelow most numbers = (p : ℕ) → p < length numbers → slice_index numbers p < most
+
+all_on : (most first : ℕ) (numbers : List ℕ) → first < most → AllBelow most numbers → AllBelow most (first ∷ numbers)
+all_on most first numbers less all zero small = less
+all_on most first numbers less all (suc p) small = all p (omega arith)
+
+pub behind-near : (most depth number : ℕ) (sprouts : List Sprout) → number + length sprouts ≤ most → (p : ℕ) → p < length (numbers_behind depth number sprouts)
+    → slice_index (numbers_behind depth number sprouts) p < most
+behind-near most depth number sprouts le = near sprouts number le
+  where
+    near : (sprouts : List Sprout) (number : ℕ) → number + length sprouts ≤ most → AllBelow most (numbers_behind depth number sprouts)
+    near [] number le = λ p small. absurd (omega arith)
+    near (sprout ∷ more) number le =
+        let rest = near more (suc number) (omega arith) in
+        elim (cases_Bool (nat_lt depth sprout.depth)) [
+          | inr past ↦ rw past (λ p small. absurd (omega arith))
+          | inl inner ↦ elim (cases_Bool (sprout.depth == suc depth)) [
+            | inl is ↦ rw (inner, is) (all_on most number (numbers_behind depth (suc number) more) (omega arith) rest)
+            | inr isnt ↦ rw (inner, isnt) rest
+          ]
+        ]
+
+-- the children of a parent with one more
+pub few_then : (views : Views) (parent : ℕ) → IsTree views → IsLive views parent → length (numbers_in (views_of (children_of_first (part_from parent views.tree)))) ≤ count_of views.tree
+few_then views parent is live =
+    let f = located parent views.tree live in
+    let few = few_numbers (views_of (children_of_first (part_from parent views.tree))) in
+    let count : count_of (views_of (children_of_first (part_from parent views.tree))) ≡ count_of f.kids = views-count (children_of_first (part_from parent views.tree)) ∙ ap (λ part. count_of (children_of_first part)) f.is in
+    let within = count_within f.row f.kids f.siblings f.within in
+    omega arith
+
+pub near_then : (views : Views) (parent : ℕ) → IsTree views → IsLive views parent → (p : ℕ) → p < length (numbers_then views parent) → slice_index (numbers_then views parent) p < views.next + MAX_VIEWS
+near_then views parent is live p small =
+    let numbers = numbers_in (views_of (children_of_first (part_from parent views.tree))) in
+    let size : length (numbers_then views parent) ≡ length numbers + 1 = length-append numbers (views.next ∷ []) in
+    elim (cases_lt p (length numbers)) [
+      | inl less ↦
+          let child = child_there views (children_of_first (part_from parent views.tree)) p is (within_children views parent live) less in
+          let early = live_earlier views child.key is child.live in
+          let same : slice_index (numbers_then views parent) p ≡ number_of views child.key = get_or_append_left numbers (views.next ∷ []) 0 p less ∙ sym child.number in
+          omega arith
+      | inr more ↦
+          let own : p ≡ length numbers = omega arith in
+          let same : slice_index (numbers_then views parent) p ≡ views.next = get_or_push numbers views.next 0 p (sym own) in
+          omega arith
+    ]
+
+-- a group that is made is added
+pub added : (relative : Bool) (name : ℕ → Member) (number : ℕ) (links : List Link) (numbers : List ℕ) (group : Group) (old new : List (ℕ × Group)) (result : Result (Unit {0}) AttachFault)
+    → relative ≡ true → IsGroupOrCycle name links numbers (Ok group) → IsMadeUnless None (λ _. new ≡ old ++ (number, group) ∷ []) result
+    → IsMadeUnless (if relative then cycle_of name links numbers else None) (λ _. HasAdded old new (IsOwnFor relative number links numbers)) result
+added false name number links numbers group old new result is made push = absurd (cc)
+added true name number links numbers group old new (Ok done) is made push =
+    (made.0, record { added = (number, group) ∷ []; is = push.1; made = record { group = group; only = refl; right = made.1 } })
+added true name number links numbers group old new (Err (fault.Refused refusal)) is made push = absurd (let no : None ≡ Some (plain_refusal refusal) = push in cc)
+added true name number links numbers group old new (Err fault.NoMemory) is made push = tt
+
+-- the same as all that there is, of a parent
+pub parent_added : (views : Views) (parent : ℕ) (sprout : Sprout) (group : Group) (result : Result (Vec (ℕ × Group) Global) AttachFault) → is_relative (class_of views parent) ≡ true
+    → IsGroupOrCycle (member_from views.next) (links_then views parent (sprout_link sprout)) (numbers_then views parent) (Ok group)
+    → IsMadeUnless None (λ entries. entries.items ≡ (number_of views parent, group) ∷ []) result
+    → IsMadeUnless (parent_cycle views (Some parent) sprout) (λ entries. IsParentEntry views (Some parent) sprout entries.items) result
+parent_added views parent sprout group (Ok entries) is made push = rw is (made.0, record { group = group; only = push.1; right = made.1 })
+parent_added views parent sprout group (Err (fault.Refused refusal)) is made push = absurd (let no : None ≡ Some (plain_refusal refusal) = push in cc)
+parent_added views parent sprout group (Err fault.NoMemory) is made push = tt
+
+-- one more view of a sapling is seen to
+pub entries_on : (number start : ℕ) (first : List (ℕ × Group)) (sprout : Sprout) (more all : List Sprout) (old new : List (ℕ × Group))
+    → ((tail : List (ℕ × Group)) → AreEntries number (sprout ∷ more) tail → HasAdded first (old ++ tail) (AreEntries start all))
+    → HasAdded old new (IsBehind number sprout more)
+    → (tail : List (ℕ × Group)) → AreEntries (suc number) more tail → HasAdded first (new ++ tail) (AreEntries start all)
+entries_on number start first sprout more all old new made own tail are =
+    subst (λ entries. HasAdded first entries (AreEntries start all)) (sym (append_assoc old own.added tail) ∙ ap (λ entries. entries ++ tail) (sym own.is))
+    (made (own.added ++ tail) (own.added, tail, refl, own.made, are))
+
+pub entries_end : (number start : ℕ) (first : List (ℕ × Group)) (all : List Sprout) (old : List (ℕ × Group))
+    → ((tail : List (ℕ × Group)) → AreEntries number [] tail → HasAdded first (old ++ tail) (AreEntries start all)) → HasAdded first old (AreEntries start all)
+entries_end number start first all old made = subst (λ entries. HasAdded first entries (AreEntries start all)) (append-nil old) (made [] refl)
+
+-- why a sapling is refused
+pub refused_or : (A B : Type 0) (reason cycle told : Option PlainRefusal) (fault : AttachFault) (Made : B → Type 0) → reason ≡ None → cycle ≡ told → IsMadeUnless {A = B} told Made (Err fault)
+    → IsRefusedOrCyclic {A = A} reason cycle (Err fault)
+refused_or A B reason cycle told (fault.Refused refusal) Made none same is = rw none (same ∙ is)
+refused_or A B reason cycle told fault.NoMemory Made none same is = none

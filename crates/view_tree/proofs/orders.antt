@@ -1,0 +1,12 @@
+-- Laws of the kept orders of relative layouts. No other crate cites them.
+pub mod CycleLaws
+pub mod CycleLists
+pub mod FirstCycles
+pub mod GroupLaws
+pub mod GroupReads
+pub mod IdPlaces
+pub mod ListLaws
+pub mod PlaceLaws
+pub mod RowLaws
+pub mod ToldParents
+pub mod TreeLaws

@@ -1,0 +1,39 @@
+-- What a tree has under the number of a live relative layout.
+use Rattle.std.proofs.Common.{◌≡◌, ℕ, true, Some, None, sym, ◌∙◌, ap, subst}
+use Rattle.std.specs.Prelude.{nat_eq, option_map}
+use Rattle.std.specs.Map.{lookup}
+use Rattle.view_tree.specs.declared.groups.Group.{Group}
+use Rattle.view_tree.specs.declared.tree.ViewTree.TheInside.{Inside}
+use Rattle.view_tree.specs.Nodes.{IsSound, value_of}
+use Rattle.view_model.specs.Cycles.{is_relative, links_in, numbers_in}
+use Rattle.view_tree.specs.Ordering.{AreOrders, IsGroupOf, IsGrouped, IsKeptOf, group_at, plain_group, plain_orders}
+use Rattle.view_tree.specs.Rows.{children_of_first, part_from, views_of}
+use Rattle.view_tree.specs.Views.{IsLive, Views, class_of, held_of, number_of, orders_of, plain_of, plain_rows}
+use Rattle.view_tree.proofs.orders.RowLaws.{group_there, links-plain, numbers-plain, orders_are}
+
+module _ (a : Inside) (v : Views) (key number : ℕ) (sound : IsSound a) (e : value_of a ≡ v) (live : IsLive v key) (relative : is_relative (class_of v key) ≡ true)
+    (is : number ≡ number_of v key) where
+  kept : IsKeptOf (plain_rows (held_of v) (children_of_first (part_from key v.tree))) (group_at a.groups number)
+  kept = subst (λ n. IsKeptOf (plain_rows (held_of v) (children_of_first (part_from key v.tree))) (group_at a.groups n)) (sym is)
+      (group_there (group_at a.groups) v key live (subst (λ (v : Views). IsGrouped (group_at a.groups) (plain_of v)) e sound.grouped) relative)
+
+  pub never_none : lookup (nat_eq number) a.groups.entries ≡ None → ⊥
+  never_none none =
+      let nothing : group_at a.groups number ≡ None = ap (option_map plain_group) none in
+      subst (IsKeptOf (plain_rows (held_of v) (children_of_first (part_from key v.tree)))) nothing kept
+
+  module _ (group : Group) (found : lookup (nat_eq number) a.groups.entries ≡ Some group) where
+    has : group_at a.groups number ≡ Some (plain_group group)
+    has = ap (option_map plain_group) found
+
+    own : IsGroupOf (plain_rows (held_of v) (children_of_first (part_from key v.tree))) (plain_group group)
+    own = subst (IsKeptOf (plain_rows (held_of v) (children_of_first (part_from key v.tree)))) has kept
+
+    pub numbers_found : group.kids.items ≡ numbers_in (views_of (children_of_first (part_from key v.tree)))
+    numbers_found = own.numbers ∙ numbers-plain (held_of v) (children_of_first (part_from key v.tree))
+
+    pub orders_found : AreOrders (links_in (views_of (children_of_first (part_from key v.tree)))) (plain_orders group.orders)
+    orders_found = subst (λ links. AreOrders links (plain_orders group.orders)) (links-plain (held_of v) (children_of_first (part_from key v.tree))) own.orders
+
+    pub orders_value : orders_of v key ≡ plain_orders group.orders
+    orders_value = orders_are v key a.groups.entries (plain_group group) (ap (λ (v : Views). v.orders) (sym e)) (subst (λ n. option_map plain_group (lookup (nat_eq n) a.groups.entries) ≡ Some (plain_group group)) is has)

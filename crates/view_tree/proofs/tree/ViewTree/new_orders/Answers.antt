@@ -1,0 +1,25 @@
+use Rattle.std.proofs.Common.{◌∙◌, ap, arith, length}
+use Rattle.view_tree.specs.Ordering.{link_or}
+use Rattle.view_tree.specs.Rows.{children_of_first, part_from, views_of}
+use Rattle.view_tree.proofs.orders.CycleLaws.{few_links, members_within}
+use Rattle.relative_layout.specs.declared.ordering.OrderFault.TheVariants as order
+use Rattle.relative_layout.specs.Sorting.{IsFaultOf}
+use Rattle.view_tree.proofs.orders.ListLaws.{length-each}
+use Rattle.view_tree.proofs.tree.ViewTree.new_orders.Goals as goal
+
+pub order-requires : goal.order-requires
+order-requires c =
+    let live = rw c.in-Some.is at c.requires.above in
+    let few = few_links c.args.self.now c.in-Some.parent c.number.result c.args.link c.class.ensures.is_tree live in
+    let size = ap length (c.deref.ensures.value ∙ c.in-Ok.ensures) in
+    record { few = omega arith }
+
+pub told-requires-clause-inside : goal.told-requires-clause-inside
+told-requires-clause-inside c = λ p small.
+    let size = ap length (c.deref.ensures.value ∙ c.in-Ok.ensures) in
+    let numbers = length-each (link_or c.number.result c.args.link) (views_of (children_of_first (part_from c.in-Some.parent c.args.self.now.tree))) in
+    let same = c.deref-in-Err-Cycle.ensures.value in
+    let count = ap length same in
+    let fault : IsFaultOf c.deref.result.now (order.Cycle c.in-Err-Cycle.down c.in-Err-Cycle.members) = rw c.in-Err-Cycle.field-0-is at c.in-Err-Cycle.ensures.fault in
+    let within = members_within c.deref.result.now c.in-Err-Cycle.down c.in-Err-Cycle.members fault p (omega arith) in
+    rw same (omega arith)

@@ -1,0 +1,220 @@
+//! What is kept of the children of relative layouts, by the numbers of these.
+ghost use Rattle.std.specs.Prelude.{◌≡◌, ◌≢◌, ◌≤◌, ◌<◌, ◌+◌, ◌^◌, ℕ, length, true, None, Some, IfSome, OnOk, option_map, if◌then◌else◌, nat_eq};
+ghost use Rattle.indexmap.specs.IndexMap.{get as held_at, spare};
+ghost use Rattle.view_tree.specs.Faults.{IsRefusedExactlyFor};
+ghost use Rattle.view_model.specs.Cycles.{is_relative};
+ghost use Rattle.view_tree.specs.Grafting.{noted};
+ghost use Rattle.view_tree.specs.Ordering.{HasKidRoom, IsTaken, IsTakenAt, group_at, no_group, orders_in, place_in, plain_group, plain_orders, with_kid, with_orders};
+
+use crate::fault::AttachFault;
+use crate::places::{add_place, remove_place};
+use indexmap::IndexMap;
+use relative_layout::Orders;
+use std::alloc::{AllocError, Global};
+use view_model::Class;
+
+/// The children of a relative layout: their places in the orders in which they are measured, and their numbers in list
+/// order.
+#[derive(Drop)]
+pub struct Group {
+    pub orders: Orders,
+    pub kids: Vec<u64>,
+}
+
+/// Whether a view of this class measures its children in orders by their rules.
+#[tactic(auto, using(crate::proofs::orders::RowLaws::grouped_kept))]
+pub fn is_relative(class: Class) -> bool
+    ensures { result ≡ is_relative class }
+{
+    matches!(class, Class::RelativeLayout)
+}
+
+/// Takes the memory for one more child.
+fn reserve_kid(group: &mut Group) -> Result<(), AllocError>
+    ensures same { plain_group group.new ≡ plain_group group.old }
+    ensures room { OnOk result (HasKidRoom group.new) }
+{
+    group.orders.across.reserve(1)?;
+    group.orders.down.reserve(1)?;
+    group.kids.reserve(1)
+}
+
+/// Takes the memory for one more child of a relative layout.
+pub fn make_kid_room(groups: &mut IndexMap<u64, Group>, parent: u64) -> Result<(), AttachFault>
+    ensures refused { IsRefusedExactlyFor None result }
+    ensures same { orders_in groups.new.entries ≡ orders_in groups.old.entries }
+    ensures groups { (k : ℕ) → group_at groups.new k ≡ group_at groups.old k }
+    ensures spare { spare groups.new ≡ spare groups.old }
+    ensures room { OnOk result (IfSome (held_at nat_eq groups.new parent) HasKidRoom) }
+{
+    let Some(group) = groups.get_mut(&parent) else {
+        return Ok(());
+    };
+    match reserve_kid(group) {
+        Ok(()) => Ok(()),
+        Err(_) => Err(AttachFault::NoMemory),
+    }
+}
+
+/// A new child comes behind the others; it is tied to none of them.
+fn push_kid(group: &mut Group, kid: u64)
+    requires room { HasKidRoom group.old }
+    requires few { length group.old.kids.items < 2 ^ 32 }
+    ensures { plain_group group.new ≡ with_kid kid (plain_group group.old) }
+{
+    let place = group.kids.len() as u32;
+    add_place(&mut group.orders.across, place);
+    add_place(&mut group.orders.down, place);
+    group.kids.push_reserved(kid);
+}
+
+/// The same in a table.
+pub fn add_kid(groups: &mut IndexMap<u64, Group>, parent: u64, kid: u64)
+    requires room { IfSome (held_at nat_eq groups.old parent) HasKidRoom }
+    requires few { IfSome (group_at groups.old parent) (λ group. length group.kids < 2 ^ 32) }
+    ensures groups { (k : ℕ) → group_at groups.new k ≡ (if nat_eq parent k then option_map (with_kid kid) (group_at groups.old k) else group_at groups.old k) }
+    ensures spare { spare groups.new ≡ spare groups.old }
+{
+    if let Some(group) = groups.get_mut(&parent) {
+        push_kid(group, kid);
+    }
+}
+
+/// Where a child stands in its group, or past the end.
+fn place_of_kid(kids: &[u64], kid: u64) -> usize
+    ensures { result ≡ place_in kid kids.now }
+{
+    for (place, other) in kids.iter().enumerate() {
+        if *other == kid {
+            return place;
+        }
+    }
+    kids.len()
+}
+
+/// A child goes, and its place goes out of both orders; no other view is a child.
+fn take_kid(group: &mut Group, kid: u64)
+    ensures { IsTaken kid (plain_group group.old) (plain_group group.new) }
+{
+    let place = place_of_kid(&group.kids, kid);
+    if place < group.kids.len() {
+        group.kids.remove(place);
+        remove_place(&mut group.orders.across, place);
+        remove_place(&mut group.orders.down, place);
+    }
+}
+
+/// The same in a table, where the child had a parent.
+pub fn remove_kid(groups: &mut IndexMap<u64, Group>, parent: Option<u64>, kid: u64)
+    ensures own { (k : ℕ) → parent ≡ Some k → IsTakenAt kid (group_at groups.old k) (group_at groups.new k) }
+    ensures others { (k : ℕ) → parent ≢ Some k → group_at groups.new k ≡ group_at groups.old k }
+{
+    let Some(parent) = parent else {
+        return;
+    };
+    if let Some(group) = groups.get_mut(&parent) {
+        take_kid(group, kid);
+    }
+}
+
+/// Takes the memory for another relative layout, if the view that comes is one, and for another child of its parent, if
+/// that is one.
+pub fn make_group_room(
+    groups: &mut IndexMap<u64, Group>,
+    parent: Option<u64>,
+    count: usize,
+) -> Result<(), AttachFault>
+    ensures refused { IsRefusedExactlyFor None result }
+    ensures same { orders_in groups.new.entries ≡ orders_in groups.old.entries }
+    ensures groups { (k : ℕ) → group_at groups.new k ≡ group_at groups.old k }
+    ensures spare { OnOk result (count ≤ spare groups.new) }
+    ensures room { OnOk result ((k : ℕ) → parent ≡ Some k → IfSome (held_at nat_eq groups.new k) HasKidRoom) }
+{
+    if groups.reserve(count).is_err() {
+        return Err(AttachFault::NoMemory);
+    }
+    match parent {
+        None => Ok(()),
+        Some(parent) => make_kid_room(groups, parent),
+    }
+}
+
+/// Notes a group under its number.
+pub fn note_group(groups: &mut IndexMap<u64, Group>, number: u64, group: Group)
+    requires { 0 < spare groups.old }
+    ensures groups { (k : ℕ) → group_at groups.new k ≡ (if nat_eq number k then Some (plain_group group) else group_at groups.old k) }
+    ensures spare { spare groups.old ≤ spare groups.new + 1 }
+{
+    match groups.insert(number, group) {
+        Ok(_) => (),
+        Err(_) => unreachable!(),
+    }
+}
+
+/// Notes groups under their numbers.
+pub fn note_groups(groups: &mut IndexMap<u64, Group>, entries: Vec<(u64, Group)>)
+    requires { length entries.items ≤ spare groups.old }
+    ensures { (k : ℕ) → group_at groups.new k ≡ noted entries.items k (group_at groups.old k) }
+{
+    for (number, group) in entries {
+        note_group(groups, number, group);
+    }
+}
+
+/// A group without children.
+fn empty_group(alloc: Global) -> Group
+    ensures { plain_group result ≡ no_group }
+{
+    Group {
+        orders: Orders {
+            across: Vec::new(alloc),
+            down: Vec::new(alloc),
+        },
+        kids: Vec::new(alloc),
+    }
+}
+
+/// Notes that a view without children has come, the last child of the relative layout of the number `parent`, if there
+/// is one. It is tied to none of its siblings.
+pub fn join_group(groups: &mut IndexMap<u64, Group>, parent: Option<u64>, number: u64, class: Class)
+    requires spare { 0 < spare groups.old }
+    requires room { (k : ℕ) → parent ≡ Some k → IfSome (held_at nat_eq groups.old k) HasKidRoom }
+    requires few { (k : ℕ) → parent ≡ Some k → IfSome (group_at groups.old k) (λ group. length group.kids < 2 ^ 32) }
+    ensures own { is_relative class ≡ true → group_at groups.new number ≡ Some no_group }
+    ensures parent { (k : ℕ) → parent ≡ Some k → k ≢ number → group_at groups.new k ≡ option_map (with_kid number) (group_at groups.old k) }
+    ensures others { (k : ℕ) → parent ≢ Some k → k ≢ number → group_at groups.new k ≡ group_at groups.old k }
+{
+    if let Some(parent) = parent {
+        add_kid(groups, parent, number);
+    }
+    if is_relative(class) {
+        let group = empty_group(*groups.allocator());
+        note_group(groups, number, group);
+    }
+}
+
+/// Notes that a view has gone, a child of the view of the number `parent`, if it had a parent.
+pub fn leave_group(groups: &mut IndexMap<u64, Group>, parent: Option<u64>, number: u64)
+    ensures own { (k : ℕ) → parent ≡ Some k → k ≢ number → IsTakenAt number (group_at groups.old k) (group_at groups.new k) }
+    ensures others { (k : ℕ) → parent ≢ Some k → k ≢ number → group_at groups.new k ≡ group_at groups.old k }
+{
+    remove_kid(groups, parent, number);
+    groups.swap_remove(&number);
+}
+
+/// Sets the orders of the relative layout of a number; where none is given, nothing changes.
+pub fn set_orders(groups: &mut IndexMap<u64, Group>, number: Option<u64>, orders: Option<Orders>)
+    ensures own { (k : ℕ) (new : Orders) → number ≡ Some k → orders ≡ Some new → group_at groups.new k ≡ option_map (with_orders (plain_orders new)) (group_at groups.old k) }
+    ensures others { (k : ℕ) → number ≢ Some k → group_at groups.new k ≡ group_at groups.old k }
+    ensures none { orders ≡ None → (k : ℕ) → group_at groups.new k ≡ group_at groups.old k }
+{
+    let Some(orders) = orders else {
+        return;
+    };
+    let Some(number) = number else {
+        return;
+    };
+    if let Some(group) = groups.get_mut(&number) {
+        group.orders = orders;
+    }
+}

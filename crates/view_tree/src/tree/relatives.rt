@@ -1,0 +1,128 @@
+//! What is kept of the relative layouts of a sapling.
+ghost use Rattle.std.specs.Prelude.{◌≡◌, ◌<◌, ◌≤◌, ◌+◌, ◌^◌, ◌++◌, ◌∷◌, [], None, suc, length, IfOk};
+ghost use Rattle.view_model.specs.Cycles.{is_relative, member_from};
+ghost use Rattle.view_model.specs.declared.limits.TheConstants.{MAX_VIEWS};
+ghost use Rattle.view_tree.specs.Grafting.{AreEntries, HasAdded, IsBehind, IsGroupOrCycle, IsMadeUnless, cycle_behind, cycle_in, links_behind, numbers_behind, sprout_link};
+
+use crate::fault::AttachFault;
+use crate::groups::{Group, is_relative};
+use crate::kids::{Kids, group_of};
+use std::alloc::{AllocError, Global};
+use view_model::{Link, Sprout};
+
+/// What rules read of a view that comes.
+pub fn sprout_link(sprout: &Sprout) -> Link
+    ensures { result ≡ sprout_link sprout.now }
+{
+    Link {
+        id: sprout.facts.id,
+        rules: sprout.facts.rules,
+    }
+}
+
+/// The children of a view of this depth, by the views behind it in preorder, the first of which gets this number.
+fn kids_behind(
+    alloc: Global,
+    depth: u32,
+    number: u64,
+    sprouts: &[Sprout],
+) -> Result<Kids, AllocError>
+    requires { number + length sprouts.now < 2 ^ 64 }
+    ensures links { IfOk result (λ kids. kids.links.items ≡ links_behind depth number sprouts.now) }
+    ensures numbers { IfOk result (λ kids. kids.numbers.items ≡ numbers_behind depth number sprouts.now) }
+{
+    let mut kids = Kids::new(alloc);
+    let mut number = number;
+    let mut rest = sprouts;
+    while let Some((sprout, more)) = rest.split_first() {
+        if sprout.depth <= depth {
+            return Ok(kids);
+        }
+        if sprout.depth - depth == 1 {
+            kids.push(number, sprout_link(sprout))?;
+        }
+        number += 1;
+        rest = more;
+    }
+    Ok(kids)
+}
+
+/// What is kept of a relative layout of this depth and number, by the views behind it in preorder; the views of the
+/// sapling have the numbers from `next` on.
+fn group_behind(
+    alloc: Global,
+    next: u64,
+    depth: u32,
+    number: u64,
+    sprouts: &[Sprout],
+) -> Result<Group, AttachFault>
+    requires few { number + 1 + length sprouts.now ≤ next + MAX_VIEWS }
+    requires numbers { next + MAX_VIEWS < 2 ^ 64 }
+    requires late { next ≤ number }
+    ensures { IsGroupOrCycle (member_from next) (links_behind depth (suc number) sprouts.now) (numbers_behind depth (suc number) sprouts.now) result }
+{
+    match kids_behind(alloc, depth, number + 1, sprouts) {
+        Ok(kids) => group_of(alloc, kids, next),
+        Err(_) => Err(AttachFault::NoMemory),
+    }
+}
+
+/// Adds what is kept of a view that comes, if it is a relative layout; the others stand behind it in preorder.
+fn add_entry(
+    entries: &mut Vec<(u64, Group)>,
+    next: u64,
+    number: u64,
+    sprout: &Sprout,
+    more: &[Sprout],
+) -> Result<(), AttachFault>
+    requires few { number + 1 + length more.now ≤ next + MAX_VIEWS }
+    requires numbers { next + MAX_VIEWS < 2 ^ 64 }
+    requires late { next ≤ number }
+    ensures { IsMadeUnless (cycle_behind (member_from next) number sprout.now more.now) (λ _. HasAdded entries.old.items entries.new.items (IsBehind number sprout.now more.now)) result }
+{
+    if !is_relative(sprout.class) {
+        return Ok(());
+    }
+    match group_behind(*entries.allocator(), next, sprout.depth, number, more) {
+        Err(fault) => Err(fault),
+        Ok(group) => push_entry(entries, number, group),
+    }
+}
+
+/// One more group, under its number.
+pub fn push_entry(
+    entries: &mut Vec<(u64, Group)>,
+    number: u64,
+    group: Group,
+) -> Result<(), AttachFault>
+    ensures { IsMadeUnless None (λ _. entries.new.items ≡ entries.old.items ++ (number, group) ∷ []) result }
+{
+    match entries.push((number, group)) {
+        Ok(()) => Ok(()),
+        Err(_) => Err(AttachFault::NoMemory),
+    }
+}
+
+/// Adds what is kept of the relative layouts among the views of a sapling, which have the numbers from `next` on.
+pub fn with_entries(
+    entries: Vec<(u64, Group)>,
+    next: u64,
+    sprouts: &[Sprout],
+) -> Result<Vec<(u64, Group)>, AttachFault>
+    requires few { length sprouts.now ≤ MAX_VIEWS }
+    requires numbers { next + MAX_VIEWS < 2 ^ 64 }
+    ensures { IsMadeUnless (cycle_in (member_from next) next sprouts.now) (λ all. HasAdded entries.items all.items (AreEntries next sprouts.now)) result }
+{
+    let mut entries = entries;
+    let mut number = next;
+    let mut rest = sprouts;
+    while let Some((sprout, more)) = rest.split_first() {
+        match add_entry(&mut entries, next, number, sprout, more) {
+            Ok(()) => (),
+            Err(fault) => return Err(fault),
+        }
+        number += 1;
+        rest = more;
+    }
+    Ok(entries)
+}
