@@ -3,7 +3,7 @@ use Rattle.std.proofs.Common.{◌≡◌, ◌≢◌, ℕ, ◌+◌, ◌-◌, ◌<�
 use Rattle.std.specs.Prelude.{◌==◌, nat_lt}
 use Rattle.std.proofs.lemmas.Bool.Decides.{nat_tests}
 use Rattle.std.proofs.lemmas.List.{drop_more, get_or-drop, length-drop, take_more}
-use Rattle.view_model.specs.CellText.{cell_below, cell_in, lines_for, newline}
+use Rattle.view_model.specs.CellText.{cell_below, lines_for, newline}
 use Rattle.cell_text.proofs.SegmentLaws.{segments_behind}
 
 -- the cell of a text from `end` on, in a segment that began at `begin`
@@ -19,10 +19,6 @@ segments-other begun c text other = let test : (c == newline) ≡ false = grind 
 cell_below-later : (n : ℕ) (segment : List ℕ) (more : List (List ℕ)) (line place : ℕ) → lines_for n (length segment) ≤ line
     → cell_below n (segment ∷ more) line place ≡ cell_below n more (line - lines_for n (length segment)) place
 cell_below-later n segment more line place later = let test : nat_lt line (lines_for n (length segment)) ≡ false = grind (arith, nat_tests) in rw test refl
-
-pub cell_below-here : (n : ℕ) (segment : List ℕ) (more : List (List ℕ)) (line place : ℕ) → line < lines_for n (length segment)
-    → cell_below n (segment ∷ more) line place ≡ cell_in n segment line place
-cell_below-here n segment more line place here = let test : nat_lt line (lines_for n (length segment)) ≡ true = grind (arith, nat_tests) in rw test refl
 
 -- a newline at `end`: the segment is whole, and the next begins behind it
 pub cell_from-newline : (n : ℕ) (text : List ℕ) (begin end line place c : ℕ) → end < length text → c ≡ get_or text end c → c ≡ newline

@@ -1,8 +1,10 @@
 //! The lines of a text.
-ghost use Rattle.std.specs.Prelude.{◌≡◌, ◌<◌, ◌≤◌, ◌+◌};
+ghost use Rattle.std.specs.Prelude.{◌≡◌, ◌<◌, ◌≤◌, ◌+◌, ◌^◌, ◌≤ℤ◌, pos};
 ghost use Rattle.view_model.specs.CellText.{count_of_lines, lines_for, widest_of};
+ghost use Rattle.view_model.specs.TextView.{cells_in};
 
 use view_model::Text;
+use view_model::limits::CELL_WIDTH;
 
 /// The character that parts segments.
 pub const NEWLINE: char = '\n';
@@ -22,6 +24,19 @@ pub fn widest(text: &Text) -> u32
         }
     }
     widest.max(length)
+}
+
+/// How many cells a line has in this many pixels: at least one, also where there is no room.
+#[tactic(auto, unfolding(view_model::specs::TextView::cells_in))]
+pub fn cells_in(room: i64) -> u32
+    requires { room ≤ℤ pos (2 ^ 34) }
+    ensures value { result ≡ cells_in room }
+    ensures some { 0 < result }
+{
+    if room < 0 {
+        return 1;
+    }
+    ((room / i64::from(CELL_WIDTH)) as u32).max(1)
 }
 
 /// How many lines of `n` cells a text takes.

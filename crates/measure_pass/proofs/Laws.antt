@@ -3,11 +3,10 @@ use Rattle.std.proofs.Common.{◌≡◌, ℕ, ℤ, Bool, List, subst}
 use Rattle.geom_core.proofs.Sides.{default_size_of-is_side, resolve_of-is_side}
 use Rattle.geom_core.specs.Limits.{IsSide}
 use Rattle.geom_core.specs.declared.measuring.Spec.{Spec}
-use Rattle.measure_pass.proofs.FrameLaws.{frame_lawful}
+use Rattle.measure_pass.proofs.FrameLaws.{frame_lawful, scroll_lawful}
 use Rattle.measure_pass.proofs.Lawful.{IsLawful}
 use Rattle.measure_pass.proofs.LeafLaws.{leaf_lawful}
 use Rattle.measure_pass.proofs.LinearLaws.{linear_lawful}
-use Rattle.measure_pass.proofs.ScrollLaws.{scroll_lawful}
 use Rattle.view_model.specs.declared.facts.Facts.{Facts}
 use Rattle.view_model.specs.declared.kinds.Class.{Class}
 use Rattle.view_model.specs.declared.kinds.Class.TheVariants.{View, TextView, FrameLayout, LinearLayout, ScrollView, RelativeLayout}

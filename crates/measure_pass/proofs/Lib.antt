@@ -10,7 +10,6 @@ pub mod MeasureKid
 pub mod Own
 pub mod Parts
 pub mod Places
-pub mod ScrollLaws
 pub mod SettledLaws
 pub mod SiblingTurns
 pub mod Turns

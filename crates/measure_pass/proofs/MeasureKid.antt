@@ -89,8 +89,3 @@ pub record Planned (manner : Manner) (plan : Plan) (view : PlainView) (specs : S
 pub planned : (manner : Manner) (plan : Plan) (view : PlainView) (specs : Specs) → IsPlanOf manner (Some plan) view specs → Planned manner plan view specs
 planned (ByRule rule) plan view specs h = record { rule = rule; is = refl; stands = h }
 planned BySiblings plan view specs h = absurd h
-
--- and one without a plan by the siblings of each child
-pub unplanned : (manner : Manner) (view : PlainView) (specs : Specs) → IsPlanOf manner None view specs → manner ≡ BySiblings
-unplanned (ByRule rule) view specs h = absurd h
-unplanned BySiblings view specs h = refl

@@ -1,10 +1,10 @@
 //! The size of a view that shows a text. Lengths are in pixels.
-ghost use Rattle.std.specs.Prelude.{◌≡◌, ◌<◌, ◌≤◌, ◌*◌, ◌^◌, ◌≤ℤ◌, pos};
+ghost use Rattle.std.specs.Prelude.{◌≡◌, ◌<◌, ◌≤◌, ◌*◌, pos};
 ghost use Rattle.view_model.specs.declared.limits.TheConstants.{CELL_HEIGHT};
 ghost use Rattle.view_model.specs.Facts.{unscrolled_facts};
 ghost use Rattle.view_model.specs.TextView.{cells_across, cells_in, text_height, text_size, text_width};
 
-use cell_text::{count, widest};
+use cell_text::{cells_in, count, widest};
 use geom_core::{Size, Spec};
 use view_model::limits::{CELL_HEIGHT, CELL_WIDTH};
 use view_model::{Facts, Text, own_side};
@@ -51,17 +51,4 @@ fn cells_across(own: &Facts, width: i32) -> u32
     ensures some { 0 < result }
 {
     cells_in(i64::from(width) - own.padding_across())
-}
-
-/// How many cells a line has in this many pixels.
-#[tactic(auto, unfolding(view_model::specs::TextView::cells_in))]
-fn cells_in(room: i64) -> u32
-    requires { room ≤ℤ pos (2 ^ 34) }
-    ensures value { result ≡ cells_in room }
-    ensures some { 0 < result }
-{
-    if room < 0 {
-        return 1;
-    }
-    ((room / i64::from(CELL_WIDTH)) as u32).max(1)
 }

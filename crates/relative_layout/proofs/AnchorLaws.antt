@@ -62,11 +62,6 @@ named_leads axis tie kids place sibling h =
     let last = last_is kids (anchor_id axis tie rules) sibling o.0 in
     leads_whole axis kids place sibling o.1 (rw last.has (anchor_named axis tie rules last.some))
 
-pub named_inside : (axis : Axis) (tie : Tie) (kids : List Link) (place sibling : ℕ) → named_sibling axis tie kids place ≡ Some sibling → sibling < length kids
-named_inside axis tie kids place sibling h =
-    let rules = (link_at kids place).rules in
-    (last_is kids (anchor_id axis tie rules) sibling (other_than_is place sibling (last_with_id kids (anchor_id axis tie rules)) h).0).inside
-
 -- and reaches its anchor
 within_reaches : (axis : Axis) (tie : Tie) (kids : List Link) (shown : ℕ → Bool) (left place anchor : ℕ) → anchor_within left shown (named_sibling axis tie kids) place ≡ Some anchor
     → Reaches (leads axis kids) place anchor

@@ -131,14 +131,6 @@ IsCycle-left axis kids order members short is are = record { some = elim (cases_
         let p = are.whole c.0 c.1 c.2 in
         omega (arith, p.1)
 
-pub AreMembers-none : (r : ℕ → ℕ → Bool) (members : List ℕ) → members ≡ [] → AreMembers r 0 members
-AreMembers-none r members e = rw e (record {
-  below = λ p h. absurd (omega arith);
-  rising = λ p q o h. absurd (omega arith);
-  sound = λ p h. absurd (omega arith);
-  whole = λ k h w. absurd (omega arith);
-})
-
 pub AreMembers-skip : (r : ℕ → ℕ → Bool) (a : ℕ) (members : List ℕ) → (Reaches r a a → ⊥) → AreMembers r a members → AreMembers r (a + 1) members
 AreMembers-skip r a members apart are = record {
   below = λ p h. let b = are.below p h in omega arith;

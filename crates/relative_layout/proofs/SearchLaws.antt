@@ -1,18 +1,17 @@
 -- A whole search, step by step.
-use Rattle.std.proofs.Common.{◌≡◌, ◌≢◌, ℕ, ◌+◌, ◌-◌, ◌<◌, ◌≤◌, true, false, List, [], ◌∷◌, ◌++◌, length, get_or, set, take, Some, None, refl, sym, ap, ◌∙◌, arith, inl, inr, length-append, get_or-set_same, get_or-set_other}
+use Rattle.std.proofs.Common.{◌≡◌, ◌≢◌, ℕ, ◌+◌, ◌-◌, ◌<◌, ◌≤◌, true, false, List, [], ◌∷◌, ◌++◌, length, get_or, set, take, Some, None, refl, sym, ap, ◌∙◌, arith, inl, inr, length-append}
 use Rattle.std.specs.Prelude.{nat_lt, replicate}
 use Rattle.std.proofs.Math.ListN.{length-set}
 use Rattle.std.proofs.lemmas.Bool.{cases_lt}
 use Rattle.std.proofs.lemmas.Bool.Decides.{nat_tests}
 use Rattle.std.proofs.lemmas.List.{get_or-take, get_or_past, length-replicate, length-take-le}
-use Rattle.relative_layout.proofs.Counting.{cases_eq, unmarked}
+use Rattle.relative_layout.proofs.Counting.{unmarked}
 use Rattle.relative_layout.proofs.PartLaws.{Enters-fresh, Found, IsDone, IsFresh, IsOn, IsSearch-drop, IsSearch-enter, IsSearch-hold, IsSearch-join, IsSearch-leave, IsSearch-next, IsSearch-none, IsTold-keep, IsTold-leave, IsWhole-last, LedTo-next, found, settled}
 use Rattle.relative_layout.proofs.PointLaws.{AreMarked-done, heads_inside}
 use Rattle.relative_layout.proofs.SettleLaws.{all_fresh}
 use Rattle.relative_layout.specs.declared.naming.Naming.{Naming}
 use Rattle.relative_layout.specs.declared.parts.Part.{Part}
 use Rattle.relative_layout.specs.declared.parts.Search.{Search}
-use Rattle.relative_layout.specs.declared.parts.Standing.{Standing}
 use Rattle.relative_layout.specs.declared.parts.Standing.TheVariants.{Done, Fresh, OnPath}
 use Rattle.relative_layout.specs.Naming.{IsNaming, lists_of}
 use Rattle.relative_layout.specs.Parts.{AreMarked, IsLastPart, IsSearching, Joins, Leaves, LedTo, Visits, begins_after, heads_in, no_part, standing_of, start_of}
@@ -55,17 +54,6 @@ IsSearching-enter kids naming old new point small is_fresh led standing path par
       path = rw (standing, path, parts, todo) (IsSearch-enter (heads_in kids naming) old.standing.items old.path.items old.todo.items old.parts.items point fits is_fresh led is.path);
       told = rw (standing, members) (IsTold-keep (heads_in kids naming) (length kids) old.standing.items _ old.members.items (Enters-fresh old.standing.items old.path.items point fits is_fresh).was_done is.told);
     }
-
-pub Visits-enter : (old new : List Standing) (point place : ℕ) → point < length old → new ≡ set old point (OnPath place) → Visits old new × (standing_of new point ≢ Fresh)
-Visits-enter old new point place h e =
-    let own : standing_of new point ≡ OnPath place = rw e (get_or-set_same old point (OnPath place) Fresh h) in
-    let here : standing_of new point ≢ Fresh = (λ f. let bad : OnPath place ≡ Fresh = sym own ∙ f in cc) in (
-      (λ a was. elim (cases_eq a point) [
-        | inl same ↦ rw same here
-        | inr ne ↦ λ f. was (sym (get_or-set_other old point a (OnPath place) Fresh ne) ∙ ap (λ xs. standing_of xs a) (sym e) ∙ f)
-      ]),
-      here,
-    )
 
 -- where a search is the same but for what is to be looked at
 pub IsSearching-next : (kids : List Link) (naming : Naming) (old new : Search) (part : Part) (point : ℕ) → IsLastPart old.parts.items part → part.todo < length old.todo.items

@@ -237,12 +237,6 @@ waits_by axis kids taken place k small few fresh waits =
     let named = names-at axis (link_at kids place).rules k few (waits_some_id kids taken (id_at kids place) id waits) in
     (b.0, leads_whole axis kids place b.0 (λ same. b.1 (sym same)) (rw b.4 named), b.3)
 
-pub last_inside : (axis : Axis) (kids : List Link) (left : List ℕ) (taken : List Bool) (todo order : List ℕ) (place : ℕ)
-    → IsTaking axis kids left taken (todo ++ place ∷ []) order → place < length kids
-last_inside axis kids left taken todo order place is =
-    let at = is.inside (length todo) (omega (arith, length-append todo (place ∷ []))) in
-    rw (get_or_push todo place 0 (length todo) refl) at at
-
 -- before any child is taken
 marked-none : (marks : List Bool) → ((k : ℕ) → is_marked marks k ≡ false) → marked marks ≡ 0
 unfolding marked

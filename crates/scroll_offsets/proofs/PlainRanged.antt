@@ -1,20 +1,18 @@
 -- The plain tree once offsets are brought into their ranges.
-use Rattle.std.proofs.Common.{◌≡◌, ℕ, ◌<◌, ℤ, Option, refl, sym, ◌∙◌, ap, subst, arith}
+use Rattle.std.proofs.Common.{◌≡◌, ℕ, ◌<◌, ℤ, Option, refl, sym, ◌∙◌, ap, arith}
 use Rattle.geom_core.specs.declared.geometry.Rect.{Rect}
 use Rattle.scroll_offsets.specs.Bringing.{brought_at, child_rect, first_range, range_at}
-use Rattle.scroll_offsets.proofs.BringingWalk.{brought_more}
+use Rattle.view_tree.proofs.forest.ChangingWalks.{changed_more}
+use Rattle.scroll_offsets.proofs.BringingWalk.{brought_held}
 use Rattle.scroll_offsets.proofs.RangeLaws.{range_unscrolled}
 use Rattle.view_model.specs.Forest.{Forest, Nothing, Branch}
 use Rattle.view_model.specs.Geometry.{rect_in}
 use Rattle.view_model.specs.Offsets.{brought, first_rect, range_by, ranged}
 use Rattle.view_model.specs.PlainTree.{PlainView}
-use Rattle.view_tree.specs.declared.state.State.{State}
-use Rattle.view_tree.specs.Hidden.{HidesGone, IsConsistent}
-use Rattle.view_tree.specs.Rows.{Row, count_of_key, first_tree, head_view, later_siblings}
-use Rattle.view_tree.specs.Views.{Held, IsTree, Views, geometry_of, held_of, laid_rows, number_of, plain_of, plain_rows}
+use Rattle.view_tree.specs.Rows.{Row, count_of_key, head_view}
+use Rattle.view_tree.specs.Views.{Held, IsTree, Views, geometry_of, held_of, number_of, plain_of, plain_rows}
 use Rattle.view_tree.proofs.forest.KeyLaws.{Within, count_of_key-within, from_within, here, in_after, in_below, times_self}
-use Rattle.view_tree.proofs.values.GeometryLaws.{laid_along, rect_live}
-use Rattle.view_tree.proofs.values.HiddenLaws.{hides_along}
+use Rattle.view_tree.proofs.values.GeometryLaws.{rect_live}
 
 within_kids : {row : Row} {kids siblings tree : Forest Row} → Within (Branch row kids siblings) tree → Within kids tree
 within_kids here = in_below here
@@ -64,9 +62,4 @@ module _ (old : Views) (is : IsTree old) where
       → plain_of new ≡ ranged (geometry_of old) (plain_of old)
   plain_ranged new tree came =
       ap (plain_rows (held_of new)) tree
-      ∙ rows_ranged (held_of new) (λ key some. ap (λ (h : Held). h.offset) (came key) ∙ ap (λ (h : Held). h.offset) (brought_more (count_of_key key old.tree) (range_at old key) (held_of old key) some)) old.tree here
-
--- a tree of one root is its first tree
-pub whole_first : (tree : Forest Row) → later_siblings tree ≡ Nothing → first_tree tree ≡ tree
-whole_first Nothing none = refl
-whole_first (Branch row kids siblings) none = ap (λ more. Branch row kids more) (sym none)
+      ∙ rows_ranged (held_of new) (λ key some. ap (λ (h : Held). h.offset) (came key) ∙ ap (λ (h : Held). h.offset) (changed_more (brought_held (range_at old key)) (count_of_key key old.tree) (held_of old key) some)) old.tree here

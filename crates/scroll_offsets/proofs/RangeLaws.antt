@@ -1,22 +1,17 @@
 -- Ranges of offsets, and what keeps them.
-use Rattle.std.proofs.Common.{◌≡◌, ℕ, ◌+◌, ◌<◌, ◌≤◌, ℤ, pos, Option, Some, None, refl, sym, ◌∙◌, ap, arith, inl, inr}
-use Rattle.std.proofs.lemmas.Bool.{cases_Bool}
+use Rattle.std.proofs.Common.{◌≡◌, ℕ, ℤ, Option, Some, None, refl, ◌∙◌, ap, arith}
 use Rattle.std.proofs.lemmas.Int.{ints}
-use Rattle.std.specs.Prelude.{◌==◌}
 use Rattle.geom_core.specs.declared.geometry.Rect.{Rect}
 use Rattle.scroll_offsets.specs.Bringing.{child_rect, first_range, range_at}
 use Rattle.view_model.specs.declared.facts.Facts.{Facts}
 use Rattle.view_model.specs.declared.kinds.Class.{Class}
 use Rattle.view_model.specs.declared.kinds.Class.TheVariants.{View, TextView, FrameLayout, LinearLayout, ScrollView, RelativeLayout}
-use Rattle.view_model.specs.Facts.{unscrolled_facts}
 use Rattle.view_model.specs.Forest.{Forest, Nothing, Branch}
 use Rattle.view_model.specs.Offsets.{brought, range_by}
-use Rattle.view_model.specs.PlainTree.{PlainView}
 use Rattle.view_model.specs.ScrollView.{offset_within}
-use Rattle.view_tree.specs.Rows.{Row, changed_at_key, children_of_first, count_of_key, head_view, part_from}
-use Rattle.view_tree.specs.Views.{Held, IsLive, IsTree, Unscrolled, Views, facts_of, held_of}
-use Rattle.view_tree.proofs.forest.KeyLaws.{Within, absent, here, in_after, in_below, located, or_else_live, zero_or_more}
-use Rattle.view_tree.proofs.forest.NumberLaws.{put_absent}
+use Rattle.view_tree.specs.Rows.{Row, children_of_first, head_view, part_from}
+use Rattle.view_tree.specs.Views.{Held, IsLive, Views, held_of}
+use Rattle.view_tree.proofs.forest.KeyLaws.{located}
 
 -- a range does not look at the offset
 pub range_unscrolled : (class : Class) (own : Facts) (offset : ℤ) (rect child : Option Rect) → range_by class (record own { offset = offset }) rect child ≡ range_by class own rect child
@@ -49,12 +44,6 @@ first_range-along old new (Branch row kids siblings) same =
 pub range_same : (old new : Views) → new.tree ≡ old.tree → ((key : ℕ) → (held_of new key).state ≡ (held_of old key).state) → (key : ℕ) → range_at new key ≡ range_at old key
 range_same old new tree same key =
     ap (λ tree. first_range (held_of new) (part_from key tree)) tree ∙ first_range-along (held_of old) (held_of new) (part_from key old.tree) same
-
--- where the view of a key lies
-pub head_rect : (held : ℕ → Held) (tree : Forest Row) (key : ℕ) → 0 < count_of_key key tree → child_rect held (part_from key tree) ≡ (held key).state.bounds
-head_rect held tree key live =
-    let f = located key tree live in
-    rw f.is (ap (λ k. (held k).state.bounds) f.key_is)
 
 -- the range of the view of a key, by what is asked of it
 pub range_as : (views : Views) (key : ℕ) → IsLive views key

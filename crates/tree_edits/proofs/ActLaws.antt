@@ -27,7 +27,7 @@ use Rattle.tree_edits.specs.Keeping.{KeepsViews}
 use Rattle.tree_edits.specs.Scene.{Scene, scene_of}
 use Rattle.tree_edits.proofs.FactLaws.{gone_after, names_alone, names_stay, renamed, same_change}
 use Rattle.tree_edits.proofs.KeepLaws.{names_keep}
-use Rattle.tree_edits.proofs.Walk.{hidden_more}
+use Rattle.view_tree.proofs.forest.ChangingWalks.{changed_more}
 
 -- scenes are the same where their parts are
 abbrev pub scene : Forest PlainView → ℕ → List Laid → Scene
@@ -115,7 +115,7 @@ pub record Hid (hide : Bool) (old new : Views) (view : ℕ) : Type 0 where
 pub hid_scene : (hide : Bool) (old new : Views) (view : ℕ) → IsTree old → IsLive old view → SameTree old new → HidBy hide old new view
     → Hid hide old new view
 hid_scene true old new view is live same held =
-    let none = λ (other : ℕ) (there : 0 < count_of_key other (first_tree (part_from view old.tree))). ap (λ (h : Held). h.state.bounds) (held other ∙ hidden_more _ (held_of old other) there) in
+    let none = λ (other : ℕ) (there : 0 < count_of_key other (first_tree (part_from view old.tree))). ap (λ (h : Held). h.state.bounds) (held other ∙ changed_more unplaced _ (held_of old other) there) in
     let others = λ (other : ℕ) (away : count_of_key other (first_tree (part_from view old.tree)) ≡ 0). held other ∙ ap (λ n. hidden_at n (held_of old other)) away in
     record {
       geometry = ap (laid_rows (held_of new)) same.tree ∙ geometry-hidden old (held_of new) view is live none others;

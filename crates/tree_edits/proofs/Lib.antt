@@ -4,4 +4,3 @@ mod EditLaws
 mod Examples
 mod FactLaws
 pub mod KeepLaws
-mod Walk

@@ -273,9 +273,6 @@ holds_right rect x y h = grind (arith, ints)
 pub holds_top : (rect : Rect) (x y : ℤ) → holds rect x y ≡ true → rect.top ≤ℤ y
 holds_top rect x y h = grind (arith, ints)
 
-pub holds_bottom : (rect : Rect) (x y : ℤ) → holds rect x y ≡ true → y <ℤ rect.bottom
-holds_bottom rect x y h = grind (arith, ints)
-
 pub column_away : (ink : Argb) (bits row c : ℕ) (left x y : ℤ) (u : Argb) → column_ink ink bits row (x -ℤ (left +ℤ pos c)) y u ≡ column_ink ink bits row (x -ℤ left -ℤ pos c) y u
 column_away ink bits row c left x y u = let e : x -ℤ (left +ℤ pos c) ≡ x -ℤ left -ℤ pos c = omega (arith, ints) in ap (λ (z : ℤ). column_ink ink bits row z y u) e
 

@@ -100,15 +100,6 @@ module _ (view : PlainView) (frame within : Frame) (part : Rect) (shows : shows_
       none true false t u e = refl
       none false false t u e = refl
 
--- a view that shows no text has no ink
-pub own_plain : (view : PlainView) (frame : Frame) (part : Rect) (at : Raster) → shows_text view.class ≡ false
-    → IsPainted (from_origin frame.left frame.top (own_ink view (frame_size frame))) part at at
-own_plain view frame part at plain = painted_nothing _ part at (λ x y u h. none (shows_text view.class) _ _ u plain)
-  where
-    none : (s b t : Bool) (u : Argb) → s ≡ false → (if (s && b) && t then blend_of view.facts.ink u else u) ≡ u
-    none true b t u e = absurd (cc)
-    none false b t u e = refl
-
 -- a pixel of a view: its background where it is seen, its ink over that, and what its children make of it where they
 -- are seen
 pixel_of : (a b i c : Bool) (kids ink back : Argb → Argb) (start mid inked end : Argb) → mid ≡ (if a && b then back start else start)

@@ -14,12 +14,6 @@ between low high at = not (int_lt at low) && int_lt at high
 abbrev pub among : ℤ → ℤ → ℤ → Bool
 among low high at = not (int_lt at low) && int_lt at high
 
-test_lt : (a b : ℤ) → int_lt a b ≡ true → a <ℤ b
-test_lt a b h = grind (arith, ints)
-
-test_ge : (a b : ℤ) → int_lt a b ≡ false → b ≤ℤ a
-test_ge a b h = grind (arith, ints)
-
 lt_test : (a b : ℤ) → a <ℤ b → int_lt a b ≡ true
 lt_test a b h = grind (arith, ints)
 

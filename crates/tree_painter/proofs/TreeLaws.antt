@@ -117,10 +117,6 @@ placed_same views (Branch row kids siblings) is within =
 pub placed_is : (views : Views) → IsTree views → placed_by (geometry_of views) (plain_of views) ≡ placed_rows (held_of views) views.tree
 placed_is views is = placed_same views views.tree is here
 
-pub whole_first : (tree : Forest Row) → later_siblings tree ≡ Nothing → first_tree tree ≡ tree
-whole_first Nothing none = refl
-whole_first (Branch row kids siblings) none = ap (λ (more : Forest Row). Branch row kids more) (sym none)
-
 black_covers : (u : Argb) → blend_of BLACK u ≡ BLACK
 unfolding alpha_of
 black_covers u = blend_of-covering BLACK u refl

@@ -79,13 +79,3 @@ way_end rest all clip least most start now before after way none = record {
   height = way.height;
   colors = λ x y xw yh. done (holds clip (pos x) (pos y)) (rest (pos x) (pos y) (color_at now x y)) (color_at now x y) _ (none (pos x) (pos y) (color_at now x y)) (way.colors x y xw yh);
 }
-
-pub way_counted : (rest all : Painter) (clip : Rect) (least most : ℕ) (start now : Raster) (before after : Work) → IsUnderWay rest all clip least most start now before after
-    → IsCounted most start now before after
-way_counted rest all clip least most start now before after way = record {
-  grew = way.grew;
-  filled_grew = way.filled_grew;
-  bound = let h = way.bound in omega arith;
-  alike = way.alike;
-  measured = way.measured;
-}

@@ -1,20 +1,19 @@
 //! What one view shows itself.
-ghost use Rattle.std.specs.Prelude.{◌≡◌, ℤ, ◌+◌, ◌<◌, ◌≤◌, ◌^◌, ◌+ℤ◌, ◌-ℤ◌, ◌≤ℤ◌, ◌&&◌, pos, true, IfSome, Some};
+ghost use Rattle.std.specs.Prelude.{◌≡◌, ℤ, ◌+◌, ◌≤◌, ◌^◌, ◌+ℤ◌, ◌-ℤ◌, ◌≤ℤ◌, ◌&&◌, pos, true, IfSome, Some};
 ghost use Rattle.geom_core.specs.Rects.{holds};
 ghost use Rattle.pixel_raster.specs.Raster.{Raster};
 ghost use Rattle.view_model.specs.Facts.{padding_across, padding_left};
 ghost use Rattle.view_model.specs.Painting.{Painter, drawn_in, is_drawn, reaches_children, shows_text};
-ghost use Rattle.view_model.specs.TextView.{cells_in};
 ghost use Rattle.view_tree.specs.Views.{IsLive, facts_of, view_at};
 ghost use Rattle.tree_painter.specs.Frames.{IsCanvas, IsInReach, IsInside, IsSeen, canvas_holds, frame_size};
 ghost use Rattle.tree_painter.specs.Inks.{own_ink};
 ghost use Rattle.tree_painter.specs.Painted.{ChildrenPainted, IsBelow, IsCounted, IsPainted, PaintedIn, area_in, from_origin};
 
-use crate::frame::{Canvas, Frame, Length, before, inner_frame, moved, part_in, past};
+use crate::frame::{Canvas, Frame, before, inner_frame, moved, part_in, past};
 use crate::text::ink_text;
+use cell_text::cells_in;
 use geom_core::Rect;
 use pixel_raster::Surface;
-use view_model::limits::CELL_WIDTH;
 use view_model::{Class, Facts, Work};
 use view_tree::{Key, ViewTree};
 
@@ -113,27 +112,12 @@ fn paint_text(
 }
 
 /// The width of a frame without the padding of the view that lies in it.
-fn room_across(facts: &Facts, frame: Frame) -> Length
+fn room_across(facts: &Facts, frame: Frame) -> i64
     requires { IsInReach frame }
-    ensures value { result.pixels ≡ frame.right -ℤ frame.left -ℤ padding_across facts.now }
-    ensures bound { result.pixels ≤ℤ pos (2 ^ 34) }
+    ensures value { result ≡ frame.right -ℤ frame.left -ℤ padding_across facts.now }
+    ensures bound { result ≤ℤ pos (2 ^ 34) }
 {
-    Length {
-        pixels: frame.right - frame.left - facts.padding_across(),
-    }
-}
-
-/// How many cells a line has in so many pixels.
-#[tactic(auto, unfolding(view_model::specs::TextView::cells_in))]
-fn cells_in(room: Length) -> u32
-    requires { room.pixels ≤ℤ pos (2 ^ 34) }
-    ensures value { result ≡ cells_in room.pixels }
-    ensures some { 0 < result }
-{
-    if room.pixels < 0 {
-        return 1;
-    }
-    ((room.pixels / i64::from(CELL_WIDTH)) as u32).max(1)
+    frame.right - frame.left - facts.padding_across()
 }
 
 /// The canvas of the text of a view that lies in this frame, which is seen within `clip`.

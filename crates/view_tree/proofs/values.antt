@@ -4,4 +4,5 @@ pub mod HiddenLaws
 pub mod KeptLaws
 pub mod LayoutLaws
 pub mod OffsetLaws
+pub mod SameLaws
 pub mod ViewsLaws

@@ -2,7 +2,7 @@
 use Rattle.std.proofs.Common.{◌≡◌, ◌≢◌, ◌⊎◌, ℕ, zero, suc, ◌<◌, ◌≤◌, ◌+◌, ◌^◌, Bool, true, false, List, [], ◌∷◌, length, get_or, MatchOption, Option, Some, None, refl, sym, ◌∙◌, ap, subst, arith, inl, inr}
 use Rattle.std.proofs.lemmas.Bool.{cases_Bool, cases_eq, cases_lt, eq-eqb, eqb-true, ne_eqb, true≢false}
 use Rattle.std.specs.Option.{option_and_then}
-use Rattle.std.specs.Prelude.{◌==◌}
+use Rattle.std.specs.Prelude.{◌==◌, if◌then◌else◌}
 use Rattle.view_model.specs.Forest.{Forest, Nothing, Branch}
 use Rattle.view_model.specs.PlainTree.{PlainView}
 use Rattle.view_model.specs.declared.relative.Link.{Link}
@@ -15,7 +15,7 @@ use Rattle.view_model.specs.Cycles.{links_in as links_read}
 use Rattle.view_tree.specs.Rows.{Row, ancestors, children_of_first, count_of_key, count_where, first_key, head_view, keys_where, part_from, siblings_from, views_of}
 use Rattle.view_tree.specs.Views.{Held, IsLive, IsNobodys, IsOnlyHolder, IsTree, Views, held_of, number_of, plain_rows}
 use Rattle.view_tree.proofs.forest.Forests.{RepresentsPart-within, some_is}
-use Rattle.view_tree.proofs.forest.IdLaws.{search_one}
+use Rattle.view_tree.proofs.forest.IdLaws.{keys_where-none, search_one}
 use Rattle.view_tree.proofs.forest.KeyLaws.{Within, from_within, here, in_after, in_below, located}
 use Rattle.view_tree.proofs.forest.PlainLaws.{agree_live, key_where_live, key_where_passes}
 use Rattle.view_tree.proofs.nodes.HolderLaws.{held_none, held_one}
@@ -24,50 +24,38 @@ use Rattle.view_tree.proofs.orders.ListLaws.{IsAmong, length-each}
 use Rattle.view_tree.proofs.orders.RowLaws.{ChildAt, agree_within, child_there, link_there, numbered_key, parent_among, within_children}
 use Rattle.view_tree.proofs.orders.ToldParents.{said, told_child}
 
-keys_none : (passes : PlainView → Bool) (tree : Forest Row) → count_where passes tree ≡ 0 → keys_where passes tree ≡ 0
-keys_none passes Nothing none = refl
-keys_none passes (Branch row kids siblings) none = elim (cases_Bool (passes row.view)) [
-  | inl e ↦ absurd (let one : 1 + (count_where passes kids + count_where passes siblings) ≡ 0 = rw e at none in omega arith)
-  | inr e ↦
-      let rest : 0 + (count_where passes kids + count_where passes siblings) ≡ 0 = rw e at none in
-      let below = keys_none passes kids (omega arith) in
-      let after = keys_none passes siblings (omega arith) in
-      rw e (omega arith)
-]
-
 count_there : (passes : PlainView → Bool) (row : Row) (kids siblings : Forest Row) {tree : Forest Row} → Within (Branch row kids siblings) tree → passes row.view ≡ true → 0 < count_where passes tree
 count_there passes row kids siblings here is = rw is (omega arith)
 count_there passes row kids siblings (in_below w) is = let more = count_there passes row kids siblings w is in omega arith
 count_there passes row kids siblings (in_after w) is = let more = count_there passes row kids siblings w is in omega arith
+
+-- where one view passes, and that below or behind `r`, the sum of the keys of those that do is the one of that side
+one_side : (passes : PlainView → Bool) (r : Row) (some others : Forest Row) (key : ℕ) → 0 < count_where passes some
+    → (if passes r.view then 1 else 0) + (count_where passes some + count_where passes others) ≡ 1 → (count_where passes some ≡ 1 → keys_where passes some ≡ key)
+    → (if passes r.view then r.key else 0) + (keys_where passes some + keys_where passes others) ≡ key
+one_side passes r some others key more one is = elim (cases_Bool (passes r.view)) [
+  | inl e ↦ absurd (let all : 1 + (count_where passes some + count_where passes others) ≡ 1 = rw e at one in omega arith)
+  | inr e ↦
+      let all : 0 + (count_where passes some + count_where passes others) ≡ 1 = rw e at one in
+      let own = is (omega arith) in
+      let none = keys_where-none passes others (omega arith) in
+      rw e (omega arith)
+]
 
 -- where one view passes, the sum of the keys of those that do is its key
 sum_one : (passes : PlainView → Bool) (row : Row) (kids siblings : Forest Row) {tree : Forest Row} → Within (Branch row kids siblings) tree → passes row.view ≡ true → count_where passes tree ≡ 1
     → keys_where passes tree ≡ row.key
 sum_one passes row kids siblings here is one =
     let rest : 1 + (count_where passes kids + count_where passes siblings) ≡ 1 = rw is at one in
-    let below = keys_none passes kids (omega arith) in
-    let after = keys_none passes siblings (omega arith) in
+    let below = keys_where-none passes kids (omega arith) in
+    let after = keys_where-none passes siblings (omega arith) in
     rw is (omega arith)
 sum_one passes row kids siblings (in_below {row = r} {kids = b} {siblings = a} w) is one =
-    let more = count_there passes row kids siblings w is in
-    elim (cases_Bool (passes r.view)) [
-      | inl e ↦ absurd (let all : 1 + (count_where passes b + count_where passes a) ≡ 1 = rw e at one in omega arith)
-      | inr e ↦
-          let all : 0 + (count_where passes b + count_where passes a) ≡ 1 = rw e at one in
-          let own = sum_one passes row kids siblings w is (omega arith) in
-          let after = keys_none passes a (omega arith) in
-          rw e (omega arith)
-    ]
+    one_side passes r b a row.key (count_there passes row kids siblings w is) one (λ one. sum_one passes row kids siblings w is one)
 sum_one passes row kids siblings (in_after {row = r} {kids = b} {siblings = a} w) is one =
-    let more = count_there passes row kids siblings w is in
-    elim (cases_Bool (passes r.view)) [
-      | inl e ↦ absurd (let all : 1 + (count_where passes b + count_where passes a) ≡ 1 = rw e at one in omega arith)
-      | inr e ↦
-          let all : 0 + (count_where passes b + count_where passes a) ≡ 1 = rw e at one in
-          let own = sum_one passes row kids siblings w is (omega arith) in
-          let below = keys_none passes b (omega arith) in
-          rw e (omega arith)
-    ]
+    let all : (if passes r.view then 1 else 0) + (count_where passes b + count_where passes a) ≡ 1 = one in
+    let sum = one_side passes r a b row.key (count_there passes row kids siblings w is) (omega arith) (λ one. sum_one passes row kids siblings w is one) in
+    omega arith
 
 -- the view that a table tells of an id with one view is the only one
 pub only_holder : (views : Views) (id : ℕ) (held : Holders) → id ≢ 0 → holders_of id views.tree ≡ Some held → held.count ≡ 1

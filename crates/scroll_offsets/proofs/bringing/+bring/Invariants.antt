@@ -1,9 +1,8 @@
-use Rattle.std.proofs.Common.{◌≡◌}
 use Rattle.scroll_offsets.specs.Bringing.{range_at}
 use Rattle.scroll_offsets.proofs.BringingWalk.{BringingWalk}
 use Rattle.view_model.specs.Forest.{count_of}
 use Rattle.view_tree.specs.Rows.{first_tree, children_of_first, part_from, rest_from}
-use Rattle.view_tree.specs.Views.{held_of}
+use Rattle.view_tree.specs.Views.{SameTree, held_of}
 use Rattle.scroll_offsets.proofs.bringing.+bring.Given as goal
 
 -- the views from this one down
@@ -18,8 +17,6 @@ abbrev pub invariant-loop-next : goal.invariant-loop-next
 invariant-loop-next l =
     let tree = l.fn.tree.tree in
     record {
-      same : l.tree.tree ≡ tree;
-      orders : l.tree.orders ≡ l.fn.tree.orders;
-      numbers : l.tree.next ≡ l.fn.tree.next;
+      same : SameTree l.fn.tree l.tree;
       walked : BringingWalk tree (children_of_first (part_from l.view tree)) (range_at l.fn.tree) (held_of l.initial.tree) l.next (held_of l.tree);
     }

@@ -1,10 +1,11 @@
 use Rattle.std.proofs.Common.{◌≡◌, ◌∙◌, ap}
 use Rattle.scroll_offsets.specs.Bringing.{brought_at, range_at}
 use Rattle.scroll_offsets.proofs.BringingWalk.{brought_state}
-use Rattle.scroll_offsets.proofs.PlainRanged.{plain_ranged, whole_first}
+use Rattle.scroll_offsets.proofs.PlainRanged.{plain_ranged}
 use Rattle.view_model.specs.Forest.{Forest}
 use Rattle.view_tree.specs.Rows.{Row, count_of_key, first_tree, part_from}
 use Rattle.view_tree.specs.Views.{Held, held_of}
+use Rattle.view_tree.proofs.forest.RootLaws.{whole_first}
 use Rattle.view_tree.proofs.values.OffsetLaws.{same_geometry, same_hidden}
 use Rattle.scroll_offsets.proofs.bringing.bring_into_range.Goals as goal
 

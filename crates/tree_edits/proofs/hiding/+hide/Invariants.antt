@@ -1,8 +1,8 @@
-use Rattle.std.proofs.Common.{◌≡◌}
+use Rattle.tree_edits.specs.Hiding.{unplaced}
 use Rattle.view_model.specs.Forest.{count_of}
 use Rattle.view_tree.specs.Rows.{first_tree, children_of_first, part_from, rest_from}
-use Rattle.view_tree.specs.Views.{held_of}
-use Rattle.tree_edits.proofs.Walk.{HidingWalk}
+use Rattle.view_tree.specs.Views.{SameTree, held_of}
+use Rattle.view_tree.proofs.forest.ChangingWalks.{ChangingWalk}
 use Rattle.tree_edits.proofs.hiding.+hide.Given as goal
 
 -- the views from this one down
@@ -17,8 +17,6 @@ abbrev pub invariant-loop-next : goal.invariant-loop-next
 invariant-loop-next l =
     let tree = l.fn.tree.tree in
     record {
-      same : l.tree.tree ≡ tree;
-      orders : l.tree.orders ≡ l.fn.tree.orders;
-      numbers : l.tree.next ≡ l.fn.tree.next;
-      walked : HidingWalk tree (children_of_first (part_from l.view tree)) (held_of l.initial.tree) l.next (held_of l.tree);
+      same : SameTree l.fn.tree l.tree;
+      walked : ChangingWalk (λ key. unplaced) tree (children_of_first (part_from l.view tree)) (held_of l.initial.tree) l.next (held_of l.tree);
     }

@@ -1,4 +1,5 @@
-use Rattle.std.proofs.Common.{◌≡◌, ◌≤◌, ℕ, List, ◌+ℤ◌, ◌-ℤ◌, ap, ◌∙◌, subst}
+use Rattle.std.proofs.Common.{◌≡◌, ◌≤◌, ℕ, List, ◌+ℤ◌, ◌-ℤ◌, FitsSigned, w64, ap, ◌∙◌, subst, rules}
+use Rattle.std.proofs.lemmas.Int.{to_z-of_z}
 use Rattle.view_model.specs.declared.facts.Facts.{Facts}
 use Rattle.view_model.specs.Facts.{padding_across, padding_left}
 use Rattle.view_model.specs.TextView.{cells_across, cells_in}
@@ -23,8 +24,10 @@ returns-in-Some-clause-painted c =
     let text : c.characters-text.result.now ≡ view.text = c.characters-text.ensures.value ∙ c.text.ensures in
     let left : canvas.left ≡ frame.left +ℤ padding_left view.facts = c.text_canvas.ensures.left ∙ ap (λ (facts : Facts). frame.left +ℤ padding_left facts) same in
     let top : canvas.top ≡ frame.top +ℤ view.facts.padding.top = c.text_canvas.ensures.top ∙ ap (λ (facts : Facts). frame.top +ℤ facts.padding.top) same in
+    let fits : FitsSigned w64 c.room_across.result = search rules in
+    let in_room : n ≡ cells_in c.room_across.result = simp (to_z-of_z, fits) at c.cells_in-cells.ensures.value in
     let cells : n ≡ cells_across view.facts (frame_size frame).w =
-    c.cells_in-cells.ensures.value ∙ ap cells_in (c.room_across.ensures.value ∙ ap (λ (facts : Facts). frame.right -ℤ frame.left -ℤ padding_across facts) same) in
+    in_room ∙ ap cells_in (c.room_across.ensures.value ∙ ap (λ (facts : Facts). frame.right -ℤ frame.left -ℤ padding_across facts) same) in
     let inked : PaintedIn canvas (text_ink c.facts-facts.result.now.ink n view.text) old new =
     subst (λ (text : List ℕ). PaintedIn canvas (text_ink c.facts-facts.result.now.ink n text) old new) text c.ink_text.ensures.painted in
     let inked : PaintedIn canvas (text_ink view.facts.ink n view.text) old new = subst (λ (facts : Facts). PaintedIn canvas (text_ink facts.ink n view.text) old new) same inked in

@@ -2,7 +2,8 @@ use Rattle.std.proofs.Common.{◌≡◌, ap, sym, ◌∙◌, arith}
 use Rattle.view_tree.specs.Rows.{first_tree, part_from}
 use Rattle.tree_painter.specs.Painted.{IsCounted, area_in, share_of}
 use Rattle.tree_painter.proofs.AreaLaws.{area_in-same, counted_fill, counted_same, counted_then}
-use Rattle.tree_painter.proofs.TreeLaws.{share_of_all, whole_first, whole_none, whole_some}
+use Rattle.view_tree.proofs.forest.RootLaws.{whole_first}
+use Rattle.tree_painter.proofs.TreeLaws.{share_of_all, whole_none, whole_some}
 use Rattle.tree_painter.proofs.painting.paint.Goals as goal
 
 pub returns-in-Some-clause-painted : goal.returns-in-Some-clause-painted
