@@ -1,3 +1,4 @@
+mod ActionLaws
 mod BarLaws
 mod ChangeExamples
 mod CommandExamples
@@ -10,6 +11,7 @@ pub mod LineLaws
 pub mod PieceLaws
 mod PlaceLaws
 mod ResourceExamples
+mod SpelledActions
 mod SpelledColors
 pub mod SpelledCommands
 mod SpelledExamples
@@ -18,7 +20,9 @@ mod SpelledNumbers
 mod SpelledResources
 mod SpelledRules
 mod SpelledTexts
+mod SpelledTouches
 mod SpelledWords
 mod TextLaws
 mod TextLengthLaws
+mod TouchExamples
 pub mod WordLaws

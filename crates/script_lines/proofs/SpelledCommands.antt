@@ -11,7 +11,10 @@ use Rattle.view_model.specs.declared.changes.Act.{Act}
 use Rattle.view_model.specs.declared.changes.Act.TheVariants as act
 use Rattle.view_model.specs.declared.changes.Change.{Change}
 use Rattle.view_model.specs.declared.changes.Change.TheVariants as change
+use Rattle.view_model.specs.declared.changes.Flag.{Flag}
 use Rattle.view_model.specs.declared.changes.Flag.TheVariants as flag
+use Rattle.view_model.specs.declared.kinds.Answer.{Answer}
+use Rattle.view_model.specs.declared.kinds.Answer.TheVariants as answer
 use Rattle.view_model.specs.declared.kinds.Class.{Class}
 use Rattle.view_model.specs.declared.kinds.Class.TheVariants as class
 use Rattle.view_model.specs.declared.kinds.Visibility.{Visibility}
@@ -21,14 +24,15 @@ use Rattle.view_model.specs.declared.placing.Across.TheVariants as across
 use Rattle.view_model.specs.declared.placing.Down.{Down}
 use Rattle.view_model.specs.declared.placing.Down.TheVariants as down
 use Rattle.view_model.specs.declared.placing.Gravity.{Gravity}
-use Rattle.script_lines.specs.Changes.{AreWithin, IsActInBounds, IsChangeInBounds, act_of, change_of, flag_named, flag_of, gravity_change_of, insets_of, kids_of, new_id_of, orient_of, scroll_of, sides_of, vertical_of, visibility_of, visible_of}
-use Rattle.script_lines.specs.Commands.{IsInBounds, add_of, bounds_of, class_of, command_by, command_of, digest_of, dpi_of, frame_of, inflate_of, into_of, remove_of, set_of}
+use Rattle.script_lines.specs.Changes.{AreWithin, IsActInBounds, IsChangeInBounds, act_of, answer_named, answer_of, change_of, flag_named, flag_of, gravity_change_of, insets_of, kids_of, new_id_of, orient_of, scroll_of, sides_of, vertical_of, visibility_of, visible_of}
+use Rattle.script_lines.specs.Commands.{IsInBounds, add_of, bounds_of, class_of, command_by, command_of, digest_of, disallow_of, dpi_of, frame_of, inflate_of, into_of, remove_of, set_of}
 use Rattle.script_lines.specs.Dimensions.{IsExtent, dimension_of, extent_of, extents_of}
 use Rattle.script_lines.specs.Gravities.{across_of, down_of, gravity_of, is_set_across, is_set_down, one_across, one_down, with_word, with_words}
 use Rattle.script_lines.specs.Numbers.{IsWithin}
 use Rattle.script_lines.specs.Pixels.{IsPart, is_small, part_of, pixels_of}
 use Rattle.script_lines.specs.Rules.{rule_of}
-use Rattle.script_lines.specs.Spelled.{ActHasLine, ChangeHasLine, HasLine, HasWord, act_head, act_words, change_head, change_words, class_text, extent_text, gravity_text, insets_words, name_text, parent_text, spelled, visibility_text, weight_words}
+use Rattle.script_lines.specs.Spelled.{ActHasLine, ChangeHasLine, HasLine, HasWord, act_head, act_words, change_head, change_words, class_text, event_answer_text, extent_text, flag_text, gravity_text, insets_words, name_text, on_text, parent_text, spelled, touch_words, visibility_text, weight_words}
+use Rattle.script_lines.specs.Touches.{cancel_of, up_of}
 use Rattle.script_lines.specs.Weights.{last_number, weight_of}
 use Rattle.script_lines.specs.Words.{on_of}
 use Rattle.script_lines.specs.declared.weights.TheConstants.{MAX_PARTS, MAX_WHOLE}
@@ -40,10 +44,12 @@ use Rattle.script_lines.specs.declared.dimension.Dimension.{Dimension}
 use Rattle.script_lines.specs.declared.dimension.Dimension.TheVariants.{Match, Wrap, Pixels}
 use Rattle.script_lines.specs.declared.naming.Name.TheVariants.{Id}
 use Rattle.script_lines.proofs.FileNameLaws.{file_name_word}
+use Rattle.script_lines.proofs.SpelledActions.{actions_of-words, intercept_reads_words}
 use Rattle.script_lines.proofs.SpelledColors.{color_word, last_color-text}
 use Rattle.script_lines.proofs.SpelledResources.{command_of-resource}
 use Rattle.script_lines.proofs.SpelledRules.{rule_value_in-text, rule_value_word, verb_of-text, verb_word}
 use Rattle.script_lines.proofs.SpelledTexts.{command_of-text}
+use Rattle.script_lines.proofs.SpelledTouches.{pointer_of-id, pointer_short, touch_of-words, touch_reads_words}
 use Rattle.script_lines.proofs.SpelledNames.{id_of-text, name_of-text, name_word, parent_of-text, parent_word}
 use Rattle.script_lines.proofs.SpelledNumbers.{IsShort, decimal_first, decimal_word, differs, integer_of-signed, natural_within-within, pair_of-signed, short_within, signed_word, within_of-within}
 use Rattle.script_lines.proofs.SpelledWords.{AreWords, IsWord, command_of-joined, ends_in_text, word_by}
@@ -228,11 +234,11 @@ unfolding kids_of
 kids_of-text true = refl
 kids_of-text false = refl
 
-on_word : (on : Bool) → IsWord (if on then codes "yes" else codes "no")
+on_word : (on : Bool) → IsWord (on_text on)
 on_word true = word_by (codes "yes") refl
 on_word false = word_by (codes "no") refl
 
-on_of-text : (on : Bool) → on_of (if on then codes "yes" else codes "no") ≡ Ok on
+on_of-text : (on : Bool) → on_of (on_text on) ≡ Ok on
 unfolding on_of
 on_of-text true = refl
 on_of-text false = refl
@@ -245,6 +251,30 @@ vertical_of-text : (vertical : Bool) → vertical_of (if vertical then codes "ve
 unfolding vertical_of
 vertical_of-text true = refl
 vertical_of-text false = refl
+
+-- flags
+flag_named-text : (flag : Flag) → flag_named (flag_text flag) ≡ Ok flag
+unfolding flag_named
+flag_named-text flag.Clip = refl
+flag_named-text flag.Fill = refl
+flag_named-text flag.Split = refl
+
+flag_word : (flag : Flag) → IsWord (flag_text flag)
+flag_word flag.Clip = word_by (codes "clip") refl
+flag_word flag.Fill = word_by (codes "fill") refl
+flag_word flag.Split = word_by (codes "split") refl
+
+-- answers to events
+answer_named-text : (answer : Answer) → answer_named (event_answer_text answer) ≡ Ok answer
+unfolding answer_named
+answer_named-text answer.Off = refl
+answer_named-text answer.Yes = refl
+answer_named-text answer.Click = refl
+
+event_answer_word : (answer : Answer) → IsWord (event_answer_text answer)
+event_answer_word answer.Off = word_by (codes "off") refl
+event_answer_word answer.Yes = word_by (codes "yes") refl
+event_answer_word answer.Click = word_by (codes "click") refl
 
 -- what a change says behind the view, and what that is read as
 record ChangeReads (c : Change) : Type 0 where
@@ -302,7 +332,7 @@ record ActReads (a : Act) : Type 0 where
   value : act_of (act_head a) (act_words a) ≡ Ok a
 
 act_reads : (a : Act) → IsActInBounds a → ActHasLine a → ActReads a
-unfolding act_of visible_of new_id_of orient_of flag_of flag_named scroll_of rule_of
+unfolding act_of visible_of new_id_of orient_of flag_of answer_of scroll_of rule_of
 act_reads (act.Change change) b l = let r = change_reads change b l in record { head = r.head; words = r.words; value = r.value }
 act_reads (act.Visible visibility) b l = record {
   head = word_by (codes "visible") refl;
@@ -324,17 +354,11 @@ act_reads (act.Orient vertical) b l = record {
   words = (vertical_word vertical, tt);
   value = rw (vertical_of-text vertical) refl;
 }
-act_reads (act.Flag flag.Clip on) b l = record {
+act_reads (act.Flag flag on) b l = record {
   head = word_by (codes "flag") refl;
-  words = (word_by (codes "clip") refl, (on_word on, tt));
-  value = rw (on_of-text on) refl;
+  words = (flag_word flag, (on_word on, tt));
+  value = rw (flag_named-text flag, on_of-text on) refl;
 }
-act_reads (act.Flag flag.Fill on) b l = record {
-  head = word_by (codes "flag") refl;
-  words = (word_by (codes "fill") refl, (on_word on, tt));
-  value = rw (on_of-text on) refl;
-}
-act_reads (act.Flag flag.Split on) b l = absurd l
 act_reads (act.Ink color) b l = record {
   head = word_by (codes "ink") refl;
   words = (color_word color, tt);
@@ -345,8 +369,16 @@ act_reads (act.Rule verb value) b l = record {
   words = (verb_word verb b, (rule_value_word verb value l, tt));
   value = rw (verb_of-text verb b, rule_value_in-text verb value l) refl;
 }
-act_reads (act.Answer answer) b l = absurd l
-act_reads (act.Intercept actions) b l = absurd l
+act_reads (act.Answer answer) b l = record {
+  head = word_by (codes "answer") refl;
+  words = (event_answer_word answer, tt);
+  value = rw (answer_named-text answer) refl;
+}
+act_reads (act.Intercept actions) b l = record {
+  head = word_by (codes "intercept") refl;
+  words = intercept_reads_words actions b;
+  value = rw (actions_of-words actions b) refl;
+}
 act_reads (act.Scroll offset) b l =
     let short = size_short offset b in
     record {
@@ -376,8 +408,8 @@ command_by-act (act.Orient vertical) ws l = refl
 command_by-act (act.Flag flag on) ws l = refl
 command_by-act (act.Ink color) ws l = refl
 command_by-act (act.Rule verb value) ws l = refl
-command_by-act (act.Answer answer) ws l = absurd l
-command_by-act (act.Intercept actions) ws l = absurd l
+command_by-act (act.Answer answer) ws l = refl
+command_by-act (act.Intercept actions) ws l = refl
 command_by-act (act.Scroll offset) ws l = refl
 
 change_no_text : (c : Change) → ChangeHasLine c → ends_in_text (change_head c) ≡ false
@@ -437,7 +469,7 @@ pixels_of-text x y w h b =
 
 -- The command of the text of a command is that plain.
 pub command_of-spelled : (c : PlainCommand) → IsInBounds c → HasLine c → command_of (spelled c) ≡ Ok c
-unfolding command_by dpi_of inflate_of into_of add_of remove_of frame_of bounds_of digest_of set_of
+unfolding command_by dpi_of inflate_of into_of add_of remove_of disallow_of up_of cancel_of frame_of bounds_of digest_of set_of
 command_of-spelled (plain.Window w h) b l =
     command_of-joined (codes "window") (signed_decimal w ∷ signed_decimal h ∷ []) refl (word_by (codes "window") refl, (signed_word w (side_of_window w b.0), (signed_word h (side_of_window h b.1), tt)))
     ∙ rw (pair_of-signed (pos 1) MAX_WINDOW w h (side_of_window w b.0) (side_of_window h b.1) b.0 b.1) refl
@@ -464,6 +496,19 @@ command_of-spelled (plain.Act view act) b l =
     ∙ command_by-act act (name_text view ∷ act_words act) l.1
     ∙ rw (name_of-text view l.0, r.value) refl
 command_of-spelled (plain.SetText view text) b l = command_of-text view text b l.0 l.1
+command_of-spelled (plain.Disallow view on) b l =
+    command_of-joined (codes "disallow") (name_text view ∷ on_text on ∷ []) refl (word_by (codes "disallow") refl, (name_word view l, (on_word on, tt)))
+    ∙ rw (name_of-text view l, on_of-text on) refl
+command_of-spelled (plain.Down p x y) b l =
+    command_of-joined (codes "down") (touch_words p x y) refl (word_by (codes "down") refl, touch_reads_words p x y b)
+    ∙ rw (touch_of-words p x y b) refl
+command_of-spelled (plain.Move p x y) b l =
+    command_of-joined (codes "move") (touch_words p x y) refl (word_by (codes "move") refl, touch_reads_words p x y b)
+    ∙ rw (touch_of-words p x y b) refl
+command_of-spelled (plain.Up p) b l =
+    command_of-joined (codes "up") (decimal p ∷ []) refl (word_by (codes "up") refl, (decimal_word p (pointer_short p b), tt))
+    ∙ rw (integer_of-signed (pos p) (pointer_short p b), pointer_of-id p b) refl
+command_of-spelled plain.Cancel b l = command_of-joined (codes "cancel") [] refl (word_by (codes "cancel") refl, tt)
 command_of-spelled plain.Frame b l = command_of-joined (codes "frame") [] refl (word_by (codes "frame") refl, tt)
 command_of-spelled (plain.Bounds None) b l = command_of-joined (codes "bounds") [] refl (word_by (codes "bounds") refl, tt)
 command_of-spelled (plain.Bounds (Some view)) b l =

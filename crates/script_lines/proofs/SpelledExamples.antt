@@ -6,11 +6,13 @@ use Rattle.view_model.specs.Dimensions.{mantissa}
 use Rattle.view_model.specs.Facts.{no_gravity}
 use Rattle.view_model.specs.declared.changes.Act.TheVariants as act
 use Rattle.view_model.specs.declared.changes.Change.TheVariants as change
+use Rattle.view_model.specs.declared.changes.Flag.TheVariants as flag
+use Rattle.view_model.specs.declared.kinds.Answer.TheVariants as answer
 use Rattle.view_model.specs.declared.kinds.Class.TheVariants as class
 use Rattle.view_model.specs.declared.placing.Across.TheVariants as across
 use Rattle.view_model.specs.declared.placing.Down.TheVariants as down
 use Rattle.script_lines.specs.Spelled.{spelled}
-use Rattle.script_lines.specs.PlainCommands.{Window, Add, Act, Bounds, Dpi, Res, Inflate, Color, Dimen, Text}
+use Rattle.script_lines.specs.PlainCommands.{Window, Add, Act, Bounds, Dpi, Res, Inflate, Disallow, Down, Move, Up, Cancel, Color, Dimen, Text}
 use Rattle.script_lines.specs.declared.naming.Name.TheVariants.{Number, Id}
 
 pub a_window : spelled (Window (pos 100) (pos 4096)) ≡ codes "window 100 4096"
@@ -75,3 +77,38 @@ a_file = refl
 pub a_density : spelled (Dpi 240) ≡ codes "dpi 240"
 unfolding digits
 a_density = refl
+
+pub an_answer : spelled (Act (Number 3) (act.Answer answer.Click)) ≡ codes "answer v3 click"
+unfolding digits
+an_answer = refl
+
+pub no_action : spelled (Act (Number 1) (act.Intercept 0)) ≡ codes "intercept v1 none"
+unfolding digits
+no_action = refl
+
+pub two_actions : spelled (Act (Number 1) (act.Intercept 36)) ≡ codes "intercept v1 move pup"
+unfolding digits
+two_actions = refl
+
+pub a_flag : spelled (Act (Number 1) (act.Flag flag.Split false)) ≡ codes "flag v1 split no"
+unfolding digits
+a_flag = refl
+
+pub a_disallowing : spelled (Disallow (Number 2) true) ≡ codes "disallow v2 yes"
+unfolding digits
+a_disallowing = refl
+
+pub a_pointer_down : spelled (Down 0 (pos 5) (negsuc 29)) ≡ codes "down 0 5 -30"
+unfolding digits
+a_pointer_down = refl
+
+pub a_pointer_that_moves : spelled (Move 9 (pos 0) (pos 1048576)) ≡ codes "move 9 0 1048576"
+unfolding digits
+a_pointer_that_moves = refl
+
+pub a_pointer_up : spelled (Up 9) ≡ codes "up 9"
+unfolding digits
+a_pointer_up = refl
+
+pub a_cancel : spelled Cancel ≡ codes "cancel"
+a_cancel = refl

@@ -4,21 +4,23 @@ use Rattle.std.specs.Prelude.{ℤ, pos, nat_lt, codes, if◌then◌else◌, IfOk
 use Rattle.std.specs.List.{prefix_len}
 use Rattle.std.specs.Str.{bytes_eq, is_utf8}
 use Rattle.script_lines.specs.Changes.{act_of}
-use Rattle.script_lines.specs.Commands.{add_of, bounds_of, class_of, command_by, command_in, command_of, digest_of, dpi_of, frame_of, inflate_of, into_of, remove_of, set_of, set_text_of}
+use Rattle.script_lines.specs.Commands.{add_of, bounds_of, class_of, command_by, command_in, command_of, digest_of, dpi_of, disallow_of, frame_of, inflate_of, into_of, remove_of, set_of, set_text_of, touch_by}
 use Rattle.script_lines.specs.Dimensions.{extents_of}
 use Rattle.script_lines.specs.Escapes.{escaped_text_of, has_escapes, rest_of}
 use Rattle.script_lines.specs.FileNames.{file_name_in}
 use Rattle.script_lines.specs.Lines.{is_space}
 use Rattle.script_lines.specs.Names.{id_in, name_in, parent_in}
 use Rattle.script_lines.specs.Numbers.{integer_in, natural_within, pair_of, within_of}
-use Rattle.script_lines.specs.PlainCommands.{PlainCommand, PlainGiven, Window, Dpi, Inflate, Act, SetText, Text, Color, given_text_length, text_length}
+use Rattle.script_lines.specs.PlainCommands.{PlainCommand, PlainGiven, Window, Dpi, Inflate, Act, SetText, Down, Move, Up, Text, Color, given_text_length, text_length}
 use Rattle.script_lines.specs.Colors.{last_color}
 use Rattle.script_lines.specs.Pixels.{is_small, part_of, pixels_of}
 use Rattle.script_lines.specs.Resources.{dimen_given, given_by, given_of, res_of, resource_id, unit_of}
-use Rattle.script_lines.specs.Words.{◌>>=◌, after_spaces, after_word, end_of, in_word, map_ok, text_of, word_in, words}
+use Rattle.script_lines.specs.Touches.{cancel_of, pointer_of, touch_of, up_of}
+use Rattle.script_lines.specs.Words.{◌>>=◌, after_spaces, after_word, end_of, in_word, map_ok, on_of, text_of, word_in, words}
 use Rattle.script_lines.specs.declared.commands.TheConstants.{MAX_DPI, MAX_POINT, MAX_WINDOW, MIN_DPI}
 use Rattle.script_lines.specs.declared.fault.LineFault.{LineFault}
 use Rattle.script_lines.specs.declared.resources.TheConstants.{MAX_MANTISSA, MIN_MANTISSA}
+use Rattle.script_lines.specs.declared.touches.Touch.{Touch}
 
 -- what holds of whatever a reading gives
 if_then : {A B : Type 0} (P : B → Type 0) (r : Result A LineFault) (next : A → Result B LineFault) → ((a : A) → IfOk (next a) P) → IfOk (r >>= next) P
@@ -117,6 +119,18 @@ pixels_of-short n words =
     if_then P (within_of (pos 1) MAX_WINDOW w.0) _ (λ width. if_then P (within_of (pos 1) MAX_WINDOW h.0) _ (λ height.
     if_either P (is_small width height) _ _ (none_short n) tt)))))))))
 
+touch_by-short : (n : ℕ) (head : List ℕ) (words : List (List ℕ)) → IfOk (touch_by head words) (Short n)
+unfolding up_of cancel_of disallow_of
+touch_by-short n head words =
+    let P = Short n in
+    if_either P (bytes_eq head (codes "down")) _ _ (if_map P (λ (touch : Touch). Down touch.pointer touch.x touch.y) (touch_of words) (λ _. none_short n))
+    (if_either P (bytes_eq head (codes "move")) _ _ (if_map P (λ (touch : Touch). Move touch.pointer touch.x touch.y) (touch_of words) (λ _. none_short n))
+    (if_either P (bytes_eq head (codes "up")) _ _ (if_then P (integer_in words) _ (λ p. if_then P (end_of p.1) _ (λ _. if_map P Up (pointer_of p.0) (λ _. none_short n))))
+    (if_either P (bytes_eq head (codes "cancel")) _ _ (if_then P (end_of words) _ (λ _. none_short n))
+    (if_either P (bytes_eq head (codes "disallow")) _ _
+    (if_then P (name_in words) _ (λ view. if_then P (word_in view.1) _ (λ b. if_then P (on_of b.0) _ (λ on. if_then P (end_of b.1) _ (λ _. none_short n)))))
+    (set_of-short n head words)))))
+
 command_by-short : (n : ℕ) (head : List ℕ) (words : List (List ℕ)) → IfOk (command_by head words) (Short n)
 unfolding command_by dpi_of inflate_of add_of remove_of frame_of digest_of
 command_by-short n head words =
@@ -130,7 +144,7 @@ command_by-short n head words =
     (if_either P (bytes_eq head (codes "frame")) _ _ (if_then P (end_of words) _ (λ _. none_short n))
     (if_either P (bytes_eq head (codes "bounds")) _ _ (bounds_of-short n words)
     (if_either P (bytes_eq head (codes "pixels")) _ _ (pixels_of-short n words)
-    (if_either P (bytes_eq head (codes "digest")) _ _ (if_then P (end_of words) _ (λ _. none_short n)) (set_of-short n head words)))))))))
+    (if_either P (bytes_eq head (codes "digest")) _ _ (if_then P (end_of words) _ (λ _. none_short n)) (touch_by-short n head words)))))))))
 
 pub command_of-short : (line : List ℕ) → IfOk (command_of line) (Short (length line))
 unfolding command_of command_in

@@ -11,10 +11,11 @@ use Rattle.script_lines.specs.Names.{name_in, parent_in}
 use Rattle.script_lines.specs.declared.naming.Name.{Name}
 use Rattle.script_lines.specs.Numbers.{IsWithin, integer_in, natural_within, pair_of}
 use Rattle.script_lines.specs.Pixels.{IsPart, pixels_of}
-use Rattle.script_lines.specs.PlainCommands.{PlainCommand, Window, Dpi, Res, Inflate, Add, Remove, Act, SetText, Frame, Bounds, Pixels, Digest}
+use Rattle.script_lines.specs.PlainCommands.{PlainCommand, Window, Dpi, Res, Inflate, Add, Remove, Act, SetText, Disallow, Down, Move, Up, Cancel, Frame, Bounds, Pixels, Digest}
 use Rattle.script_lines.specs.Resources.{IsGivenInBounds, res_of}
-use Rattle.script_lines.specs.Words.{after_word, ◌>>=◌, map_ok, literal_in, word_in, end_of, words}
-use Rattle.script_lines.specs.declared.commands.TheConstants.{MAX_DPI, MAX_WINDOW, MIN_DPI}
+use Rattle.script_lines.specs.Touches.{IsTouchInBounds, cancel_of, down_of, move_of, up_of}
+use Rattle.script_lines.specs.Words.{after_word, ◌>>=◌, map_ok, literal_in, on_of, word_in, end_of, words}
+use Rattle.script_lines.specs.declared.commands.TheConstants.{MAX_DPI, MAX_POINTER, MAX_WINDOW, MIN_DPI}
 use Rattle.script_lines.specs.declared.fault.LineFault.{LineFault}
 use Rattle.script_lines.specs.declared.fault.LineFault.TheVariants.{Syntax}
 
@@ -85,6 +86,15 @@ bounds_of (word ∷ words) = do
   _ ← end_of view.1
   Ok (Bounds (Some view.0))
 
+-- `V yes` or `V no`, a view, and whether it and all above it are kept from taking pointers away from their children
+unfoldable pub disallow_of : List (List ℕ) → Result PlainCommand LineFault
+disallow_of words = do
+  view ← name_in words
+  b ← word_in view.1
+  on ← on_of b.0
+  _ ← end_of b.1
+  Ok (Disallow view.0 on)
+
 -- `V`, and what is set of that view
 unfoldable pub set_of : List ℕ → List (List ℕ) → Result PlainCommand LineFault
 set_of head words = do
@@ -96,6 +106,16 @@ unfoldable pub set_text_of : List ℕ → Result PlainCommand LineFault
 set_text_of rest = do
   view ← name_in (words rest)
   map_ok (SetText view.0) (rest_of (after_word rest))
+
+-- what is done by touch or set of a view, by the first word of the line and the words behind that
+abbrev pub touch_by : List ℕ → List (List ℕ) → Result PlainCommand LineFault
+touch_by head words =
+    if bytes_eq head (codes "down") then down_of words else (
+    if bytes_eq head (codes "move") then move_of words else (
+    if bytes_eq head (codes "up") then up_of words else (
+    if bytes_eq head (codes "cancel") then cancel_of words else (
+    if bytes_eq head (codes "disallow") then disallow_of words else
+    set_of head words))))
 
 -- a command by the first word of its line and the words behind that
 unfoldable pub command_by : List ℕ → List (List ℕ) → Result PlainCommand LineFault
@@ -109,7 +129,7 @@ command_by head words =
     if bytes_eq head (codes "bounds") then bounds_of words else (
     if bytes_eq head (codes "pixels") then pixels_of words else (
     if bytes_eq head (codes "digest") then digest_of words else
-    set_of head words))))))))
+    touch_by head words))))))))
 
 -- a command by the first word of its line and the bytes behind that: the spaces in a text count
 unfoldable pub command_in : List ℕ → List ℕ → Result PlainCommand LineFault
@@ -132,6 +152,11 @@ IsInBounds (Add parent class width height) = IsExtent width × IsExtent height
 IsInBounds (Remove view) = Unit {0}
 IsInBounds (Act view act) = IsActInBounds act
 IsInBounds (SetText view text) = IsTrue (has_escapes text)
+IsInBounds (Disallow view on) = Unit {0}
+IsInBounds (Down p x y) = IsTouchInBounds p x y
+IsInBounds (Move p x y) = IsTouchInBounds p x y
+IsInBounds (Up p) = p ≤ MAX_POINTER
+IsInBounds Cancel = Unit {0}
 IsInBounds Frame = Unit {0}
 IsInBounds (Bounds view) = Unit {0}
 IsInBounds (Pixels x y w h) = IsPart x y w h

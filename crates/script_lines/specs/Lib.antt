@@ -1,3 +1,4 @@
+pub mod Actions
 pub mod Changes
 pub mod Colors
 pub mod Commands
@@ -15,5 +16,6 @@ pub mod PlainCommands
 pub mod Resources
 pub mod Rules
 pub mod Spelled
+pub mod Touches
 pub mod Weights
 pub mod Words

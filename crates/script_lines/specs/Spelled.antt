@@ -1,5 +1,5 @@
 -- The text of a command: one way to write it, of those that the grammar reads.
-use Rattle.std.specs.Prelude.{◌≡◌, ℕ, zero, suc, ◌<◌, ◌^◌, ◌/◌, ◌%◌, ◌==◌, not, ◌&&◌, ◌||◌, true, false, IsTrue, if◌then◌else◌, ℤ, pos, negsuc, ◌⊎◌, List, [], ◌∷◌, ◌++◌, codes, Option, Some, None, IfSome, slice_index_or}
+use Rattle.std.specs.Prelude.{◌≡◌, ℕ, zero, suc, ◌<◌, ◌^◌, ◌/◌, ◌%◌, ◌==◌, not, ◌&&◌, ◌||◌, Bool, true, false, IsTrue, if◌then◌else◌, ℤ, pos, negsuc, ◌⊎◌, List, [], ◌∷◌, ◌++◌, codes, Option, Some, None, IfSome, slice_index_or}
 use Rattle.std.specs.Fmt.{decimal, signed_decimal, digits, digit_glyph}
 use Rattle.std.specs.List.{join_with_byte}
 use Rattle.std.specs.Str.{is_utf8}
@@ -13,6 +13,8 @@ use Rattle.view_model.specs.declared.changes.Change.{Change}
 use Rattle.view_model.specs.declared.changes.Change.TheVariants as change
 use Rattle.view_model.specs.declared.changes.Flag.{Flag}
 use Rattle.view_model.specs.declared.changes.Flag.TheVariants as flag
+use Rattle.view_model.specs.declared.kinds.Answer.{Answer}
+use Rattle.view_model.specs.declared.kinds.Answer.TheVariants as answer
 use Rattle.view_model.specs.declared.kinds.Class.{Class}
 use Rattle.view_model.specs.declared.kinds.Class.TheVariants as class
 use Rattle.view_model.specs.declared.kinds.Visibility.{Visibility}
@@ -115,11 +117,31 @@ change_words (change.Weight weight) = weight_words weight
 change_words (change.Gravity kids gravity) = (if kids then codes "kids" else codes "self") ∷ gravity_text gravity ∷ []
 change_words (change.Background color) = color_text color ∷ []
 
--- a flag; some no line sets
 abbrev pub flag_text : Flag → List ℕ
 flag_text flag.Clip = codes "clip"
 flag_text flag.Fill = codes "fill"
-flag_text flag.Split = []
+flag_text flag.Split = codes "split"
+
+abbrev pub on_text : Bool → List ℕ
+on_text on = if on then codes "yes" else codes "no"
+
+-- how a view answers events
+abbrev pub event_answer_text : Answer → List ℕ
+event_answer_text answer.Off = codes "off"
+event_answer_text answer.Yes = codes "yes"
+event_answer_text answer.Click = codes "click"
+
+-- the words of the actions, by their bits
+abbrev pub action_words : List (List ℕ)
+action_words = codes "down" ∷ codes "up" ∷ codes "move" ∷ codes "cancel" ∷ codes "pdown" ∷ codes "pup" ∷ []
+
+-- those of these words whose bits a number has, the first of them that of the lowest bit
+abbrev pub words_of_bits : List (List ℕ) → ℕ → List (List ℕ)
+words_of_bits [] bits = []
+words_of_bits (word ∷ words) bits = (if bits % 2 == 1 then word ∷ [] else []) ++ words_of_bits words (bits / 2)
+
+abbrev pub intercept_words : ℕ → List (List ℕ)
+intercept_words actions = if actions == 0 then codes "none" ∷ [] else words_of_bits action_words actions
 
 abbrev pub verb_text : ℕ → List ℕ
 verb_text verb = slice_index_or verbs verb []
@@ -132,7 +154,7 @@ answer_text (suc n) = codes "yes"
 abbrev pub rule_value_text : ℕ → ℕ → List ℕ
 rule_value_text verb value = if names_sibling verb then name_text (Id value) else answer_text value
 
--- the first word of the line that sets this; some things no line sets
+-- the first word of the line that sets this
 abbrev pub act_head : Act → List ℕ
 act_head (act.Change change) = change_head change
 act_head (act.WeightSum sum) = codes "weightsum"
@@ -142,8 +164,8 @@ act_head (act.Visible visibility) = codes "visible"
 act_head (act.Ink color) = codes "ink"
 act_head (act.Id id) = codes "id"
 act_head (act.Rule verb value) = codes "rule"
-act_head (act.Answer answer) = []
-act_head (act.Intercept actions) = []
+act_head (act.Answer answer) = codes "answer"
+act_head (act.Intercept actions) = codes "intercept"
 act_head (act.Scroll offset) = codes "scroll"
 
 -- the words behind the view
@@ -151,13 +173,13 @@ abbrev pub act_words : Act → List (List ℕ)
 act_words (act.Change change) = change_words change
 act_words (act.WeightSum sum) = weight_words sum
 act_words (act.Orient vertical) = (if vertical then codes "vertical" else codes "horizontal") ∷ []
-act_words (act.Flag flag on) = flag_text flag ∷ (if on then codes "yes" else codes "no") ∷ []
+act_words (act.Flag flag on) = flag_text flag ∷ on_text on ∷ []
 act_words (act.Visible visibility) = visibility_text visibility ∷ []
 act_words (act.Ink color) = color_text color ∷ []
 act_words (act.Id id) = name_text (Id id) ∷ []
 act_words (act.Rule verb value) = verb_text verb ∷ rule_value_text verb value ∷ []
-act_words (act.Answer answer) = []
-act_words (act.Intercept actions) = []
+act_words (act.Answer answer) = event_answer_text answer ∷ []
+act_words (act.Intercept actions) = intercept_words actions
 act_words (act.Scroll offset) = signed_decimal offset ∷ []
 
 -- a unit by its number in the word of a dimension
@@ -176,6 +198,10 @@ given_words (plain.Color color) = codes "color" ∷ color_text color ∷ []
 given_words (plain.Dimen word) = codes "dimen" ∷ signed_decimal (mantissa word) ∷ unit_text (word % 256) ∷ []
 given_words (plain.Text text) = codes "text" ∷ text ∷ []
 
+-- a pointer and a point
+abbrev pub touch_words : ℕ → ℤ → ℤ → List (List ℕ)
+touch_words p x y = decimal p ∷ signed_decimal x ∷ signed_decimal y ∷ []
+
 -- the words of a command
 abbrev pub command_words : PlainCommand → List (List ℕ)
 command_words (plain.Window w h) = codes "window" ∷ signed_decimal w ∷ signed_decimal h ∷ []
@@ -187,6 +213,11 @@ command_words (plain.Add parent class width height) = codes "add" ∷ parent_tex
 command_words (plain.Remove view) = codes "remove" ∷ name_text view ∷ []
 command_words (plain.Act view act) = act_head act ∷ name_text view ∷ act_words act
 command_words (plain.SetText view text) = codes "text" ∷ name_text view ∷ text ∷ []
+command_words (plain.Disallow view on) = codes "disallow" ∷ name_text view ∷ on_text on ∷ []
+command_words (plain.Down p x y) = codes "down" ∷ touch_words p x y
+command_words (plain.Move p x y) = codes "move" ∷ touch_words p x y
+command_words (plain.Up p) = codes "up" ∷ decimal p ∷ []
+command_words plain.Cancel = codes "cancel" ∷ []
 command_words plain.Frame = codes "frame" ∷ []
 command_words (plain.Bounds None) = codes "bounds" ∷ []
 command_words (plain.Bounds (Some view)) = codes "bounds" ∷ name_text view ∷ []
@@ -216,24 +247,18 @@ ChangeHasLine (change.Weight weight) = Unit {0}
 ChangeHasLine (change.Gravity kids gravity) = HasWord gravity
 ChangeHasLine (change.Background color) = color.0 < 2 ^ 32
 
--- a flag that a line can set
-abbrev pub FlagHasLine : Flag → Type 0
-FlagHasLine flag.Clip = Unit {0}
-FlagHasLine flag.Fill = Unit {0}
-FlagHasLine flag.Split = ⊥
-
 -- what a line can set
 abbrev pub ActHasLine : Act → Type 0
 ActHasLine (act.Change change) = ChangeHasLine change
 ActHasLine (act.WeightSum sum) = Unit {0}
 ActHasLine (act.Orient vertical) = Unit {0}
-ActHasLine (act.Flag flag on) = FlagHasLine flag
+ActHasLine (act.Flag flag on) = Unit {0}
 ActHasLine (act.Visible visibility) = Unit {0}
 ActHasLine (act.Ink color) = color.0 < 2 ^ 32
 ActHasLine (act.Id id) = HasText (Id id)
 ActHasLine (act.Rule verb value) = value < (if names_sibling verb then 2 ^ 32 else 2)
-ActHasLine (act.Answer answer) = ⊥
-ActHasLine (act.Intercept actions) = ⊥
+ActHasLine (act.Answer answer) = Unit {0}
+ActHasLine (act.Intercept actions) = Unit {0}
 ActHasLine (act.Scroll offset) = Unit {0}
 
 -- a value that a line can give a resource
@@ -252,6 +277,11 @@ HasLine (plain.Add parent class width height) = IfSome parent HasText
 HasLine (plain.Remove view) = HasText view
 HasLine (plain.Act view act) = HasText view × ActHasLine act
 HasLine (plain.SetText view text) = HasText view × IsTrue (is_utf8 text)
+HasLine (plain.Disallow view on) = HasText view
+HasLine (plain.Down p x y) = Unit {0}
+HasLine (plain.Move p x y) = Unit {0}
+HasLine (plain.Up p) = Unit {0}
+HasLine plain.Cancel = Unit {0}
 HasLine plain.Frame = Unit {0}
 HasLine (plain.Bounds view) = IfSome view HasText
 HasLine (plain.Pixels x y w h) = Unit {0}

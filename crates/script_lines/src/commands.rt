@@ -10,6 +10,12 @@ pub const MAX_WINDOW: i64 = 4096;
 pub const MAX_POINT: i64 = 4095;
 /// The greatest number of pixels that a line tells.
 pub const MAX_PIXELS: i64 = 65536;
+/// The greatest id of a pointer.
+pub const MAX_POINTER: u32 = 9;
+/// The least coordinate of a touch, in pixels.
+pub const MIN_TOUCH: i64 = -1048576;
+/// The greatest coordinate of a touch, in pixels.
+pub const MAX_TOUCH: i64 = 1048576;
 /// The least density, in dots an inch.
 pub const MIN_DPI: u32 = 40;
 /// The greatest density, in dots an inch.
@@ -64,6 +70,27 @@ pub enum Command<'a> {
         view: Name,
         text: &'a str,
     },
+    /// Sets whether a view and all above it are kept from taking pointers away from their children.
+    Disallow {
+        view: Name,
+        on: bool,
+    },
+    /// A pointer goes down. Its id is from 0 to `MAX_POINTER`, its coordinates are from `MIN_TOUCH` to `MAX_TOUCH`.
+    Down {
+        p: u8,
+        x: i32,
+        y: i32,
+    },
+    /// A pointer moves, within the bounds of `Down`.
+    Move {
+        p: u8,
+        x: i32,
+        y: i32,
+    },
+    /// A pointer goes up, with an id as that of `Down`.
+    Up(u8),
+    /// The gesture is taken away.
+    Cancel,
     /// Lays the tree out.
     Frame,
     /// Tells of the bounds of this view, or of each view in preorder where that is none.

@@ -1,10 +1,11 @@
 //! The lines of a script, and the command that each line gives. Nothing here takes memory.
 //!
 //! `cutting` cuts bytes that come in pieces into lines. On the way from a line to its command: `words` parts it,
-//! `number`, `naming`, `dimension`, `colors` and `gravity` read a word, `changes` and `rules` read what is set of a view, and `reading` reads
-//! the whole line.
+//! `number`, `naming`, `dimension`, `colors` and `gravity` read a word, `changes`, `rules` and `actions` read what is set of a view,
+//! `touches` reads what a pointer does, and `reading` reads the whole line.
 #![tactic(auto)]
 
+mod actions;
 mod changes;
 mod colors;
 mod commands;
@@ -21,6 +22,7 @@ mod places;
 mod reading;
 mod resources;
 mod rules;
+mod touches;
 mod weights;
 mod words;
 

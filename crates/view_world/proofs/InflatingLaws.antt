@@ -14,7 +14,7 @@ use Rattle.view_model.specs.PlainTree.{PlainView}
 use Rattle.view_model.specs.Refusals.{PlainRefusal, refusal_numbered}
 use Rattle.view_model.specs.declared.refusals.TheConstants.{HAS_ROOT, NO_ROOT}
 use Rattle.view_model.specs.Resources.{Entries}
-use Rattle.view_model.specs.World.{World}
+use Rattle.view_world.specs.World.{World}
 use Rattle.view_tree.specs.Grafted.{Grafted}
 use Rattle.view_tree.specs.Rows.{Row, first_key}
 use Rattle.view_tree.specs.Views.{Held, IsLive, Views, geometry_of, number_of, plain_of, plain_rows}

@@ -4,7 +4,7 @@ use Rattle.geom_core.specs.declared.geometry.Size.{Size}
 use Rattle.view_model.specs.Forest.{Forest, count_of}
 use Rattle.view_model.specs.Layout.{root_calls}
 use Rattle.view_model.specs.PlainTree.{PlainView}
-use Rattle.view_model.specs.World.{World}
+use Rattle.view_world.specs.World.{World}
 
 -- those that the layout of a tree takes in the window, if there is one
 abbrev pub calls_in : Option Size → Forest PlainView → ℕ

@@ -35,6 +35,11 @@ pub fn inflation_of<'a>(command: Command<'a>) -> Option<(&'a str, Option<Name>)>
         | Command::Remove(_)
         | Command::Act { .. }
         | Command::Text { .. }
+        | Command::Disallow { .. }
+        | Command::Down { .. }
+        | Command::Move { .. }
+        | Command::Up(_)
+        | Command::Cancel
         | Command::Frame
         | Command::Bounds(_)
         | Command::Pixels { .. }

@@ -3,13 +3,14 @@ use Rattle.view_tree.specs.Views.{plain_of}
 use Rattle.view_world.specs.Changed.{CarriesOut, IsPlace}
 use Rattle.view_world.specs.KeyedWorld.{KeyedWorld, world_of}
 use Rattle.view_world.specs.Step.{graft_reason, grafted}
+use Rattle.view_world.specs.Sound.{keyed}
 use Rattle.view_world.proofs.InflatingLaws.{grafted_world, place_number}
 use Rattle.view_world.proofs.world.World.graft.Goals as goal
 use Rattle.view_world.proofs.world.World.graft.Goals.{in-Ok, in-Err-Refused, in-Err-NoMemory}
 
 pub returns-clause-changed : goal.returns-clause-changed
 returns-clause-changed c number plan place grown =
-    let old : KeyedWorld = record { views = c.self.inside.tree; stage = c.self.inside.stage; surface = c.self.inside.surface; dpi = c.self.inside.dpi; resources = c.self.inside.resources } in
+    let old : KeyedWorld = keyed c.self.inside in
     let new : KeyedWorld = record old { views = c.graft.new.self } in
     let at : IsPlace old.views number c.args.place = subst (λ (w : KeyedWorld). IsPlace w.views number c.args.place) (sym c.self.view_is) place in
     let reason = λ (w : KeyedWorld). graft_reason (plain_of w.views) number w.views.next plan.seeds in
