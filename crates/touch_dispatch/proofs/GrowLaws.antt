@@ -326,13 +326,6 @@ answer_fits scene own kids event progress first second grow is then_ =
     omega arith
     ))
 
-pub tries_fit : (scene : Scene) (own : PlainView) (kids : List EventChild) (event : Event) (intercepted : Bool) (progress : Progress) → (not intercepted && is_offered event.action own.facts.split) ≡ true
-    → many (try_children scene own event kids progress).progress ≤ many (offered scene own kids event intercepted progress).progress
-tries_fit scene own kids event intercepted progress e =
-    let tried = try_children scene own event kids progress in
-    let s = many-settled own.number event tried.taker tried.progress in
-    rw e (omega arith)
-
 -- a child of a group is handed the event within what the group makes of it
 pub try_fits : (scene : Scene) (own : PlainView) (event : Event) (kid : EventChild) (progress : Progress) (part : Event)
     → is_tried kid.view.facts.visibility (scene.rects kid.view.number) (progress.offsets own.number) event ≡ true

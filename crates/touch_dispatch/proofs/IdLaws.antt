@@ -1,26 +1,11 @@
--- The numbers that stand for one pointer and for all of them, and the pointer that acts in a part of an event.
-use Rattle.std.proofs.Common.{◌≡◌, ℕ, zero, suc, ◌*◌, ◌%◌, ◌<◌, ◌≤◌, ◌-◌, ◌^◌, Bool, true, false, List, [], ◌∷◌, Option, Some, None, refl, sym, ap, arith, inl, inr}
+-- The numbers that stand for one pointer and for all of them.
+use Rattle.std.proofs.Common.{◌≡◌, ℕ, zero, suc, ◌*◌, ◌%◌, ◌<◌, ◌≤◌, ◌-◌, ◌^◌, true, false, refl, sym, arith, inl, inr}
 use mathlib.Core.Path.{fun_ext}
 use Rattle.std.specs.Prelude.{nat_lt}
 use Rattle.std.proofs.lemmas.Bool.{cases_eq, cases_lt, eq-eqb, ne_eqb}
 use Rattle.std.proofs.lemmas.Nat.Bits.{bit_at-pow_other, bit_at-pow_same, bit_at_ones, bit_at_ones_above}
 use Rattle.touch_dispatch.specs.Dispatch.{every, only}
 use Rattle.touch_event.specs.PointerSets.{has_id}
-use Rattle.touch_event.specs.Splitting.{kept_points, split_event, with_points}
-use Rattle.touch_event.specs.declared.event.Event.{Event}
-use Rattle.touch_event.specs.declared.event.Point.{Point}
-
-with_pointer : (event part : Event) (points : List Point) → with_points event points ≡ Some part → part.pointer ≡ event.pointer
-with_pointer event part [] is = absurd (cc)
-with_pointer event part (p ∷ points) is = sym (ap (λ o. pointer_or o) is)
-  where
-    pointer_or : Option Event → ℕ
-    pointer_or None = 0
-    pointer_or (Some e) = e.pointer
-
--- the pointer that acts is the same in each part
-pub split_pointer : (ids : ℕ → Bool) (event part : Event) → split_event ids event ≡ Some part → part.pointer ≡ event.pointer
-split_pointer ids event part is = with_pointer event part (kept_points ids event.points.items) is
 
 -- the number of one pointer
 pub bit_only : (id : ℕ) → has_id (2 ^ id) ≡ only id

@@ -53,12 +53,6 @@ pub hand_to_kid : (scene : Scene) (own : PlainView) (kids : List EventChild) (ev
     → hand_to scene own kids event intercepted taker target progress ≡ reached
 hand_to_kid scene own kids event intercepted taker target progress part kid reached e1 e2 e3 e4 = rw (e1, e2, e3) e4
 
-pub hand_to_none : (scene : Scene) (own : PlainView) (kids : List EventChild) (event : Event) (intercepted : Bool) (taker : Taker) (target : Target) (progress : Progress)
-    → is_handed taker target.child ≡ false
-    → part_for (scene.rects target.child) (progress.offsets own.number) event intercepted target.ids ≡ None
-    → hand_to scene own kids event intercepted taker target progress ≡ record { yes = false; progress = progress }
-hand_to_none scene own kids event intercepted taker target progress e1 e2 = rw (e1, e2) refl
-
 if_is : (b : Bool) (x y : Tried) → b ≡ true → (if b then x else y) ≡ x
 if_is b x y e = rw e refl
 
