@@ -284,3 +284,29 @@ def resources(count):
     views = 1 + -(-count // 12)
     layout = files.views_file(256, views, lambda number: [0x7f050000 + (12 * number + k) % count for k in range(12)], 0x01)
     return Inflating(defined + inflated(20, views), layout, 20 * views)
+
+
+def nested_groups():
+    """A window and 31 frame layouts one in the other, in the innermost a view that takes every touch."""
+    lines = [b"window 1000 1000\nadd root FrameLayout match match\n"]
+    lines += [b"add v%d FrameLayout match match\n" % number for number in range(1, 31)]
+    return b"".join(lines) + b"add v31 View match match\nanswer v32 yes\nframe\n"
+
+
+def moves(n):
+    """Moves through 32 nested views."""
+    return nested_groups() + b"down 0 5 5\n" + b"".join(b"move 0 %d 7\n" % (k % 900) for k in range(n))
+
+
+def taps(n):
+    """A pointer goes down and up, each time past 3999 children that do not lie under it, to the first one, which takes it."""
+    children = b"add v1 View match match\n" + b"add v1 View 1 1\n" * 3999
+    touch = b"answer v2 yes\nframe\n" + b"down 0 5 5\nup 0\n" * n
+    return b"window 100 100\nadd root FrameLayout match match\n" + children + touch
+
+
+def moves_of_two(n):
+    """Two pointers on two targets."""
+    views = b"window 1000 20\nadd root LinearLayout match match\nadd v1 View 500 match\nadd v1 View 500 match\n"
+    touch = b"answer v2 yes\nanswer v3 yes\nframe\ndown 0 10 5\ndown 1 510 5\n"
+    return views + touch + b"".join(b"move %d %d 5\n" % (k % 2, k % 500) for k in range(n))

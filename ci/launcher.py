@@ -112,7 +112,7 @@ def explains():
                 return "%s %s: status %d, '%s'" % (number, name, ended.status, ended.out.decode())
         if "\n    frame\n" not in it.call(["explain", "31"]).out.decode():
             return "31 does not list the lines"
-        for number in ("0", "24", "999"):
+        for number in ("0", "50", "999"):
             if (it.call(["explain", number]).status, it.call(["explain", number]).out) != (2, b""):
                 return "%s is explained" % number
         return "it builds" if it.builds() else ""

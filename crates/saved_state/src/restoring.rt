@@ -2,6 +2,7 @@
 ghost use Rattle.std.specs.Prelude.{◌≡◌, OnErr, OnOk, unwrap_or};
 ghost use Rattle.saved_state.specs.Answers.{RestoredUnless};
 ghost use Rattle.saved_state.specs.Restoring.{given_offset, is_for_other_class, restored};
+ghost use Rattle.saved_state.specs.Saving.{OffsetsFit};
 ghost use Rattle.view_model.specs.Forest.{rows};
 ghost use Rattle.view_tree.specs.Hidden.{IsConsistent};
 ghost use Rattle.view_tree.specs.Views.{IsLive, KeepsOthers, SameTree, geometry_of, held_of, offset_of, plain_of, view_at};
@@ -21,7 +22,9 @@ pub fn restore(tree: &mut ViewTree, states: &States) -> Result<(), StateFault>
     ensures same { SameTree tree.old tree.new }
     ensures geometry { geometry_of tree.new ≡ geometry_of tree.old }
     ensures consistent { IsConsistent tree.old → IsConsistent tree.new }
+    ensures fits { OffsetsFit (plain_of tree.old) → OffsetsFit (plain_of tree.new) }
 {
+    states.tell();
     if is_for_other_class(tree, states) {
         return Err(other_class());
     }

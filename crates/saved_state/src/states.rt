@@ -1,8 +1,10 @@
 //! A saved state that was read.
-ghost use Rattle.std.specs.Prelude.{◌≡◌, ◌<◌, ◌≤◌, length, pos};
+ghost use Rattle.std.specs.Prelude.{◌≡◌, ◌<◌, ◌≤◌, [], length, pos};
 ghost use Rattle.saved_state.specs.Restoring.{FindsEntry, entry_at};
+ghost use Rattle.saved_state.specs.State.{IsState};
 ghost use Rattle.saved_state.specs.declared.format.TheConstants.{MAX_ENTRIES};
 
+use std::alloc::Global;
 use std::marker::Model;
 
 /// A saved state that was read: offsets in pixels by the ids of the scroll views that have them. Contracts see it as the
@@ -24,6 +26,22 @@ impl Model for States {
 }
 
 impl States {
+    /// The state of a tree without a view. It takes no memory.
+    pub fn empty(alloc: Global) -> States
+        ensures { result ≡ [] }
+    {
+        States {
+            entries: Vec::new(alloc),
+        }
+    }
+
+    /// Every state is one. This is for contracts alone.
+    pub(crate) fn tell(&self)
+        ensures { IsState self.now }
+    {
+        let _count = self.entries.len();
+    }
+
     /// The place of the entry of an id.
     pub(crate) fn place_of(&self, id: u32) -> Option<usize>
         ensures entry { FindsEntry self.now id result }

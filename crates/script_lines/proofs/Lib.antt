@@ -1,3 +1,4 @@
+mod ActionLaws
 mod BarLaws
 mod ChangeExamples
 mod CommandExamples
@@ -5,20 +6,30 @@ pub mod CommandLaws
 mod EscapeLaws
 mod FeedLaws
 mod FileNameLaws
+mod HookExamples
+mod HookLaws
 mod LineExamples
 pub mod LineLaws
 pub mod PieceLaws
+mod PartLaws
 mod PlaceLaws
 mod ResourceExamples
+mod SpelledActions
+mod SpelledChanges
 mod SpelledColors
 pub mod SpelledCommands
 mod SpelledExamples
+mod SpelledHooks
 mod SpelledNames
 mod SpelledNumbers
 mod SpelledResources
 mod SpelledRules
 mod SpelledTexts
+mod SpelledTouches
 mod SpelledWords
+mod StateExamples
+mod StateLaws
 mod TextLaws
 mod TextLengthLaws
+mod TouchExamples
 pub mod WordLaws

@@ -1,90 +1,48 @@
 -- Commands, read from their texts.
-use Rattle.std.proofs.Common.{◌≡◌, ◌≢◌, ℕ, suc, zero, ◌+◌, ◌*◌, ◌/◌, ◌%◌, ◌<◌, ◌≤◌, ◌^◌, Bool, true, false, refl, sym, subst, ◌∙◌, inl, inr, List, [], ◌∷◌, arith}
-use Rattle.std.specs.Prelude.{◌||◌, if◌then◌else◌, IsTrue, ℤ, pos, negsuc, slice_index, codes, Some, None, Ok, ◌*ℤ◌, ◌≤ℤ◌}
+use Rattle.std.proofs.Common.{◌≡◌, ℕ, ◌<◌, ◌≤◌, ◌^◌, Bool, true, false, refl, ◌∙◌, List, [], ◌∷◌, arith}
+use Rattle.std.specs.Prelude.{if◌then◌else◌, ℤ, pos, codes, Some, None, Ok, ◌*ℤ◌, ◌≤ℤ◌}
 use Rattle.std.specs.Fmt.{decimal, signed_decimal}
-use Rattle.std.specs.Str.{bytes_eq}
 use Rattle.std.proofs.lemmas.Int.{ints}
-use Rattle.geom_core.specs.declared.geometry.Insets.{Insets}
-use Rattle.view_model.specs.Facts.{no_gravity}
-use Rattle.view_model.specs.declared.limits.TheConstants.{MAX_INSET, MAX_SIZE, MAX_WEIGHT}
+use Rattle.view_model.specs.declared.limits.TheConstants.{MAX_SIZE}
 use Rattle.view_model.specs.declared.changes.Act.{Act}
 use Rattle.view_model.specs.declared.changes.Act.TheVariants as act
 use Rattle.view_model.specs.declared.changes.Change.{Change}
 use Rattle.view_model.specs.declared.changes.Change.TheVariants as change
+use Rattle.view_model.specs.declared.changes.Flag.{Flag}
 use Rattle.view_model.specs.declared.changes.Flag.TheVariants as flag
+use Rattle.view_model.specs.declared.kinds.Answer.{Answer}
+use Rattle.view_model.specs.declared.kinds.Answer.TheVariants as answer
 use Rattle.view_model.specs.declared.kinds.Class.{Class}
 use Rattle.view_model.specs.declared.kinds.Class.TheVariants as class
 use Rattle.view_model.specs.declared.kinds.Visibility.{Visibility}
 use Rattle.view_model.specs.declared.kinds.Visibility.TheVariants as visibility
-use Rattle.view_model.specs.declared.placing.Across.{Across}
-use Rattle.view_model.specs.declared.placing.Across.TheVariants as across
-use Rattle.view_model.specs.declared.placing.Down.{Down}
-use Rattle.view_model.specs.declared.placing.Down.TheVariants as down
-use Rattle.view_model.specs.declared.placing.Gravity.{Gravity}
-use Rattle.script_lines.specs.Changes.{AreWithin, IsActInBounds, IsChangeInBounds, act_of, change_of, flag_named, flag_of, gravity_change_of, insets_of, kids_of, new_id_of, orient_of, scroll_of, sides_of, vertical_of, visibility_of, visible_of}
-use Rattle.script_lines.specs.Commands.{IsInBounds, add_of, bounds_of, class_of, command_by, command_of, digest_of, dpi_of, frame_of, inflate_of, into_of, remove_of, set_of}
-use Rattle.script_lines.specs.Dimensions.{IsExtent, dimension_of, extent_of, extents_of}
-use Rattle.script_lines.specs.Gravities.{across_of, down_of, gravity_of, is_set_across, is_set_down, one_across, one_down, with_word, with_words}
+use Rattle.script_lines.specs.Changes.{IsActInBounds, act_of, answer_named, answer_of, change_of, flag_named, flag_of, new_id_of, orient_of, scroll_of, vertical_of, visibility_of, visible_of}
+use Rattle.script_lines.specs.Commands.{IsInBounds, add_of, bounds_of, class_of, command_by, command_of, digest_of, disallow_of, dpi_of, frame_of, inflate_of, into_of, remove_of, set_of}
 use Rattle.script_lines.specs.Numbers.{IsWithin}
+use Rattle.script_lines.specs.Hooks.{hook_of}
 use Rattle.script_lines.specs.Pixels.{IsPart, is_small, part_of, pixels_of}
 use Rattle.script_lines.specs.Rules.{rule_of}
-use Rattle.script_lines.specs.Spelled.{ActHasLine, ChangeHasLine, HasLine, HasWord, act_head, act_words, change_head, change_words, class_text, extent_text, gravity_text, insets_words, name_text, parent_text, spelled, visibility_text, weight_words}
-use Rattle.script_lines.specs.Weights.{last_number, weight_of}
-use Rattle.script_lines.specs.Words.{on_of}
-use Rattle.script_lines.specs.declared.weights.TheConstants.{MAX_PARTS, MAX_WHOLE}
+use Rattle.script_lines.specs.Spelled.{ActHasLine, ChangeHasLine, HasLine, act_head, act_words, change_head, change_words, class_text, edits_words, event_answer_text, extent_text, flag_text, hook_edits, name_text, on_text, parent_text, spelled, touch_words, visibility_text}
+use Rattle.script_lines.specs.States.{restore_of, save_of}
+use Rattle.script_lines.specs.Touches.{cancel_of, up_of}
+use Rattle.script_lines.specs.Words.{map_ok, on_of}
 use Rattle.script_lines.specs.declared.commands.TheConstants.{MAX_DPI, MAX_PIXELS, MAX_POINT, MAX_WINDOW, MIN_DPI}
 use Rattle.script_lines.specs.PlainCommands.{PlainCommand}
 use Rattle.script_lines.specs.PlainCommands as plain
-use Rattle.script_lines.specs.declared.changes.Sides.{Sides}
-use Rattle.script_lines.specs.declared.dimension.Dimension.{Dimension}
-use Rattle.script_lines.specs.declared.dimension.Dimension.TheVariants.{Match, Wrap, Pixels}
 use Rattle.script_lines.specs.declared.naming.Name.TheVariants.{Id}
 use Rattle.script_lines.proofs.FileNameLaws.{file_name_word}
+use Rattle.script_lines.proofs.SpelledActions.{actions_of-words, intercept_reads_words}
 use Rattle.script_lines.proofs.SpelledColors.{color_word, last_color-text}
+use Rattle.script_lines.proofs.SpelledChanges.{AreShort, change_reads, extent_word, extents_of-text, size_short, weight_of-words, weight_reads_words}
+use Rattle.script_lines.proofs.SpelledHooks.{hook_reads}
 use Rattle.script_lines.proofs.SpelledResources.{command_of-resource}
 use Rattle.script_lines.proofs.SpelledRules.{rule_value_in-text, rule_value_word, verb_of-text, verb_word}
 use Rattle.script_lines.proofs.SpelledTexts.{command_of-text}
+use Rattle.script_lines.proofs.SpelledTouches.{pointer_of-id, pointer_short, touch_of-words, touch_reads_words}
 use Rattle.script_lines.proofs.SpelledNames.{id_of-text, name_of-text, name_word, parent_of-text, parent_word}
-use Rattle.script_lines.proofs.SpelledNumbers.{IsShort, decimal_first, decimal_word, differs, integer_of-signed, natural_within-within, pair_of-signed, short_within, signed_word, within_of-within}
+use Rattle.script_lines.proofs.SpelledNumbers.{IsShort, decimal_word, integer_of-signed, natural_within-within, pair_of-signed, short_within, signed_word, within_of-within}
+use Rattle.script_lines.proofs.StateLaws.{state_text_of-text, state_word}
 use Rattle.script_lines.proofs.SpelledWords.{AreWords, IsWord, command_of-joined, ends_in_text, word_by}
-
--- dimensions
-abbrev dimension_as : ℤ → Dimension
-dimension_as (pos n) = Pixels (pos n)
-dimension_as (negsuc zero) = Match
-dimension_as (negsuc (suc n)) = Wrap
-
-other_word : (word : List ℕ) (b : ℕ) (bs : List ℕ) → slice_index word 0 ≢ b → bytes_eq word (b ∷ bs) ≡ false
-other_word [] b bs h = refl
-other_word (c ∷ cs) b bs h = rw (differs c b h) refl
-
-extent_short : (n : ℕ) → IsExtent (pos n) → n < 10 ^ 10
-extent_short n h = omega (arith, ints, h.1)
-
-dimension_of-text : (z : ℤ) → IsExtent z → dimension_of (extent_text z) ≡ Ok (dimension_as z)
-unfolding dimension_of
-dimension_of-text (pos n) h =
-    let k = extent_short n h in
-    let m : bytes_eq (decimal n) (codes "match") ≡ false = other_word (decimal n) 109 _ (decimal_first n 109 k (λ r. absurd (omega (arith, r.1)))) in
-    let w : bytes_eq (decimal n) (codes "wrap") ≡ false = other_word (decimal n) 119 _ (decimal_first n 119 k (λ r. absurd (omega (arith, r.1)))) in
-    rw (m, w, integer_of-signed (pos n) k) refl
-dimension_of-text (negsuc zero) h = refl
-dimension_of-text (negsuc (suc n)) h = refl
-
-extent_of-as : (z : ℤ) → IsExtent z → extent_of (dimension_as z) ≡ Ok z
-extent_of-as (pos n) h = within_of-within (pos 0) MAX_SIZE (pos n) (omega (arith, ints), h.1)
-extent_of-as (negsuc zero) h = refl
-extent_of-as (negsuc (suc zero)) h = refl
-extent_of-as (negsuc (suc (suc n))) h = absurd (omega (arith, ints, h.0))
-
-extents_of-text : (w h : ℤ) → IsExtent w → IsExtent h → extents_of (extent_text w ∷ extent_text h ∷ []) ≡ Ok (w, h)
-unfolding extents_of
-extents_of-text w h iw ih = rw (dimension_of-text w iw, dimension_of-text h ih, extent_of-as w iw, extent_of-as h ih) refl
-
-extent_word : (z : ℤ) → IsExtent z → IsWord (extent_text z)
-extent_word (pos n) h = decimal_word n (extent_short n h)
-extent_word (negsuc zero) h = word_by (codes "match") refl
-extent_word (negsuc (suc n)) h = word_by (codes "wrap") refl
 
 -- classes
 class_of-text : (class : Class) → class_of (class_text class) ≡ Ok class
@@ -116,123 +74,12 @@ visibility_word visibility.Visible = word_by (codes "visible") refl
 visibility_word visibility.Invisible = word_by (codes "invisible") refl
 visibility_word visibility.Gone = word_by (codes "gone") refl
 
--- gravities
-abbrev given : Across → Down → Gravity
-given a d = record { given = true; across = a; down = d }
-
-record ReadsBack (gravity : Gravity) : Type 0 where
-  word : IsWord (gravity_text gravity)
-  value : gravity_of (gravity_text gravity) ≡ Ok gravity
-
-given_back : (a : Across) (d : Down) → IsTrue (is_set_across a || is_set_down d) → ReadsBack (given a d)
-unfolding across_of down_of one_across one_down with_word with_words gravity_of
-given_back across.Unset down.Unset h = absurd (cc)
-given_back across.Unset down.Top h = record { word = word_by _ refl; value = refl }
-given_back across.Unset down.Bottom h = record { word = word_by _ refl; value = refl }
-given_back across.Unset down.Center h = record { word = word_by _ refl; value = refl }
-given_back across.Left down.Unset h = record { word = word_by _ refl; value = refl }
-given_back across.Left down.Top h = record { word = word_by _ refl; value = refl }
-given_back across.Left down.Bottom h = record { word = word_by _ refl; value = refl }
-given_back across.Left down.Center h = record { word = word_by _ refl; value = refl }
-given_back across.Right down.Unset h = record { word = word_by _ refl; value = refl }
-given_back across.Right down.Top h = record { word = word_by _ refl; value = refl }
-given_back across.Right down.Bottom h = record { word = word_by _ refl; value = refl }
-given_back across.Right down.Center h = record { word = word_by _ refl; value = refl }
-given_back across.Center down.Unset h = record { word = word_by _ refl; value = refl }
-given_back across.Center down.Top h = record { word = word_by _ refl; value = refl }
-given_back across.Center down.Bottom h = record { word = word_by _ refl; value = refl }
-given_back across.Center down.Center h = record { word = word_by _ refl; value = refl }
-given_back across.Start down.Unset h = record { word = word_by _ refl; value = refl }
-given_back across.Start down.Top h = record { word = word_by _ refl; value = refl }
-given_back across.Start down.Bottom h = record { word = word_by _ refl; value = refl }
-given_back across.Start down.Center h = record { word = word_by _ refl; value = refl }
-given_back across.End down.Unset h = record { word = word_by _ refl; value = refl }
-given_back across.End down.Top h = record { word = word_by _ refl; value = refl }
-given_back across.End down.Bottom h = record { word = word_by _ refl; value = refl }
-given_back across.End down.Center h = record { word = word_by _ refl; value = refl }
-
-none_back : ReadsBack no_gravity
-unfolding gravity_of
-none_back = record { word = word_by (codes "none") refl; value = refl }
-
-gravity_back : (gravity : Gravity) → HasWord gravity → ReadsBack gravity
-gravity_back gravity (inl e) = subst ReadsBack (sym e) none_back
-gravity_back gravity (inr h) =
-    let P : Bool → Type 0 = λ b. ReadsBack (record { given = b; across = gravity.across; down = gravity.down }) in
-    subst P (sym h.0) (given_back gravity.across gravity.down h.1)
-
--- sides
-side_short : (low : ℕ) (z : ℤ) → low < 2 ^ 31 → IsWithin (negsuc low) MAX_INSET z → IsShort z
-side_short low z l h = short_within low 1048575 z h.0 h.1 l (omega arith)
-
-abbrev sides_as : Insets → Sides
-sides_as sides = record { left = sides.left; top = sides.top; right = sides.right; bottom = sides.bottom }
-
-record AreShort (sides : Insets) : Type 0 where
-  left : IsShort sides.left
-  top : IsShort sides.top
-  right : IsShort sides.right
-  bottom : IsShort sides.bottom
-
-sides_short : (low : ℕ) (sides : Insets) → low < 2 ^ 31 → AreWithin (negsuc low) MAX_INSET sides → AreShort sides
-sides_short low sides l h = record { left = side_short low sides.left l h.0; top = side_short low sides.top l h.1; right = side_short low sides.right l h.2; bottom = side_short low sides.bottom l h.3 }
-
-sides_of-text : (sides : Insets) → AreShort sides → sides_of (insets_words sides) ≡ Ok (sides_as sides)
-unfolding sides_of
-sides_of-text sides h = rw (integer_of-signed sides.left h.left, integer_of-signed sides.top h.top, integer_of-signed sides.right h.right, integer_of-signed sides.bottom h.bottom) refl
-
-insets_of-as : (low : ℤ) (sides : Insets) → AreWithin low MAX_INSET sides → insets_of low (sides_as sides) ≡ Ok sides
-unfolding insets_of
-insets_of-as low sides h =
-    rw (within_of-within low MAX_INSET sides.left h.0, within_of-within low MAX_INSET sides.top h.1, within_of-within low MAX_INSET sides.right h.2, within_of-within low MAX_INSET sides.bottom h.3) refl
-
-sides_words : (sides : Insets) → AreShort sides → AreWords (insets_words sides)
-sides_words sides h = (signed_word sides.left h.left, (signed_word sides.top h.top, (signed_word sides.right h.right, (signed_word sides.bottom h.bottom, tt))))
-
--- from 0 upward is from -1 upward
-from_0 : (z : ℤ) → IsWithin (pos 0) MAX_INSET z → IsWithin (negsuc 0) MAX_INSET z
-from_0 z h = (omega (arith, ints, h.0), h.1)
-
-padding_short : (sides : Insets) → AreWithin (pos 0) MAX_INSET sides → AreShort sides
-padding_short sides h = sides_short 0 sides (omega arith) (from_0 sides.left h.0, from_0 sides.top h.1, from_0 sides.right h.2, from_0 sides.bottom h.3)
-
-size_short : (z : ℤ) → IsWithin (pos 0) MAX_SIZE z → IsShort z
-size_short z h = short_within 0 16777215 z (omega (arith, ints, h.0)) h.1 (omega arith) (omega arith)
-
--- weights
-whole_short : (weight : ℕ) → weight ≤ MAX_WEIGHT → weight / 256 ≤ MAX_WHOLE
-whole_short weight h = omega (arith, h)
-
-digits_short : (n : ℕ) → n ≤ 65535 → n < 10 ^ 10
-digits_short n h = omega (arith, h)
-
-weight_reads_words : (weight : ℕ) → weight ≤ MAX_WEIGHT → AreWords (weight_words weight)
-weight_reads_words weight h = (decimal_word (weight / 256) (digits_short _ (whole_short weight h)), (decimal_word (weight % 256) (digits_short _ (omega arith)), tt))
-
-weight_of-words : (weight : ℕ) → weight ≤ MAX_WEIGHT → weight_of (weight_words weight) ≡ Ok weight
-unfolding weight_of last_number
-weight_of-words weight h =
-    let whole = whole_short weight h in
-    let parts : weight % 256 ≤ MAX_PARTS = omega arith in
-    let same : weight / 256 * 256 + weight % 256 ≡ weight = omega arith in
-    rw (integer_of-signed (pos (weight / 256)) (digits_short _ whole), integer_of-signed (pos (weight % 256)) (digits_short _ (omega (arith, parts))), natural_within-within 0 MAX_WHOLE (weight / 256) (omega arith) whole, natural_within-within 0 MAX_PARTS (weight % 256) (omega arith) parts, same)
-    (natural_within-within 0 MAX_WEIGHT weight (omega arith) h)
-
 -- words of two
-kids_word : (kids : Bool) → IsWord (if kids then codes "kids" else codes "self")
-kids_word true = word_by (codes "kids") refl
-kids_word false = word_by (codes "self") refl
-
-kids_of-text : (kids : Bool) → kids_of (if kids then codes "kids" else codes "self") ≡ Ok kids
-unfolding kids_of
-kids_of-text true = refl
-kids_of-text false = refl
-
-on_word : (on : Bool) → IsWord (if on then codes "yes" else codes "no")
+on_word : (on : Bool) → IsWord (on_text on)
 on_word true = word_by (codes "yes") refl
 on_word false = word_by (codes "no") refl
 
-on_of-text : (on : Bool) → on_of (if on then codes "yes" else codes "no") ≡ Ok on
+on_of-text : (on : Bool) → on_of (on_text on) ≡ Ok on
 unfolding on_of
 on_of-text true = refl
 on_of-text false = refl
@@ -246,55 +93,40 @@ unfolding vertical_of
 vertical_of-text true = refl
 vertical_of-text false = refl
 
--- what a change says behind the view, and what that is read as
-record ChangeReads (c : Change) : Type 0 where
-  head : IsWord (change_head c)
-  words : AreWords (change_words c)
-  value : act_of (change_head c) (change_words c) ≡ Ok (act.Change c)
+-- flags
+flag_named-text : (flag : Flag) → flag_named (flag_text flag) ≡ Ok flag
+unfolding flag_named
+flag_named-text flag.Clip = refl
+flag_named-text flag.Fill = refl
+flag_named-text flag.Split = refl
 
-change_reads : (c : Change) → IsChangeInBounds c → ChangeHasLine c → ChangeReads c
-unfolding act_of change_of gravity_change_of
-change_reads (change.Size width height) b l = record {
-  head = word_by (codes "size") refl;
-  words = (extent_word width b.0, (extent_word height b.1, tt));
-  value = rw (extents_of-text width height b.0 b.1) refl;
-}
-change_reads (change.Min size) b l = record {
-  head = word_by (codes "min") refl;
-  words = (signed_word size.w (size_short size.w b.0), (signed_word size.h (size_short size.h b.1), tt));
-  value = rw (pair_of-signed (pos 0) MAX_SIZE size.w size.h (size_short size.w b.0) (size_short size.h b.1) b.0 b.1) refl;
-}
-change_reads (change.Margins sides) b l =
-    let h = sides_short 1048574 sides (omega arith) b in
-    record {
-      head = word_by (codes "margins") refl;
-      words = sides_words sides h;
-      value = rw (sides_of-text sides h, insets_of-as (negsuc 1048574) sides b) refl;
-    }
-change_reads (change.Padding sides) b l =
-    let h = padding_short sides b in
-    record {
-      head = word_by (codes "padding") refl;
-      words = sides_words sides h;
-      value = rw (sides_of-text sides h, insets_of-as (pos 0) sides b) refl;
-    }
-change_reads (change.Weight weight) b l = record {
-  head = word_by (codes "weight") refl;
-  words = weight_reads_words weight b;
-  value = rw (weight_of-words weight b) refl;
-}
-change_reads (change.Gravity kids gravity) b l =
-    let back = gravity_back gravity l in
-    record {
-      head = word_by (codes "gravity") refl;
-      words = (kids_word kids, (back.word, tt));
-      value = rw (kids_of-text kids, back.value) refl;
-    }
-change_reads (change.Background color) b l = record {
-  head = word_by (codes "bg") refl;
-  words = (color_word color, tt);
-  value = rw (last_color-text color l) refl;
-}
+flag_word : (flag : Flag) → IsWord (flag_text flag)
+flag_word flag.Clip = word_by (codes "clip") refl
+flag_word flag.Fill = word_by (codes "fill") refl
+flag_word flag.Split = word_by (codes "split") refl
+
+-- answers to events
+answer_named-text : (answer : Answer) → answer_named (event_answer_text answer) ≡ Ok answer
+unfolding answer_named
+answer_named-text answer.Off = refl
+answer_named-text answer.Yes = refl
+answer_named-text answer.Click = refl
+
+event_answer_word : (answer : Answer) → IsWord (event_answer_text answer)
+event_answer_word answer.Off = word_by (codes "off") refl
+event_answer_word answer.Yes = word_by (codes "yes") refl
+event_answer_word answer.Click = word_by (codes "click") refl
+
+-- the line that makes a change
+act_of-change : (c : Change) (ws : List (List ℕ)) → act_of (change_head c) ws ≡ map_ok act.Change (change_of (change_head c) ws)
+unfolding act_of
+act_of-change (change.Size width height) ws = refl
+act_of-change (change.Min size) ws = refl
+act_of-change (change.Margins sides) ws = refl
+act_of-change (change.Padding sides) ws = refl
+act_of-change (change.Weight weight) ws = refl
+act_of-change (change.Gravity kids gravity) ws = refl
+act_of-change (change.Background color) ws = refl
 
 record ActReads (a : Act) : Type 0 where
   head : IsWord (act_head a)
@@ -302,8 +134,8 @@ record ActReads (a : Act) : Type 0 where
   value : act_of (act_head a) (act_words a) ≡ Ok a
 
 act_reads : (a : Act) → IsActInBounds a → ActHasLine a → ActReads a
-unfolding act_of visible_of new_id_of orient_of flag_of flag_named scroll_of rule_of
-act_reads (act.Change change) b l = let r = change_reads change b l in record { head = r.head; words = r.words; value = r.value }
+unfolding act_of visible_of new_id_of orient_of flag_of answer_of scroll_of rule_of
+act_reads (act.Change change) b l = let r = change_reads change b l in record { head = r.head; words = r.words; value = act_of-change change (change_words change) ∙ rw r.value refl }
 act_reads (act.Visible visibility) b l = record {
   head = word_by (codes "visible") refl;
   words = (visibility_word visibility, tt);
@@ -324,17 +156,11 @@ act_reads (act.Orient vertical) b l = record {
   words = (vertical_word vertical, tt);
   value = rw (vertical_of-text vertical) refl;
 }
-act_reads (act.Flag flag.Clip on) b l = record {
+act_reads (act.Flag flag on) b l = record {
   head = word_by (codes "flag") refl;
-  words = (word_by (codes "clip") refl, (on_word on, tt));
-  value = rw (on_of-text on) refl;
+  words = (flag_word flag, (on_word on, tt));
+  value = rw (flag_named-text flag, on_of-text on) refl;
 }
-act_reads (act.Flag flag.Fill on) b l = record {
-  head = word_by (codes "flag") refl;
-  words = (word_by (codes "fill") refl, (on_word on, tt));
-  value = rw (on_of-text on) refl;
-}
-act_reads (act.Flag flag.Split on) b l = absurd l
 act_reads (act.Ink color) b l = record {
   head = word_by (codes "ink") refl;
   words = (color_word color, tt);
@@ -345,8 +171,16 @@ act_reads (act.Rule verb value) b l = record {
   words = (verb_word verb b, (rule_value_word verb value l, tt));
   value = rw (verb_of-text verb b, rule_value_in-text verb value l) refl;
 }
-act_reads (act.Answer answer) b l = absurd l
-act_reads (act.Intercept actions) b l = absurd l
+act_reads (act.Answer answer) b l = record {
+  head = word_by (codes "answer") refl;
+  words = (event_answer_word answer, tt);
+  value = rw (answer_named-text answer) refl;
+}
+act_reads (act.Intercept actions) b l = record {
+  head = word_by (codes "intercept") refl;
+  words = intercept_reads_words actions b;
+  value = rw (actions_of-words actions b) refl;
+}
 act_reads (act.Scroll offset) b l =
     let short = size_short offset b in
     record {
@@ -376,8 +210,8 @@ command_by-act (act.Orient vertical) ws l = refl
 command_by-act (act.Flag flag on) ws l = refl
 command_by-act (act.Ink color) ws l = refl
 command_by-act (act.Rule verb value) ws l = refl
-command_by-act (act.Answer answer) ws l = absurd l
-command_by-act (act.Intercept actions) ws l = absurd l
+command_by-act (act.Answer answer) ws l = refl
+command_by-act (act.Intercept actions) ws l = refl
 command_by-act (act.Scroll offset) ws l = refl
 
 change_no_text : (c : Change) → ChangeHasLine c → ends_in_text (change_head c) ≡ false
@@ -437,7 +271,7 @@ pixels_of-text x y w h b =
 
 -- The command of the text of a command is that plain.
 pub command_of-spelled : (c : PlainCommand) → IsInBounds c → HasLine c → command_of (spelled c) ≡ Ok c
-unfolding command_by dpi_of inflate_of into_of add_of remove_of frame_of bounds_of digest_of set_of
+unfolding command_by dpi_of inflate_of into_of add_of remove_of disallow_of up_of cancel_of frame_of bounds_of digest_of hook_of save_of restore_of set_of
 command_of-spelled (plain.Window w h) b l =
     command_of-joined (codes "window") (signed_decimal w ∷ signed_decimal h ∷ []) refl (word_by (codes "window") refl, (signed_word w (side_of_window w b.0), (signed_word h (side_of_window h b.1), tt)))
     ∙ rw (pair_of-signed (pos 1) MAX_WINDOW w h (side_of_window w b.0) (side_of_window h b.1) b.0 b.1) refl
@@ -464,6 +298,23 @@ command_of-spelled (plain.Act view act) b l =
     ∙ command_by-act act (name_text view ∷ act_words act) l.1
     ∙ rw (name_of-text view l.0, r.value) refl
 command_of-spelled (plain.SetText view text) b l = command_of-text view text b l.0 l.1
+command_of-spelled (plain.Disallow view on) b l =
+    command_of-joined (codes "disallow") (name_text view ∷ on_text on ∷ []) refl (word_by (codes "disallow") refl, (name_word view l, (on_word on, tt)))
+    ∙ rw (name_of-text view l, on_of-text on) refl
+command_of-spelled (plain.Hook view edits bad) b l =
+    let reads = hook_reads edits bad b.0 b.1 l.1 l.2 in
+    command_of-joined (codes "hook") (name_text view ∷ edits_words (hook_edits edits bad)) refl (word_by (codes "hook") refl, (name_word view l.0, reads.words))
+    ∙ rw (name_of-text view l.0, reads.value) refl
+command_of-spelled (plain.Down p x y) b l =
+    command_of-joined (codes "down") (touch_words p x y) refl (word_by (codes "down") refl, touch_reads_words p x y b)
+    ∙ rw (touch_of-words p x y b) refl
+command_of-spelled (plain.Move p x y) b l =
+    command_of-joined (codes "move") (touch_words p x y) refl (word_by (codes "move") refl, touch_reads_words p x y b)
+    ∙ rw (touch_of-words p x y b) refl
+command_of-spelled (plain.Up p) b l =
+    command_of-joined (codes "up") (decimal p ∷ []) refl (word_by (codes "up") refl, (decimal_word p (pointer_short p b), tt))
+    ∙ rw (integer_of-signed (pos p) (pointer_short p b), pointer_of-id p b) refl
+command_of-spelled plain.Cancel b l = command_of-joined (codes "cancel") [] refl (word_by (codes "cancel") refl, tt)
 command_of-spelled plain.Frame b l = command_of-joined (codes "frame") [] refl (word_by (codes "frame") refl, tt)
 command_of-spelled (plain.Bounds None) b l = command_of-joined (codes "bounds") [] refl (word_by (codes "bounds") refl, tt)
 command_of-spelled (plain.Bounds (Some view)) b l =
@@ -475,3 +326,7 @@ command_of-spelled (plain.Pixels x y w h) b l =
     (word_by (codes "pixels") refl, (signed_word x short.left, (signed_word y short.top, (signed_word w short.right, (signed_word h short.bottom, tt)))))
     ∙ pixels_of-text x y w h b
 command_of-spelled plain.Digest b l = command_of-joined (codes "digest") [] refl (word_by (codes "digest") refl, tt)
+command_of-spelled plain.Save b l = command_of-joined (codes "save") [] refl (word_by (codes "save") refl, tt)
+command_of-spelled (plain.Restore None) b l = command_of-joined (codes "restore") [] refl (word_by (codes "restore") refl, tt)
+command_of-spelled (plain.Restore (Some text)) b l =
+    command_of-joined (codes "restore") (text ∷ []) refl (word_by (codes "restore") refl, (state_word text b, tt)) ∙ rw (state_text_of-text text b) refl

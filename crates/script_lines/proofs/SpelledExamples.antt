@@ -1,16 +1,18 @@
 -- Commands, and their texts.
-use Rattle.std.proofs.Common.{◌≡◌, refl}
+use Rattle.std.proofs.Common.{◌≡◌, refl, [], ◌∷◌}
 use Rattle.std.specs.Prelude.{codes, Some, None, pos, negsuc, true, false}
 use Rattle.std.specs.Fmt.{digits}
 use Rattle.view_model.specs.Dimensions.{mantissa}
 use Rattle.view_model.specs.Facts.{no_gravity}
 use Rattle.view_model.specs.declared.changes.Act.TheVariants as act
 use Rattle.view_model.specs.declared.changes.Change.TheVariants as change
+use Rattle.view_model.specs.declared.changes.Flag.TheVariants as flag
+use Rattle.view_model.specs.declared.kinds.Answer.TheVariants as answer
 use Rattle.view_model.specs.declared.kinds.Class.TheVariants as class
 use Rattle.view_model.specs.declared.placing.Across.TheVariants as across
 use Rattle.view_model.specs.declared.placing.Down.TheVariants as down
 use Rattle.script_lines.specs.Spelled.{spelled}
-use Rattle.script_lines.specs.PlainCommands.{Window, Add, Act, Bounds, Dpi, Res, Inflate, Color, Dimen, Text}
+use Rattle.script_lines.specs.PlainCommands.{Window, Add, Act, Bounds, Dpi, Res, Inflate, Disallow, Hook, Down, Move, Up, Cancel, Save, Restore, Color, Dimen, Text}
 use Rattle.script_lines.specs.declared.naming.Name.TheVariants.{Number, Id}
 
 pub a_window : spelled (Window (pos 100) (pos 4096)) ≡ codes "window 100 4096"
@@ -75,3 +77,59 @@ a_file = refl
 pub a_density : spelled (Dpi 240) ≡ codes "dpi 240"
 unfolding digits
 a_density = refl
+
+pub an_answer : spelled (Act (Number 3) (act.Answer answer.Click)) ≡ codes "answer v3 click"
+unfolding digits
+an_answer = refl
+
+pub no_action : spelled (Act (Number 1) (act.Intercept 0)) ≡ codes "intercept v1 none"
+unfolding digits
+no_action = refl
+
+pub two_actions : spelled (Act (Number 1) (act.Intercept 36)) ≡ codes "intercept v1 move pup"
+unfolding digits
+two_actions = refl
+
+pub a_flag : spelled (Act (Number 1) (act.Flag flag.Split false)) ≡ codes "flag v1 split no"
+unfolding digits
+a_flag = refl
+
+pub a_disallowing : spelled (Disallow (Number 2) true) ≡ codes "disallow v2 yes"
+unfolding digits
+a_disallowing = refl
+
+pub a_pointer_down : spelled (Down 0 (pos 5) (negsuc 29)) ≡ codes "down 0 5 -30"
+unfolding digits
+a_pointer_down = refl
+
+pub a_pointer_that_moves : spelled (Move 9 (pos 0) (pos 1048576)) ≡ codes "move 9 0 1048576"
+unfolding digits
+a_pointer_that_moves = refl
+
+pub a_pointer_up : spelled (Up 9) ≡ codes "up 9"
+unfolding digits
+a_pointer_up = refl
+
+pub a_cancel : spelled Cancel ≡ codes "cancel"
+a_cancel = refl
+
+pub a_saving : spelled Save ≡ codes "save"
+a_saving = refl
+
+pub the_kept_state : spelled (Restore None) ≡ codes "restore"
+the_kept_state = refl
+
+pub a_state : spelled (Restore (Some (codes "56aB"))) ≡ codes "restore 56aB"
+a_state = refl
+
+pub a_hook : spelled (Hook (Number 3) (record { view = Number 2; change = change.Size (pos 40) (negsuc 0) } ∷ record { view = Id 7; change = change.Weight 256 } ∷ []) false) ≡ codes "hook v3 size v2 40 match ; weight @7 1 0"
+unfolding digits
+a_hook = refl
+
+pub a_hook_that_cannot_be_armed : spelled (Hook (Number 3) (record { view = Number 2; change = change.Size (pos 40) (negsuc 0) } ∷ []) true) ≡ codes "hook v3 size v2 40 match ; frame"
+unfolding digits
+a_hook_that_cannot_be_armed = refl
+
+pub a_hook_without_edits : spelled (Hook (Number 3) [] true) ≡ codes "hook v3 frame"
+unfolding digits
+a_hook_without_edits = refl

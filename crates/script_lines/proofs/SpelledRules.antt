@@ -15,22 +15,22 @@ use Rattle.script_lines.proofs.CommandLaws.{and-left, and-right}
 use Rattle.script_lines.proofs.SpelledNames.{id_of-text, name_word}
 use Rattle.script_lines.proofs.SpelledWords.{IsWord, word_by}
 
-abbrev all_below : (ℕ → Bool) → ℕ → Bool
+abbrev pub all_below : (ℕ → Bool) → ℕ → Bool
 all_below passes zero = true
 all_below passes (suc n) = passes n && all_below passes n
 
-all_below-at : (passes : ℕ → Bool) (n k : ℕ) → k < n → all_below passes n ≡ true → passes k ≡ true
+pub all_below-at : (passes : ℕ → Bool) (n k : ℕ) → k < n → all_below passes n ≡ true → passes k ≡ true
 all_below-at passes zero k short h = absurd (omega (arith, short))
 all_below-at passes (suc n) k short h = elim (cases_lt k n) [
   | inl less ↦ all_below-at passes n k less (and-right (passes n) (all_below passes n) h)
   | inr more ↦ subst (λ m. passes m ≡ true) (let e : n ≡ k = omega (arith, short, more) in e) (and-left (passes n) (all_below passes n) h)
 ]
 
-abbrev is_ok_of : ℕ → Result ℕ LineFault → Bool
+abbrev pub is_ok_of : ℕ → Result ℕ LineFault → Bool
 is_ok_of n (Ok m) = m == n
 is_ok_of n (Err fault) = false
 
-ok_of : (n : ℕ) (r : Result ℕ LineFault) → is_ok_of n r ≡ true → r ≡ Ok n
+pub ok_of : (n : ℕ) (r : Result ℕ LineFault) → is_ok_of n r ≡ true → r ≡ Ok n
 ok_of n (Ok m) h = let e : m ≡ n = grind (arith, nat_tests) in rw e refl
 ok_of n (Err fault) h = absurd (cc)
 

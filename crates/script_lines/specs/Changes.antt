@@ -9,8 +9,11 @@ use Rattle.view_model.specs.declared.changes.Change.{Change}
 use Rattle.view_model.specs.declared.changes.Change.TheVariants as change
 use Rattle.view_model.specs.declared.changes.Flag.{Flag}
 use Rattle.view_model.specs.declared.changes.Flag.TheVariants as flag
+use Rattle.view_model.specs.declared.kinds.Answer.{Answer}
+use Rattle.view_model.specs.declared.kinds.Answer.TheVariants as answer
 use Rattle.view_model.specs.declared.kinds.Visibility.{Visibility}
 use Rattle.view_model.specs.declared.kinds.Visibility.TheVariants as visibility
+use Rattle.script_lines.specs.Actions.{actions_of}
 use Rattle.script_lines.specs.Colors.{last_color}
 use Rattle.script_lines.specs.Dimensions.{IsExtent, extents_of}
 use Rattle.script_lines.specs.Gravities.{gravity_of}
@@ -142,8 +145,9 @@ orient_of words = do
 unfoldable pub flag_named : List ℕ → Result Flag LineFault
 flag_named word =
     if bytes_eq word (codes "clip") then Ok flag.Clip else (
-    if bytes_eq word (codes "fill") then Ok flag.Fill else
-    Err Syntax)
+    if bytes_eq word (codes "fill") then Ok flag.Fill else (
+    if bytes_eq word (codes "split") then Ok flag.Split else
+    Err Syntax))
 
 -- `F yes` or `F no`, a flag and whether it is on
 unfoldable pub flag_of : List (List ℕ) → Result Act LineFault
@@ -166,6 +170,25 @@ scroll_of words = do
   _ ← end_of y.1
   map_ok act.Scroll (within_of (pos 0) MAX_SIZE y.0)
 
+unfoldable pub answer_named : List ℕ → Result Answer LineFault
+answer_named word =
+    if bytes_eq word (codes "off") then Ok answer.Off else (
+    if bytes_eq word (codes "yes") then Ok answer.Yes else (
+    if bytes_eq word (codes "click") then Ok answer.Click else
+    Err Syntax))
+
+-- `off`, `yes` or `click`
+unfoldable pub answer_of : List (List ℕ) → Result Act LineFault
+answer_of words = do
+  a ← word_in words
+  answer ← answer_named a.0
+  _ ← end_of a.1
+  Ok (act.Answer answer)
+
+-- `none`, or the words of one or more actions
+abbrev pub intercept_of : List (List ℕ) → Result Act LineFault
+intercept_of words = map_ok act.Intercept (actions_of words)
+
 -- what a line sets, by its first word and the words behind the view
 unfoldable pub act_of : List ℕ → List (List ℕ) → Result Act LineFault
 act_of head words =
@@ -176,8 +199,10 @@ act_of head words =
     if bytes_eq head (codes "flag") then flag_of words else (
     if bytes_eq head (codes "scroll") then scroll_of words else (
     if bytes_eq head (codes "rule") then rule_of words else (
-    if bytes_eq head (codes "ink") then ink_of words else
-    map_ok act.Change (change_of head words))))))))
+    if bytes_eq head (codes "ink") then ink_of words else (
+    if bytes_eq head (codes "answer") then answer_of words else (
+    if bytes_eq head (codes "intercept") then intercept_of words else
+    map_ok act.Change (change_of head words))))))))))
 
 abbrev pub AreWithin : ℤ → ℤ → Insets → Type 0
 AreWithin low high sides = IsWithin low high sides.left × IsWithin low high sides.top × IsWithin low high sides.right × IsWithin low high sides.bottom

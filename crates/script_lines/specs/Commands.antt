@@ -1,20 +1,25 @@
 -- The grammar of a line, over its words. All words are read before a number's bounds are looked at.
-use Rattle.std.specs.Prelude.{ℕ, ◌<◌, ◌≤◌, IsTrue, if◌then◌else◌, pos, List, [], ◌∷◌, codes, Option, Some, None, Result, Ok, Err}
+use Rattle.std.specs.Prelude.{ℕ, ◌<◌, ◌≤◌, IsTrue, if◌then◌else◌, pos, List, [], ◌∷◌, length, codes, Option, Some, None, Result, Ok, Err}
+use Rattle.std.specs.List.{All}
 use Rattle.std.specs.Str.{bytes_eq, is_utf8}
 use Rattle.view_model.specs.declared.kinds.Class.{Class}
 use Rattle.view_model.specs.declared.kinds.Class.TheVariants as class
-use Rattle.script_lines.specs.Changes.{IsActInBounds, act_of}
+use Rattle.view_model.specs.declared.limits.TheConstants.{MAX_EDITS}
+use Rattle.script_lines.specs.Changes.{IsActInBounds, IsChangeInBounds, act_of}
 use Rattle.script_lines.specs.Dimensions.{IsExtent, extents_of}
 use Rattle.script_lines.specs.Escapes.{has_escapes, rest_of}
 use Rattle.script_lines.specs.FileNames.{file_name_in, is_file_name}
+use Rattle.script_lines.specs.Hooks.{hook_of}
 use Rattle.script_lines.specs.Names.{name_in, parent_in}
 use Rattle.script_lines.specs.declared.naming.Name.{Name}
 use Rattle.script_lines.specs.Numbers.{IsWithin, integer_in, natural_within, pair_of}
 use Rattle.script_lines.specs.Pixels.{IsPart, pixels_of}
-use Rattle.script_lines.specs.PlainCommands.{PlainCommand, Window, Dpi, Res, Inflate, Add, Remove, Act, SetText, Frame, Bounds, Pixels, Digest}
+use Rattle.script_lines.specs.PlainCommands.{PlainCommand, Window, Dpi, Res, Inflate, Add, Remove, Act, SetText, Disallow, Hook, Down, Move, Up, Cancel, Frame, Bounds, Pixels, Digest, Save, Restore}
 use Rattle.script_lines.specs.Resources.{IsGivenInBounds, res_of}
-use Rattle.script_lines.specs.Words.{after_word, ◌>>=◌, map_ok, literal_in, word_in, end_of, words}
-use Rattle.script_lines.specs.declared.commands.TheConstants.{MAX_DPI, MAX_WINDOW, MIN_DPI}
+use Rattle.script_lines.specs.States.{is_state_text, restore_of, save_of}
+use Rattle.script_lines.specs.Touches.{IsTouchInBounds, cancel_of, down_of, move_of, up_of}
+use Rattle.script_lines.specs.Words.{after_word, ◌>>=◌, map_ok, literal_in, on_of, word_in, end_of, words}
+use Rattle.script_lines.specs.declared.commands.TheConstants.{MAX_DPI, MAX_POINTER, MAX_WINDOW, MIN_DPI}
 use Rattle.script_lines.specs.declared.fault.LineFault.{LineFault}
 use Rattle.script_lines.specs.declared.fault.LineFault.TheVariants.{Syntax}
 
@@ -85,6 +90,15 @@ bounds_of (word ∷ words) = do
   _ ← end_of view.1
   Ok (Bounds (Some view.0))
 
+-- `V yes` or `V no`, a view, and whether it and all above it are kept from taking pointers away from their children
+unfoldable pub disallow_of : List (List ℕ) → Result PlainCommand LineFault
+disallow_of words = do
+  view ← name_in words
+  b ← word_in view.1
+  on ← on_of b.0
+  _ ← end_of b.1
+  Ok (Disallow view.0 on)
+
 -- `V`, and what is set of that view
 unfoldable pub set_of : List ℕ → List (List ℕ) → Result PlainCommand LineFault
 set_of head words = do
@@ -96,6 +110,24 @@ unfoldable pub set_text_of : List ℕ → Result PlainCommand LineFault
 set_text_of rest = do
   view ← name_in (words rest)
   map_ok (SetText view.0) (rest_of (after_word rest))
+
+-- what is kept, or set of a view, by the first word of the line and the words behind that
+abbrev pub keep_by : List ℕ → List (List ℕ) → Result PlainCommand LineFault
+keep_by head words =
+    if bytes_eq head (codes "hook") then hook_of words else (
+    if bytes_eq head (codes "save") then save_of words else (
+    if bytes_eq head (codes "restore") then restore_of words else
+    set_of head words))
+
+-- what is done by touch, kept, or set of a view, by the first word of the line and the words behind that
+abbrev pub touch_by : List ℕ → List (List ℕ) → Result PlainCommand LineFault
+touch_by head words =
+    if bytes_eq head (codes "down") then down_of words else (
+    if bytes_eq head (codes "move") then move_of words else (
+    if bytes_eq head (codes "up") then up_of words else (
+    if bytes_eq head (codes "cancel") then cancel_of words else (
+    if bytes_eq head (codes "disallow") then disallow_of words else
+    keep_by head words))))
 
 -- a command by the first word of its line and the words behind that
 unfoldable pub command_by : List ℕ → List (List ℕ) → Result PlainCommand LineFault
@@ -109,7 +141,7 @@ command_by head words =
     if bytes_eq head (codes "bounds") then bounds_of words else (
     if bytes_eq head (codes "pixels") then pixels_of words else (
     if bytes_eq head (codes "digest") then digest_of words else
-    set_of head words))))))))
+    touch_by head words))))))))
 
 -- a command by the first word of its line and the bytes behind that: the spaces in a text count
 unfoldable pub command_in : List ℕ → List ℕ → Result PlainCommand LineFault
@@ -132,7 +164,16 @@ IsInBounds (Add parent class width height) = IsExtent width × IsExtent height
 IsInBounds (Remove view) = Unit {0}
 IsInBounds (Act view act) = IsActInBounds act
 IsInBounds (SetText view text) = IsTrue (has_escapes text)
+IsInBounds (Disallow view on) = Unit {0}
+IsInBounds (Hook view edits bad) = (length edits ≤ MAX_EDITS) × All (λ asked. IsChangeInBounds asked.change) edits
+IsInBounds (Down p x y) = IsTouchInBounds p x y
+IsInBounds (Move p x y) = IsTouchInBounds p x y
+IsInBounds (Up p) = p ≤ MAX_POINTER
+IsInBounds Cancel = Unit {0}
 IsInBounds Frame = Unit {0}
 IsInBounds (Bounds view) = Unit {0}
 IsInBounds (Pixels x y w h) = IsPart x y w h
 IsInBounds Digest = Unit {0}
+IsInBounds Save = Unit {0}
+IsInBounds (Restore None) = Unit {0}
+IsInBounds (Restore (Some text)) = IsTrue (is_state_text text)

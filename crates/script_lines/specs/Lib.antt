@@ -1,10 +1,13 @@
+pub mod Actions
 pub mod Changes
 pub mod Colors
 pub mod Commands
 pub mod Dimensions
 pub mod Escapes
 pub mod FileNames
+pub mod Gathered
 pub mod Gravities
+pub mod Hooks
 pub mod LineBuffer
 pub mod Lines
 pub mod Names
@@ -15,5 +18,7 @@ pub mod PlainCommands
 pub mod Resources
 pub mod Rules
 pub mod Spelled
+pub mod States
+pub mod Touches
 pub mod Weights
 pub mod Words

@@ -1,8 +1,9 @@
 -- Commands with the bytes of their texts, in place of the code's references to them.
-use Rattle.std.specs.Prelude.{ℕ, ℤ, List, length, Option}
+use Rattle.std.specs.Prelude.{ℕ, ℤ, Bool, List, length, Option, Some, None}
 use Rattle.geom_core.specs.declared.color.Argb.{Argb}
 use Rattle.view_model.specs.declared.changes.Act.{Act as ViewAct}
 use Rattle.view_model.specs.declared.kinds.Class.{Class}
+use Rattle.script_lines.specs.declared.commands.Asked.{Asked}
 use Rattle.script_lines.specs.declared.commands.Command.{Command}
 use Rattle.script_lines.specs.declared.commands.Command.TheVariants as command
 use Rattle.script_lines.specs.declared.commands.Given.{Given}
@@ -25,10 +26,18 @@ pub data PlainCommand : Type 0 where
   Remove : (view : Name) → PlainCommand
   Act : (view : Name) (act : ViewAct) → PlainCommand
   SetText : (view : Name) (text : List ℕ) → PlainCommand
+  Disallow : (view : Name) (on : Bool) → PlainCommand
+  Hook : (view : Name) (edits : List Asked) (bad : Bool) → PlainCommand
+  Down : (p : ℕ) (x y : ℤ) → PlainCommand
+  Move : (p : ℕ) (x y : ℤ) → PlainCommand
+  Up : (p : ℕ) → PlainCommand
+  Cancel : PlainCommand
   Frame : PlainCommand
   Bounds : (view : Option Name) → PlainCommand
   Pixels : (x y w h : ℤ) → PlainCommand
   Digest : PlainCommand
+  Save : PlainCommand
+  Restore : (text : Option (List ℕ)) → PlainCommand
 
 abbrev pub plain_given : Given → PlainGiven
 plain_given (given.Color color) = Color color
@@ -44,10 +53,19 @@ plain_command (command.Add parent class width height) = Add parent class width h
 plain_command (command.Remove view) = Remove view
 plain_command (command.Act view act) = Act view act
 plain_command (command.Text view text) = SetText view text.now
+plain_command (command.Disallow view on) = Disallow view on
+plain_command (command.Hook view edits bad) = Hook view edits.items bad
+plain_command (command.Down p x y) = Down p x y
+plain_command (command.Move p x y) = Move p x y
+plain_command (command.Up p) = Up p
+plain_command command.Cancel = Cancel
 plain_command command.Frame = Frame
 plain_command (command.Bounds view) = Bounds view
 plain_command (command.Pixels x y w h) = Pixels x y w h
 plain_command command.Digest = Digest
+plain_command command.Save = Save
+plain_command (command.Restore None) = Restore None
+plain_command (command.Restore (Some text)) = Restore (Some text.now)
 
 -- how many bytes the text of a value has
 abbrev pub given_text_length : PlainGiven → ℕ
@@ -65,7 +83,16 @@ text_length (Add parent class width height) = 0
 text_length (Remove view) = 0
 text_length (Act view act) = 0
 text_length (SetText view text) = length text
+text_length (Disallow view on) = 0
+text_length (Hook view edits bad) = 0
+text_length (Down p x y) = 0
+text_length (Move p x y) = 0
+text_length (Up p) = 0
+text_length Cancel = 0
 text_length Frame = 0
 text_length (Bounds view) = 0
 text_length (Pixels x y w h) = 0
 text_length Digest = 0
+text_length Save = 0
+text_length (Restore None) = 0
+text_length (Restore (Some text)) = length text

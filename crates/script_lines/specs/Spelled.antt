@@ -1,7 +1,7 @@
 -- The text of a command: one way to write it, of those that the grammar reads.
-use Rattle.std.specs.Prelude.{◌≡◌, ℕ, zero, suc, ◌<◌, ◌^◌, ◌/◌, ◌%◌, ◌==◌, not, ◌&&◌, ◌||◌, true, false, IsTrue, if◌then◌else◌, ℤ, pos, negsuc, ◌⊎◌, List, [], ◌∷◌, ◌++◌, codes, Option, Some, None, IfSome, slice_index_or}
+use Rattle.std.specs.Prelude.{◌≡◌, ℕ, zero, suc, ◌<◌, ◌^◌, ◌/◌, ◌%◌, ◌==◌, not, ◌&&◌, ◌||◌, Bool, true, false, IsTrue, if◌then◌else◌, ℤ, pos, negsuc, ◌⊎◌, List, [], ◌∷◌, ◌++◌, codes, Option, Some, None, IfSome, slice_index_or, length, map, nat_lt}
 use Rattle.std.specs.Fmt.{decimal, signed_decimal, digits, digit_glyph}
-use Rattle.std.specs.List.{join_with_byte}
+use Rattle.std.specs.List.{All, join_with_byte}
 use Rattle.std.specs.Str.{is_utf8}
 use Rattle.geom_core.specs.declared.color.Argb.{Argb}
 use Rattle.geom_core.specs.declared.geometry.Insets.{Insets}
@@ -13,6 +13,8 @@ use Rattle.view_model.specs.declared.changes.Change.{Change}
 use Rattle.view_model.specs.declared.changes.Change.TheVariants as change
 use Rattle.view_model.specs.declared.changes.Flag.{Flag}
 use Rattle.view_model.specs.declared.changes.Flag.TheVariants as flag
+use Rattle.view_model.specs.declared.kinds.Answer.{Answer}
+use Rattle.view_model.specs.declared.kinds.Answer.TheVariants as answer
 use Rattle.view_model.specs.declared.kinds.Class.{Class}
 use Rattle.view_model.specs.declared.kinds.Class.TheVariants as class
 use Rattle.view_model.specs.declared.kinds.Visibility.{Visibility}
@@ -26,6 +28,7 @@ use Rattle.script_lines.specs.Gravities.{is_set_across, is_set_down}
 use Rattle.script_lines.specs.PlainCommands.{PlainCommand, PlainGiven}
 use Rattle.script_lines.specs.PlainCommands as plain
 use Rattle.script_lines.specs.Rules.{names_sibling, verbs}
+use Rattle.script_lines.specs.declared.commands.Asked.{Asked}
 use Rattle.script_lines.specs.declared.naming.Name.{Name}
 use Rattle.script_lines.specs.declared.naming.Name.TheVariants.{Number, Id}
 
@@ -115,11 +118,31 @@ change_words (change.Weight weight) = weight_words weight
 change_words (change.Gravity kids gravity) = (if kids then codes "kids" else codes "self") ∷ gravity_text gravity ∷ []
 change_words (change.Background color) = color_text color ∷ []
 
--- a flag; some no line sets
 abbrev pub flag_text : Flag → List ℕ
 flag_text flag.Clip = codes "clip"
 flag_text flag.Fill = codes "fill"
-flag_text flag.Split = []
+flag_text flag.Split = codes "split"
+
+abbrev pub on_text : Bool → List ℕ
+on_text on = if on then codes "yes" else codes "no"
+
+-- how a view answers events
+abbrev pub event_answer_text : Answer → List ℕ
+event_answer_text answer.Off = codes "off"
+event_answer_text answer.Yes = codes "yes"
+event_answer_text answer.Click = codes "click"
+
+-- the words of the actions, by their bits
+abbrev pub action_words : List (List ℕ)
+action_words = codes "down" ∷ codes "up" ∷ codes "move" ∷ codes "cancel" ∷ codes "pdown" ∷ codes "pup" ∷ []
+
+-- those of these words whose bits a number has, the first of them that of the lowest bit
+abbrev pub words_of_bits : List (List ℕ) → ℕ → List (List ℕ)
+words_of_bits [] bits = []
+words_of_bits (word ∷ words) bits = (if bits % 2 == 1 then word ∷ [] else []) ++ words_of_bits words (bits / 2)
+
+abbrev pub intercept_words : ℕ → List (List ℕ)
+intercept_words actions = if actions == 0 then codes "none" ∷ [] else words_of_bits action_words actions
 
 abbrev pub verb_text : ℕ → List ℕ
 verb_text verb = slice_index_or verbs verb []
@@ -132,7 +155,7 @@ answer_text (suc n) = codes "yes"
 abbrev pub rule_value_text : ℕ → ℕ → List ℕ
 rule_value_text verb value = if names_sibling verb then name_text (Id value) else answer_text value
 
--- the first word of the line that sets this; some things no line sets
+-- the first word of the line that sets this
 abbrev pub act_head : Act → List ℕ
 act_head (act.Change change) = change_head change
 act_head (act.WeightSum sum) = codes "weightsum"
@@ -142,8 +165,8 @@ act_head (act.Visible visibility) = codes "visible"
 act_head (act.Ink color) = codes "ink"
 act_head (act.Id id) = codes "id"
 act_head (act.Rule verb value) = codes "rule"
-act_head (act.Answer answer) = []
-act_head (act.Intercept actions) = []
+act_head (act.Answer answer) = codes "answer"
+act_head (act.Intercept actions) = codes "intercept"
 act_head (act.Scroll offset) = codes "scroll"
 
 -- the words behind the view
@@ -151,13 +174,13 @@ abbrev pub act_words : Act → List (List ℕ)
 act_words (act.Change change) = change_words change
 act_words (act.WeightSum sum) = weight_words sum
 act_words (act.Orient vertical) = (if vertical then codes "vertical" else codes "horizontal") ∷ []
-act_words (act.Flag flag on) = flag_text flag ∷ (if on then codes "yes" else codes "no") ∷ []
+act_words (act.Flag flag on) = flag_text flag ∷ on_text on ∷ []
 act_words (act.Visible visibility) = visibility_text visibility ∷ []
 act_words (act.Ink color) = color_text color ∷ []
 act_words (act.Id id) = name_text (Id id) ∷ []
 act_words (act.Rule verb value) = verb_text verb ∷ rule_value_text verb value ∷ []
-act_words (act.Answer answer) = []
-act_words (act.Intercept actions) = []
+act_words (act.Answer answer) = event_answer_text answer ∷ []
+act_words (act.Intercept actions) = intercept_words actions
 act_words (act.Scroll offset) = signed_decimal offset ∷ []
 
 -- a unit by its number in the word of a dimension
@@ -176,6 +199,27 @@ given_words (plain.Color color) = codes "color" ∷ color_text color ∷ []
 given_words (plain.Dimen word) = codes "dimen" ∷ signed_decimal (mantissa word) ∷ unit_text (word % 256) ∷ []
 given_words (plain.Text text) = codes "text" ∷ text ∷ []
 
+-- a pointer and a point
+abbrev pub touch_words : ℕ → ℤ → ℤ → List (List ℕ)
+touch_words p x y = decimal p ∷ signed_decimal x ∷ signed_decimal y ∷ []
+
+-- the words of an edit
+abbrev pub edit_words : Asked → List (List ℕ)
+edit_words asked = change_head asked.change ∷ name_text asked.view ∷ change_words asked.change
+
+-- an edit that no hook can make, if there is to be one
+abbrev pub unmade_edits : Bool → List (List (List ℕ))
+unmade_edits bad = if bad then (codes "frame" ∷ []) ∷ [] else []
+
+abbrev pub hook_edits : List Asked → Bool → List (List (List ℕ))
+hook_edits edits bad = map edit_words edits ++ unmade_edits bad
+
+-- the words of edits, `;` between them
+abbrev pub edits_words : List (List (List ℕ)) → List (List ℕ)
+edits_words [] = []
+edits_words (edit ∷ []) = edit
+edits_words (edit ∷ next ∷ edits) = edit ++ codes ";" ∷ edits_words (next ∷ edits)
+
 -- the words of a command
 abbrev pub command_words : PlainCommand → List (List ℕ)
 command_words (plain.Window w h) = codes "window" ∷ signed_decimal w ∷ signed_decimal h ∷ []
@@ -187,11 +231,20 @@ command_words (plain.Add parent class width height) = codes "add" ∷ parent_tex
 command_words (plain.Remove view) = codes "remove" ∷ name_text view ∷ []
 command_words (plain.Act view act) = act_head act ∷ name_text view ∷ act_words act
 command_words (plain.SetText view text) = codes "text" ∷ name_text view ∷ text ∷ []
+command_words (plain.Disallow view on) = codes "disallow" ∷ name_text view ∷ on_text on ∷ []
+command_words (plain.Hook view edits bad) = codes "hook" ∷ name_text view ∷ edits_words (hook_edits edits bad)
+command_words (plain.Down p x y) = codes "down" ∷ touch_words p x y
+command_words (plain.Move p x y) = codes "move" ∷ touch_words p x y
+command_words (plain.Up p) = codes "up" ∷ decimal p ∷ []
+command_words plain.Cancel = codes "cancel" ∷ []
 command_words plain.Frame = codes "frame" ∷ []
 command_words (plain.Bounds None) = codes "bounds" ∷ []
 command_words (plain.Bounds (Some view)) = codes "bounds" ∷ name_text view ∷ []
 command_words (plain.Pixels x y w h) = codes "pixels" ∷ signed_decimal x ∷ signed_decimal y ∷ signed_decimal w ∷ signed_decimal h ∷ []
 command_words plain.Digest = codes "digest" ∷ []
+command_words plain.Save = codes "save" ∷ []
+command_words (plain.Restore None) = codes "restore" ∷ []
+command_words (plain.Restore (Some text)) = codes "restore" ∷ text ∷ []
 
 -- the text of a command, with single spaces between its words
 abbrev pub spelled : PlainCommand → List ℕ
@@ -216,24 +269,22 @@ ChangeHasLine (change.Weight weight) = Unit {0}
 ChangeHasLine (change.Gravity kids gravity) = HasWord gravity
 ChangeHasLine (change.Background color) = color.0 < 2 ^ 32
 
--- a flag that a line can set
-abbrev pub FlagHasLine : Flag → Type 0
-FlagHasLine flag.Clip = Unit {0}
-FlagHasLine flag.Fill = Unit {0}
-FlagHasLine flag.Split = ⊥
+-- an edit that a hook can make
+abbrev pub AskedHasLine : Asked → Type 0
+AskedHasLine asked = HasText asked.view × ChangeHasLine asked.change
 
 -- what a line can set
 abbrev pub ActHasLine : Act → Type 0
 ActHasLine (act.Change change) = ChangeHasLine change
 ActHasLine (act.WeightSum sum) = Unit {0}
 ActHasLine (act.Orient vertical) = Unit {0}
-ActHasLine (act.Flag flag on) = FlagHasLine flag
+ActHasLine (act.Flag flag on) = Unit {0}
 ActHasLine (act.Visible visibility) = Unit {0}
 ActHasLine (act.Ink color) = color.0 < 2 ^ 32
 ActHasLine (act.Id id) = HasText (Id id)
 ActHasLine (act.Rule verb value) = value < (if names_sibling verb then 2 ^ 32 else 2)
-ActHasLine (act.Answer answer) = ⊥
-ActHasLine (act.Intercept actions) = ⊥
+ActHasLine (act.Answer answer) = Unit {0}
+ActHasLine (act.Intercept actions) = Unit {0}
 ActHasLine (act.Scroll offset) = Unit {0}
 
 -- a value that a line can give a resource
@@ -252,7 +303,15 @@ HasLine (plain.Add parent class width height) = IfSome parent HasText
 HasLine (plain.Remove view) = HasText view
 HasLine (plain.Act view act) = HasText view × ActHasLine act
 HasLine (plain.SetText view text) = HasText view × IsTrue (is_utf8 text)
+HasLine (plain.Disallow view on) = HasText view
+HasLine (plain.Hook view edits bad) = HasText view × All AskedHasLine edits × IsTrue (bad || nat_lt 0 (length edits))
+HasLine (plain.Down p x y) = Unit {0}
+HasLine (plain.Move p x y) = Unit {0}
+HasLine (plain.Up p) = Unit {0}
+HasLine plain.Cancel = Unit {0}
 HasLine plain.Frame = Unit {0}
 HasLine (plain.Bounds view) = IfSome view HasText
 HasLine (plain.Pixels x y w h) = Unit {0}
 HasLine plain.Digest = Unit {0}
+HasLine plain.Save = Unit {0}
+HasLine (plain.Restore text) = Unit {0}

@@ -1,10 +1,11 @@
 //! What a line sets of a view.
 
 ghost use Rattle.std.specs.Prelude.{◌≡◌, pos, negsuc, ◌≤ℤ◌, IfOk};
-ghost use Rattle.script_lines.specs.Changes.{IsActInBounds, IsChangeInBounds, act_of, background_of, change_of, flag_named, flag_of, gravity_change_of, ink_of, insets_of, kids_of, margins_of, min_of, new_id_of, orient_of, padding_of, scroll_of, sides_of, size_of, vertical_of, visibility_of, visible_of, weight_change_of, weight_sum_of};
+ghost use Rattle.script_lines.specs.Changes.{IsActInBounds, IsChangeInBounds, act_of, answer_named, answer_of, background_of, change_of, flag_named, flag_of, gravity_change_of, ink_of, insets_of, intercept_of, kids_of, margins_of, min_of, new_id_of, orient_of, padding_of, scroll_of, sides_of, size_of, vertical_of, visibility_of, visible_of, weight_change_of, weight_sum_of};
 ghost use Rattle.script_lines.specs.Numbers.{IsWithin};
 ghost use Rattle.script_lines.specs.Words.{words};
 
+use crate::actions::read_actions;
 use crate::colors::last_color;
 use crate::dimension::extents;
 use crate::fault::LineFault;
@@ -16,7 +17,7 @@ use crate::weights::read_weight;
 use crate::words::{end, is, read_on, word};
 use geom_core::{Insets, Size};
 use view_model::limits::{MAX_INSET, MAX_SIZE, MIN_MARGIN};
-use view_model::{Act, Change, Flag, Visibility};
+use view_model::{Act, Answer, Change, Flag, Visibility};
 
 /// The sides of a view as words give them, the numbers not yet within their bounds.
 #[derive(Clone, Copy, Debug, PartialEq, Eq)]
@@ -144,7 +145,7 @@ fn background(bytes: &[u8]) -> Result<Change, LineFault>
 
 /// A change by the first word of its line and what stands behind the view.
 #[tactic(auto, unfolding(crate::specs::Changes::change_of))]
-fn read_change(head: &[u8], bytes: &[u8]) -> Result<Change, LineFault>
+pub fn read_change(head: &[u8], bytes: &[u8]) -> Result<Change, LineFault>
     ensures value { result ≡ change_of head.now (words bytes.now) }
     ensures bounds { IfOk result IsChangeInBounds }
 {
@@ -251,6 +252,9 @@ fn read_flag(word: &[u8]) -> Result<Flag, LineFault>
     if is(word, b"fill") {
         return Ok(Flag::Fill);
     }
+    if is(word, b"split") {
+        return Ok(Flag::Split);
+    }
     Err(LineFault::Syntax)
 }
 
@@ -286,6 +290,42 @@ fn scroll(bytes: &[u8]) -> Result<Act, LineFault>
     Ok(Act::Scroll(offset))
 }
 
+/// How a view answers events, by a word.
+#[tactic(auto, unfolding(crate::specs::Changes::answer_named))]
+fn read_answer(word: &[u8]) -> Result<Answer, LineFault>
+    ensures { result ≡ answer_named word.now }
+{
+    if is(word, b"off") {
+        return Ok(Answer::Off);
+    }
+    if is(word, b"yes") {
+        return Ok(Answer::Yes);
+    }
+    if is(word, b"click") {
+        return Ok(Answer::Click);
+    }
+    Err(LineFault::Syntax)
+}
+
+#[tactic(auto, unfolding(crate::specs::Changes::answer_of))]
+fn answer(bytes: &[u8]) -> Result<Act, LineFault>
+    ensures value { result ≡ answer_of (words bytes.now) }
+    ensures bounds { IfOk result IsActInBounds }
+{
+    let (word, rest) = word(bytes)?;
+    let answer = read_answer(word)?;
+    end(rest)?;
+    Ok(Act::Answer(answer))
+}
+
+fn intercept(bytes: &[u8]) -> Result<Act, LineFault>
+    ensures value { result ≡ intercept_of (words bytes.now) }
+    ensures bounds { IfOk result IsActInBounds }
+{
+    let actions = read_actions(bytes)?;
+    Ok(Act::Intercept(actions))
+}
+
 /// What a line sets, by its first word and what stands behind the view.
 #[tactic(auto, unfolding(crate::specs::Changes::act_of))]
 pub fn read_act(head: &[u8], bytes: &[u8]) -> Result<Act, LineFault>
@@ -315,6 +355,12 @@ pub fn read_act(head: &[u8], bytes: &[u8]) -> Result<Act, LineFault>
     }
     if is(head, b"ink") {
         return ink(bytes);
+    }
+    if is(head, b"answer") {
+        return answer(bytes);
+    }
+    if is(head, b"intercept") {
+        return intercept(bytes);
     }
     let change = read_change(head, bytes)?;
     Ok(Act::Change(change))

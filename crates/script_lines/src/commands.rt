@@ -1,8 +1,10 @@
 //! What a line asks for.
 
 use crate::naming::Name;
+use arrayvec::ArrayVec;
 use geom_core::Argb;
-use view_model::{Act, Class};
+use view_model::limits::MAX_EDITS;
+use view_model::{Act, Change, Class};
 
 /// The greatest side of a window, in pixels.
 pub const MAX_WINDOW: i64 = 4096;
@@ -10,6 +12,12 @@ pub const MAX_WINDOW: i64 = 4096;
 pub const MAX_POINT: i64 = 4095;
 /// The greatest number of pixels that a line tells.
 pub const MAX_PIXELS: i64 = 65536;
+/// The greatest id of a pointer.
+pub const MAX_POINTER: u32 = 9;
+/// The least coordinate of a touch, in pixels.
+pub const MIN_TOUCH: i64 = -1048576;
+/// The greatest coordinate of a touch, in pixels.
+pub const MAX_TOUCH: i64 = 1048576;
 /// The least density, in dots an inch.
 pub const MIN_DPI: u32 = 40;
 /// The greatest density, in dots an inch.
@@ -25,8 +33,25 @@ pub enum Given<'a> {
     Text(&'a str),
 }
 
-/// What a line asks for. A dimension is a number of pixels from 0 to `MAX_SIZE`, `MATCH` or `WRAP`.
+/// An edit of a hook: what it changes of which view.
 #[derive(Clone, Copy, Debug, PartialEq, Eq)]
+pub struct Asked {
+    pub view: Name,
+    pub change: Change,
+}
+
+impl Default for Asked {
+    /// What stands in an unused place, and is never made.
+    fn default() -> Asked {
+        Asked {
+            view: Name::Number(0),
+            change: Change::Weight(0),
+        }
+    }
+}
+
+/// What a line asks for. A dimension is a number of pixels from 0 to `MAX_SIZE`, `MATCH` or `WRAP`.
+#[derive(Debug, PartialEq, Eq, Drop)]
 pub enum Command<'a> {
     /// A new window of this size, each side from 1 to `MAX_WINDOW` pixels, without a frame.
     Window {
@@ -64,6 +89,35 @@ pub enum Command<'a> {
         view: Name,
         text: &'a str,
     },
+    /// Sets whether a view and all above it are kept from taking pointers away from their children.
+    Disallow {
+        view: Name,
+        on: bool,
+    },
+    /// Arms the hook of a view: the edits that are made once it has another size, in order. Where `bad`, there is one behind
+    /// the first `MAX_EDITS`, or one that is none of `size`, `min`, `margins`, `padding`, `weight`, `gravity` and `bg`;
+    /// those are not among them.
+    Hook {
+        view: Name,
+        edits: ArrayVec<Asked, MAX_EDITS>,
+        bad: bool,
+    },
+    /// A pointer goes down. Its id is from 0 to `MAX_POINTER`, its coordinates are from `MIN_TOUCH` to `MAX_TOUCH`.
+    Down {
+        p: u8,
+        x: i32,
+        y: i32,
+    },
+    /// A pointer moves, within the bounds of `Down`.
+    Move {
+        p: u8,
+        x: i32,
+        y: i32,
+    },
+    /// A pointer goes up, with an id as that of `Down`.
+    Up(u8),
+    /// The gesture is taken away.
+    Cancel,
     /// Lays the tree out.
     Frame,
     /// Tells of the bounds of this view, or of each view in preorder where that is none.
@@ -78,4 +132,9 @@ pub enum Command<'a> {
     },
     /// Tells the digest of the picture.
     Digest,
+    /// Keeps the state of the tree, and tells it.
+    Save,
+    /// Takes up the state of this text, or the one that is kept where that is none: an even number of hexadecimal
+    /// digits as written, two or more.
+    Restore(Option<&'a str>),
 }

@@ -45,7 +45,8 @@ fn hex_value_of(digits: &[u8]) -> u32
     n
 }
 
-fn all_hex(word: &[u8]) -> bool
+/// Whether each byte is a hexadecimal digit.
+pub fn all_hex(word: &[u8]) -> bool
     ensures { result ≡ list_all is_ascii_hexdigit word.now }
 {
     word.iter().all(|b| b.is_ascii_hexdigit())

@@ -1,7 +1,7 @@
 //! The command of a line.
 
 ghost use Rattle.std.specs.Prelude.{◌≡◌, ◌≤◌, true, length, Ok, Err, IfOk};
-ghost use Rattle.script_lines.specs.Commands.{IsInBounds, add_of, bounds_of, class_of, command_by, command_in, command_of, digest_of, dpi_of, frame_of, inflate_of, into_of, remove_of, set_of, set_text_of, window_of};
+ghost use Rattle.script_lines.specs.Commands.{IsInBounds, add_of, bounds_of, class_of, command_by, command_in, command_of, digest_of, disallow_of, dpi_of, frame_of, inflate_of, into_of, keep_by, remove_of, set_of, set_text_of, touch_by, window_of};
 ghost use Rattle.script_lines.specs.Lines.{is_passed_over};
 ghost use Rattle.script_lines.specs.PlainCommands.{PlainCommand, plain_command, text_length};
 ghost use Rattle.script_lines.specs.Spelled.{HasLine, spelled};
@@ -13,11 +13,14 @@ use crate::dimension::extents;
 use crate::escapes::rest_text;
 use crate::fault::LineFault;
 use crate::file_name::file_name_word;
+use crate::hooks::hook;
 use crate::naming::{Name, name_word, parent_word};
 use crate::number::{natural_within, number, pair};
 use crate::pixels::pixels;
 use crate::resources::res;
-use crate::words::{end, is, is_text, literal, word};
+use crate::states::{restore, save};
+use crate::touches::{cancel, down, moved, up};
+use crate::words::{end, is, is_text, literal, read_on, word};
 use view_model::Class;
 
 fn window(bytes: &[u8]) -> Result<Command<'_>, LineFault>
@@ -148,6 +151,19 @@ fn bounds(bytes: &[u8]) -> Result<Command<'_>, LineFault>
     Ok(Command::Bounds(Some(view)))
 }
 
+/// Whether a view and all above it are kept from taking pointers away from their children.
+#[tactic(auto, unfolding(crate::specs::Commands::disallow_of))]
+fn disallow(bytes: &[u8]) -> Result<Command<'_>, LineFault>
+    ensures value { map_ok plain_command result ≡ disallow_of (words bytes.now) }
+    ensures bounds { IfOk result (λ command. IsInBounds (plain_command command)) }
+{
+    let (view, rest) = name_word(bytes)?;
+    let (answer, rest) = word(rest)?;
+    let on = read_on(answer)?;
+    end(rest)?;
+    Ok(Command::Disallow { view, on })
+}
+
 /// A line that sets something of a view.
 #[tactic(auto, unfolding(crate::specs::Commands::set_of))]
 fn set<'a>(head: &[u8], bytes: &'a [u8]) -> Result<Command<'a>, LineFault>
@@ -168,6 +184,46 @@ fn set_text(bytes: &[u8]) -> Result<Command<'_>, LineFault>
     let (view, rest) = name_word(bytes)?;
     let text = rest_text(rest)?;
     Ok(Command::Text { view, text })
+}
+
+/// What is kept, or set of a view, by the first word of the line and what stands behind that.
+fn read_keep<'a>(head: &[u8], bytes: &'a [u8]) -> Result<Command<'a>, LineFault>
+    ensures value { map_ok plain_command result ≡ keep_by head.now (words bytes.now) }
+    ensures bounds { IfOk result (λ command. IsInBounds (plain_command command)) }
+{
+    if is(head, b"hook") {
+        return hook(bytes);
+    }
+    if is(head, b"save") {
+        return save(bytes);
+    }
+    if is(head, b"restore") {
+        return restore(bytes);
+    }
+    set(head, bytes)
+}
+
+/// What is done by touch, kept, or set of a view, by the first word of the line and what stands behind that.
+fn read_touch<'a>(head: &[u8], bytes: &'a [u8]) -> Result<Command<'a>, LineFault>
+    ensures value { map_ok plain_command result ≡ touch_by head.now (words bytes.now) }
+    ensures bounds { IfOk result (λ command. IsInBounds (plain_command command)) }
+{
+    if is(head, b"down") {
+        return down(bytes);
+    }
+    if is(head, b"move") {
+        return moved(bytes);
+    }
+    if is(head, b"up") {
+        return up(bytes);
+    }
+    if is(head, b"cancel") {
+        return cancel(bytes);
+    }
+    if is(head, b"disallow") {
+        return disallow(bytes);
+    }
+    read_keep(head, bytes)
 }
 
 /// The command of a line by its first word and what stands behind that.
@@ -203,7 +259,7 @@ fn read_command<'a>(head: &[u8], bytes: &'a [u8]) -> Result<Command<'a>, LineFau
     if is(head, b"digest") {
         return digest(bytes);
     }
-    set(head, bytes)
+    read_touch(head, bytes)
 }
 
 /// The command of a line by its first word and what stands behind that: the spaces in a text count.

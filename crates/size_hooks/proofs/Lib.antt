@@ -1,4 +1,3 @@
-mod EditLaws
 mod EntryLaws
 mod Examples
 mod MapLaws

@@ -8,7 +8,7 @@ use Rattle.std.specs.Prelude.{◌==◌, not, filter, if◌then◌else◌, nat_eq
 use Rattle.geom_core.specs.declared.geometry.Size.{Size}
 use Rattle.size_hooks.specs.Hook.{Hook}
 use Rattle.size_hooks.specs.Hooks.{IsMap, armed, reported_to, disarmed, hook_of, reported_as}
-use Rattle.size_hooks.specs.declared.limits.TheConstants.{MAX_EDITS, MAX_HOOKS}
+use Rattle.view_model.specs.declared.limits.TheConstants.{MAX_EDITS, MAX_HOOKS}
 
 pub no_more_disarmed : (view : ℕ) (hooks : List Hook) → length (disarmed view hooks) ≤ length hooks
 no_more_disarmed view [] = omega arith

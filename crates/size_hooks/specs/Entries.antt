@@ -4,16 +4,12 @@ use Rattle.std.specs.Coded.{Coded, code_by, coded×, coded_ℕ, coded_list}
 use Rattle.geom_core.specs.contracts.Size.{the_row as size_row}
 use Rattle.geom_core.specs.declared.geometry.Size.{Size}
 use Rattle.size_hooks.specs.Hook.{Hook}
-use Rattle.size_hooks.specs.declared.edit.KeptEdit.{KeptEdit}
 use Rattle.size_hooks.specs.declared.entry.Entry.{Entry}
 use Rattle.view_model.specs.contracts.NumEdit.{the_row as edit_row}
 use Rattle.view_model.specs.declared.changes.NumEdit.{NumEdit}
 
-abbrev pub edits_of : List KeptEdit → List NumEdit
-edits_of kept = map (λ (k : KeptEdit). k.edit) kept
-
 abbrev pub hook_in : Entry → Hook
-hook_in entry = record { view = entry.view; reported = entry.reported; edits = edits_of entry.edits.items }
+hook_in entry = record { view = entry.view; reported = entry.reported; edits = entry.edits.items }
 
 abbrev pub hooks_of : List Entry → List Hook
 hooks_of entries = map hook_in entries

@@ -3,7 +3,7 @@
 use Rattle.std.specs.Prelude.{ℕ, ◌==◌, ◌≤◌, length, if◌then◌else◌, not, List, [], ◌∷◌, ◌++◌, Option, Some, None, filter, find, map, slice_get, All}
 use Rattle.geom_core.specs.declared.geometry.Size.{Size}
 use Rattle.size_hooks.specs.Hook.{Hook}
-use Rattle.size_hooks.specs.declared.limits.TheConstants.{MAX_EDITS, MAX_HOOKS}
+use Rattle.view_model.specs.declared.limits.TheConstants.{MAX_EDITS, MAX_HOOKS}
 use Rattle.view_model.specs.declared.changes.NumEdit.{NumEdit}
 
 -- the hook of the view of this number

@@ -1,12 +1,13 @@
 //! An armed hook as it is kept.
-ghost use Rattle.std.specs.Prelude.{◌≡◌};
+ghost use Rattle.std.specs.Prelude.{◌≡◌, ◌≤◌, length};
 ghost use Rattle.size_hooks.specs.Entries.{hook_in, hooks_of};
 ghost use Rattle.size_hooks.specs.Hooks.{reported_as, reported_to};
+ghost use Rattle.view_model.specs.declared.limits.TheConstants.{MAX_EDITS};
 
-use crate::edit::KeptEdit;
-use crate::limits::MAX_EDITS;
 use arrayvec::ArrayVec;
 use geom_core::Size;
+use view_model::NumEdit;
+use view_model::limits::MAX_EDITS;
 
 /// An armed hook.
 #[derive(Drop)]
@@ -16,7 +17,7 @@ pub struct Entry {
     /// The size that is no news, in pixels.
     pub reported: Size,
     /// What is changed once the view has another size, in order.
-    pub edits: ArrayVec<KeptEdit, MAX_EDITS>,
+    pub edits: ArrayVec<NumEdit, MAX_EDITS>,
 }
 
 impl Default for Entry {
@@ -28,6 +29,16 @@ impl Default for Entry {
             edits: ArrayVec::new(),
         }
     }
+}
+
+/// The same edits once more.
+pub fn copied(edits: &ArrayVec<NumEdit, MAX_EDITS>) -> ArrayVec<NumEdit, MAX_EDITS>
+    ensures same { result.items ≡ edits.now.items }
+    ensures few { length edits.now.items ≤ MAX_EDITS }
+{
+    let mut copy = ArrayVec::new();
+    let _ = copy.try_extend_from_slice(edits.as_slice());
+    copy
 }
 
 /// Sets the reported size of the entry of a view, if it is among these.

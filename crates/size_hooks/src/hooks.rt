@@ -4,15 +4,15 @@ ghost use Rattle.std.specs.Option.{option_map};
 ghost use Rattle.size_hooks.specs.Entries.{hook_in};
 ghost use Rattle.size_hooks.specs.Hook.{Hook};
 ghost use Rattle.size_hooks.specs.Hooks.{IsMap, armed, disarmed, edit_of, hook_of, reported_as, reported_to};
+ghost use Rattle.view_model.specs.declared.limits.TheConstants.{MAX_EDITS, MAX_HOOKS};
 
-use crate::edit::kept_edits;
-use crate::entry::{Entry, report_in};
+use crate::entry::{Entry, copied, report_in};
 use crate::fault::HookFault;
-use crate::limits::{MAX_EDITS, MAX_HOOKS};
 use arrayvec::ArrayVec;
 use geom_core::Size;
 use std::marker::Model;
 use view_model::NumEdit;
+use view_model::limits::{MAX_EDITS, MAX_HOOKS};
 
 /// The armed hooks, which contracts see as a list in the order in which they were armed: at most one of a view, and at
 /// most `MAX_HOOKS`, each with at most `MAX_EDITS` edits.
@@ -66,7 +66,7 @@ impl Hooks {
         self.entries.push(Entry {
             view,
             reported,
-            edits: kept_edits(edits),
+            edits: copied(edits),
         });
         Ok(())
     }
@@ -102,8 +102,8 @@ impl Hooks {
         ensures few { IfSome result (λ _. k < MAX_EDITS) }
     {
         let entry = self.entry(view)?;
-        let kept = entry.edits.get(k)?;
-        Some(kept.edit)
+        let edit = entry.edits.get(k)?;
+        Some(*edit)
     }
 
     /// The entry of a view whose hook is armed.

@@ -9,7 +9,7 @@ mod CaughtLaws
 mod FitLaws
 mod GrowLaws
 mod ReachSteps
-mod SceneLaws
+pub mod SceneLaws
 mod StayLaws
 mod TryWalk
 mod TargetLaws
@@ -17,3 +17,4 @@ mod IdLaws
 mod WideLaws
 mod DistinctLaws
 mod Examples
+mod PlaceLaws

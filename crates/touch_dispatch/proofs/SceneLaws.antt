@@ -48,10 +48,11 @@ pub only_scrolls_on : (first second third : Views) → OnlyScrolls first second 
 only_scrolls_on first second third a b = record {
   same = record { tree = b.same.tree ∙ a.same.tree; orders = b.same.orders ∙ a.same.orders; next = b.same.next ∙ a.same.next };
   held = λ key. b.held key ∙ ap (λ (h : Held). record h { offset = (held_of third key).offset }) (a.held key);
+  fits = λ key side. b.fits key (a.fits key side);
 }
 
 -- what is kept of a view, by its number
-held_live : (views : Views) (key : ℕ) → IsTree views → IsLive views key → held_at views (number_of views key) ≡ held_of views key
+pub held_live : (views : Views) (key : ℕ) → IsTree views → IsLive views key → held_at views (number_of views key) ≡ held_of views key
 held_live views key is live = ap (held_under views) (key_where_number key (number_of views key) views.tree live (agree_live views key is live))
 
 pub rect_live : (views : Views) (slop : ℤ) (key : ℕ) → IsTree views → IsLive views key → (scene_of views slop).rects (number_of views key) ≡ (state_of views key).bounds

@@ -4,6 +4,7 @@ use mathlib.Core.Path.{fun_ext}
 use Rattle.std.proofs.lemmas.Bool.{cases_eq, eq-eqb, ne_eqb}
 use Rattle.std.specs.Prelude.{◌==◌, is_some, not}
 use Rattle.view_model.specs.declared.kinds.Answer.{Answer}
+use Rattle.geom_core.specs.Limits.{IsSide}
 use Rattle.geom_core.specs.declared.geometry.Rect.{Rect}
 use Rattle.touch_dispatch.proofs.SceneLaws.{rect_live}
 use Rattle.touch_dispatch.specs.Dispatch.{Scene, event_children, first_rect}
@@ -81,13 +82,17 @@ receiver_same n1 n2 s1 s2 a1 a2 i1 i2 r1 r2 g1 g2 c1 c2 l1 l2 e1 e2 e3 e4 e5 e6 
 
 -- the offset of a view that is set
 pub only_offset : (old new : Views) (key : ℕ) (offset : ℤ) → SameTree old new → held_of new key ≡ record (held_of old key) { offset = offset }
-    → ((other : ℕ) → other ≢ key → held_of new other ≡ held_of old other) → OnlyScrolls old new
-only_offset old new key offset same own others = record {
+    → ((other : ℕ) → other ≢ key → held_of new other ≡ held_of old other) → IsSide offset → OnlyScrolls old new
+only_offset old new key offset same own others side = record {
   same = same;
   held = λ k. elim (cases_eq k key) [
     | inl e ↦
         subst (λ k. held_of new k ≡ record (held_of old k) { offset = (held_of new k).offset }) (sym e)
         (own ∙ ap (λ (o : ℤ). record (held_of old key) { offset = o }) (sym (ap (λ (h : Held). h.offset) own)))
     | inr ne ↦ others k ne ∙ ap (λ (o : ℤ). record (held_of old k) { offset = o }) (sym (ap (λ (h : Held). h.offset) (others k ne)))
+  ];
+  fits = λ k was. elim (cases_eq k key) [
+    | inl e ↦ subst (λ k. IsSide (held_of new k).offset) (sym e) (subst IsSide (sym (ap (λ (h : Held). h.offset) own)) side)
+    | inr ne ↦ subst IsSide (sym (ap (λ (h : Held). h.offset) (others k ne))) was
   ];
 }

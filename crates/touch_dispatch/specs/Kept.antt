@@ -1,5 +1,5 @@
 -- What contracts see of a gesture as it is kept: the open views with what they have captured, and the marks of views.
-use Rattle.std.specs.Prelude.{◌≡◌, ℕ, ◌&&◌, Bool, false, true, List, [], Option, Some, None, nat_eq, is_some, refl}
+use Rattle.std.specs.Prelude.{◌≡◌, ℕ, ◌&&◌, Bool, false, true, List, [], ◌∷◌, ◌++◌, Option, Some, None, nat_eq, is_some, refl}
 use Rattle.std.specs.Coded.{Coded, code_by, coded×, coded_ℕ, coded_list}
 use Rattle.std.specs.Map.{lookup}
 use Rattle.touch_dispatch.specs.Gestures.{PlainGesture, no_drag}
@@ -8,7 +8,7 @@ use Rattle.touch_dispatch.specs.contracts.marks.Marks.{the_row as marks_row}
 use Rattle.touch_dispatch.specs.declared.gesture.Gesture.TheInside.{Inside}
 use Rattle.touch_dispatch.specs.declared.marks.Marks.{Marks}
 use Rattle.touch_targets.specs.Captures.{is_target}
-use Rattle.touch_targets.specs.Seats.{Seat, is_open as has_seat, seats_code, targets_of}
+use Rattle.touch_targets.specs.Seats.{Seat, is_open as has_seat, seats_code, targets_of, with_seat}
 
 pub record Kept : Type 0 where
   -- the open views, each with the children that it has captured
@@ -46,6 +46,15 @@ gesture_of kept = record {
 abbrev pub is_open : Kept → ℕ → Bool
 is_open kept view = has_seat kept.seats view && is_some (marks_at kept view)
 
+-- one more view has a place
+abbrev pub with_place : ℕ → Kept → Kept
+with_place view kept = record { seats = with_seat view kept.seats; marks = kept.marks ++ (view, no_marks) ∷ [] }
+
+-- nothing is kept of the view
+pub record IsUnknown (kept : Kept) (view : ℕ) : Type 0 where
+  pub seat : has_seat kept.seats view ≡ false
+  pub marks : marks_at kept view ≡ None
+
 -- a child may become a target of a group
 pub record MayCapture (kept : Kept) (group child : ℕ) : Type 0 where
   pub group_open : is_open kept group ≡ true
@@ -55,9 +64,10 @@ pub record MayCapture (kept : Kept) (group child : ℕ) : Type 0 where
 abbrev pub kept_in : Inside → Kept
 kept_in inside = record { seats = inside.targets; marks = inside.marks.entries }
 
--- no group has a child twice
+-- no group has a child twice, and a view has a seat exactly where it has marks
 pub record IsSound (inside : Inside) : Type 0 where
   pub distinct : AllDistinct (targets_of inside.targets)
+  pub places : (view : ℕ) → has_seat inside.targets view ≡ is_some (lookup (nat_eq view) inside.marks.entries)
 
 abbrev pub kept_code : Coded Kept
 kept_code =

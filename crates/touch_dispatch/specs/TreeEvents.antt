@@ -1,6 +1,7 @@
 -- A tree of views and a gesture, as the dispatch of an event sees them.
 use Rattle.std.specs.Prelude.{◌∷◌, [], ◌≡◌, ◌<◌, ℕ, ◌==◌, ℤ, Bool, true, false, ◌||◌, List, Option, Some, None}
 use Rattle.std.specs.Vec.{vec_capacity}
+use Rattle.geom_core.specs.Limits.{IsSide}
 use Rattle.touch_dispatch.specs.Dispatch.{EventChild, Scene, event_children, reached_by, receiver}
 use Rattle.touch_dispatch.specs.Gestures.{PlainGesture}
 use Rattle.touch_dispatch.specs.Handling.{Progress, Reached, handled}
@@ -67,6 +68,8 @@ pub record IsGestureIn (tree : Forest Row) (kept : Kept) : Type 0 where
 pub record OnlyScrolls (old new : Views) : Type 0 where
   pub same : SameTree old new
   pub held : (key : ℕ) → held_of new key ≡ record (held_of old key) { offset = (held_of new key).offset }
+  -- an offset within the limits of sizes stays within them
+  pub fits : (key : ℕ) → IsSide (held_of old key).offset → IsSide (held_of new key).offset
 
 -- the view of a key, as if it was not scrolled
 abbrev pub own_of : Views → ℕ → PlainView

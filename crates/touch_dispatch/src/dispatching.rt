@@ -1,7 +1,7 @@
 //! An event of all the pointers, and the cancel of a view that goes away.
 ghost use Rattle.std.specs.Prelude.{◌≡◌, ◌≤◌, ◌<◌, ◌+◌, ◌*◌, ◌&&◌, ℕ, Some, length, is_some, false};
 ghost use Rattle.touch_dispatch.specs.Dispatch.{cancelled, dispatched, reach};
-ghost use Rattle.touch_dispatch.specs.Kept.{gesture_of};
+ghost use Rattle.touch_dispatch.specs.Kept.{gesture_of, is_open};
 ghost use Rattle.touch_dispatch.specs.Once.{asks, total, touches};
 ghost use Rattle.touch_dispatch.specs.TreeEvents.{IsGestureIn, OnlyScrolls, Unchanged, parent_number, part_at, progress_of, room_of, scene_of};
 ghost use Rattle.touch_event.specs.declared.event.TheConstants.{MAX_POINTERS};
@@ -32,11 +32,13 @@ pub fn dispatch(
     requires pointer { event.now.pointer < MAX_POINTERS }
     requires caught { IsGestureIn tree.old.tree gesture.old }
     requires room { length log.old.entries.items + 3 * count_of tree.old.tree ≤ room_of log.old }
+    ensures is_tree { IsTree tree.old }
     ensures dispatched { dispatched (scene_of tree.old slop) (views_of tree.old.tree) event.now (progress_of tree.old gesture.old log.old) ≡ record { yes = result; progress = progress_of tree.new gesture.new log.new } }
     ensures touched_once { (n : ℕ) → total (touches n) log.new.entries.items ≤ total (touches n) log.old.entries.items + 1 }
     ensures asked_once { (n : ℕ) → total (asks n) log.new.entries.items ≤ total (asks n) log.old.entries.items + 1 }
     ensures scrolls { OnlyScrolls tree.old tree.new }
     ensures caught { IsGestureIn tree.new.tree gesture.new }
+    ensures opened { (number : ℕ) → is_open gesture.new number ≡ is_open gesture.old number }
     ensures room { room_of log.new ≡ room_of log.old }
 {
     let limits = Limits { slop };
@@ -76,6 +78,7 @@ fn reach_whole(
     ensures asked_once { (n : ℕ) → total (asks n) log.new.entries.items ≤ total (asks n) log.old.entries.items + 1 }
     ensures scrolls { OnlyScrolls tree.old tree.new }
     ensures caught { IsGestureIn tree.new.tree gesture.new }
+    ensures opened { (number : ℕ) → is_open gesture.new number ≡ is_open gesture.old number }
     ensures room { room_of log.new ≡ room_of log.old }
 {
     gesture.tell_distinct();
@@ -96,6 +99,7 @@ pub fn cancel_view(tree: &mut ViewTree, gesture: &mut Gesture, view: Key, slop: 
     ensures asked_once { (n : ℕ) → total (asks n) log.new.entries.items ≤ total (asks n) log.old.entries.items + 1 }
     ensures scrolls { OnlyScrolls tree.old tree.new }
     ensures caught { IsGestureIn tree.new.tree gesture.new }
+    ensures opened { (number : ℕ) → is_open gesture.new number ≡ is_open gesture.old number }
     ensures room { room_of log.new ≡ room_of log.old }
 {
     let limits = Limits { slop };

@@ -1,8 +1,8 @@
 //! What is kept of a gesture between its events.
-ghost use Rattle.std.specs.Prelude.{◌≡◌, ◌≢◌, ◌==◌, ◌<◌, ◌&&◌, ◌||◌, not, true, false, ℕ, [], if◌then◌else◌, Some, OnErr, OnOk, is_some, nat_eq};
-ghost use Rattle.indexmap.specs.IndexMap.{get as get_key, spare};
+ghost use Rattle.std.specs.Prelude.{◌≡◌, ◌≢◌, ◌==◌, ◌<◌, ◌&&◌, ◌||◌, not, true, false, ℕ, [], if◌then◌else◌, None, Some, OnErr, OnOk, is_some, nat_eq};
+ghost use Rattle.indexmap.specs.IndexMap.{get as get_key, insert_entry, spare, swap_remove_entry};
 ghost use Rattle.touch_dispatch.specs.Gestures.{closed, set_disallow, set_drag, set_pressed, set_targets, without_target};
-ghost use Rattle.touch_dispatch.specs.Kept.{MayCapture, gesture_of, is_open, marks_or, no_marks, nothing_kept};
+ghost use Rattle.touch_dispatch.specs.Kept.{IsUnknown, Kept, MayCapture, gesture_of, is_open, marks_or, no_marks, nothing_kept, with_place};
 ghost use Rattle.touch_dispatch.specs.Once.{AllDistinct};
 ghost use Rattle.touch_event.specs.PointerSets.{has_id};
 ghost use Rattle.touch_targets.specs.Captures.{drop_pointers, first_child, first_ids, from_child, is_target, older, put_target, targets_from, without_child};
@@ -51,6 +51,8 @@ impl Gesture {
     pub fn open(&mut self, view: u64) -> Result<(), AllocError>
         ensures opened { OnOk result ((other : ℕ) → is_open self.new other ≡ (is_open self.old other || other == view)) }
         ensures gesture { gesture_of self.new ≡ gesture_of self.old }
+        ensures added { OnOk result (is_open self.old view ≡ false → self.new ≡ with_place view self.old) }
+        ensures unknown { (other : ℕ) → is_open self.old other ≡ false → IsUnknown self.old other }
         ensures unchanged { OnErr result (self.new ≡ self.old) }
     {
         self.marks.reserve(1)?;
@@ -65,9 +67,10 @@ impl Gesture {
     pub fn close(&mut self, view: u64)
         ensures opened { (other : ℕ) → is_open self.new other ≡ (is_open self.old other && not (other == view)) }
         ensures gesture { gesture_of self.new ≡ closed view (gesture_of self.old) }
+        ensures last { (before : Kept) → self.old ≡ with_place view before → IsUnknown before view → ((group : ℕ) → is_target view ((gesture_of before).targets group) ≡ false) → self.new ≡ before }
     {
         self.targets.close(view);
-        self.marks.swap_remove(&view);
+        forget_marks(&mut self.marks, view);
     }
 
     /// Tells a group that it may not take events away from its children, or that it may again. It may also once the next
@@ -233,10 +236,19 @@ fn write_marks(marks: &mut IndexMap<u64, Marks>, view: u64, new: Marks)
     }
 }
 
+/// Forgets the marks of a view.
+fn forget_marks(marks: &mut IndexMap<u64, Marks>, view: u64)
+    ensures entries { marks.new.entries ≡ swap_remove_entry (nat_eq view) marks.old.entries }
+    ensures forgot { (other : ℕ) → get_key nat_eq marks.new other ≡ (if nat_eq view other then None else get_key nat_eq marks.old other) }
+{
+    marks.swap_remove(&view);
+}
+
 /// Gives marks to a view that has none, where there is room for them.
 fn note_marks(marks: &mut IndexMap<u64, Marks>, view: u64, new: Marks)
     requires { 0 < spare marks.old }
-    ensures { (other : ℕ) → get_key nat_eq marks.new other ≡ (if nat_eq view other then Some new else get_key nat_eq marks.old other) }
+    ensures entries { marks.new.entries ≡ insert_entry nat_eq marks.old.entries view new }
+    ensures noted { (other : ℕ) → get_key nat_eq marks.new other ≡ (if nat_eq view other then Some new else get_key nat_eq marks.old other) }
 {
     match marks.insert(view, new) {
         Ok(_) => (),

@@ -1,8 +1,8 @@
 //! An event goes down a tree.
-ghost use Rattle.std.specs.Prelude.{◌≡◌, ◌<◌, ◌≤◌, ◌||◌, true, false};
+ghost use Rattle.std.specs.Prelude.{◌≡◌, ◌<◌, ◌≤◌, ◌||◌, true, false, ℕ};
 ghost use Rattle.touch_dispatch.specs.Dispatch.{answered, group_reached, hand_out, hand_to, is_handed, is_taken, offered, reach, try_child, try_children};
 ghost use Rattle.touch_dispatch.specs.Handling.{many};
-ghost use Rattle.touch_dispatch.specs.Kept.{gesture_of};
+ghost use Rattle.touch_dispatch.specs.Kept.{gesture_of, is_open};
 ghost use Rattle.touch_dispatch.specs.TreeEvents.{IsGestureIn, IsKidAt, OnlyScrolls, child_at, handled_at, kids_of, own_of, progress_of, room_of, scene_of, target_of};
 ghost use Rattle.touch_event.specs.declared.event.TheConstants.{MAX_POINTERS};
 ghost use Rattle.touch_targets.specs.Captures.{is_target};
@@ -37,6 +37,7 @@ pub fn reach(
     ensures reached { reach (scene_of tree.old limits.now.slop) (views_of (first_tree (part_from view tree.old.tree))) event.now (progress_of tree.old gesture.old log.old) ≡ record { yes = result; progress = progress_of tree.new gesture.new log.new } }
     ensures scrolls { OnlyScrolls tree.old tree.new }
     ensures caught { IsGestureIn tree.new.tree gesture.new }
+    ensures opened { (number : ℕ) → is_open gesture.new number ≡ is_open gesture.old number }
     ensures room { room_of log.new ≡ room_of log.old }
 {
     if tree.class(view).is_group() {
@@ -61,6 +62,7 @@ fn handle_at(
     ensures reached { handled_at tree.old limits.now.slop view event.now (progress_of tree.old gesture.old log.old) ≡ record { yes = result; progress = progress_of tree.new gesture.new log.new } }
     ensures scrolls { OnlyScrolls tree.old tree.new }
     ensures caught { IsGestureIn tree.new.tree gesture.new }
+    ensures opened { (number : ℕ) → is_open gesture.new number ≡ is_open gesture.old number }
     ensures room { room_of log.new ≡ room_of log.old }
 {
     let own = receiver_at(tree, limits, view);
@@ -88,6 +90,7 @@ fn reach_group(
     ensures reached { group_reached (scene_of tree.old limits.now.slop) (own_of tree.old view) (kids_of tree.old limits.now.slop view) event.now (progress_of tree.old gesture.old log.old) ≡ record { yes = result; progress = progress_of tree.new gesture.new log.new } }
     ensures scrolls { OnlyScrolls tree.old tree.new }
     ensures caught { IsGestureIn tree.new.tree gesture.new }
+    ensures opened { (number : ℕ) → is_open gesture.new number ≡ is_open gesture.old number }
     ensures room { room_of log.new ≡ room_of log.old }
 {
     let own = receiver_at(tree, limits, view);
@@ -118,6 +121,7 @@ fn offer(
     ensures offered { offered (scene_of tree.old limits.now.slop) (own_of tree.old view) (kids_of tree.old limits.now.slop view) event.now intercepted (progress_of tree.old gesture.old log.old) ≡ record { taker = result; progress = progress_of tree.new gesture.new log.new } }
     ensures scrolls { OnlyScrolls tree.old tree.new }
     ensures caught { IsGestureIn tree.new.tree gesture.new }
+    ensures opened { (number : ℕ) → is_open gesture.new number ≡ is_open gesture.old number }
     ensures room { room_of log.new ≡ room_of log.old }
 {
     if intercepted || !is_offered(event.action, tree.facts(view).split) {
@@ -145,6 +149,7 @@ fn try_children(
     ensures tried { try_children (scene_of tree.old limits.now.slop) (own_of tree.old view) event.now (kids_of tree.old limits.now.slop view) (progress_of tree.old gesture.old log.old) ≡ record { taker = result; progress = progress_of tree.new gesture.new log.new } }
     ensures scrolls { OnlyScrolls tree.old tree.new }
     ensures caught { IsGestureIn tree.new.tree gesture.new }
+    ensures opened { (number : ℕ) → is_open gesture.new number ≡ is_open gesture.old number }
     ensures room { room_of log.new ≡ room_of log.old }
 {
     let mut next = tree.last(view);
@@ -177,6 +182,7 @@ fn try_child(
     ensures tried { try_child (scene_of tree.old limits.now.slop) (own_of tree.old view) event.now (child_at tree.old limits.now.slop kid) (progress_of tree.old gesture.old log.old) ≡ record { taker = result; progress = progress_of tree.new gesture.new log.new } }
     ensures scrolls { OnlyScrolls tree.old tree.new }
     ensures caught { IsGestureIn tree.new.tree gesture.new }
+    ensures opened { (number : ℕ) → is_open gesture.new number ≡ is_open gesture.old number }
     ensures room { room_of log.new ≡ room_of log.old }
 {
     let own = *tree.facts(view);
@@ -217,6 +223,7 @@ fn answer(
     ensures answered { answered (scene_of tree.old limits.now.slop) (own_of tree.old view) (kids_of tree.old limits.now.slop view) event.now intercepted taker (progress_of tree.old gesture.old log.old) ≡ record { yes = result; progress = progress_of tree.new gesture.new log.new } }
     ensures scrolls { OnlyScrolls tree.old tree.new }
     ensures caught { IsGestureIn tree.new.tree gesture.new }
+    ensures opened { (number : ℕ) → is_open gesture.new number ≡ is_open gesture.old number }
     ensures room { room_of log.new ≡ room_of log.old }
 {
     if gesture.newest(tree.number(view)).is_none() {
@@ -244,6 +251,7 @@ fn hand_out(
     ensures handed { hand_out (scene_of tree.old limits.now.slop) (own_of tree.old view) (kids_of tree.old limits.now.slop view) event.now intercepted taker ((gesture_of gesture.old).targets (own_of tree.old view).number) false (progress_of tree.old gesture.old log.old) ≡ record { yes = result; progress = progress_of tree.new gesture.new log.new } }
     ensures scrolls { OnlyScrolls tree.old tree.new }
     ensures caught { IsGestureIn tree.new.tree gesture.new }
+    ensures opened { (number : ℕ) → is_open gesture.new number ≡ is_open gesture.old number }
     ensures room { room_of log.new ≡ room_of log.old }
 {
     let group = tree.number(view);
@@ -288,6 +296,7 @@ fn hand_to(
     ensures handed { hand_to (scene_of tree.old limits.now.slop) (own_of tree.old view) (kids_of tree.old limits.now.slop view) event.now intercepted taker (target_of child ((gesture_of gesture.old).targets (own_of tree.old view).number)) (progress_of tree.old gesture.old log.old) ≡ record { yes = result; progress = progress_of tree.new gesture.new log.new } }
     ensures scrolls { OnlyScrolls tree.old tree.new }
     ensures caught { IsGestureIn tree.new.tree gesture.new }
+    ensures opened { (number : ℕ) → is_open gesture.new number ≡ is_open gesture.old number }
     ensures room { room_of log.new ≡ room_of log.old }
 {
     if is_handed(taker, child) {

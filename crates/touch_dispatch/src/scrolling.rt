@@ -1,5 +1,6 @@
 //! How a scroll view moves its child at an event.
 ghost use Rattle.std.specs.Prelude.{◌≡◌, ◌≤◌, ◌≤ℤ◌, ℕ, ℤ, pos, true, IfSome};
+ghost use Rattle.geom_core.specs.Limits.{IsSide};
 ghost use Rattle.touch_dispatch.specs.Dispatch.{first_rect, range_for, receiver};
 ghost use Rattle.touch_dispatch.specs.Drags.{IsWay};
 ghost use Rattle.touch_dispatch.specs.Gestures.{PlainGesture, at_number};
@@ -25,6 +26,7 @@ use view_tree::{Key, ViewTree};
 pub fn receiver_at(tree: &ViewTree, limits: &Limits, view: Key) -> Receiver
     requires { IsLive tree.now view }
     ensures value { result ≡ receiver (scene_of tree.now limits.now.slop) (own_of tree.now view) (kids_of tree.now limits.now.slop view) }
+    ensures range { IsSide result.range }
     ensures is_tree { IsTree tree.now }
 {
     let facts = tree.facts(view);
@@ -55,7 +57,8 @@ fn first_rect(tree: &ViewTree, view: Key) -> Option<Rect>
 
 /// How far a scroll view that lies there can move up its child, which lies there.
 fn range_for(scrolls: bool, own: &Facts, rect: Option<Rect>, child: Option<Rect>) -> i32
-    ensures { result ≡ range_for scrolls own.now rect child }
+    ensures value { result ≡ range_for scrolls own.now rect child }
+    ensures side { IsSide result }
 {
     match rect {
         Some(rect) if scrolls => range_in(own, rect, child),
@@ -75,6 +78,7 @@ pub fn handle_drag(
     requires live { IsLive tree.old view }
     requires number { own.now.number ≡ number_of tree.old view }
     requires open { is_open gesture.old own.now.number ≡ true }
+    requires range { IsSide own.now.range }
     requires fits { many (drag_handled own.now event.now (progress_of tree.old gesture.old log.old)).progress ≤ room_of log.old }
     ensures handled { drag_handled own.now event.now (progress_of tree.old gesture.old log.old) ≡ record { yes = result; progress = progress_of tree.new gesture.new log.new } }
     ensures scrolls { OnlyScrolls tree.old tree.new }
@@ -100,6 +104,7 @@ fn move_child(
 )
     requires live { IsLive tree.old view }
     requires number { own.now.number ≡ number_of tree.old view }
+    requires range { IsSide own.now.range }
     requires way { IfSome by IsWay }
     requires fits { (g : PlainGesture) → many (moved_by by own.now event.now (progress_by (offsets_in tree.old) g log.old.entries.items)) ≤ room_of log.old }
     ensures moved { (g : PlainGesture) → progress_by (offsets_in tree.new) g log.new.entries.items ≡ moved_by by own.now event.now (progress_by (offsets_in tree.old) g log.old.entries.items) }
@@ -126,8 +131,10 @@ fn move_child(
 
 /// The facts of a scroll view, with its child so much further up, as far as the range goes.
 fn moved_facts(own: &Receiver, facts: &Facts, way: i64) -> Facts
-    requires { IsWay way }
-    ensures { result ≡ record facts.now { offset = offset_after own.now.range facts.now.offset way } }
+    requires way { IsWay way }
+    requires range { IsSide own.now.range }
+    ensures side { IsSide result.offset }
+    ensures value { result ≡ record facts.now { offset = offset_after own.now.range facts.now.offset way } }
 {
     Facts {
         offset: offset_after(own, facts, way),
@@ -136,8 +143,10 @@ fn moved_facts(own: &Receiver, facts: &Facts, way: i64) -> Facts
 }
 
 fn offset_after(own: &Receiver, facts: &Facts, way: i64) -> i32
-    requires { IsWay way }
-    ensures { result ≡ offset_after own.now.range facts.now.offset way }
+    requires way { IsWay way }
+    requires range { IsSide own.now.range }
+    ensures side { IsSide result }
+    ensures value { result ≡ offset_after own.now.range facts.now.offset way }
 {
     offset_within(own, i64::from(facts.offset) + way) as i32
 }
@@ -145,9 +154,9 @@ fn offset_after(own: &Receiver, facts: &Facts, way: i64) -> i32
 /// An offset brought into the range of a view.
 #[tactic(auto, unfolding(view_model::specs::ScrollView::offset_within))]
 fn offset_within(own: &Receiver, offset: i64) -> i64
+    requires { IsSide own.now.range }
     ensures value { result ≡ offset_within own.now.range offset }
-    ensures low { pos 0 ≤ℤ result }
-    ensures high { result ≤ℤ pos 2147483647 }
+    ensures side { IsSide result }
 {
     let range = i64::from(own.range);
     let top = if range < offset { range } else { offset };
@@ -166,6 +175,7 @@ fn set_offset(tree: &mut ViewTree, view: Key, facts: Facts)
     requires live { IsLive tree.old view }
     requires tree { IsTree tree.old }
     requires facts { facts ≡ record (facts_of tree.old view) { offset = facts.offset } }
+    requires side { IsSide facts.offset }
     ensures scrolls { OnlyScrolls tree.old tree.new }
     ensures offsets { offsets_in tree.new ≡ at_number (number_of tree.old view) facts.offset (offsets_in tree.old) }
 {

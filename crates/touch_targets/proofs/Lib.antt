@@ -2,6 +2,7 @@ mod CaughtLaws
 mod Chains
 mod Dropping
 mod Examples
+pub mod LastEntries
 mod Linking
 mod MaskLaws
 mod Membership
@@ -11,5 +12,6 @@ mod Putting
 mod Removing
 mod Reading
 mod SeatLaws
+pub mod SeatOrder
 mod Unlinking
 mod Walks

@@ -29,7 +29,7 @@ caught_seats nodes (e ∷ entries) group =
       | inr other ↦ rw (ne_eqb e.0 group other, ne_eqb group e.0 (λ e. other (sym e))) (caught_seats nodes entries group)
     ]
 
-open_seats : (nodes : Slab Node) (entries : List (ℕ × ℕ)) (view : ℕ) → is_open (map (seat_at nodes) entries) view ≡ is_some (lookup (nat_eq view) entries)
+pub open_seats : (nodes : Slab Node) (entries : List (ℕ × ℕ)) (view : ℕ) → is_open (map (seat_at nodes) entries) view ≡ is_some (lookup (nat_eq view) entries)
 open_seats nodes [] view = refl
 open_seats nodes (e ∷ entries) view =
     elim (cases_eq e.0 view) [

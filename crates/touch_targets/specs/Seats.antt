@@ -1,5 +1,5 @@
 -- What contracts see of the pool: the open views, each with the children that it has captured, the newest first.
-use Rattle.std.specs.Prelude.{ℕ, ◌==◌, ◌^◌, ◌-◌, Bool, not, if◌then◌else◌, bit_and, bit_or, List, [], ◌∷◌, Option, Some, None, filter, find, map, refl}
+use Rattle.std.specs.Prelude.{ℕ, ◌==◌, ◌^◌, ◌-◌, Bool, not, if◌then◌else◌, bit_and, bit_or, List, [], ◌∷◌, ◌++◌, Option, Some, None, filter, find, map, refl}
 use Rattle.std.specs.Coded.{Coded, code_by, coded×, coded_ℕ, coded_list}
 use Rattle.std.specs.List.{list_any}
 use Rattle.touch_event.specs.PointerSets.{has_id}
@@ -14,6 +14,10 @@ pub record Caught : Type 0 where
 pub record Seat : Type 0 where
   pub view : ℕ
   pub caught : List Caught
+
+-- one more open view, that has captured nothing
+abbrev pub with_seat : ℕ → List Seat → List Seat
+with_seat view seats = seats ++ record { view = view; caught = [] } ∷ []
 
 abbrev pub caught_in : Option Seat → List Caught
 caught_in None = []

@@ -1,9 +1,9 @@
 //! The pool of targets.
-ghost use Rattle.std.specs.Prelude.{◌≡◌, ◌≢◌, ◌==◌, ◌<◌, ◌&&◌, ◌||◌, not, true, false, ℕ, if◌then◌else◌, [], Some, None, OnErr, OnOk, is_some, nat_eq};
-ghost use Rattle.indexmap.specs.IndexMap.{get as get_key, spare};
+ghost use Rattle.std.specs.Prelude.{◌≡◌, ◌≢◌, ◌==◌, ◌<◌, ◌&&◌, ◌||◌, not, true, false, ℕ, if◌then◌else◌, List, [], Some, None, OnErr, OnOk, is_some, nat_eq};
+ghost use Rattle.indexmap.specs.IndexMap.{get as get_key, insert_entry, spare, swap_remove_entry};
 ghost use Rattle.touch_event.specs.PointerSets.{has_id};
 ghost use Rattle.touch_targets.specs.Captures.{drop_pointers, first_child, first_ids, from_child, is_target, older, put_target, targets_from, without_child};
-ghost use Rattle.touch_targets.specs.Seats.{is_open, targets_of};
+ghost use Rattle.touch_targets.specs.Seats.{Seat, is_open, targets_of, with_seat};
 
 use crate::links;
 use crate::node::Node;
@@ -51,6 +51,8 @@ impl Targets {
     pub fn open(&mut self, view: u64) -> Result<(), AllocError>
         ensures opened { OnOk result ((other : ℕ) → is_open self.new other ≡ (is_open self.old other || other == view)) }
         ensures targets { (group : ℕ) → targets_of self.new group ≡ targets_of self.old group }
+        ensures added { OnOk result (is_open self.old view ≡ false → self.new ≡ with_seat view self.old) }
+        ensures same { is_open self.old view ≡ true → self.new ≡ self.old }
         ensures unchanged { OnErr result (self.new ≡ self.old) }
     {
         if self.places.contains_key(&view) {
@@ -67,6 +69,7 @@ impl Targets {
     pub fn close(&mut self, view: u64)
         ensures opened { (other : ℕ) → is_open self.new other ≡ (is_open self.old other && not (other == view)) }
         ensures targets { (group : ℕ) → targets_of self.new group ≡ (if group == view then [] else without_child view (targets_of self.old group)) }
+        ensures last { (before : List Seat) → self.old ≡ with_seat view before → is_open before view ≡ false → ((group : ℕ) → is_target view (targets_of before group) ≡ false) → self.new ≡ before }
     {
         self.clear(view);
         self.remove(view);
@@ -126,6 +129,7 @@ impl Targets {
     pub fn drop_ids(&mut self, group: u64, ids: u32)
         ensures opened { (view : ℕ) → is_open self.new view ≡ is_open self.old view }
         ensures targets { (other : ℕ) → targets_of self.new other ≡ (if other == group then drop_pointers (has_id ids) (targets_of self.old other) else targets_of self.old other) }
+        ensures same { targets_of self.old group ≡ [] → self.new ≡ self.old }
     {
         if let Some(place) = place_of(&self.places, group) {
             links::drop_ids(&mut self.nodes, place, ids);
@@ -136,6 +140,7 @@ impl Targets {
     pub fn remove(&mut self, child: u64)
         ensures opened { (view : ℕ) → is_open self.new view ≡ is_open self.old view }
         ensures targets { (group : ℕ) → targets_of self.new group ≡ without_child child (targets_of self.old group) }
+        ensures same { ((group : ℕ) → is_target child (targets_of self.old group) ≡ false) → self.new ≡ self.old }
     {
         if let Some(place) = place_of(&self.places, child) {
             links::remove(&mut self.nodes, place);
@@ -146,6 +151,7 @@ impl Targets {
     pub fn clear(&mut self, group: u64)
         ensures opened { (view : ℕ) → is_open self.new view ≡ is_open self.old view }
         ensures targets { (other : ℕ) → targets_of self.new other ≡ (if other == group then [] else targets_of self.old other) }
+        ensures same { targets_of self.old group ≡ [] → self.new ≡ self.old }
     {
         self.drop_ids(group, u32::MAX);
     }
@@ -172,6 +178,7 @@ fn open_place(places: &IndexMap<u64, usize>, view: u64) -> usize
 /// Takes the place of a view's node out, and tells it.
 fn forget_place(places: &mut IndexMap<u64, usize>, view: u64) -> Option<usize>
     ensures value { result ≡ get_key nat_eq places.old view }
+    ensures entries { places.new.entries ≡ swap_remove_entry (nat_eq view) places.old.entries }
     ensures forgot { (other : ℕ) → get_key nat_eq places.new other ≡ (if nat_eq view other then None else get_key nat_eq places.old other) }
 {
     places.swap_remove(&view)
@@ -180,6 +187,7 @@ fn forget_place(places: &mut IndexMap<u64, usize>, view: u64) -> Option<usize>
 /// Notes the place of a view's node, where there is room for it.
 fn note_place(places: &mut IndexMap<u64, usize>, view: u64, place: usize)
     requires { 0 < spare places.old }
+    ensures entries { places.new.entries ≡ insert_entry nat_eq places.old.entries view place }
     ensures noted { (other : ℕ) → get_key nat_eq places.new other ≡ (if nat_eq view other then Some place else get_key nat_eq places.old other) }
 {
     match places.insert(view, place) {

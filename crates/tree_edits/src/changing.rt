@@ -1,9 +1,9 @@
 //! What an act makes of the facts of a view.
 ghost use Rattle.std.specs.Prelude.{◌≡◌, ◌<◌, slice_set};
 ghost use Rattle.tree_edits.specs.Applied.{IsVerb};
-ghost use Rattle.view_model.specs.Changes.{facts_after_act, facts_after_change, facts_with_flag};
+ghost use Rattle.view_model.specs.Changes.{facts_after_act, facts_with_flag};
 
-use view_model::{Act, Change, Facts, Flag, Gravity, Rules};
+use view_model::{Act, Facts, Flag, Rules};
 
 /// The facts of a view after an act.
 pub fn facts_after_act(act: Act, facts: Facts) -> Facts
@@ -11,7 +11,7 @@ pub fn facts_after_act(act: Act, facts: Facts) -> Facts
     ensures { result ≡ facts_after_act act facts }
 {
     match act {
-        Act::Change(change) => facts_after_change(change, facts),
+        Act::Change(change) => change.on(facts),
         Act::WeightSum(weight_sum) => Facts {
             weight_sum,
             ..facts
@@ -31,50 +31,6 @@ pub fn facts_after_act(act: Act, facts: Facts) -> Facts
         Act::Answer(answer) => Facts { answer, ..facts },
         Act::Intercept(intercept) => Facts { intercept, ..facts },
         Act::Scroll(offset) => Facts { offset, ..facts },
-    }
-}
-
-fn facts_after_change(change: Change, facts: Facts) -> Facts
-    ensures { result ≡ facts_after_change change facts }
-{
-    match change {
-        Change::Size { width, height } => Facts {
-            width,
-            height,
-            ..facts
-        },
-        Change::Min(min) => Facts { min, ..facts },
-        Change::Margins(margins) => Facts {
-            margins,
-            margin_start: None,
-            margin_end: None,
-            ..facts
-        },
-        Change::Padding(padding) => Facts {
-            padding,
-            padding_start: None,
-            padding_end: None,
-            ..facts
-        },
-        Change::Weight(weight) => Facts { weight, ..facts },
-        Change::Gravity { kids, gravity } => placed(kids, gravity, facts),
-        Change::Background(background) => Facts {
-            background,
-            ..facts
-        },
-    }
-}
-
-fn placed(kids: bool, gravity: Gravity, facts: Facts) -> Facts
-    ensures { result ≡ facts_after_change (Change.Gravity kids gravity) facts }
-{
-    if kids {
-        Facts { gravity, ..facts }
-    } else {
-        Facts {
-            layout_gravity: gravity,
-            ..facts
-        }
     }
 }
 

@@ -48,7 +48,8 @@ fn lays_in_line(class: Class) -> bool
     }
 }
 
-fn takes_change(class: Class, change: Change) -> bool
+/// Whether a view of this class has what a change sets.
+pub fn takes_change(class: Class, change: Change) -> bool
     ensures { result ≡ takes_change class change }
 {
     match change {

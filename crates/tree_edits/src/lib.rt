@@ -10,6 +10,7 @@ mod fault;
 mod hiding;
 
 pub use applying::apply;
+pub use classes::takes_change;
 pub use edits::Edit;
 pub use fault::EditFault;
 

@@ -28,4 +28,3 @@ pub mod SiblingRules
 pub mod Sprouts
 pub mod TextView
 pub mod Visible
-pub mod World

@@ -1,4 +1,4 @@
-//! The limits of a tree, of what may be set of a view, of resources and of layout files, and the cells of texts.
+//! The limits of a tree, of what may be set of a view, of hooks, of resources and of layout files, and the cells of texts.
 
 /// The most views that a tree may have.
 pub const MAX_VIEWS: usize = 4096;
@@ -16,6 +16,10 @@ pub const MAX_INSET: i64 = 1048575;
 pub const MIN_MARGIN: i64 = -1048575;
 /// The greatest weight and the greatest sum of weights that may be set, in 256ths.
 pub const MAX_WEIGHT: u32 = 16776960;
+/// The most hooks that may be armed at a time.
+pub const MAX_HOOKS: usize = 32;
+/// The most edits that a hook may have.
+pub const MAX_EDITS: usize = 8;
 /// The density of a screen of which none is told, in dots an inch.
 pub const NORMAL_DPI: u32 = 160;
 /// The most bytes that a layout file may have.

@@ -24,6 +24,10 @@ pub const NOT_GROUP: u8 = 21;
 pub const SCROLL_FULL: u8 = 22;
 /// An element's name is that of no class.
 pub const UNKNOWN_CLASS: u8 = 23;
+/// A hook would be one more than may be armed.
+pub const TOO_MANY_HOOKS: u8 = 24;
+/// A line has an edit that no hook may make, or one more than a hook may have.
+pub const HOOK_EDIT: u8 = 25;
 /// The bytes of a saved state are not those of one.
 pub const BAD_STATE: u8 = 26;
 /// A saved state has the offset of a view that is no scroll view.
@@ -44,8 +48,12 @@ pub const NO_WINDOW: u8 = 33;
 pub const NO_ROOT: u8 = 34;
 /// There is a root already.
 pub const HAS_ROOT: u8 = 35;
+/// The last frame has not settled.
+pub const UNSETTLED: u8 = 36;
 /// There was no frame yet in this window.
 pub const NO_FRAME: u8 = 37;
+/// A pointer is down already, or is not.
+pub const WRONG_POINTER: u8 = 38;
 /// There is no file of this name.
 pub const MISSING_FILE: u8 = 39;
 /// A file has more bytes than it may have.

@@ -23,7 +23,7 @@ use Rattle.tool_io.specs.Counts.{raised}
 use Rattle.tool_io.specs.SinkState.{SinkState}
 use Rattle.view_model.specs.declared.refusal.Refusal.{Refusal}
 use Rattle.view_model.specs.Refusals.{PlainRefusal, plain_refusal}
-use Rattle.view_model.specs.World.{World}
+use Rattle.view_world.specs.World.{World}
 use Rattle.view_world.specs.declared.fault.StepFault.{StepFault}
 use Rattle.view_world.specs.declared.fault.StepFault.TheVariants as step
 use Rattle.view_world.specs.Carried.{WritesReply, IsDone}

@@ -7,7 +7,7 @@ use Rattle.script_lines.specs.Commands.{command_of}
 use Rattle.script_lines.specs.Lines.{Line, Text, LongLine, cut_of, is_passed_over, lines_of}
 use Rattle.view_model.specs.Refusals.{refusal_numbered}
 use Rattle.view_model.specs.declared.refusals.TheConstants.{LONG_LINE, OUT_OF_RANGE, SYNTAX}
-use Rattle.view_model.specs.World.{World, empty_world}
+use Rattle.view_world.specs.World.{World, empty_world}
 use Rattle.tool_io.specs.Fetched.{Files}
 use Rattle.view_tool.specs.Refusals.{refused_line}
 use Rattle.view_world.specs.Carried.{MayWantMemory}

@@ -70,44 +70,10 @@ impl LineRunner {
         ensures measured { min work.old.measured (2 ^ 64 - 1) ≤ work.new.measured }
         ensures counted { (K.state sink.new).faults ≡ writes_counted result (K.state sink.old).faults }
     {
+        self.lines = self.lines.saturating_add(1);
         if is_passed(line) {
-            self.lines = self.lines.saturating_add(1);
             return Ok(());
         }
-        self.carry(alloc, line, shelf, sink, work)
-    }
-
-    /// Carries out the next line, and writes its text. None is a line that is too long.
-    #[inline(never)]
-    fn carry<K: Sink, F: Shelf>(
-        &mut self,
-        alloc: Global,
-        line: Option<&[u8]>,
-        shelf: &mut F,
-        sink: &mut K,
-        work: &mut Work,
-    ) -> Result<(), Stop>
-        requires numbered { self.old.world.views.next < NUMBERS_END }
-        requires short { IsShort line }
-        requires counts { is_idle (line_now line) ≡ false }
-        ensures done { (files : Files) (first : Option (List ℕ)) (progress : Progress)
-            → F.files shelf.old ≡ Some files
-            → progress.lines < 2 ^ 63
-            → HasCarriedOut first (K.state sink.old).gone self.old progress
-            → OnOk result (HasCarriedOut first (K.state sink.new).gone self.new (after_line files progress (line_now line.entry))) }
-        ensures stopped { (files : Files) (first : Option (List ℕ)) (lines : List Line)
-            → F.files shelf.old ≡ Some files
-            → length lines < 2 ^ 63
-            → HasCarriedOut first (K.state sink.old).gone self.old (after_lines files lines)
-            → IfErr result (StopsIn files first (K.state sink.new).gone (lines ++ line_now line.entry ∷ [])) }
-        ensures numbers { self.new.world.views.next ≤ self.old.world.views.next + MAX_VIEWS }
-        ensures files_stay { F.files shelf.new ≡ F.files shelf.old }
-        ensures shelf_failed { CountsFetches (F.faults shelf.old) (F.faults shelf.new) result }
-        ensures painted { work.old.painted ≤ work.new.painted }
-        ensures measured { min work.old.measured (2 ^ 64 - 1) ≤ work.new.measured }
-        ensures counted { (K.state sink.new).faults ≡ writes_counted result (K.state sink.old).faults }
-    {
-        self.lines = self.lines.saturating_add(1);
         match carry_out(&mut self.world, alloc, line, shelf, sink, work) {
             Ok(()) => Ok(()),
             Err(StepFault::Refused(refusal)) => {
@@ -136,6 +102,7 @@ fn is_passed(line: Option<&[u8]>) -> bool
 }
 
 /// Carries out a line, and writes its text; of one that is refused nothing is written. None is a line that is too long.
+#[inline(never)]
 #[tactic(auto, unfolding(crate::specs::Transcript::reply_to_line))]
 fn carry_out<K: Sink, F: Shelf>(
     world: &mut World,

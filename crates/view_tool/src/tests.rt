@@ -116,8 +116,58 @@ const PICTURING: &[u8] =
 const PICTURED: &[u8] =
     b"line 1: refused 33 NoWindow\nline 3: refused 37 NoFrame\nv1\nsettled 0\nline 7: refused 30 Range\n102030 000000\nline 10: refused 30 Range\n";
 
+// A scroll view takes a gesture over once it is dragged, and moves its child.
+const DRAGGING: &[u8] =
+    b"window 50 40\nadd root ScrollView match match\nadd v1 LinearLayout match wrap\norient v2 vertical\nadd v2 View match 100\nanswer v3 click\nframe\ndown 0 5 30\nmove 0 5 20\nmove 0 5 10\nup 0\n";
+
+const DRAGGED: &[u8] =
+    b"v1\nv2\nv3\nsettled 0\nv1 ask DOWN 0:5,30 no\nv2 ask DOWN 0:5,30 no\nv3 touch DOWN 0:5,30 yes\ndone yes\n\
+    v1 ask MOVE 0:5,20 yes\nv2 ask CANCEL no\nv3 touch CANCEL yes\ndone yes\n\
+    v1 touch MOVE 0:5,10 yes\nv1 scroll 10\ndone yes\nv1 touch UP 0:5,10 yes\ndone yes\n";
+
+// Two pointers on two children, and then on one.
+const SPLITTING: &[u8] =
+    b"window 100 20\nadd root LinearLayout match match\nadd v1 View 50 match\nadd v1 View 50 match\nanswer v2 yes\nanswer v3 yes\nframe\n\
+    down 0 10 5\ndown 1 60 5\nup 0\nup 1\nflag v1 split no\ndown 0 10 5\ndown 1 60 5\ncancel\n";
+
+const SPLIT: &[u8] =
+    b"v1\nv2\nv3\nsettled 0\nv1 ask DOWN 0:10,5 no\nv2 touch DOWN 0:10,5 yes\ndone yes\n\
+    v1 ask POINTER_DOWN(1) 0:10,5 1:60,5 no\nv3 touch DOWN 1:10,5 yes\nv2 touch MOVE 0:10,5 yes\ndone yes\n\
+    v1 ask POINTER_UP(0) 0:10,5 1:60,5 no\nv3 touch MOVE 1:10,5 yes\nv2 touch UP 0:10,5 yes\ndone yes\n\
+    v1 ask UP 1:60,5 no\nv3 touch UP 1:10,5 yes\ndone yes\n\
+    v1 ask DOWN 0:10,5 no\nv2 touch DOWN 0:10,5 yes\ndone yes\n\
+    v1 ask POINTER_DOWN(1) 0:10,5 1:60,5 no\nv2 touch POINTER_DOWN(1) 0:10,5 1:60,5 yes\ndone yes\n\
+    v1 ask CANCEL no\nv2 touch CANCEL yes\ndone yes\n";
+
+// The view that has a gesture is taken away.
+const LEAVING: &[u8] =
+    b"window 20 20\nadd root FrameLayout match match\nadd v1 View match match\nanswer v2 yes\nframe\ndown 0 5 5\nremove v2\nmove 0 6 6\nup 0\n";
+
+const LEFT: &[u8] =
+    b"v1\nv2\nsettled 0\nv1 ask DOWN 0:5,5 no\nv2 touch DOWN 0:5,5 yes\ndone yes\nv2 touch CANCEL yes\n\
+    v1 touch MOVE 0:6,6 no\ndone no\nv1 touch UP 0:6,6 no\ndone no\n";
+
+// One refusal after another.
+const BLUNDERING: &[u8] =
+    b"frame\nwindow 10 10\nframe\npixels 0 0 1 1\nbogus\nwindow 0 5\nadd root View 1 1\nadd root View 1 1\ndpi 240\n\
+    add v1 View 1 1\nframe\nbounds v9\nweightsum v1 1\nup 0\nremove v1\ninflate gone\n";
+
+const BLUNDERED: &[u8] =
+    b"line 1: refused 33 NoWindow\nline 3: refused 34 NoRoot\nline 4: refused 37 NoFrame\nline 5: refused 31 Syntax\n\
+    line 6: refused 30 Range\nv1\nline 8: refused 35 HasRoot\nline 9: refused 41 DpiLate\nline 10: refused 21 NotGroup\n\
+    settled 0\nline 12: refused 28 NoView\nline 13: refused 29 WrongClass\nline 14: refused 38 Pointer\nline 16: refused 39 Missing\n";
+
+// What is saved is restored, and bytes that are no state are refused.
+const SAVING: &[u8] =
+    b"window 50 40\nadd root ScrollView match match\nadd v1 LinearLayout match wrap\norient v2 vertical\nadd v2 View match 100\nscroll v1 60\nframe\nbounds v1\n\
+    size v3 match 70\nframe\nbounds v1\nid v1 @7f080001\nsave\nrestore 5653020100\nrestore 5653010100\nscroll v1 5\nrestore\nframe\nbounds v1\n";
+
+const SAVED: &[u8] =
+    b"v1\nv2\nv3\nsettled 0\nv1 0 0 50 40 scroll 60\nsettled 0\nv1 0 0 50 40 scroll 30\nstate 56530101000100087f011e000000\n\
+    line 14: refused 26 BadState at 2\nline 15: refused 26 BadState at 5\nsettled 0\nv1 0 0 50 40 scroll 30\n";
+
 #[rattlefmt::skip]
-const RUNS: [Run; 22] = [
+const RUNS: [Run; 28] = [
     Run { script: b"", reads: &[], writes: &[], status: 0, text: b"" },
     Run { script: SIMPLE, reads: &[], writes: &[], status: 0, text: SIMPLE_BOUNDS },
     // The window stands after the first read, and the first view after three.
@@ -149,6 +199,13 @@ const RUNS: [Run; 22] = [
     Run { script: b"window 1 1\nadd root View match match\nbg v1 #ff616263\nframe\ndigest\n", reads: &[], writes: &[], status: 0, text: DIGESTED },
     // The picture of a frame is told of its window alone, and after a frame alone.
     Run { script: PICTURING, reads: &[], writes: &[], status: 1, text: PICTURED },
+    Run { script: DRAGGING, reads: &[], writes: &[], status: 0, text: DRAGGED },
+    Run { script: SPLITTING, reads: &[], writes: &[], status: 0, text: SPLIT },
+    Run { script: LEAVING, reads: &[], writes: &[], status: 0, text: LEFT },
+    Run { script: SAVING, reads: &[], writes: &[], status: 1, text: SAVED },
+    // An unsettled frame leaves no bounds.
+    Run { script: HOOKING, reads: &[], writes: &[], status: 1, text: HOOKED },
+    Run { script: BLUNDERING, reads: &[], writes: &[], status: 1, text: BLUNDERED },
 ];
 
 /// Words, a file that the shelf holds as `a.xml`, the numbers of the fetches that fail, and how the call ends.
@@ -224,6 +281,15 @@ const TYING: &[u8] = b"window 100 100\nadd root RelativeLayout match match\nadd 
 
 const TIED: &[u8] = b"v1\nv2\nv3\nv4\nsettled 0\nsettled 0\nv1 0 0 100 100\nv2 0 0 20 10\n\
     v3 none\nv4 20 0 30 10\nline 14: refused 18 Cycle horizontal v2 v3\nv4 20 0 30 10\n";
+
+/// A hook that fires once, and two of which each fires in a pass of its own.
+const HOOKING: &[u8] = b"window 100 20\nadd root LinearLayout match match\nadd v1 View 10 match\n\
+    add v1 View 20 match\nhook v3 size v2 40 match\nframe\nbounds\nhook v2 size v3 30 match\n\
+    hook v3 size v2 50 match\nsize v2 45 match\nframe\nbounds\nframe\nbounds\n";
+
+const HOOKED: &[u8] =
+    b"v1\nv2\nv3\nsettled 1\nv1 0 0 100 20\nv2 0 0 40 20\nv3 40 0 60 20\nagain 2\n\
+    line 12: refused 36 Unsettled\nsettled 0\nv1 0 0 100 20\nv2 0 0 50 20\nv3 50 0 80 20\n";
 
 /// A screen that gets narrower: a bar with two texts at its sides, a list that scrolls, and two buttons.
 const SCREEN: &[u8] = b"window 320 480\nadd root LinearLayout match match\norient v1 vertical\n\

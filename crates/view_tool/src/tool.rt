@@ -36,8 +36,9 @@ pub fn tool<S: Source, K: Sink, F: Shelf>(
     // dispatch rules alone; where memory was wanting or a handed-in source, sink or shelf failed, they are a prefix of
     // these.
     //
-    // It covers the lines that there are: a tree of views is built, edited, inflated from layout files, measured, laid out
-    // and painted, and bounds, colours and digests are told. There are no touches.
+    // It covers all lines: a tree of views is built, edited, inflated from layout files, measured, laid out, painted and
+    // touched, hooks change it in the middle of a frame, offsets are saved and restored, and bounds, colours and digests
+    // are told.
     ensures headline { (script : List ℕ) (files : Files)
         → IsRunOf (usage words.now) (S.left source.old) (F.files shelf.old) script files
         → length script ≤ max_script

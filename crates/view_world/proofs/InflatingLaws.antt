@@ -14,7 +14,7 @@ use Rattle.view_model.specs.PlainTree.{PlainView}
 use Rattle.view_model.specs.Refusals.{PlainRefusal, refusal_numbered}
 use Rattle.view_model.specs.declared.refusals.TheConstants.{HAS_ROOT, NO_ROOT}
 use Rattle.view_model.specs.Resources.{Entries}
-use Rattle.view_model.specs.World.{World}
+use Rattle.view_world.specs.World.{World}
 use Rattle.view_tree.specs.Grafted.{Grafted}
 use Rattle.view_tree.specs.Rows.{Row, first_key}
 use Rattle.view_tree.specs.Views.{Held, IsLive, Views, geometry_of, number_of, plain_of, plain_rows}
@@ -32,7 +32,7 @@ use Rattle.view_world.specs.declared.fault.StepFault.TheVariants as fault
 use Rattle.view_world.specs.declared.response.Response.{Response}
 use Rattle.view_world.specs.declared.response.Response.TheVariants as response
 use Rattle.view_world.specs.declared.stage.Stage.{Stage}
-use Rattle.view_world.specs.declared.stage.Stage.TheVariants.{NoWindow, NoFrame, Settled}
+use Rattle.view_world.specs.declared.stage.Stage.TheVariants.{NoWindow, NoFrame, Unsettled, Settled}
 
 -- the number of a place, and that the place is there
 pub place_number : (views : Views) (number place : Option ℕ) → IsPlace views number place → number ≡ option_map (number_of views) place
@@ -77,6 +77,7 @@ views_of-bytes files name resources dpi bytes e = rw e refl
 geometry_in-same : (stage : Stage) (old new : Views) → geometry_of new ≡ geometry_of old → geometry_in stage new ≡ geometry_in stage old
 geometry_in-same NoWindow old new same = refl
 geometry_in-same NoFrame old new same = refl
+geometry_in-same Unsettled old new same = refl
 geometry_in-same Settled old new same = same
 
 -- the world once the views of a file have come

@@ -13,7 +13,7 @@ use Rattle.view_model.specs.Forest.{Forest, Nothing, Branch}
 use Rattle.view_model.specs.PlainTree.{PlainView}
 use Rattle.view_model.specs.Refusals.{◌>>=◌, PlainRefusal, AtPlace, refusal_numbered}
 use Rattle.view_model.specs.Resources.{Entries}
-use Rattle.view_model.specs.World.{World}
+use Rattle.view_world.specs.World.{World}
 use Rattle.view_model.specs.declared.limits.TheConstants.{MAX_FILE}
 use Rattle.view_model.specs.declared.refusals.TheConstants.{HAS_ROOT, LONG_FILE, MISSING_FILE, NO_ROOT, NO_VIEW}
 use Rattle.view_world.specs.Naming.{named}
@@ -61,10 +61,18 @@ inflation_of (command.Add parent class width height) = None
 inflation_of (command.Remove view) = None
 inflation_of (command.Act view act) = None
 inflation_of (command.SetText view text) = None
+inflation_of (command.Disallow view on) = None
+inflation_of (command.Hook view edits bad) = None
+inflation_of (command.Down p x y) = None
+inflation_of (command.Move p x y) = None
+inflation_of (command.Up p) = None
+inflation_of command.Cancel = None
 inflation_of command.Frame = None
 inflation_of (command.Bounds view) = None
 inflation_of (command.Pixels x y w h) = None
 inflation_of command.Digest = None
+inflation_of command.Save = None
+inflation_of (command.Restore text) = None
 
 -- the name of a file, where its tree has a place
 abbrev pub asked_at : List ℕ → Result (Option ℕ) PlainRefusal → Option (List ℕ)

@@ -23,10 +23,10 @@ use view_model::refusals::{LONG_FILE, MISSING_FILE};
 use view_model::{Detail, Refusal};
 
 /// The file of an `inflate` line, and the view below which its tree goes, none where it is the whole tree.
-pub fn inflation_of<'a>(command: Command<'a>) -> Option<(&'a str, Option<Name>)>
-    ensures { option_map (λ inflation. (inflation.0.now, inflation.1)) result ≡ inflation_of (plain_command command.entry) }
+pub fn inflation_of<'a>(command: &Command<'a>) -> Option<(&'a str, Option<Name>)>
+    ensures { option_map (λ inflation. (inflation.0.now, inflation.1)) result ≡ inflation_of (plain_command command.now) }
 {
-    match command {
+    match *command {
         Command::Inflate { name, into } => Some((name, into)),
         Command::Window { .. }
         | Command::Dpi(_)
@@ -35,10 +35,18 @@ pub fn inflation_of<'a>(command: Command<'a>) -> Option<(&'a str, Option<Name>)>
         | Command::Remove(_)
         | Command::Act { .. }
         | Command::Text { .. }
+        | Command::Disallow { .. }
+        | Command::Hook { .. }
+        | Command::Down { .. }
+        | Command::Move { .. }
+        | Command::Up(_)
+        | Command::Cancel
         | Command::Frame
         | Command::Bounds(_)
         | Command::Pixels { .. }
-        | Command::Digest => None,
+        | Command::Digest
+        | Command::Save
+        | Command::Restore(_) => None,
     }
 }
 

@@ -2,17 +2,22 @@
 #![tactic(auto)]
 
 mod bounds;
+mod deliveries;
 mod fault;
+mod hooking;
 mod inflating;
-mod laying;
 mod naming;
+mod opening;
 mod painting;
 mod pixels;
+mod pointers;
 mod replies;
 mod resources;
 mod response;
 mod stage;
+mod stating;
 mod texts;
+mod touching;
 mod world;
 
 pub use fault::StepFault;

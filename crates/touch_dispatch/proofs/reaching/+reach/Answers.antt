@@ -89,6 +89,7 @@ hand_out-loop-next-preserved t c =
     record {
       scrolls = only_scrolls_on old c.loop-next.tree c.hand_to-said.new.tree i.scrolls c.hand_to-said.ensures.scrolls;
       caught = c.hand_to-said.ensures.caught;
+      opened = λ number. c.hand_to-said.ensures.opened number ∙ i.opened number;
       room = c.hand_to-said.ensures.room ∙ i.room;
       group = i.group;
       same = same;
@@ -458,8 +459,9 @@ try_child-returns-clause-caught t c =
 
 pub try_children-loop-next-init : goal.try_children-loop-next-init
 try_children-loop-next-init t c = record {
-  scrolls = record { same = record { tree = refl; orders = refl; next = refl }; held = λ key. refl };
+  scrolls = record { same = record { tree = refl; orders = refl; next = refl }; held = λ key. refl; fits = λ key side. side };
   caught = c.requires.caught;
+  opened = λ number. refl;
   room = refl;
   walked = walk_begin c.args.tree.now c.args.limits.now.slop c.args.view c.args.event.now _ c.last-next.result c.requires.tree c.requires.live c.last-next.ensures.key;
 }
@@ -505,6 +507,7 @@ try_children-loop-next-preserved t c =
     record {
       scrolls = only_scrolls_on views c.loop-next.tree c.try_child-taker.new.tree i.scrolls c.try_child-taker.ensures.scrolls;
       caught = c.try_child-taker.ensures.caught;
+      opened = λ number. c.try_child-taker.ensures.opened number ∙ i.opened number;
       room = c.try_child-taker.ensures.room ∙ i.room;
       walked = step.0;
     }

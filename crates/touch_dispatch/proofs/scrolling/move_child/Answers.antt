@@ -23,7 +23,7 @@ returns-then-is_same_offset-clause-moved c = λ g.
     ap (offsets_in views) c.requires.number ∙ offset_live views c.args.view c.facts.ensures.is_tree c.requires.live ∙ sym (ap (λ (f : Facts). f.offset) c.facts.ensures.value) in
     let same : is_same_offset (offsets_in views own.number) (offset_after own.range (offsets_in views own.number) c.in-Some.way) ≡ true =
     ap (λ o. is_same_offset o (offset_after own.range o c.in-Some.way)) old
-    ∙ ap (is_same_offset c.facts.result.now.offset) (sym (ap (λ (f : Facts). f.offset) c.moved_facts-facts.ensures ∙ ap (offset_after own.range c.facts.result.now.offset) (to_z-of_z w64 c.in-Some.way fits)))
+    ∙ ap (is_same_offset c.facts.result.now.offset) (sym (ap (λ (f : Facts). f.offset) c.moved_facts-facts.ensures.value ∙ ap (offset_after own.range c.facts.result.now.offset) (to_z-of_z w64 c.in-Some.way fits)))
     ∙ ap (λ o. is_same_offset o c.moved_facts-facts.result.offset) (ap (λ (f : Facts). f.offset) (c.facts.ensures.value ∙ sym c.facts-2.ensures.value))
     ∙ sym c.is_same_offset.ensures ∙ c.if-is_same_offset.true in
     moved_same own c.args.event.now (progress_by (offsets_in views) g c.args.log.now.entries.items) c.args.by c.in-Some.way c.in-Some.is same
@@ -37,7 +37,7 @@ note-requires c =
     ap (offsets_in views) c.requires.number ∙ offset_live views c.args.view c.facts.ensures.is_tree c.requires.live ∙ sym (ap (λ (f : Facts). f.offset) c.facts.ensures.value) in
     let other : is_same_offset (offsets_in views own.number) (offset_after own.range (offsets_in views own.number) c.in-Some.way) ≡ false =
     ap (λ o. is_same_offset o (offset_after own.range o c.in-Some.way)) old
-    ∙ ap (is_same_offset c.facts.result.now.offset) (sym (ap (λ (f : Facts). f.offset) c.moved_facts-facts.ensures ∙ ap (offset_after own.range c.facts.result.now.offset) (to_z-of_z w64 c.in-Some.way fits)))
+    ∙ ap (is_same_offset c.facts.result.now.offset) (sym (ap (λ (f : Facts). f.offset) c.moved_facts-facts.ensures.value ∙ ap (offset_after own.range c.facts.result.now.offset) (to_z-of_z w64 c.in-Some.way fits)))
     ∙ ap (λ o. is_same_offset o c.moved_facts-facts.result.offset) (ap (λ (f : Facts). f.offset) (c.facts.ensures.value ∙ sym c.facts-2.ensures.value))
     ∙ sym c.is_same_offset.ensures ∙ c.if-is_same_offset.false in
     let room = moved_fits own c.args.event.now (progress_by (offsets_in views) no_gesture c.args.log.now.entries.items) c.args.by c.in-Some.way c.in-Some.is other in
@@ -53,7 +53,7 @@ returns-clause-moved c = λ g.
     ap (offsets_in views) c.requires.number ∙ offset_live views c.args.view c.facts.ensures.is_tree c.requires.live ∙ sym (ap (λ (f : Facts). f.offset) c.facts.ensures.value) in
     let offset_fits : SFits w32 c.moved_facts-facts.result.offset = search rules in
     let new : c.moved_facts-facts.result.offset ≡ offset_after own.range (offsets_in views own.number) c.in-Some.way =
-    ap (λ (f : Facts). f.offset) c.moved_facts-facts.ensures ∙ ap (offset_after own.range c.facts.result.now.offset) (to_z-of_z w64 c.in-Some.way fits) ∙ ap (λ o. offset_after own.range o c.in-Some.way) (sym old) in
+    ap (λ (f : Facts). f.offset) c.moved_facts-facts.ensures.value ∙ ap (offset_after own.range c.facts.result.now.offset) (to_z-of_z w64 c.in-Some.way fits) ∙ ap (λ o. offset_after own.range o c.in-Some.way) (sym old) in
     let other : is_same_offset (offsets_in views own.number) (offset_after own.range (offsets_in views own.number) c.in-Some.way) ≡ false =
     ap (λ o. is_same_offset o (offset_after own.range (offsets_in views own.number) c.in-Some.way)) old
     ∙ ap (is_same_offset c.facts.result.now.offset) (sym new)

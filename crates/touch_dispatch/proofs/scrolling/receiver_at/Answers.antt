@@ -23,7 +23,7 @@ returns-clause-value c =
     let fits : SFits w32 c.range_for.result = search rules in
     let slop_fits : SFits w32 c.args.limits.now.slop = search rules in
     receiver_same _ _ _ _ _ _ _ _ _ _ _ _ _ _ _ _ c.number.ensures.value scrolls_is (ap (λ (f : Facts). f.answer) c.facts-facts.ensures.value) (ap (λ (f : Facts). f.intercept) c.facts-facts.ensures.value) rect_is
-    (to_z-of_z w32 c.range_for.result fits ∙ c.range_for.ensures
+    (to_z-of_z w32 c.range_for.result fits ∙ c.range_for.ensures.value
     ∙ ap (λ b. range_for b c.facts-facts.result.now c.state-rect.result.bounds c.first_rect.result) scrolls_is
     ∙ ap (λ r. range_for (scrolls (class_of views c.args.view)) c.facts-facts.result.now r c.first_rect.result) rect_is
     ∙ ap (λ r. range_for (scrolls (class_of views c.args.view)) c.facts-facts.result.now ((scene_of views slop).rects (number_of views c.args.view)) r) (c.first_rect.ensures slop)

@@ -12,7 +12,7 @@ returns-clause-scrolls c =
       orders = c.set_facts.ensures.orders;
       next = c.set_facts.ensures.next;
     })
-    c.set_facts.ensures.held c.set_facts.ensures.others
+    c.set_facts.ensures.held c.set_facts.ensures.others c.requires.side
 
 pub returns-clause-offsets : goal.returns-clause-offsets
 returns-clause-offsets c =

@@ -4,7 +4,7 @@ use Rattle.std.proofs.lemmas.Bool.{eqb-false}
 use Rattle.std.proofs.lemmas.List.{map-append}
 use Rattle.size_hooks.specs.declared.entry.Entry.{Entry}
 use Rattle.size_hooks.specs.Hook.{Hook}
-use Rattle.size_hooks.specs.declared.limits.TheConstants.{MAX_HOOKS}
+use Rattle.view_model.specs.declared.limits.TheConstants.{MAX_HOOKS}
 use Rattle.size_hooks.specs.Entries.{hook_in, hooks_of}
 use Rattle.size_hooks.specs.Hooks.{IsMap, armed, disarmed, hook_of}
 use Rattle.view_model.specs.declared.changes.NumEdit.{NumEdit}
@@ -36,11 +36,11 @@ new_hook c = record { view = c.args.view; reported = c.args.reported; edits = c.
 -- with one entry more the entries stand for the hooks with this one
 with_it : (c : goal.After-push) → hooks_of c.push.new.self.items ≡ armed (new_hook c) c.args.self.now
 with_it c =
-    let entry : Entry = record { view = c.args.view; reported = c.args.reported; edits = c.kept_edits.result } in
+    let entry : Entry = record { view = c.args.view; reported = c.args.reported; edits = c.copied.result } in
     ap hooks_of c.push.ensures.items
     ∙ map-append hook_in c.self.inside.entries.items (entry ∷ [])
     ∙ ap (λ (l : List Hook). l ++ hook_in entry ∷ []) (c.self.view_is ∙ c.disarm.ensures.hooks)
-    ∙ ap (λ (l : List NumEdit). disarmed c.args.view c.args.self.now ++ record { view = c.args.view; reported = c.args.reported; edits = l } ∷ []) c.kept_edits.ensures.kept
+    ∙ ap (λ (l : List NumEdit). disarmed c.args.view c.args.self.now ++ record { view = c.args.view; reported = c.args.reported; edits = l } ∷ []) c.copied.ensures.same
 
 pub invariant_of-self : goal.invariant_of-self
 invariant_of-self c =
@@ -49,7 +49,7 @@ invariant_of-self c =
     let fits = room.fits in
     let less = eqb-false _ _ (sym room.value) in
     let few : length (disarmed c.args.view c.args.self.now) < MAX_HOOKS = rw (← ap length left, length_hooks c.self.inside.entries.items) (omega arith) in
-    subst IsMap (sym (with_it c)) (armed_map (new_hook c) c.args.self.now c.disarm.ensures.map few c.kept_edits.ensures.few)
+    subst IsMap (sym (with_it c)) (armed_map (new_hook c) c.args.self.now c.disarm.ensures.map few c.copied.ensures.few)
 
 pub returns-clause-value : goal.returns-clause-value
 returns-clause-value c other = ap (λ (hooks : List Hook). hook_of hooks other) (with_it c) ∙ hook_of-armed (new_hook c) c.args.self.now other

@@ -1,4 +1,4 @@
-use Rattle.std.proofs.Common.{sym, subst, inl, inr}
+use Rattle.std.proofs.Common.{◌∙◌, sym, subst, inl, inr}
 use Rattle.std.proofs.lemmas.Bool.{cases_Bool}
 use Rattle.std.specs.Prelude.{◌==◌}
 use Rattle.touch_event.specs.PointerSets.{has_id}
@@ -14,4 +14,5 @@ invariant_of-self c = record {
         | inl e ↦ rw e (drop_distinct (has_id c.args.ids) (targets_of c.self.inside.targets group) (c.self.invariant.distinct group))
         | inr e ↦ rw e (c.self.invariant.distinct group)
       ]);
+  places = λ view. c.drop_ids.ensures.opened view ∙ c.self.invariant.places view;
 }

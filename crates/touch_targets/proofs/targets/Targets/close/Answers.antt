@@ -1,11 +1,12 @@
-use Rattle.std.proofs.Common.{◌≡◌, ◌∙◌, ℕ, [], Some, ap, refl, sym}
+use Rattle.std.proofs.Common.{◌≡◌, ◌∙◌, ℕ, true, false, List, [], Some, is_some, ap, refl, sym}
 use Rattle.std.proofs.lemmas.Bool.{eq-eqb}
 use Rattle.std.specs.Prelude.{◌==◌, ◌&&◌, if◌then◌else◌, not}
-use Rattle.touch_targets.specs.Captures.{without_child}
-use Rattle.touch_targets.specs.Seats.{is_open, targets_of}
+use Rattle.touch_targets.specs.Captures.{is_target, without_child}
+use Rattle.touch_targets.specs.Seats.{Seat, is_open, targets_of, with_seat}
 use Rattle.touch_targets.specs.declared.targets.Targets.TheInside.{Inside}
 use Rattle.touch_targets.proofs.Membership.{closed_targets, closed_view, left_nowhere, left_targets, nothing_caught, nowhere_caught, sound_closed}
-use Rattle.touch_targets.proofs.SeatLaws.{node_of, place_in}
+use Rattle.touch_targets.proofs.SeatLaws.{node_of, open_is, place_in}
+use Rattle.touch_targets.proofs.SeatOrder.{no_targets_with, open_with, seat_taken, targets_with}
 use Rattle.touch_targets.proofs.targets.Targets.close.Goals as goal
 use Rattle.touch_targets.proofs.targets.Targets.close.Goals.{After-remove, In-Some}
 
@@ -67,3 +68,27 @@ returns-in_default-clause-targets c = λ group.
     let b : Inside = record { nodes = c.self.inside.nodes; places = c.forget_place.new.places } in
     closed_targets c.self.inside b c.remove.new.self c.args.view c.self.view_is c.forget_place.ensures.forgot (λ x. refl) (none at.After-remove) group
     ∙ left at.After-remove group
+
+-- nothing goes before the seat does
+kept : (c : After-remove) (before : List Seat) → c.args.self.now ≡ with_seat c.args.view before → is_open before c.args.view ≡ false
+    → ((group : ℕ) → is_target c.args.view (targets_of before group) ≡ false) → c.remove.new.self ≡ with_seat c.args.view before
+kept c before is closed free =
+    let cleared : c.clear.new.self ≡ with_seat c.args.view before =
+    c.clear.ensures.same (ap (λ s. targets_of s c.args.view) is ∙ no_targets_with c.args.view before closed) ∙ is in
+    c.remove.ensures.same (λ group. ap (λ s. is_target c.args.view (targets_of s group)) cleared ∙ ap (is_target c.args.view) (targets_with c.args.view before group) ∙ free group)
+    ∙ cleared
+
+pub returns-in-Some-clause-last : goal.returns-in-Some-clause-last
+returns-in-Some-clause-last c before is closed free =
+    let b : Inside = record { nodes = c.take_out.new.nodes; places = c.forget_place.new.places } in
+    seat_taken c.self.inside b before c.args.view (c.self.view_is ∙ kept (goal.at.returns-in-Some-clause-last c).After-remove before is closed free) closed
+    c.take_out.ensures.caught c.forget_place.ensures.entries
+
+pub returns-in_default-clause-last : goal.returns-in_default-clause-last
+returns-in_default-clause-last c before is closed free =
+    let there : is_some (place_in c.self.inside c.args.view) ≡ true =
+    sym (open_is c.self.inside c.remove.new.self c.self.view_is c.args.view)
+    ∙ ap (λ s. is_open s c.args.view) (kept (goal.at.returns-in_default-clause-last c).After-remove before is closed free)
+    ∙ open_with c.args.view before in
+    let none : is_some (place_in c.self.inside c.args.view) ≡ false = ap is_some (sym c.forget_place.ensures.value ∙ c.in_default.is) in
+    absurd (cc)

@@ -6,6 +6,7 @@ use Rattle.touch_targets.specs.Seats.{drop_caught}
 use Rattle.touch_targets.specs.declared.targets.Targets.TheInside.{Inside}
 use Rattle.touch_targets.proofs.CaughtLaws.{drop_of}
 use Rattle.touch_targets.proofs.SeatLaws.{changed_targets, fits_by, node_of, place_in, same_open, unchanged_targets}
+use Rattle.touch_targets.proofs.SeatOrder.{nothing_dropped, seats_kept}
 use Rattle.touch_targets.proofs.targets.Targets.drop_ids.Goals as goal
 
 pub drop_ids-requires-clause-group : goal.drop_ids-requires-clause-group
@@ -29,3 +30,11 @@ returns-in-Some-clause-targets c =
 pub returns-in_default-clause-targets : goal.returns-in_default-clause-targets
 returns-in_default-clause-targets c =
     unchanged_targets c.self.inside c.args.self.now c.args.group (drop_pointers (has_id c.args.ids)) c.self.view_is (sym c.place_of.ensures ∙ c.in_default.is) refl
+
+pub returns-in-Some-clause-same : goal.returns-in-Some-clause-same
+returns-in-Some-clause-same c none =
+    let a = c.self.inside in
+    let place : place_in a c.args.group ≡ Some c.in-Some.place = sym c.place_of.ensures ∙ c.in-Some.is in
+    let b : Inside = record { nodes = c.drop_ids.new.nodes; places = a.places } in
+    seats_kept a b c.args.self.now c.self.view_is refl
+    (nothing_dropped a b c.args.self.now c.args.group c.in-Some.place c.args.ids c.self.view_is place none c.drop_ids.ensures.caught)

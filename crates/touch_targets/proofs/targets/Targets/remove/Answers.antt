@@ -1,6 +1,7 @@
 use Rattle.std.proofs.Common.{◌≡◌, ◌∙◌, Some, refl, sym}
 use Rattle.touch_targets.specs.declared.targets.Targets.TheInside.{Inside}
 use Rattle.touch_targets.proofs.SeatLaws.{closed_nowhere, node_of, place_in, removed_targets, same_open}
+use Rattle.touch_targets.proofs.SeatOrder.{nothing_removed, seats_kept}
 use Rattle.touch_targets.proofs.targets.Targets.remove.Goals as goal
 
 pub remove-requires-clause-child : goal.remove-requires-clause-child
@@ -22,3 +23,11 @@ returns-in-Some-clause-targets c =
 pub returns-in_default-clause-targets : goal.returns-in_default-clause-targets
 returns-in_default-clause-targets c =
     closed_nowhere c.self.inside c.args.self.now c.self.invariant c.self.view_is c.args.child (sym c.place_of.ensures ∙ c.in_default.is)
+
+pub returns-in-Some-clause-same : goal.returns-in-Some-clause-same
+returns-in-Some-clause-same c none =
+    let a = c.self.inside in
+    let place : place_in a c.args.child ≡ Some c.in-Some.place = sym c.place_of.ensures ∙ c.in-Some.is in
+    let b : Inside = record { nodes = c.remove.new.nodes; places = a.places } in
+    seats_kept a b c.args.self.now c.self.view_is refl
+    (nothing_removed a b c.args.self.now c.args.child c.in-Some.place c.self.invariant c.self.view_is place none c.remove.ensures.caught)

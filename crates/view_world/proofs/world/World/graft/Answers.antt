@@ -1,27 +1,96 @@
-use Rattle.std.proofs.Common.{refl, sym, subst}
-use Rattle.view_tree.specs.Views.{plain_of}
+use Rattle.std.proofs.Common.{◌≡◌, ◌∙◌, ℕ, arith, length, sym, subst}
+use Rattle.std.specs.Prelude.{Option, None, Result, Ok, Err}
+use Rattle.std.specs.Option.{option_map}
+use Rattle.view_model.specs.Cycles.{graft_cycle}
+use Rattle.view_model.specs.Forest.{Forest, Nothing}
+use Rattle.view_model.specs.Sprouts.{Seed, seeds_of}
+use Rattle.view_model.specs.Grafts.{graft_refusal}
+use Rattle.view_tree.specs.Faults.{IsRefusedOrCyclic}
+use Rattle.view_tree.specs.declared.fault.AttachFault.{AttachFault}
+use Rattle.view_tree.specs.Views.{number_of, plain_of}
+use Rattle.view_world.proofs.FreshLaws.{are_free}
+use Rattle.view_world.proofs.GraftingLaws.{graft_told, sound_grafted}
+use Rattle.view_world.proofs.GrowingLaws.{carried_with, same_world, sound_same}
+use Rattle.view_world.proofs.InflatingLaws.{grafted_world, place_number}
 use Rattle.view_world.specs.Changed.{CarriesOut, IsPlace}
 use Rattle.view_world.specs.KeyedWorld.{KeyedWorld, world_of}
+use Rattle.view_world.specs.Places.{AreFree, AreOpened}
+use Rattle.view_world.specs.Sound.{keyed}
 use Rattle.view_world.specs.Step.{graft_reason, grafted}
-use Rattle.view_world.proofs.InflatingLaws.{grafted_world, place_number}
+use Rattle.view_world.specs.declared.response.Response.TheVariants as response
+use Rattle.view_world.proofs.OffsetLaws.{offsets_grafted}
 use Rattle.view_world.proofs.world.World.graft.Goals as goal
-use Rattle.view_world.proofs.world.World.graft.Goals.{in-Ok, in-Err-Refused, in-Err-NoMemory}
 
-pub returns-clause-changed : goal.returns-clause-changed
-returns-clause-changed c number plan place grown =
-    let old : KeyedWorld = record { views = c.self.inside.tree; stage = c.self.inside.stage; surface = c.self.inside.surface; dpi = c.self.inside.dpi; resources = c.self.inside.resources } in
-    let new : KeyedWorld = record old { views = c.graft.new.self } in
+pub open_all-requires-clause-free : goal.open_all-requires-clause-free
+open_all-requires-clause-free c =
+    subst (λ n. AreFree n c.self.inside.gesture) (sym c.next_number-first.ensures)
+    (are_free c.self.inside.tree c.self.inside.gesture c.tell_tree.ensures c.self.invariant.caught c.self.invariant.fresh)
+
+pub invariant_of-self-in-Ok : goal.invariant_of-self-in-Ok
+invariant_of-self-in-Ok c =
+    let a = c.self.inside in
+    let room = c.in_ok-reserve.ensures.room in
+    let sum = c.saturating_add.ensures in
+    let product = c.saturating_mul.ensures in
+    let len = c.len.ensures.value in
+    let count : c.len-count.result ≡ length c.args.grown.sapling.sprouts.items = c.len-count.ensures ∙ c.args.grown.sapling.sprouts.ok.0 in
+    let few = c.tell_tree-in-Ok.ensures.few in
+    sound_grafted a c.graft.new.self c.open_all.new.gesture c.reserve.new.self c.args.place c.args.grown.sapling.sprouts.items c.in-Ok.field-0 c.self.invariant c.tell_tree.ensures
+    (subst (λ (w : KeyedWorld). c.args.place ≡ None → w.views.tree ≡ Nothing) (sym c.self.view_is) c.requires.root)
+    c.args.grown.sapling.preorder c.in-Ok.ensures.grafted (c.graft.ensures.consistent c.self.invariant.consistent) c.open_all.ensures.gesture
+    (subst (λ n. AreOpened n (length c.args.grown.sapling.sprouts.items) a.gesture c.open_all.new.gesture) c.next_number-first.ensures
+    (subst (λ n. AreOpened c.next_number-first.result n a.gesture c.open_all.new.gesture) (c.len-count.ensures ∙ c.args.grown.sapling.sprouts.ok.0) c.in_ok-open_all.ensures.opened))
+    (λ most. omega (arith, room, sum, product, len, count, few, most))
+    (offsets_grafted a.tree c.graft.new.self (option_map (number_of a.tree) c.args.place) a.tree.next (seeds_of c.args.grown.sapling.sprouts.items) c.in-Ok.ensures.grafted.plain c.requires.unscrolled c.self.invariant.offsets)
+
+pub invariant_of-self-in-Err : goal.invariant_of-self-in-Err
+invariant_of-self-in-Err c =
+    let a = c.self.inside in
+    let room = c.in_ok-reserve.ensures.room in
+    let sum = c.saturating_add.ensures in
+    let product = c.saturating_mul.ensures in
+    let len = c.len.ensures.value in
+    let few = c.len.ensures.few in
+    let free : AreFree c.next_number-first.result a.gesture =
+    subst (λ n. AreFree n a.gesture) (sym c.next_number-first.ensures) (are_free a.tree a.gesture c.tell_tree.ensures c.self.invariant.caught c.self.invariant.fresh) in
+    let gesture = c.close_all.ensures a.gesture c.in_ok-open_all.ensures.added free c.in_ok-open_all.ensures.unknown in
+    sound_same a c.graft.new.self c.close_all.new.gesture c.reserve.new.self c.in-Err.ensures.unchanged gesture (omega (arith, room, sum, product, len, few)) c.self.invariant
+
+pub returns-in-Err-clause-unchanged : goal.returns-in-Err-clause-unchanged
+returns-in-Err-clause-unchanged c =
+    let a = c.self.inside in
+    let free : AreFree c.next_number-first.result a.gesture =
+    subst (λ n. AreFree n a.gesture) (sym c.next_number-first.ensures) (are_free a.tree a.gesture c.tell_tree.ensures c.self.invariant.caught c.self.invariant.fresh) in
+    let gesture = c.close_all.ensures a.gesture c.in_ok-open_all.ensures.added free c.in_ok-open_all.ensures.unknown in
+    same_world (keyed a) c.graft.new.self c.close_all.new.gesture c.reserve.new.self.entries.items c.in-Err.ensures.unchanged gesture c.reserve.ensures.same ∙ c.self.view_is
+
+pub returns-in-Ok-clause-changed : goal.returns-in-Ok-clause-changed
+returns-in-Ok-clause-changed c number plan place grown =
+    let old : KeyedWorld = keyed c.self.inside in
+    let grown_views : KeyedWorld = record old { views = c.graft.new.self } in
     let at : IsPlace old.views number c.args.place = subst (λ (w : KeyedWorld). IsPlace w.views number c.args.place) (sym c.self.view_is) place in
-    let reason = λ (w : KeyedWorld). graft_reason (plain_of w.views) number w.views.next plan.seeds in
-    subst (λ (w : KeyedWorld). CarriesOut (grafted (world_of w) number plan (reason w)) new c.match-graft.result) c.self.view_is
-    (elim c.match-graft.branch [
-      | in-Ok w ↦
-          let came = rw grown.seeds at w.in-Ok.ensures.grafted in
-          let taken = rw (grown.seeds, ← place_number old.views number c.args.place at) at w.in-Ok.ensures.refused in
-          rw (w.result-is, taken, c.next_number-first.ensures, w.saturating_sub.ensures, w.next_number.ensures)
-          (grafted_world old c.graft.new.self number c.args.place plan w.in-Ok.field-0 c.args.grown.ignored at came grown.ignored)
-      | in-Err-Refused w ↦
-          let told = rw (w.in-Err-Refused.field-0-is, grown.seeds, ← place_number old.views number c.args.place at) at w.in-Err-Refused.ensures.refused in
-          rw (w.result-is, told) refl
-      | in-Err-NoMemory w ↦ rw w.result-is tt
-    ])
+    let reply = λ (w : KeyedWorld). grafted (world_of w) number plan (graft_reason (plain_of w.views) number w.views.next plan.seeds) in
+    let came = rw grown.seeds at c.in-Ok.ensures.grafted in
+    let taken = rw (grown.seeds, ← place_number old.views number c.args.place at) at c.in-Ok.ensures.refused in
+    let told : CarriesOut (reply old) grown_views (Ok (response.Inflated c.next_number-first.result c.saturating_sub.result c.args.grown.ignored)) =
+    rw (taken, c.next_number-first.ensures, c.saturating_sub.ensures, c.next_number.ensures)
+    (grafted_world old c.graft.new.self number c.args.place plan c.in-Ok.field-0 c.args.grown.ignored at came grown.ignored) in
+    let now : KeyedWorld = record grown_views { gesture = c.open_all.new.gesture; told = c.reserve.new.self.entries.items } in
+    let result = Ok (response.Inflated c.next_number-first.result c.saturating_sub.result c.args.grown.ignored) in
+    subst (λ (w : KeyedWorld). CarriesOut (reply w) now result) c.self.view_is
+    (carried_with (reply old) grown_views c.open_all.new.gesture c.reserve.new.self.entries.items result c.open_all.ensures.gesture c.reserve.ensures.same told)
+
+pub returns-in-Err-clause-changed : goal.returns-in-Err-clause-changed
+returns-in-Err-clause-changed c number plan place grown =
+    let old : KeyedWorld = keyed c.self.inside in
+    let now = c.args.self.now in
+    let at : IsPlace old.views number c.args.place = subst (λ (w : KeyedWorld). IsPlace w.views number c.args.place) (sym c.self.view_is) place in
+    let why : Result ℕ AttachFault = Err c.in-Err.fault in
+    let reads = λ (n : Option ℕ) (seeds : Forest Seed). IsRefusedOrCyclic (graft_refusal (plain_of old.views) n seeds) (graft_cycle (plain_of old.views) n old.views.next seeds) why in
+    let first : reads (option_map (number_of old.views) c.args.place) (seeds_of c.args.grown.sapling.sprouts.items) = c.in-Err.ensures.refused in
+    let refused = subst (λ n. reads n plan.seeds) (sym (place_number old.views number c.args.place at)) (subst (reads (option_map (number_of old.views) c.args.place)) grown.seeds first) in
+    let refusal = λ (w : KeyedWorld). graft_refusal (plain_of w.views) number plan.seeds in
+    let cycle = λ (w : KeyedWorld). graft_cycle (plain_of w.views) number w.views.next plan.seeds in
+    let told : IsRefusedOrCyclic (refusal now) (cycle now) why = subst (λ (w : KeyedWorld). IsRefusedOrCyclic (refusal w) (cycle w) why) c.self.view_is refused in
+    let new : KeyedWorld = record old { views = c.graft.new.self; gesture = c.close_all.new.gesture; told = c.reserve.new.self.entries.items } in
+    rw c.fault_of.ensures (graft_told (world_of now) number plan new (refusal now) (cycle now) c.in-Err.fault told)

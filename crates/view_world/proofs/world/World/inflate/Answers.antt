@@ -6,13 +6,20 @@ use Rattle.view_world.specs.Changed.{IsPlace}
 use Rattle.view_world.specs.Inflating.{asked_for, views_in, views_of}
 use Rattle.view_world.specs.KeyedWorld.{KeyedWorld, world_of}
 use Rattle.view_world.specs.Step.{graft_reason, grafted, inflation}
+use Rattle.view_world.specs.Sound.{keyed}
 use Rattle.view_world.proofs.FileLaws.{counts_nothing}
 use Rattle.view_world.proofs.InflatingLaws.{inflated_as, inflates_as, told_where_asked, views_of-bytes}
+use Rattle.view_world.proofs.SeedOffsets.{grown_unscrolled}
 use Rattle.view_world.proofs.world.World.inflate.Goals as goal
+
+pub graft-requires-clause-unscrolled : goal.graft-requires-clause-unscrolled
+graft-requires-clause-unscrolled g c =
+    let views = c.in_ok-grown.ensures.views in
+    grown_unscrolled c.as_slice.result.now c.self.inside.resources c.self.inside.dpi views.0 c.in_ok-grown.grown views.1 views.2
 
 pub returns-clause-changed : goal.returns-clause-changed
 returns-clause-changed g c files at =
-    let old : KeyedWorld = record { views = c.self.inside.tree; stage = c.self.inside.stage; surface = c.self.inside.surface; dpi = c.self.inside.dpi; resources = c.self.inside.resources } in
+    let old : KeyedWorld = keyed c.self.inside in
     let name = c.args.name.now in
     let place = c.in_ok-place.ensures.place in
     let asked = subst (λ (w : KeyedWorld). AreAtHand files (g.F.Shelf.files c.args.shelf.now) (asked_for (plain_of w.views) (Some (name, c.args.into)))) (sym c.self.view_is) at in

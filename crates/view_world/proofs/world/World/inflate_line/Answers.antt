@@ -15,8 +15,8 @@ returns-in_err-response-clause-carried g c files at =
 pub returns-clause-carried : goal.returns-clause-carried
 returns-clause-carried g c files at =
     let changed = rw (← c.self.view_is) at c.in_ok-response.ensures.changed files at in
-    let text = response_text c.self.inside.tree c.self.inside.surface c.in_ok-response.response in
+    let text = response_text c.self.inside.tree c.self.inside.surface c.self.inside.log.entries.items c.self.inside.saved.items c.in_ok-response.response in
     elim c.match-write_response.branch [
-      | in-Ok w ↦ let told = w.in-Ok.ensures.delivered in rw w.result-is (text, changed.0, told.whole, told.counted)
-      | in-Err w ↦ let told = w.in-Err.ensures.delivered in rw w.result-is (text, changed.0, told.prefix, told.counted)
+      | in-Ok w ↦ let told = rw c.as_slice.ensures.value at w.in-Ok.ensures.delivered in rw w.result-is (text, changed.0, told.whole, told.counted)
+      | in-Err w ↦ let told = rw c.as_slice.ensures.value at w.in-Err.ensures.delivered in rw w.result-is (text, changed.0, told.prefix, told.counted)
     ]

@@ -1,0 +1,150 @@
+-- The seats of a pool in their order: they stay where nothing is captured otherwise, and the last one comes and goes.
+use Rattle.std.proofs.Common.{◌≡◌, ◌∙◌, ℕ, Bool, true, false, List, [], ◌∷◌, ◌++◌, None, Some, map, filter, refl, sym, ap, subst, inl, inr}
+use Rattle.std.specs.Prelude.{◌==◌, ◌||◌, if◌then◌else◌, nat_eq, not}
+use Rattle.std.specs.Map.{lookup}
+use Rattle.std.proofs.lemmas.Bool.{cases_Bool, cases_eq, eq-eqb, ne_eqb}
+use Rattle.std.proofs.lemmas.List.{map-append}
+use Rattle.slab.specs.Slab.{Slab, get}
+use Rattle.indexmap.specs.IndexMap.{insert_entry, swap_remove_entry}
+use Rattle.indexmap.proofs.CallerLemmas.{insert_entry-new}
+use Rattle.touch_targets.specs.Captures.{is_target}
+use Rattle.touch_targets.specs.Nodes.{caught_at, caught_by, view_at, without_caught, view_of}
+use Rattle.touch_targets.specs.Pool.{IsSound, seat_at, seats_in}
+use Rattle.touch_targets.specs.Seats.{Caught, Seat, drop_caught, is_caught, is_open, targets_of, with_seat}
+use Rattle.touch_targets.specs.declared.node.Node.{Node}
+use Rattle.touch_targets.specs.declared.targets.Targets.TheInside.{Inside}
+use Rattle.touch_targets.proofs.Chains.{places_none, true_not_false}
+use Rattle.touch_targets.proofs.LastEntries.{swap_remove_entry-last}
+use Rattle.touch_targets.proofs.Membership.{nothing_caught, nowhere_caught, place_none}
+use Rattle.touch_targets.proofs.SeatLaws.{node_of, open_seats, place_in}
+
+pub same_seats : (s t : Slab Node) (es : List (ℕ × ℕ)) → ((x : ℕ) → caught_by t x ≡ caught_by s x) → map (seat_at t) es ≡ map (seat_at s) es
+same_seats s t [] caught = refl
+same_seats s t (e ∷ es) caught =
+    ap (λ (l : List Caught). record { view = e.0; caught = l } ∷ map (seat_at t) es) (caught e.1) ∙ ap (λ l. seat_at s e ∷ l) (same_seats s t es caught)
+
+-- the places stay, and what each group has captured
+pub seats_kept : (a b : Inside) (seats : List Seat) → seats_in a ≡ seats → b.places ≡ a.places → ((x : ℕ) → caught_by b.nodes x ≡ caught_by a.nodes x) → seats_in b ≡ seats
+seats_kept a b seats is places caught =
+    same_seats a.nodes b.nodes b.places.entries caught ∙ ap (λ m. map (seat_at a.nodes) m.entries) places ∙ is
+
+-- nothing is taken away where there is nothing
+pub nothing_dropped : (a b : Inside) (seats : List Seat) (group place ids : ℕ) → seats_in a ≡ seats → place_in a group ≡ Some place → targets_of seats group ≡ []
+    → ((x : ℕ) → caught_by b.nodes x ≡ (if x == place then drop_caught ids (caught_by a.nodes x) else caught_by a.nodes x))
+    → (x : ℕ) → caught_by b.nodes x ≡ caught_by a.nodes x
+nothing_dropped a b seats group place ids is place_is none caught x =
+    elim (cases_eq x place) [
+      | inl e ↦
+          let empty : caught_by a.nodes x ≡ [] = ap (caught_by a.nodes) e ∙ nothing_caught a seats group place is place_is none in
+          caught x ∙ rw (eq-eqb x place e) (ap (drop_caught ids) empty ∙ sym empty)
+      | inr ne ↦ caught x ∙ rw (ne_eqb x place ne) refl
+    ]
+
+not_there : (child : ℕ) (caught : List Caught) → is_caught child caught ≡ false → filter (λ (c : Caught). not (c.child == child)) caught ≡ caught
+not_there child [] none = refl
+not_there child (c ∷ caught) none =
+    elim (cases_Bool (c.child == child)) [
+      | inl is ↦ true_not_false (rw is refl) none
+      | inr is ↦ rw is (ap (λ l. c ∷ l) (not_there child caught (rw is at none)))
+    ]
+
+pub nothing_removed : (a b : Inside) (seats : List Seat) (child place : ℕ) → IsSound a → seats_in a ≡ seats → place_in a child ≡ Some place
+    → ((group : ℕ) → is_target child (targets_of seats group) ≡ false)
+    → ((x : ℕ) → caught_by b.nodes x ≡ without_caught (view_of (get a.nodes place)) (caught_by a.nodes x))
+    → (x : ℕ) → caught_by b.nodes x ≡ caught_by a.nodes x
+nothing_removed a b seats child place sound is place_is none caught x =
+    let n = node_of a sound child place place_is in
+    let own : view_at a.nodes place ≡ child = ap (λ o. (caught_at o).child) n.is ∙ n.view_is in
+    let free : is_caught child (caught_by a.nodes x) ≡ false =
+    subst (λ v. is_caught v (caught_by a.nodes x) ≡ false) own (nowhere_caught a seats child place sound is place_is none x) in
+    caught x ∙ ap (λ o. without_caught o (caught_by a.nodes x)) (sound.named child place place_is) ∙ not_there child (caught_by a.nodes x) free
+
+-- a new view has the last seat
+pub seat_added : (a b : Inside) (seats : List Seat) (view place : ℕ) → seats_in a ≡ seats → place_in a view ≡ None → get a.nodes place ≡ None
+    → ((x : ℕ) → caught_by b.nodes x ≡ caught_by a.nodes x) → b.places.entries ≡ insert_entry nat_eq a.places.entries view place
+    → seats_in b ≡ with_seat view seats
+seat_added a b seats view place is closed unused caught entries =
+    let empty : caught_by a.nodes place ≡ [] = ap (map (λ p. caught_at (get a.nodes p))) (places_none a.nodes place unused) in
+    same_seats a.nodes b.nodes b.places.entries caught
+    ∙ ap (map (seat_at a.nodes)) (entries ∙ insert_entry-new nat_eq a.places view place closed)
+    ∙ map-append (seat_at a.nodes) a.places.entries ((view, place) ∷ [])
+    ∙ ap (λ (l : List Caught). map (seat_at a.nodes) a.places.entries ++ record { view = view; caught = l } ∷ []) empty
+    ∙ ap (with_seat view) is
+
+-- entries of which the last one stands for a seat
+record LastSeat (nodes : Slab Node) (es : List (ℕ × ℕ)) (before : List Seat) (view : ℕ) : Type 0 where
+  front : List (ℕ × ℕ)
+  place : ℕ
+  whole : es ≡ front ++ (view, place) ∷ []
+  seats : map (seat_at nodes) front ≡ before
+
+heads : {A : Type 0} {x y : A} {xs ys : List A} → x ∷ xs ≡ y ∷ ys → x ≡ y
+heads e = cc
+
+tails : {A : Type 0} {x y : A} {xs ys : List A} → x ∷ xs ≡ y ∷ ys → xs ≡ ys
+tails e = cc
+
+last_seat : (nodes : Slab Node) (es : List (ℕ × ℕ)) (before : List Seat) (view : ℕ) → map (seat_at nodes) es ≡ with_seat view before → LastSeat nodes es before view
+last_seat nodes [] [] view is = absurd (cc)
+last_seat nodes [] (s ∷ before) view is = absurd (cc)
+last_seat nodes (e ∷ []) [] view is = record {
+  front = [];
+  place = e.1;
+  whole = ap (λ (v : ℕ). (v, e.1) ∷ []) (ap (λ (s : Seat). s.view) (heads is));
+  seats = refl;
+}
+last_seat nodes (e ∷ f ∷ es) [] view is = let rest = tails is in absurd (cc)
+last_seat nodes (e ∷ es) (s ∷ before) view is =
+    let later = last_seat nodes es before view (tails is) in
+    record {
+      front = e ∷ later.front;
+      place = later.place;
+      whole = ap (λ l. e ∷ l) later.whole;
+      seats = ap (λ l. seat_at nodes e ∷ l) later.seats ∙ ap (λ s. s ∷ before) (heads is);
+    }
+
+lookup_none : (nodes : Slab Node) (es : List (ℕ × ℕ)) (view : ℕ) → is_open (map (seat_at nodes) es) view ≡ false → lookup (nat_eq view) es ≡ None
+lookup_none nodes es view closed = place_none (lookup (nat_eq view) es) (sym (open_seats nodes es view) ∙ closed)
+
+-- the last seat goes, if it is the only one of its view
+pub seat_taken : (a b : Inside) (before : List Seat) (view : ℕ) → seats_in a ≡ with_seat view before → is_open before view ≡ false
+    → ((x : ℕ) → caught_by b.nodes x ≡ caught_by a.nodes x) → b.places.entries ≡ swap_remove_entry (nat_eq view) a.places.entries
+    → seats_in b ≡ before
+seat_taken a b before view is closed caught entries =
+    let last = last_seat a.nodes a.places.entries before view is in
+    let none = lookup_none a.nodes last.front view (ap (λ s. is_open s view) last.seats ∙ closed) in
+    same_seats a.nodes b.nodes b.places.entries caught
+    ∙ ap (map (seat_at a.nodes)) (entries ∙ ap (swap_remove_entry (nat_eq view)) last.whole ∙ swap_remove_entry-last last.front view last.place none)
+    ∙ last.seats
+
+-- a seat that has captured nothing is of no account
+pub targets_with : (view : ℕ) (before : List Seat) (group : ℕ) → targets_of (with_seat view before) group ≡ targets_of before group
+targets_with view [] group = elim (cases_Bool (view == group)) [ inl is ↦ rw is refl | inr is ↦ rw is refl ]
+targets_with view (s ∷ before) group =
+    elim (cases_Bool (s.view == group)) [ inl is ↦ rw is refl | inr is ↦ rw is (targets_with view before group) ]
+
+pub opened_with : (view : ℕ) (before : List Seat) (other : ℕ) → is_open (with_seat view before) other ≡ (is_open before other || other == view)
+opened_with view [] other = elim (cases_eq view other) [
+  | inl e ↦ rw (eq-eqb view other e, eq-eqb other view (sym e)) refl
+  | inr ne ↦ rw (ne_eqb view other ne, ne_eqb other view (λ e. ne (sym e))) refl
+]
+opened_with view (s ∷ before) other = elim (cases_Bool (s.view == other)) [ inl is ↦ rw is refl | inr is ↦ rw is (opened_with view before other) ]
+
+pub open_with : (view : ℕ) (before : List Seat) → is_open (with_seat view before) view ≡ true
+open_with view before = opened_with view before view ∙ rw (eq-eqb view view refl) (or_true (is_open before view))
+  where
+    or_true : (b : Bool) → (b || true) ≡ true
+    or_true true = refl
+    or_true false = refl
+
+-- a view that was not open is no group
+pub no_targets_with : (view : ℕ) (before : List Seat) → is_open before view ≡ false → targets_of (with_seat view before) view ≡ []
+no_targets_with view before closed = targets_with view before view ∙ none before closed
+  where
+    none : (before : List Seat) → is_open before view ≡ false → targets_of before view ≡ []
+    none [] closed = refl
+    none (s ∷ before) closed =
+        elim (cases_Bool (s.view == view)) [
+          | inl is ↦ true_not_false (rw is refl) closed
+          | inr is ↦ rw is (none before (rw is at closed))
+        ]

@@ -1,0 +1,119 @@
+//! Hooks that fire.
+ghost use Rattle.std.specs.Prelude.{◌≡◌, ◌-ℤ◌};
+ghost use Rattle.std.specs.Ordering.{int_eq};
+ghost use Rattle.size_hooks.specs.Hooks.{disarmed, hook_of};
+ghost use Rattle.traversal.specs.Changing.{SameShape};
+ghost use Rattle.traversal.specs.Frames.{edited_by, edits_of, fired_in, same_size};
+ghost use Rattle.view_model.specs.Changes.{facts_after_change};
+ghost use Rattle.view_model.specs.Geometry.{size_of_rect};
+ghost use Rattle.view_model.specs.PlainTree.{with_facts};
+ghost use Rattle.view_tree.specs.Hidden.{IsConsistent};
+ghost use Rattle.view_tree.specs.Rows.{first_tree, part_from};
+ghost use Rattle.view_tree.specs.Views.{IsLive, geometry_of, held_of, laid_at, laid_rows, number_of, plain_of, state_of};
+
+use geom_core::{Rect, Size};
+use size_hooks::Hooks;
+use view_model::NumEdit;
+use view_tree::{Key, ViewTree};
+
+/// The number of the first view in preorder whose hook fires: it lies somewhere, its hook is armed, and its size is
+/// another than the one reported.
+pub fn fired(tree: &ViewTree, hooks: &Hooks) -> Option<u64>
+    ensures { result ≡ fired_in hooks.now (geometry_of tree.now) }
+{
+    let root = tree.root()?;
+    fired_from(tree, hooks, root)
+}
+
+/// The first of these among a view and all below it.
+fn fired_from(tree: &ViewTree, hooks: &Hooks, view: Key) -> Option<u64>
+    requires { IsLive tree.now view }
+    ensures { result ≡ fired_in hooks.now (laid_rows (held_of tree.now) (first_tree (part_from view tree.now.tree))) }
+{
+    if let Some(found) = fired_at(tree, hooks, view) {
+        return Some(found);
+    }
+    let mut next = tree.first(view);
+    while let Some(kid) = next {
+        if let Some(found) = fired_from(tree, hooks, kid) {
+            return Some(found);
+        }
+        next = tree.next(kid);
+    }
+    None
+}
+
+/// The number of a view, if its hook fires.
+fn fired_at(tree: &ViewTree, hooks: &Hooks, view: Key) -> Option<u64>
+    requires { IsLive tree.now view }
+    ensures { result ≡ fired_in hooks.now (laid_at (number_of tree.now view) (state_of tree.now view).bounds) }
+{
+    let rect = tree.state(view).bounds?;
+    let number = tree.number(view);
+    let reported = hooks.reported(number)?;
+    if has_size(rect, reported) {
+        None
+    } else {
+        Some(number)
+    }
+}
+
+/// Whether a rectangle has this size.
+fn has_size(rect: Rect, size: Size) -> bool
+    ensures { result ≡ same_size (size_of_rect rect) size }
+{
+    has_side(rect.left, rect.right, size.w) && has_side(rect.top, rect.bottom, size.h)
+}
+
+/// Whether it is this far from one place to another.
+fn has_side(from: i32, to: i32, side: i32) -> bool
+    ensures { result ≡ int_eq (to -ℤ from) side }
+{
+    match to.checked_sub(from) {
+        Some(length) => length == side,
+        None => false,
+    }
+}
+
+/// Makes the edits of the hook of a view, in order, and takes the hook away.
+pub fn fire(tree: &mut ViewTree, hooks: &mut Hooks, view: u64)
+    requires { IsConsistent tree.old }
+    ensures plain { plain_of tree.new ≡ edited_by (edits_of (hook_of hooks.old view)) (plain_of tree.old) }
+    ensures geometry { geometry_of tree.new ≡ geometry_of tree.old }
+    ensures shape { SameShape tree.old tree.new }
+    ensures consistent { IsConsistent tree.new }
+    ensures hooks { hooks.new ≡ disarmed view hooks.old }
+{
+    make_all(tree, hooks, view);
+    hooks.disarm(view);
+}
+
+/// Makes the edits of the hook of a view, in order.
+fn make_all(tree: &mut ViewTree, hooks: &Hooks, view: u64)
+    requires { IsConsistent tree.old }
+    ensures plain { plain_of tree.new ≡ edited_by (edits_of (hook_of hooks.now view)) (plain_of tree.old) }
+    ensures geometry { geometry_of tree.new ≡ geometry_of tree.old }
+    ensures shape { SameShape tree.old tree.new }
+    ensures consistent { IsConsistent tree.new }
+{
+    let mut k = 0;
+    while let Some(edit) = hooks.edit(view, k) {
+        make(tree, edit);
+        k += 1;
+    }
+}
+
+/// Makes an edit, if its view is there.
+fn make(tree: &mut ViewTree, edit: NumEdit)
+    requires { IsConsistent tree.old }
+    ensures plain { plain_of tree.new ≡ with_facts edit.view (facts_after_change edit.change) (plain_of tree.old) }
+    ensures geometry { geometry_of tree.new ≡ geometry_of tree.old }
+    ensures shape { SameShape tree.old tree.new }
+    ensures consistent { IsConsistent tree.new }
+{
+    let Some(view) = tree.find(edit.view) else {
+        return;
+    };
+    let facts = edit.change.on(*tree.facts(view));
+    tree.set_facts(view, facts);
+}

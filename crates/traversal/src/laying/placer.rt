@@ -1,0 +1,95 @@
+//! Where a group puts its children, one after the other. What is here has one arm a class.
+ghost use Rattle.std.specs.Prelude.{◌≡◌, ◌<◌, [], ◌∷◌, ◌++◌, List, length};
+ghost use Rattle.geom_core.specs.Limits.{IsSide};
+ghost use Rattle.view_model.specs.declared.limits.TheConstants.{MAX_VIEWS};
+ghost use Rattle.view_model.specs.Facts.{unscrolled_facts};
+ghost use Rattle.view_model.specs.Layout.{Spot, place_in};
+ghost use Rattle.view_model.specs.Measuring.{Measured};
+ghost use Rattle.view_model.specs.RelativeCourse.{relative_place};
+ghost use Rattle.view_model.specs.RelativeLayout.{sides_of};
+ghost use Rattle.view_tree.specs.Rows.{part_from};
+ghost use Rattle.view_tree.specs.Views.{IsLive, held_of};
+ghost use Rattle.traversal.specs.Laying.{spot_of};
+ghost use Rattle.traversal.specs.Narrow.{AreSidesNarrow, IsNarrow, IsNarrowFor};
+ghost use Rattle.traversal.specs.Placing.{PlacesAs};
+
+use frame_layout::place;
+use geom_core::{Rect, Size};
+use linear_layout::Cursor;
+use view_model::{Class, Edges, Facts};
+use view_tree::{Key, ViewTree};
+
+/// How a view places its children.
+#[derive(Clone, Copy, Debug)]
+pub enum Placer {
+    /// Over one another.
+    Over { own: Facts, room: Size },
+    /// One behind the other.
+    InLine(Cursor),
+    /// Each between the sides that measuring has found for it.
+    Between,
+}
+
+impl Placer {
+    /// Before the first child of a view of this size.
+    pub fn start(tree: &ViewTree, view: Key, room: Size) -> Placer
+        requires live { IsLive tree.now view }
+        ensures { PlacesAs result (spot_of (part_from view tree.now.tree) (held_of tree.now view) room) [] }
+    {
+        match tree.class(view) {
+            Class::View | Class::TextView | Class::FrameLayout | Class::ScrollView => Placer::Over {
+                own: *tree.facts(view),
+                room,
+            },
+            Class::LinearLayout => {
+                Placer::InLine(Cursor::start(tree.facts(view), room, tree.state(view).total))
+            }
+            Class::RelativeLayout => Placer::Between,
+        }
+    }
+
+    /// The place of the next child, which has this size, and in a relative layout these sides.
+    pub fn place(&mut self, kid: &Facts, size: Size, edges: Edges) -> Rect
+        requires width { IsSide size.w }
+        requires height { IsSide size.h }
+        requires sides { IsNarrowFor self.old (sides_of edges) }
+        ensures narrow { IsNarrow result }
+        ensures place { (spot : Spot) (before : List Measured)
+            → PlacesAs self.old spot before
+            → result ≡ place_in spot before (record { facts = unscrolled_facts kid.now; size = size }) (sides_of edges) }
+        ensures next { (spot : Spot) (before : List Measured)
+            → PlacesAs self.old spot before
+            → length before < MAX_VIEWS
+            → PlacesAs self.new spot (before ++ record { facts = unscrolled_facts kid.now; size = size } ∷ []) }
+    {
+        match self {
+            Placer::Over { own, room } => place(own, *room, kid, size),
+            Placer::InLine(cursor) => cursor.place(kid, size),
+            Placer::Between => between(edges, size),
+        }
+    }
+}
+
+/// The rectangle between the sides of a child of this size; at the origin where it has none.
+fn between(edges: Edges, size: Size) -> Rect
+    requires width { IsSide size.w }
+    requires height { IsSide size.h }
+    requires sides { AreSidesNarrow (sides_of edges) }
+    ensures place { result ≡ relative_place size (sides_of edges) }
+    ensures narrow { IsNarrow result }
+{
+    let (Some(across), Some(down)) = (edges.across, edges.down) else {
+        return Rect {
+            left: 0,
+            top: 0,
+            right: size.w,
+            bottom: size.h,
+        };
+    };
+    Rect {
+        left: across.0,
+        top: down.0,
+        right: across.1,
+        bottom: down.1,
+    }
+}

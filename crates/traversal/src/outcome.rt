@@ -1,0 +1,13 @@
+//! How a frame has ended.
+use geom_core::Rect;
+
+/// How a frame has ended.
+#[derive(Clone, Copy, Debug, PartialEq, Eq)]
+pub struct Frame {
+    /// Whether its last pass fired no hook.
+    pub settled: bool,
+    /// How many hooks fired: at most one a pass.
+    pub fired: u8,
+    /// What has to be painted anew, in the window's coordinates.
+    pub damage: Rect,
+}

@@ -1,0 +1,134 @@
+-- A frame of a world, in terms of the plain world, and what a world keeps then.
+use Rattle.std.proofs.Common.{◌≡◌, ℕ, ◌+◌, ◌*◌, ◌<◌, Bool, true, false, List, [], refl, sym, ◌∙◌, ap, subst, arith}
+use Rattle.std.specs.Prelude.{Option, Some, not}
+use Rattle.std.specs.Option.{is_some}
+use Rattle.geom_core.specs.declared.color.Argb.{Argb}
+use Rattle.geom_core.specs.declared.geometry.Size.{Size}
+use Rattle.pixel_raster.specs.Raster.{Raster, size_of}
+use Rattle.saved_state.specs.Saving.{OffsetsFit}
+use Rattle.size_hooks.specs.Hook.{Hook}
+use Rattle.touch_dispatch.specs.Kept.{Kept, gesture_of, is_open}
+use Rattle.touch_dispatch.specs.TreeEvents.{IsGestureIn}
+use Rattle.traversal.proofs.FrameLaws.{unsettled_nowhere}
+use Rattle.traversal.proofs.ShapeLaws.{bare_view, count_of-same, count_of_key-same, number_of-same, views_of-same}
+use Rattle.traversal.specs.Changing.{FitAll, IsFramed, SameShape}
+use Rattle.traversal.specs.Frames.{Framed, after_frame as frame_of}
+use Rattle.traversal.specs.declared.outcome.Frame.{Frame}
+use Rattle.view_model.specs.Forest.{Forest, Nothing, Branch, count_of}
+use Rattle.view_model.specs.Geometry.{Laid}
+use Rattle.view_model.specs.PlainTree.{PlainView}
+use Rattle.view_tree.proofs.forest.PlainLaws.{plain-count}
+use Rattle.view_tree.specs.Hidden.{IsConsistent}
+use Rattle.view_tree.specs.Rows.{Row, count_of_key, first_key, views_of}
+use Rattle.view_tree.specs.Views.{Held, Views, geometry_of, held_of, plain_of, plain_rows}
+use Rattle.view_world.proofs.ShapeLaws.{children_alike, shape-map, shape_of}
+use Rattle.view_world.proofs.WorldLaws.{window-size}
+use Rattle.view_world.specs.Counting.{RisesWithin, area_of, paint_bound}
+use Rattle.view_world.specs.KeyedWorld.{KeyedWorld, geometry_in, picture_at, stage_of, window_in, window_of, world_of}
+use Rattle.view_world.specs.Replies.{framed_text}
+use Rattle.view_world.specs.Sound.{IsSound}
+use Rattle.view_world.specs.Step.{Done, after_frame, frame_text, framed, picture_after, picture_in, stage_after, with_frame}
+use Rattle.view_world.specs.World as plain
+use Rattle.view_world.specs.World.{World}
+use Rattle.view_world.specs.declared.stage.Stage.{Stage}
+use Rattle.view_world.specs.declared.stage.Stage.TheVariants.{Unsettled, Settled}
+use Rattle.view_world.specs.declared.world.World.TheInside.{Inside}
+
+framed-some : (world : World) (size : Size) (window : Option Size) (rows : Forest Row) (held : ℕ → Held) (root : Option ℕ) → window ≡ Some size → root ≡ first_key rows → is_some root ≡ true
+    → framed world window (plain_rows held rows) ≡ Done (after_frame world size) (frame_text (frame_of world.tree world.hooks size))
+framed-some world size window Nothing held root ew er some = absurd (let e = ap is_some er in cc)
+framed-some world size window (Branch row kids siblings) held root ew er some = rw ew refl
+
+-- a world with all that a frame may change
+abbrev with_all : World → Forest PlainView → ℕ → Option Size → plain.Stage → List Laid → List Argb → List Hook → World
+with_all world tree next window stage geometry picture hooks =
+    record world { tree = tree; next = next; window = window; stage = stage; geometry = geometry; picture = picture; hooks = hooks }
+
+same_all : (world : World) {tree tree' : Forest PlainView} {next next' : ℕ} {window window' : Option Size} {stage stage' : plain.Stage} {geometry geometry' : List Laid} {picture picture' : List Argb}
+    {hooks hooks' : List Hook} → tree ≡ tree' → next ≡ next' → window ≡ window' → stage ≡ stage' → geometry ≡ geometry' → picture ≡ picture' → hooks ≡ hooks'
+    → with_all world tree next window stage geometry picture hooks ≡ with_all world tree' next' window' stage' geometry' picture' hooks'
+same_all world et en ew es eg ep eh = rw (et, en, ew, es, eg, ep, eh) refl
+
+-- the world after a frame that ends at this stage
+framed_world : (now : KeyedWorld) (new : Views) (hooks : List Hook) (surface : Raster) (stage : Stage) (size : Size) (outcome : Frame) (after : Framed) → IsFramed after new hooks outcome → new.next ≡ now.views.next
+    → window_of now ≡ Some size → window_in stage surface ≡ Some size → stage_after after.settled ≡ stage_of stage → after.geometry ≡ geometry_in stage new → picture_after size after ≡ picture_at stage surface
+    → Done (with_frame (world_of now) size after) (frame_text after) ≡ Done (world_of (record now { views = new; hooks = hooks; stage = stage; surface = surface })) (framed_text outcome.settled outcome.fired)
+framed_world now new hooks surface stage size outcome after framed next window opened at laid painted =
+    ap (λ (world : World). Done world (frame_text after)) (same_all (world_of now) (sym framed.plain) (sym next) (window ∙ sym opened) at laid painted (sym framed.hooks_are))
+    ∙ ap (λ (settled : Bool). Done (world_of (record now { views = new; hooks = hooks; stage = stage; surface = surface })) (framed_text settled after.fired)) (sym framed.settled)
+    ∙ ap (λ (fired : ℕ). Done (world_of (record now { views = new; hooks = hooks; stage = stage; surface = surface })) (framed_text outcome.settled fired)) (sym framed.fired)
+
+settled_picture : (size : Size) (after : Framed) (geometry : List Laid) (tree : Forest PlainView) → after.settled ≡ true → geometry ≡ after.geometry → tree ≡ after.tree
+    → picture_after size after ≡ picture_in size geometry tree
+settled_picture size after geometry tree settled laid same = rw (settled, laid, same) refl
+
+unsettled_picture : (size : Size) (after : Framed) → after.settled ≡ false → picture_after size after ≡ []
+unsettled_picture size after unsettled = rw unsettled refl
+
+-- a frame has settled, and its picture was painted
+pub Changed-settled : (now : KeyedWorld) (new : Views) (hooks : List Hook) (surface : Raster) (size : Size) (outcome : Frame) (root : Option ℕ) → window_of now ≡ Some size → root ≡ first_key now.views.tree
+    → is_some root ≡ true → IsFramed (frame_of (plain_of now.views) now.hooks size) new hooks outcome → new.next ≡ now.views.next → outcome.settled ≡ true
+    → size_of surface ≡ size → surface.pixels ≡ picture_in size (geometry_of new) (plain_of new)
+    → framed (world_of now) (window_of now) (plain_of now.views)
+    ≡ Done (world_of (record now { views = new; hooks = hooks; stage = Settled; surface = surface })) (framed_text outcome.settled outcome.fired)
+Changed-settled now new hooks surface size outcome root window er some framed next settled wide painted =
+    let after = frame_of (plain_of now.views) now.hooks size in
+    let has : after.settled ≡ true = sym framed.settled ∙ settled in
+    framed-some (world_of now) size (window_of now) now.views.tree (held_of now.views) root window er some
+    ∙ framed_world now new hooks surface Settled size outcome after framed next window (ap Some wide) (ap stage_after has) (sym (framed.geometry has))
+    (settled_picture size after (geometry_of new) (plain_of new) has (framed.geometry has) framed.plain ∙ sym painted)
+
+-- a frame has not settled
+pub Changed-unsettled : (now : KeyedWorld) (new : Views) (hooks : List Hook) (size : Size) (outcome : Frame) (root : Option ℕ) → window_of now ≡ Some size → root ≡ first_key now.views.tree
+    → is_some root ≡ true → IsFramed (frame_of (plain_of now.views) now.hooks size) new hooks outcome → new.next ≡ now.views.next → outcome.settled ≡ false
+    → framed (world_of now) (window_of now) (plain_of now.views) ≡ Done (world_of (record now { views = new; hooks = hooks; stage = Unsettled })) (framed_text outcome.settled outcome.fired)
+Changed-unsettled now new hooks size outcome root window er some framed next unsettled =
+    let after = frame_of (plain_of now.views) now.hooks size in
+    let has : after.settled ≡ false = sym framed.settled ∙ unsettled in
+    framed-some (world_of now) size (window_of now) now.views.tree (held_of now.views) root window er some
+    ∙ framed_world now new hooks now.surface Unsettled size outcome after framed next window (ap Some (window-size now size window)) (ap stage_after has)
+    (unsettled_nowhere (plain_of now.views) now.hooks size has) (unsettled_picture size after has)
+
+-- what a test that was negated has said
+pub is_false : (test : Bool) → not test ≡ true → test ≡ false
+is_false true e = absurd cc
+is_false false e = refl
+
+pub is_true : (test : Bool) → not test ≡ false → test ≡ true
+is_true true e = refl
+is_true false e = absurd cc
+
+-- how much is painted for a frame
+pub paints_within : (now : KeyedWorld) (new : Views) (size : Size) (before mid after : ℕ) → window_of now ≡ Some size → SameShape now.views new → mid ≡ before
+    → RisesWithin ((2 * count_of new.tree + 1) * (now.surface.width * now.surface.height)) mid after → RisesWithin (paint_bound (world_of now)) before after
+unfolding paint_bound
+paints_within now new size before mid after window shape same rises =
+    let wide : size_of now.surface ≡ size = window-size now size window in
+    let area : area_of (window_of now) ≡ now.surface.width * now.surface.height = rw window (rw (← wide) refl) in
+    let count : count_of (plain_of now.views) ≡ count_of new.tree = plain-count (held_of now.views) now.views.tree ∙ sym (count_of-same shape) in
+    let bound : (2 * count_of (plain_of now.views) + 1) * area_of (window_of now) ≡ (2 * count_of new.tree + 1) * (now.surface.width * now.surface.height) = rw (count, area) refl in
+    record { grew = omega (arith, rises.grew, same); most = omega (arith, rises.most, same, bound) }
+
+-- a gesture in a tree of which the facts are others
+gesture_shaped : (old new : Views) (kept : Kept) → SameShape old new → IsGestureIn old.tree kept → IsGestureIn new.tree kept
+gesture_shaped old new kept shape caught = record {
+  opened = λ key live.
+      let was : 0 < count_of_key key old.tree = subst (λ n. 0 < n) (count_of_key-same key shape) live in
+      subst (λ n. is_open kept n ≡ true) (sym (number_of-same key shape)) (caught.opened key was);
+  children =
+      children_alike (views_of old.tree) (views_of new.tree) (gesture_of kept)
+      (sym (shape-map bare_view (views_of new.tree) (λ v. refl)) ∙ ap shape_of (views_of-same shape) ∙ shape-map bare_view (views_of old.tree) (λ v. refl)) caught.children;
+}
+
+-- a world stays sound
+pub sound_framed : (old new : Inside) → SameShape old.tree new.tree → IsConsistent new.tree → FitAll (geometry_of new.tree) → OffsetsFit (plain_of new.tree) → new.gesture ≡ old.gesture → new.log ≡ old.log
+    → new.pointers ≡ old.pointers → IsSound old → IsSound new
+sound_framed old new shape consistent narrow offsets gesture log pointers sound = record {
+  consistent = consistent;
+  caught = rw gesture (gesture_shaped old.tree new.tree old.gesture shape sound.caught);
+  fresh = λ number later. rw gesture (sound.fresh number (rw shape.next at later));
+  room = rw (log, count_of-same shape) sound.room;
+  down = rw pointers sound.down;
+  narrow = narrow;
+  offsets = offsets;
+}

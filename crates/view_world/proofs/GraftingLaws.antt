@@ -1,0 +1,143 @@
+-- What a world keeps once the views of a file have come.
+use Rattle.std.proofs.Common.{◌≡◌, ◌∙◌, ℕ, suc, ◌+◌, ◌*◌, ◌≤◌, arith, List, length, length-append, refl, sym, ap, subst, inl, inr}
+use Rattle.std.specs.Prelude.{◌==◌, true, Option, Some, None, Result, Err}
+use Rattle.std.specs.Option.{option_map, option_or}
+use Rattle.std.proofs.lemmas.Bool.{cases_Bool, cases_lt}
+use Rattle.saved_state.specs.Saving.{OffsetsFit}
+use Rattle.touch_dispatch.specs.Kept.{Kept, gesture_of, is_open}
+use Rattle.touch_dispatch.specs.TreeEvents.{room_of}
+use Rattle.touch_dispatch.specs.declared.log.Log.{Log}
+use Rattle.inflater.specs.Inflating.{Plan}
+use Rattle.traversal.specs.Changing.{FitAll}
+use Rattle.view_model.specs.Forest.{Forest, Nothing, Branch, count_of, joined}
+use Rattle.view_model.specs.Growth.{grown_at}
+use Rattle.view_model.specs.PlainTree.{PlainView, grown}
+use Rattle.view_model.specs.Refusals.{PlainRefusal}
+use Rattle.view_model.specs.Sprouts.{IsPreorder, Seed, numbered, preorder, seeds_of}
+use Rattle.view_model.specs.declared.sprout.Sprout.{Sprout}
+use Rattle.view_model.proofs.SproutLaws.{preorder-seeds_of}
+use Rattle.view_tree.specs.Faults.{IsRefusedOrCyclic}
+use Rattle.view_tree.specs.Grafted.{Grafted}
+use Rattle.view_tree.specs.Hidden.{IsConsistent}
+use Rattle.view_tree.specs.Views.{IsTree, Views, held_of, number_of, plain_of}
+use Rattle.view_tree.specs.declared.fault.AttachFault.{AttachFault}
+use Rattle.view_tree.specs.declared.fault.AttachFault.TheVariants as attach
+use Rattle.view_tree.proofs.forest.KeyLaws.{zero_or_more}
+use Rattle.view_tree.proofs.forest.PlainLaws.{plain-count}
+use Rattle.view_tree.proofs.values.GeometryLaws.{geometry-gained}
+use Rattle.view_world.proofs.CaughtLaws.{times-plain}
+use Rattle.view_world.proofs.GrowingLaws.{placed_root}
+use Rattle.view_world.proofs.GrownCaught.{gesture_grafted}
+use Rattle.view_world.proofs.ShapeLaws.{times_in}
+use Rattle.view_world.specs.Changed.{CarriesOut, fault_of_graft}
+use Rattle.view_world.specs.KeyedWorld.{KeyedWorld}
+use Rattle.view_world.specs.Places.{AreOpened}
+use Rattle.view_world.specs.Sound.{IsSound}
+use Rattle.view_world.specs.Step.{grafted}
+use Rattle.view_world.specs.World.{World}
+use Rattle.view_world.specs.declared.world.World.TheInside.{Inside}
+
+length-preorder : (depth : ℕ) (seeds : Forest Seed) → length (preorder depth seeds) ≡ count_of seeds
+length-preorder depth Nothing = refl
+length-preorder depth (Branch seed below after) =
+    let both = length-append (preorder (suc depth) below) (preorder depth after) in
+    let one = length-preorder (suc depth) below in
+    let two = length-preorder depth after in
+    omega (arith, both, one, two)
+
+-- a sapling has as many views as sprouts
+pub count-seeds_of : (sprouts : List Sprout) → IsPreorder sprouts → count_of (seeds_of sprouts) ≡ length sprouts
+count-seeds_of sprouts is = sym (length-preorder 1 (seeds_of sprouts)) ∙ ap length (preorder-seeds_of sprouts is)
+
+count-numbered : (first : ℕ) (seeds : Forest Seed) → count_of (numbered first seeds) ≡ count_of seeds
+count-numbered first Nothing = refl
+count-numbered first (Branch seed below after) =
+    let one = count-numbered (suc first) below in
+    let two = count-numbered (suc first + count_of below) after in
+    omega (arith, one, two)
+
+count-joined : (list more : Forest PlainView) → count_of (joined list more) ≡ count_of list + count_of more
+count-joined Nothing more = omega arith
+count-joined (Branch view below after) more = let later = count-joined after more in omega (arith, later)
+
+count-grown_none : (parent : ℕ) (new tree : Forest PlainView) → times_in parent tree ≡ 0 → count_of (grown parent new tree) ≡ count_of tree
+count-grown_none parent new Nothing none = refl
+count-grown_none parent new (Branch view below after) none =
+    elim (cases_Bool (view.number == parent)) [
+      | inl e ↦ absurd (let none : 1 + (times_in parent below + times_in parent after) ≡ 0 = rw e at none in omega arith)
+      | inr e ↦
+          let none : 0 + (times_in parent below + times_in parent after) ≡ 0 = rw e at none in
+          let one = count-grown_none parent new below (omega (arith, none)) in
+          let two = count-grown_none parent new after (omega (arith, none)) in
+          rw e (omega (arith, one, two))
+    ]
+
+count-grown : (parent : ℕ) (new tree : Forest PlainView) → times_in parent tree ≤ 1 → count_of (grown parent new tree) ≤ count_of tree + count_of new
+count-grown parent new Nothing once = omega arith
+count-grown parent new (Branch view below after) once =
+    elim (cases_Bool (view.number == parent)) [
+      | inl e ↦ let both = count-joined below new in rw e (omega (arith, both))
+      | inr e ↦
+          let once : 0 + (times_in parent below + times_in parent after) ≤ 1 = rw e at once in
+          elim (zero_or_more (times_in parent below)) [
+            | inl z ↦
+                let one = count-grown_none parent new below z in
+                let two = count-grown parent new after (omega (arith, once)) in
+                rw e (omega (arith, one, two))
+            | inr l ↦
+                let one = count-grown parent new below (omega (arith, once)) in
+                let two = count-grown_none parent new after (omega (arith, once, l)) in
+                rw e (omega (arith, one, two))
+          ]
+    ]
+
+count-grown_at : (place : Option ℕ) (new tree : Forest PlainView) → ((number : ℕ) → times_in number tree ≤ 1) → count_of (grown_at place new tree) ≤ count_of tree + count_of new
+count-grown_at None new tree once = omega arith
+count-grown_at (Some parent) new tree once = count-grown parent new tree (once parent)
+
+-- no more views come than a sapling has
+pub count_grafted : (old new : Views) (place : Option ℕ) (seeds : Forest Seed) → IsTree old → plain_of new ≡ grown_at (option_map (number_of old) place) (numbered old.next seeds) (plain_of old)
+    → count_of new.tree ≤ count_of old.tree + count_of seeds
+count_grafted old new place seeds is grew =
+    let at = option_map (number_of old) place in
+    let once : (number : ℕ) → times_in number (plain_of old) ≤ 1 =
+    λ number. let same = times-plain (held_of old) number old.tree in let few = is.numbers number in omega (arith, same, few) in
+    let most = count-grown_at at (numbered old.next seeds) (plain_of old) once in
+    let now = sym (plain-count (held_of new) new.tree) ∙ ap count_of grew in
+    let before = plain-count (held_of old) old.tree in
+    let come = count-numbered old.next seeds in
+    omega (arith, most, now, before, come)
+
+stay : (first count : ℕ) (old new : Kept) → AreOpened first count old new → (number : ℕ) → is_open old number ≡ true → is_open new number ≡ true
+stay first count old new opened number was =
+    elim (cases_lt number first) [
+      | inl less ↦ opened.below number less ∙ was
+      | inr from ↦ elim (cases_lt number (first + count)) [ inl to ↦ opened.there number from to | inr above ↦ opened.above number above ∙ was ]
+    ]
+
+-- the fault of a graft is the reply
+pub graft_told : (world : World) (number : Option ℕ) (plan : Plan) (new : KeyedWorld) (reason cycle : Option PlainRefusal) (why : AttachFault)
+    → IsRefusedOrCyclic reason cycle (let r : Result ℕ AttachFault = Err why in r) → CarriesOut (grafted world number plan (option_or reason cycle)) new (Err (fault_of_graft why))
+graft_told world number plan new reason cycle (attach.Refused refusal) told = rw told refl
+graft_told world number plan new reason cycle attach.NoMemory told = tt
+
+-- the views of a file are in the tree, and have places
+pub sound_grafted : (inside : Inside) (new : Views) (gesture : Kept) (log : Log) (place : Option ℕ) (sprouts : List Sprout) (key : ℕ) → IsSound inside → IsTree inside.tree
+    → (place ≡ None → inside.tree.tree ≡ Nothing) → IsPreorder sprouts → Grafted inside.tree place (seeds_of sprouts) key new → IsConsistent new
+    → gesture_of gesture ≡ gesture_of inside.gesture → AreOpened inside.tree.next (length sprouts) inside.gesture gesture
+    → (count_of new.tree ≤ count_of inside.tree.tree + length sprouts → 3 * count_of new.tree ≤ room_of log) → OffsetsFit (plain_of new) → IsSound (record inside { tree = new; gesture = gesture; log = log })
+sound_grafted inside new gesture log place sprouts key sound is root order came consistent same opened room offsets =
+    let count = count-seeds_of sprouts order in
+    let old = inside.tree in
+    record {
+      consistent = consistent;
+      caught =
+          gesture_grafted old new (option_map (number_of old) place) (seeds_of sprouts) inside.gesture gesture is (placed_root old place root) came.plain same
+          (stay old.next (length sprouts) inside.gesture gesture opened)
+          (λ number from to. opened.there number from (omega (arith, to, count))) sound.caught;
+      fresh = λ number later. let next = came.next in opened.above number (omega (arith, later, next, count)) ∙ sound.fresh number (omega (arith, later, next));
+      room = room (let most = count_grafted old new place (seeds_of sprouts) is came.plain in omega (arith, most, count));
+      down = sound.down;
+      narrow = subst FitAll (sym (geometry-gained old new place came.added root came.gained)) sound.narrow;
+      offsets = offsets;
+    }

@@ -1,0 +1,68 @@
+-- How lines that touch views change the world of a script.
+use Rattle.std.proofs.Common.{◌≡◌, ℕ, Bool, true, false, List, [], ◌∷◌, Some, refl, sym, ◌∙◌, ap, subst}
+use Rattle.std.specs.Prelude.{Ok}
+use Rattle.touch_dispatch.specs.Gestures.{PlainGesture, set_disallow}
+use Rattle.touch_dispatch.specs.Kept.{Kept, gesture_of, is_open}
+use Rattle.touch_dispatch.specs.TreeEvents.{IsGestureIn}
+use Rattle.touch_event.specs.declared.event.Action.TheVariants.{Move as Moved}
+use Rattle.touch_event.specs.declared.event.Event.{Event}
+use Rattle.touch_event.specs.declared.event.Point.{Point}
+use Rattle.touch_targets.specs.Captures.{Target, is_target}
+use Rattle.view_model.specs.Forest.{Forest}
+use Rattle.view_model.specs.Growth.{is_group}
+use Rattle.view_model.specs.PlainTree.{PlainView, view_in}
+use Rattle.view_model.specs.Refusals.{refusal_numbered}
+use Rattle.view_model.specs.declared.refusals.TheConstants.{WRONG_CLASS}
+use Rattle.view_tree.specs.Rows.{Row}
+use Rattle.view_tree.specs.Views.{plain_of}
+use Rattle.view_world.specs.World.{World}
+use Rattle.view_world.specs.Changed.{CarriesOut}
+use Rattle.view_world.specs.KeyedWorld.{KeyedWorld, world_of}
+use Rattle.view_world.specs.Pointers.{event_of, is_pressed, with_point}
+use Rattle.view_world.specs.Sound.{HasNoneFrom}
+use Rattle.view_world.specs.Step.{Reply, Done, Refused, after_event, disallow_told, moved, touched}
+use Rattle.view_world.specs.Touching.{all_disallowed, ancestors_of}
+use Rattle.view_world.specs.declared.response.Response.{Response}
+use Rattle.view_world.specs.declared.response.Response.TheVariants as response
+use Rattle.view_world.proofs.WorldLaws.{Changed-as}
+
+-- whatever is done with a touch is the reply
+abbrev pub Touchable : KeyedWorld → Type 0
+Touchable now = (next : Reply) → touched (world_of now) next ≡ next
+
+-- a pointer that is down moves
+pub Changed-move : (now new : KeyedWorld) (point : Point) (pointers : List Point) (event : Event) (response : Response)
+    → Touchable now → is_pressed point.id now.pointers ≡ true
+    → pointers ≡ with_point point now.pointers → event ≡ event_of Moved point.id pointers
+    → CarriesOut (after_event (world_of now) event pointers) new (Ok response)
+    → CarriesOut (touched (world_of now) (moved (world_of now) point)) new (Ok response)
+Changed-move now new point pointers event response touchable pressed are is changed =
+    let made : moved (world_of now) point ≡ after_event (world_of now) event pointers = rw (pressed, is, are) refl in
+    Changed-as _ _ new (Ok response) (touchable (moved (world_of now) point) ∙ made) changed
+
+-- a group may not take events away from its children, nor may its ancestors, or they may again
+pub Changed-disallow : (now : KeyedWorld) (kept : Kept) (number : ℕ) (on : Bool) (view : PlainView) → view_in (plain_of now.views) number ≡ Some view → is_group view.class ≡ true
+    → gesture_of kept ≡ all_disallowed on (number ∷ ancestors_of number (plain_of now.views)) (gesture_of now.gesture)
+    → CarriesOut (disallow_told (world_of now) number on (view_in (plain_of now.views) number)) (record now { gesture = kept }) (Ok response.Nothing)
+Changed-disallow now kept number on view there group is =
+    (rw (there, group) (ap (λ (gesture : PlainGesture). let w : World = record (world_of now) { gesture = gesture } in Done w []) (sym is)), tt)
+
+pub Refused-disallow : (now : KeyedWorld) (number : ℕ) (on : Bool) (view : PlainView) → view_in (plain_of now.views) number ≡ Some view → is_group view.class ≡ false
+    → disallow_told (world_of now) number on (view_in (plain_of now.views) number) ≡ Refused (refusal_numbered WRONG_CLASS)
+Refused-disallow now number on view there no_group = rw (there, no_group) refl
+
+-- who may take events away is no matter of targets
+pub targets-disallowed : (on : Bool) (numbers : List ℕ) (gesture : PlainGesture) → (all_disallowed on numbers gesture).targets ≡ gesture.targets
+targets-disallowed on [] gesture = refl
+targets-disallowed on (number ∷ numbers) gesture = targets-disallowed on numbers (set_disallow number on gesture)
+
+-- a gesture with the same places and the same targets
+pub gesture_along : (tree : Forest Row) (old new : Kept) → ((other : ℕ) → is_open new other ≡ is_open old other) → (gesture_of new).targets ≡ (gesture_of old).targets
+    → IsGestureIn tree old → IsGestureIn tree new
+gesture_along tree old new places same caught = record {
+  opened = λ key live. places _ ∙ caught.opened key live;
+  children = λ group child is. caught.children group child (subst (λ (targets : ℕ → List Target). is_target child (targets group) ≡ true) same is);
+}
+
+pub fresh_along : (first : ℕ) (old new : Kept) → ((other : ℕ) → is_open new other ≡ is_open old other) → HasNoneFrom first old → HasNoneFrom first new
+fresh_along first old new places fresh = λ number later. places number ∙ fresh number later

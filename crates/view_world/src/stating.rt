@@ -1,0 +1,95 @@
+//! States as they are told, and as they are read.
+ghost use Rattle.std.specs.Prelude.{◌≡◌, ◌∷◌, [], Err, IfOk, OnErr, OnOk};
+ghost use Rattle.hex.specs.Hex.{encode_lower};
+ghost use Rattle.saved_state.specs.Restoring.{is_for_other_class, restored};
+ghost use Rattle.saved_state.specs.Saving.{OffsetsFit};
+ghost use Rattle.saved_state.specs.State.{decoded};
+ghost use Rattle.text_lines.specs.BufferedText.{Sends};
+ghost use Rattle.view_model.specs.Forest.{rows};
+ghost use Rattle.view_tree.specs.Hidden.{IsConsistent};
+ghost use Rattle.view_tree.specs.Views.{SameTree, geometry_of, plain_of};
+ghost use Rattle.view_world.specs.Replies.{state_bytes, state_text};
+ghost use Rattle.view_world.specs.Stated.{ReadsState, TakesUp, fault_of_state};
+
+use crate::fault::StepFault;
+use crate::response::Response;
+use saved_state::{StateFault, States, read, restore};
+use std::alloc::Global;
+use text_lines::TextBuffer;
+use tool_io::Sink;
+use view_tree::ViewTree;
+
+/// The digits of a byte.
+fn digits_of(byte: u8) -> [u8; 2]
+    ensures { result ≡ encode_lower (byte ∷ []) }
+{
+    let mut digits = [0; 2];
+    let _ = hex::encode_to_slice([byte], &mut digits);
+    digits
+}
+
+/// Bytes in hexadecimal digits.
+fn put_bytes<K: Sink>(text: &mut TextBuffer, sink: &mut K, bytes: &[u8])
+    ensures { Sends (K.state sink.old) (K.state sink.new) text.old text.new (encode_lower bytes.now) }
+{
+    for byte in bytes {
+        text.put(sink, &digits_of(*byte));
+    }
+}
+
+/// The reply that tells a state of these bytes.
+#[tactic(auto, using(text_lines::proofs::Sending::sends_both))]
+pub fn put_state<K: Sink>(text: &mut TextBuffer, sink: &mut K, bytes: &[u8])
+    ensures { Sends (K.state sink.old) (K.state sink.new) text.old text.new (state_text bytes.now) }
+{
+    text.put(sink, b"state ");
+    put_bytes(text, sink, bytes);
+    text.put(sink, b"\n");
+}
+
+/// The bytes that hexadecimal digits stand for. A line has an even number of them, so only memory can be wanting.
+pub fn bytes_of(alloc: Global, digits: &str) -> Result<Vec<u8>, StepFault>
+    ensures bytes { IfOk result (λ bytes. bytes.items ≡ state_bytes digits.now) }
+    ensures memory { OnErr result (result ≡ Err StepFault.NoMemory) }
+{
+    match hex::decode(alloc, digits.as_bytes()) {
+        Ok(bytes) => Ok(bytes),
+        Err(_) => Err(StepFault::NoMemory),
+    }
+}
+
+/// The fault of a line by which a state was not read, or not taken up.
+fn fault_of(fault: StateFault) -> StepFault
+    ensures { result ≡ fault_of_state fault }
+{
+    match fault {
+        StateFault::Refused(refusal) => StepFault::Refused(refusal),
+        StateFault::NoMemory => StepFault::NoMemory,
+    }
+}
+
+/// The state that bytes stand for.
+pub fn state_of(alloc: Global, bytes: &[u8]) -> Result<States, StepFault>
+    ensures { ReadsState (decoded bytes.now) result }
+{
+    match read(alloc, bytes) {
+        Ok(states) => Ok(states),
+        Err(fault) => Err(fault_of(fault)),
+    }
+}
+
+/// Sets the offsets that a state has.
+pub fn take_up(tree: &mut ViewTree, states: &States) -> Result<Response, StepFault>
+    ensures taken { TakesUp (is_for_other_class states.now (rows (plain_of tree.old))) result }
+    ensures plain { OnOk result (plain_of tree.new ≡ restored states.now (plain_of tree.old)) }
+    ensures unchanged { OnErr result (tree.new ≡ tree.old) }
+    ensures same { SameTree tree.old tree.new }
+    ensures geometry { geometry_of tree.new ≡ geometry_of tree.old }
+    ensures consistent { IsConsistent tree.old → IsConsistent tree.new }
+    ensures fits { OffsetsFit (plain_of tree.old) → OffsetsFit (plain_of tree.new) }
+{
+    match restore(tree, states) {
+        Ok(()) => Ok(Response::Nothing),
+        Err(fault) => Err(fault_of(fault)),
+    }
+}
