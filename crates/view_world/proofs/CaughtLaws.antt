@@ -23,14 +23,6 @@ caught_alike old new kept same caught = record {
   children = children_alike old new (gesture_of kept) same caught.children;
 }
 
--- a gesture that keeps what is kept, and each place
-pub caught_more : (tree : Forest PlainView) (old new : Kept) → gesture_of new ≡ gesture_of old → ((number : ℕ) → is_open old number ≡ true → is_open new number ≡ true)
-    → IsCaughtIn tree old → IsCaughtIn tree new
-caught_more tree old new same opened caught = record {
-  opened = λ number there. opened number (caught.opened number there);
-  children = subst (AreChildren tree) (sym same) caught.children;
-}
-
 pub times-plain : (held : ℕ → Held) (number : ℕ) (tree : Forest Row) → times_in number (plain_rows held tree) ≡ count_of_number number tree
 times-plain held number Nothing = refl
 times-plain held number (Branch row kids siblings) =
@@ -79,10 +71,6 @@ caught_keyed views kept caught = record {
   opened = λ key live. caught.opened _ (subst (λ n. 0 < n) (sym (times-plain (held_of views) (head_view (part_from key views.tree)).number views.tree)) (number_live key views.tree live));
   children = children_alike (plain_of views) (views_of views.tree) (gesture_of kept) (shape-views (held_of views) views.tree) caught.children;
 }
-
--- where the numbers and the shape of the plain tree are the same
-pub gesture_alike : (old new : Views) (kept : Kept) → IsTree old → shape_of (plain_of new) ≡ shape_of (plain_of old) → IsGestureIn old.tree kept → IsGestureIn new.tree kept
-gesture_alike old new kept is same caught = caught_keyed new kept (caught_alike (plain_of old) (plain_of new) kept same (caught_plain old kept is caught))
 
 pub gesture_same : (old new : Views) (kept : Kept) → SameTree old new → IsGestureIn old.tree kept → IsGestureIn new.tree kept
 gesture_same old new kept same caught = subst (λ (tree : Forest Row). IsGestureIn tree kept) (sym same.tree) caught

@@ -52,9 +52,6 @@ use Rattle.view_world.specs.Offsets.{AreUnscrolled, EditsWithin, ScrollsWithin}
 side_fits : (view : PlainView) → IsSide view.facts.offset → FitsOffset view
 side_fits view side moves = (side.low, side.high)
 
-fits_side : (view : PlainView) → FitsOffset view → scrolls view.class ≡ true → IsSide view.facts.offset
-fits_side view fits moves = let both = fits moves in record { low = both.0; high = both.1 }
-
 zero_fits : (view : PlainView) → view.facts.offset ≡ pos 0 → FitsOffset view
 zero_fits view none = side_fits view (subst IsSide (sym none) (record { low = grind (arith, ints); high = grind (arith, ints) }))
 

@@ -57,13 +57,6 @@ pub targets_places : (first count : ℕ) (kept : Kept) (group : ℕ) → (gestur
 targets_places first zero kept group = refl
 targets_places first (suc count) kept group = targets_with (first + count) (with_places first count kept).seats group ∙ targets_places first count kept group
 
-pub opened_none : (first : ℕ) (kept : Kept) → AreOpened first 0 kept kept
-opened_none first kept = record {
-  there = λ number from to. absurd (omega (arith, from, to));
-  below = λ number less. refl;
-  above = λ number more. refl;
-}
-
 -- one more
 pub opened_more : (first count : ℕ) (old kept new : Kept) → AreOpened first count old kept → ((other : ℕ) → is_open new other ≡ (is_open kept other || other == first + count))
     → AreOpened first (count + 1) old new

@@ -4,11 +4,10 @@ use Rattle.std.proofs.lemmas.Bool.{cases_Bool}
 use Rattle.std.specs.Prelude.{if◌then◌else◌, ◌==◌, ◌||◌}
 use Rattle.touch_dispatch.specs.Gestures.{PlainGesture}
 use Rattle.touch_dispatch.specs.TreeEvents.{AreChildren, below_first, is_root}
-use Rattle.view_model.specs.declared.facts.Facts.{Facts}
-use Rattle.view_model.specs.Forest.{Forest, Nothing, Branch, changed_where, map_rows, or_else, sum_of}
+use Rattle.view_model.specs.Forest.{Forest, Nothing, Branch, map_rows, or_else, sum_of}
 use Rattle.view_model.specs.Geometry.{Laid}
 use Rattle.view_model.specs.Offsets.{ranged}
-use Rattle.view_model.specs.PlainTree.{PlainView, part_of, with_facts, with_text}
+use Rattle.view_model.specs.PlainTree.{PlainView, part_of}
 use Rattle.view_tree.specs.Rows.{Row, views_of}
 use Rattle.view_tree.specs.Views.{Held, plain_rows}
 use Rattle.view_tree.proofs.forest.ForestLaws.{map_rows-or_else}
@@ -77,22 +76,6 @@ times_alike number old new same =
 pub shape-map : (change : PlainView → PlainView) (tree : Forest PlainView) → ((view : PlainView) → (change view).number ≡ view.number) → shape_of (map_rows change tree) ≡ shape_of tree
 shape-map change Nothing same = refl
 shape-map change (Branch view below after) same = rw (same view, shape-map change below same, shape-map change after same) refl
-
-shape-changed : (passes : PlainView → Bool) (change : PlainView → PlainView) (tree : Forest PlainView) → ((view : PlainView) → (change view).number ≡ view.number)
-    → shape_of (changed_where passes change tree) ≡ shape_of tree
-shape-changed passes change Nothing same = refl
-shape-changed passes change (Branch view below after) same =
-    elim (cases_Bool (passes view)) [
-      | inl e ↦ rw (e, same view) refl
-      | inr e ↦ rw (e, shape-changed passes change below same, shape-changed passes change after same) refl
-    ]
-
-pub shape-facts : (number : ℕ) (change : Facts → Facts) (tree : Forest PlainView) → shape_of (with_facts number change tree) ≡ shape_of tree
-shape-facts number change tree =
-    shape-changed (λ (view : PlainView). view.number == number) (λ (view : PlainView). record view { facts = change view.facts }) tree (λ view. refl)
-
-pub shape-text : (number : ℕ) (text : List ℕ) (tree : Forest PlainView) → shape_of (with_text number text tree) ≡ shape_of tree
-shape-text number text tree = shape-changed (λ (view : PlainView). view.number == number) (λ (view : PlainView). record view { text = text }) tree (λ view. refl)
 
 pub shape-ranged : (geometry : List Laid) (tree : Forest PlainView) → shape_of (ranged geometry tree) ≡ shape_of tree
 shape-ranged geometry Nothing = refl
