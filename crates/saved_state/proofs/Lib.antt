@@ -1,5 +1,6 @@
 mod EntryLaws
 mod Examples
+mod FoundLaws
 mod OffsetLaws
 mod RestoringLaws
 mod SavingLaws

@@ -1,12 +1,12 @@
 -- A state that is read entry by entry, and one that was written.
-use Rattle.std.proofs.Common.{◌≡◌, ℕ, suc, ◌+◌, ◌-◌, ◌<◌, ◌≤◌, List, [], ◌∷◌, ◌++◌, length, drop, Result, Ok, Err, refl, sym, ◌∙◌, ap, arith, append_assoc, length-drop}
+use Rattle.std.proofs.Common.{◌≡◌, ℕ, suc, ◌+◌, ◌-◌, ◌<◌, ◌≤◌, List, [], ◌∷◌, ◌++◌, length, drop, Result, Ok, Err, refl, sym, subst, ◌∙◌, ap, arith, append_assoc, length-drop}
 use Rattle.std.proofs.lemmas.Bool.{lt-ltb, le-ltb}
 use Rattle.std.proofs.lemmas.List.{append-nil, drop-drop}
 use Rattle.std.specs.Prelude.{slice_index}
 use Rattle.std.specs.List.{flat_map}
 use Rattle.byteorder.specs.Endian.{little_bytes, little_number}
 use Rattle.byteorder.specs.Numbers.{little_number-reads_back}
-use Rattle.saved_state.specs.Answers.{FailsAs, is_bad_at}
+use Rattle.saved_state.specs.Answers.{FailsAs, ReadAs, is_bad_at}
 use Rattle.saved_state.specs.State.{◌>>=◌, IsState, RisesFrom, decoded, encoded, entries_of, entry_bytes, entry_count, entry_of}
 use Rattle.saved_state.specs.declared.fault.StateFault.{StateFault}
 use Rattle.saved_state.specs.declared.fault.StateFault.TheVariants as faults
@@ -115,3 +115,8 @@ decoded_encoded list is =
     counted (encoded list) (length list)
     (count_is (encoded list) (length list) (omega arith) refl refl refl (little_number-reads_back 2 (length list) (flat_map entry_bytes list) (omega arith)))
     ∙ entries_back list 0 5 is.rises
+
+-- the bytes of a state are answered as that, where decoded is the answer
+pub read_again : (bytes : List ℕ) (list : List (ℕ × ℕ)) (result : Result (List (ℕ × ℕ)) StateFault) → IsState list → bytes ≡ encoded list → ReadAs (decoded bytes) result → ReadAs (Ok list) result
+read_again bytes list result state is read =
+    subst (λ (all : Result (List (ℕ × ℕ)) ℕ). ReadAs all result) (ap decoded is ∙ decoded_encoded list state) read

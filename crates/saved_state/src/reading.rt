@@ -1,7 +1,7 @@
 //! Reading of saved states.
-ghost use Rattle.std.specs.Prelude.{◌≡◌, ◌≤◌, ◌<◌, ◌+◌, drop, length, IfOk};
+ghost use Rattle.std.specs.Prelude.{◌≡◌, ℕ, ◌≤◌, ◌<◌, ◌+◌, List, Ok, drop, length, IfOk};
 ghost use Rattle.saved_state.specs.Answers.{ReadAs};
-ghost use Rattle.saved_state.specs.State.{IsState, decoded, entry_count, entry_of};
+ghost use Rattle.saved_state.specs.State.{IsState, decoded, encoded, entries_of, entry_count, entry_of};
 
 use crate::fault::{StateFault, bad_state};
 use crate::format::{ENTRY_BYTES, HEAD_BYTES, MAX_OFFSET, OFFSET_KIND, VERSION};
@@ -14,8 +14,19 @@ use std::alloc::Global;
 pub fn read(alloc: Global, bytes: &[u8]) -> Result<States, StateFault>
     ensures read { ReadAs (decoded bytes.now) result }
     ensures state { IfOk result (λ states. IsState states) }
+    ensures found { IfOk result (λ states. bytes.now ≡ encoded states) }
+    ensures only { (entries : List (ℕ × ℕ)) → IsState entries → bytes.now ≡ encoded entries → ReadAs (Ok entries) result }
 {
     let count = entry_count(bytes)?;
+    entries_of(alloc, bytes, count)
+}
+
+/// The state of so many entries, which stand behind the head and end with the bytes.
+fn entries_of(alloc: Global, bytes: &[u8], count: u16) -> Result<States, StateFault>
+    requires { HEAD_BYTES ≤ length bytes.now }
+    ensures read { ReadAs (entries_of count 0 HEAD_BYTES (drop HEAD_BYTES bytes.now)) result }
+    ensures state { IfOk result (λ states. IsState states) }
+{
     let mut entries = Vec::new(alloc);
     let mut before = 0;
     let mut place = HEAD_BYTES;

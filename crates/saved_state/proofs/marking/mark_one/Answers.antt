@@ -18,7 +18,7 @@ returns-in-Some-clause-marks c =
     let few = c.in-Some.ensures.few in
     let sized = c.requires.sized in
     let there = c.in-Some.ensures.entry.there in
-    let moves : scrolls (view_at c.args.tree.now c.args.view).class ≡ true = grind (arith, c.if-not-scrolls.false, c.scrolls.ensures, c.class.ensures.value) in
+    let moves : scrolls (view_at c.args.tree.now c.args.view).class ≡ true = cc in
     let is : IsEntry c.args.states.now (view_at c.args.tree.now c.args.view).facts.id c.in-Some.place =
     subst (λ (id : ℕ). IsEntry c.args.states.now id c.in-Some.place) (ap (λ (facts : Facts). facts.id) c.facts.ensures.value) c.in-Some.ensures.entry in
     mark_set c.args.states.now c.args.marks.now (view_at c.args.tree.now c.args.view) c.in-Some.place moves is (omega arith)
