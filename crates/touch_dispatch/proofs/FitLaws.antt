@@ -4,7 +4,7 @@ use Rattle.touch_event.specs.declared.event.Event.{Event}
 use Rattle.view_tree.specs.Rows.{part_from, count_of_key, views_of, children_of_first}
 use Rattle.view_tree.specs.Views.{Views}
 use Rattle.touch_dispatch.specs.declared.taker.Taker.{Taker}
-use Rattle.touch_dispatch.proofs.GrowLaws.{children_grow, out_fits}
+use Rattle.touch_dispatch.proofs.GrowLaws.{AllGrow, children_grow, out_fits}
 use Rattle.touch_dispatch.proofs.ReachSteps.{hand_to_same}
 use Rattle.touch_dispatch.proofs.TargetLaws.{headed}
 use Rattle.touch_dispatch.specs.Dispatch.{hand_out, hand_to}
@@ -20,6 +20,9 @@ kid_moved old new view kid s is =
       within = subst (λ t. Later (part_from kid t) (children_of_first (part_from view t))) e is.within;
     }
 
+pub kids_grow : (views : Views) (slop : ℤ) (view : ℕ) → AllGrow (kids_of views slop view)
+kids_grow views slop view = children_grow (scene_of views slop) (views_of (children_of_first (part_from view views.tree)))
+
 pub out_fits_at : (old views : Views) (slop : ℤ) (view : ℕ) (event : Event) (intercepted : Bool) (taker : Taker) (child : ℕ) (targets code_targets : List Target) (said : Bool) (progress : Progress) → OnlyScrolls old views
     → code_targets ≡ targets → is_target child targets ≡ true
     → many (hand_to (scene_of views slop) (own_of views view) (kids_of views slop view) event intercepted taker (target_of child code_targets) progress).progress
@@ -27,8 +30,7 @@ pub out_fits_at : (old views : Views) (slop : ℤ) (view : ℕ) (event : Event) 
 out_fits_at old views slop view event intercepted taker child targets code_targets said progress s same there =
     let h = headed child targets there in
     let head : target_of child code_targets ≡ record { child = child; ids = h.ids } = ap (target_of child) same ∙ ap (λ ts. let t : Target = record { child = child; ids = first_ids ts } in t) h.is in
-    let grow = children_grow (scene_of old slop) (views_of (children_of_first (part_from view old.tree))) in
-    let fits = out_fits (scene_of old slop) (own_of old view) (kids_of old slop view) event intercepted taker child h.ids targets h.rest said progress grow h.is in
+    let fits = out_fits (scene_of old slop) (own_of old view) (kids_of old slop view) event intercepted taker child h.ids targets h.rest said progress (kids_grow old slop view) h.is in
     let k = ap (λ (r : Reached). many r.progress)
     (hand_to_same old views slop view event intercepted taker (record { child = child; ids = h.ids }) progress s
     ∙ ap (λ t. hand_to (scene_of views slop) (own_of views view) (kids_of views slop view) event intercepted taker t progress) (sym head)) in

@@ -1,7 +1,7 @@
 -- An event only adds entries.
-use Rattle.std.proofs.Common.{◌≡◌, ◌∙◌, ℕ, ℤ, ◌+◌, ◌≤◌, Bool, true, false, List, [], ◌∷◌, ◌++◌, Option, Some, None, length-append, refl, subst, arith, inl, inr, ap, sym}
+use Rattle.std.proofs.Common.{◌≡◌, ◌∙◌, ℕ, ℤ, ◌+◌, ◌≤◌, Bool, true, false, List, [], ◌∷◌, Option, Some, None, length-append, refl, subst, arith, inl, inr, ap, sym}
 use Rattle.std.proofs.lemmas.Bool.{cases_Bool}
-use Rattle.std.specs.Prelude.{if◌then◌else◌, pos, ◌==◌, ◌||◌, ◌&&◌, not}
+use Rattle.std.specs.Prelude.{if◌then◌else◌, ◌==◌, ◌||◌, ◌&&◌, not}
 use Rattle.touch_event.specs.declared.event.Action.{Action}
 use Rattle.touch_event.specs.declared.event.Action.TheVariants.{Down, Up, Move, Cancel, PointerDown, PointerUp}
 use Rattle.touch_event.specs.declared.event.Event.{Event}
@@ -17,6 +17,7 @@ use Rattle.touch_dispatch.specs.declared.log.Kind.TheVariants.{Ask, Touch, Click
 use Rattle.touch_dispatch.specs.declared.taker.Taker.{Taker}
 use Rattle.touch_dispatch.specs.declared.taker.Taker.TheVariants.{Nobody, Earlier, Handed}
 use Rattle.touch_dispatch.specs.declared.receiver.Receiver.{Receiver}
+use Rattle.touch_dispatch.proofs.TryWalk.{GetsPart}
 use Rattle.touch_dispatch.specs.Dispatch.{EventChild, Scene, Tried, answered, begun, child_of, ended, ended_by, event_children, group_reached, hand_out, hand_part, hand_to, intercepted_cleared, is_handed, is_offered, offered, part_for, reached_by, receiver, settled, taken_by, tried_event, try_child, try_children, unless_taken}
 use Rattle.touch_dispatch.specs.Drags.{pulled}
 use Rattle.touch_dispatch.specs.Gestures.{PlainGesture, at_number, set_drag, set_pressed}
@@ -250,21 +251,6 @@ asked_many own event g e one two =
       | inr b ↦ rw b refl
     ]
 
-clicked_many : (b : Bool) (number : ℕ) (event : Event) (g : PlainGesture) (e : List Entry) (one two : ℕ → ℤ)
-    → many (click_noted b number event (progress_by one g e)) ≡ many (click_noted b number event (progress_by two g e))
-clicked_many true number event g e one two = refl
-clicked_many false number event g e one two = refl
-
-pub handled_many : (answer : Answer) (own : Receiver) (event : Event) (g : PlainGesture) (e : List Entry) (one two : ℕ → ℤ)
-    → many (handled_by answer own event (progress_by one g e)).progress ≡ many (handled_by answer own event (progress_by two g e)).progress
-handled_many Off own event g e one two = refl
-handled_many Yes own event g e one two = refl
-handled_many ClickPlan own event g e one two =
-    let near = is_near_first own.rect own.slop event.points.items in
-    let pressed = g.presses own.number in
-    clicked_many (clicks event.action near pressed) own.number event (set_pressed own.number (pressed_after event.action near pressed) g)
-    (e ++ record { view = own.number; kind = Touch; event = event; yes = true; offset = pos 0 } ∷ []) one two
-
 -- what is noted fits where the whole does
 pub asks_fit : (own : Receiver) (event : Event) (progress : Progress) → (is_down event.action || not (is_nil (targets_at progress own.number))) ≡ true
     → progress.gesture.disallows own.number ≡ false → many progress + 1 ≤ many (asked own event progress).progress
@@ -327,15 +313,12 @@ answer_fits scene own kids event progress first second grow is then_ =
     ))
 
 -- a child of a group is handed the event within what the group makes of it
-pub try_fits : (scene : Scene) (own : PlainView) (event : Event) (kid : EventChild) (progress : Progress) (part : Event)
-    → is_tried kid.view.facts.visibility (scene.rects kid.view.number) (progress.offsets own.number) event ≡ true
-    → is_target kid.view.number (targets_at progress own.number) ≡ false
-    → part ≡ local_event (scene.rects kid.view.number) (progress.offsets own.number) (tried_event own.facts.split event)
+pub try_fits : (scene : Scene) (own : PlainView) (event : Event) (kid : EventChild) (progress : Progress) (part : Event) → GetsPart scene own event kid progress part
     → many (kid.reach part progress).progress ≤ many (try_child scene own event kid progress).progress
-try_fits scene own event kid progress part e1 e2 e3 =
+try_fits scene own event kid progress part gets =
     let n = grow_taken own event kid.view.number (kid.reach part progress) in
     let m : many (kid.reach part progress).progress ≤ many (taken_by own event kid.view.number (kid.reach part progress)).progress = omega arith in
-    rw (e1, e2, ← e3) m
+    rw (gets.tried, gets.other, ← gets.part_is) m
 
 -- what is left of a list of children is within the whole list
 pub later_fits : (scene : Scene) (own : PlainView) (event : Event) {rest list : Forest Row} (start : Progress) → Later rest list

@@ -8,9 +8,11 @@ mod Backwards
 mod CaughtLaws
 mod FitLaws
 mod GrowLaws
+mod KeepLaws
 mod ReachSteps
 pub mod SceneLaws
 mod StayLaws
+mod TryLaws
 mod TryWalk
 mod TargetLaws
 mod IdLaws

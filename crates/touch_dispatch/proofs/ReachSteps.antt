@@ -11,6 +11,7 @@ use Rattle.view_tree.specs.Views.{IsLive, IsTree, Views, facts_of, number_of, st
 use Rattle.view_tree.specs.declared.state.State.{State}
 use Rattle.view_model.specs.declared.facts.Facts.{Facts}
 use Rattle.view_tree.proofs.forest.KeyLaws.{Within, located, number-within, count_of_key-within, times_self}
+use Rattle.touch_dispatch.specs.declared.receiver.Receiver.{Receiver}
 use Rattle.touch_dispatch.specs.declared.taker.Taker.{Taker}
 use Rattle.touch_dispatch.specs.declared.taker.Taker.TheVariants.{Nobody, Earlier, Handed}
 use Rattle.touch_dispatch.specs.declared.log.Entry.{Entry}
@@ -19,11 +20,11 @@ use Rattle.touch_dispatch.proofs.CaughtLaws.{caught_put}
 use Rattle.touch_dispatch.proofs.SceneLaws.{kid_root, kids_part, offset_live, rect_live, same_child, same_kids, same_own, same_scene}
 use Rattle.touch_dispatch.proofs.StayLaws.{AllStay, children_stay, occurs, stays_hand_to}
 use Rattle.touch_dispatch.proofs.TargetLaws.{headed}
-use Rattle.touch_dispatch.proofs.TryWalk.{TryWalk, before}
-use Rattle.touch_dispatch.specs.Dispatch.{EventChild, Scene, Tried, answered, begun, child_of, ended, event_children, group_reached, hand_out, hand_to, is_handed, is_taken, offered, only, part_for, reached_by, receiver, taken_by, tried_event, tried_ids, try_child, try_children, unless_taken}
+use Rattle.touch_dispatch.proofs.TryWalk.{GetsPart, TryWalk, before}
+use Rattle.touch_dispatch.specs.Dispatch.{EventChild, Scene, Tried, answered, begun, child_of, ended, event_children, group_reached, hand_out, hand_to, is_handed, is_taken, offered, only, part_for, reached_by, receiver, taken_by, tried_ids, try_child, try_children, unless_taken}
 use Rattle.touch_dispatch.specs.Gestures.{PlainGesture, set_targets}
 use Rattle.touch_dispatch.specs.Handling.{Progress, Reached, asked, handled, is_nil, targets_at, with_gesture}
-use Rattle.touch_dispatch.specs.Points.{is_tried, local_event}
+use Rattle.touch_dispatch.specs.Points.{is_tried}
 use Rattle.touch_dispatch.specs.TreeEvents.{AreChildren, At_first, IsKidAt, Later, Later_on, OnlyScrolls, child_at, is_root, kids_of, offsets_in, own_of, progress_by, scene_of, target_of}
 use Rattle.touch_targets.specs.Captures.{Target, first_child, first_ids, from_child, is_target, older, put_target, targets_from}
 
@@ -37,14 +38,20 @@ pub answered_own : (scene : Scene) (own : PlainView) (kids : List EventChild) (e
     → answered scene own kids event intercepted taker progress ≡ reached
 answered_own scene own kids event intercepted taker progress reached none is = rw none is
 
-pub group_chain : (scene : Scene) (own : PlainView) (kids : List EventChild) (event : Event) (c0 c1 : Progress) (r2 : Reached) (t3 : Tried) (r4 : Reached) (c5 : Progress)
-    → c1 ≡ begun own.number event.action c0
-    → asked (receiver scene own kids) event c1 ≡ r2
-    → offered scene own kids event r2.yes r2.progress ≡ t3
-    → answered scene own kids event r2.yes t3.taker t3.progress ≡ r4
-    → c5 ≡ ended own.number own.facts.split event r2.yes r4.progress
-    → group_reached scene own kids event c0 ≡ record { yes = r4.yes; progress = c5 }
-group_chain scene own kids event c0 c1 r2 t3 r4 c5 e1 e2 e3 e4 e5 = rw (e5, ← e4, ← e3, ← e2, e1) refl
+-- a group is asked once the gesture has begun, by what the code reads of it
+pub asked_begun : (scene : Scene) (own : PlainView) (kids : List EventChild) (event : Event) (start began : Progress) (read : Receiver) (first : Reached)
+    → read ≡ receiver scene own kids → began ≡ begun read.number event.action start → asked read event began ≡ first
+    → asked (receiver scene own kids) event (begun own.number event.action start) ≡ first
+asked_begun scene own kids event start began read first e1 e2 e3 =
+    ap (asked (receiver scene own kids) event) (sym (e2 ∙ ap (λ (r : Receiver). begun r.number event.action start) e1)) ∙ ap (λ r. asked r event began) (sym e1) ∙ e3
+
+pub group_chain : (scene : Scene) (own : PlainView) (kids : List EventChild) (event : Event) (start : Progress) (first : Reached) (second : Tried) (third : Reached) (last : Progress)
+    → asked (receiver scene own kids) event (begun own.number event.action start) ≡ first
+    → offered scene own kids event first.yes first.progress ≡ second
+    → answered scene own kids event first.yes second.taker second.progress ≡ third
+    → last ≡ ended own.number own.facts.split event first.yes third.progress
+    → group_reached scene own kids event start ≡ record { yes = third.yes; progress = last }
+group_chain scene own kids event start first second third last e1 e2 e3 e4 = rw (e4, ← e3, ← e2, ← e1) refl
 
 pub hand_to_kid : (scene : Scene) (own : PlainView) (kids : List EventChild) (event : Event) (intercepted : Bool) (taker : Taker) (target : Target) (progress : Progress) (part : Event) (kid : EventChild)
     (reached : Reached) → is_handed taker target.child ≡ false
@@ -71,13 +78,10 @@ try_earlier scene own event kid progress new e1 e2 e3 =
     ∙ if_is (is_target kid.view.number (targets_at progress own.number)) _ _ e2
     ∙ ap (λ c. let t : Tried = record { taker = Earlier; progress = c } in t) e3
 
-pub try_handed : (scene : Scene) (own : PlainView) (event : Event) (kid : EventChild) (progress : Progress) (part : Event) (reached : Reached)
-    → is_tried kid.view.facts.visibility (scene.rects kid.view.number) (progress.offsets own.number) event ≡ true
-    → is_target kid.view.number (targets_at progress own.number) ≡ false
-    → part ≡ local_event (scene.rects kid.view.number) (progress.offsets own.number) (tried_event own.facts.split event)
+pub try_handed : (scene : Scene) (own : PlainView) (event : Event) (kid : EventChild) (progress : Progress) (part : Event) (reached : Reached) → GetsPart scene own event kid progress part
     → kid.reach part progress ≡ reached
     → try_child scene own event kid progress ≡ taken_by own event kid.view.number reached
-try_handed scene own event kid progress part reached e1 e2 e3 e4 = rw (e1, e2, ← e3, e4) refl
+try_handed scene own event kid progress part reached gets e = rw (gets.tried, gets.other, ← gets.part_is, e) refl
 
 pub taken_no : (own : PlainView) (event : Event) (child : ℕ) (reached : Reached) → reached.yes ≡ false → taken_by own event child reached ≡ record { taker = Nobody; progress = reached.progress }
 taken_no own event child reached e = rw e refl
@@ -272,27 +276,6 @@ answered_same old new slop view event intercepted taker progress s =
     ∙ ap (λ v. answered (scene_of new slop) v (kids_of old slop view) event intercepted taker progress) (sym (same_own old new view s))
     ∙ ap (λ kids. answered (scene_of new slop) (own_of new view) kids event intercepted taker progress) (sym (same_kids old new slop view s))
 
--- what the code reads of a child that is tried
-pub tried_same : (views : Views) (slop : ℤ) (view kid : ℕ) (event : Event) (own_facts kid_facts : Facts) (state : State) → IsTree views → IsLive views view → IsLive views kid
-    → own_facts ≡ facts_of views view → kid_facts ≡ facts_of views kid → state ≡ state_of views kid
-    → is_tried kid_facts.visibility state.bounds own_facts.offset event
-    ≡ is_tried (own_of views kid).facts.visibility ((scene_of views slop).rects (own_of views kid).number) (offsets_in views (own_of views view).number) event
-tried_same views slop view kid event own_facts kid_facts state is live live_kid e1 e2 e3 =
-    ap (λ (f : Facts). is_tried f.visibility state.bounds own_facts.offset event) e2
-    ∙ ap (λ (s : State). is_tried (facts_of views kid).visibility s.bounds own_facts.offset event) e3
-    ∙ ap (λ r. is_tried (facts_of views kid).visibility r own_facts.offset event) (sym (rect_live views slop kid is live_kid))
-    ∙ ap (λ o. is_tried (facts_of views kid).visibility ((scene_of views slop).rects (own_of views kid).number) o event) (ap (λ (f : Facts). f.offset) e1 ∙ sym (offset_live views view is live))
-
-pub part_same : (views : Views) (slop : ℤ) (view kid : ℕ) (event : Event) (own_facts : Facts) (state : State) → IsTree views → IsLive views view → IsLive views kid
-    → own_facts ≡ facts_of views view → state ≡ state_of views kid
-    → local_event state.bounds own_facts.offset (tried_event own_facts.split event)
-    ≡ local_event ((scene_of views slop).rects (own_of views kid).number) (offsets_in views (own_of views view).number) (tried_event (own_of views view).facts.split event)
-part_same views slop view kid event own_facts state is live live_kid e1 e3 =
-    ap (λ (s : State). local_event s.bounds own_facts.offset (tried_event own_facts.split event)) e3
-    ∙ ap (λ r. local_event r own_facts.offset (tried_event own_facts.split event)) (sym (rect_live views slop kid is live_kid))
-    ∙ ap (λ (f : Facts). local_event ((scene_of views slop).rects (own_of views kid).number) f.offset (tried_event f.split event)) e1
-    ∙ ap (λ o. local_event ((scene_of views slop).rects (own_of views kid).number) o (tried_event (own_of views view).facts.split event)) (sym (offset_live views view is live))
-
 pub part_for_same : (views : Views) (slop : ℤ) (view kid child : ℕ) (ids code_ids : ℕ → Bool) (event : Event) (intercepted : Bool) (own_facts : Facts) (state : State) → IsTree views → IsLive views view → IsLive views kid
     → own_facts ≡ facts_of views view → state ≡ state_of views kid → number_of views kid ≡ child → code_ids ≡ ids
     → part_for ((scene_of views slop).rects child) (offsets_in views (own_of views view).number) event intercepted ids
@@ -304,10 +287,6 @@ part_for_same views slop view kid child ids code_ids event intercepted own_facts
     ∙ ap (λ o. part_for state.bounds o event intercepted ids) (offset_live views view is live ∙ sym (ap (λ (f : Facts). f.offset) e1))
     ∙ ap (λ i. part_for state.bounds own_facts.offset event intercepted i) (sym e4)
 
-pub put_progress : (offsets : ℕ → ℤ) (change : PlainGesture → PlainGesture) (g new : PlainGesture) (e after_ : List Entry) → new ≡ change g → after_ ≡ e
-    → with_gesture change (progress_by offsets g e) ≡ progress_by offsets new after_
-put_progress offsets change g new e after_ e1 e2 = rw (e1, e2) refl
-
 -- a put as the code makes it
 pub put_is : (g new : PlainGesture) (group child : ℕ) (ids : ℕ → Bool) (n k : ℕ) (b : ℕ → Bool) → new ≡ set_targets n (put_target k b (g.targets n)) g → n ≡ group → k ≡ child → b ≡ ids
     → new ≡ set_targets group (put_target child ids (g.targets group)) g
@@ -315,6 +294,11 @@ put_is g new group child ids n k b e e1 e2 e3 =
     e ∙ ap (λ n. set_targets n (put_target k b (g.targets n)) g) e1
     ∙ ap (λ k. set_targets group (put_target k b (g.targets group)) g) e2
     ∙ ap (λ b. set_targets group (put_target child b (g.targets group)) g) e3
+
+pub put_named : (offsets : ℕ → ℤ) (entries : List Entry) (g new : PlainGesture) (group child : ℕ) (ids : ℕ → Bool) (n k : ℕ) (b : ℕ → Bool) → new ≡ set_targets n (put_target k b (g.targets n)) g
+    → n ≡ group → k ≡ child → b ≡ ids
+    → with_gesture (set_targets group (put_target child ids (g.targets group))) (progress_by offsets g entries) ≡ progress_by offsets new entries
+put_named offsets entries g new group child ids n k b e e1 e2 e3 = ap (λ g. progress_by offsets g entries) (sym (put_is g new group child ids n k b e e1 e2 e3))
 
 pub caught_put_at : (views : Views) (g new : PlainGesture) (view kid : ℕ) (ids : ℕ → Bool) → IsTree views → IsLive views view → IsKidAt views view kid → AreChildren (views_of views.tree) g
     → new ≡ set_targets (number_of views view) (put_target (number_of views kid) ids (g.targets (number_of views view))) g

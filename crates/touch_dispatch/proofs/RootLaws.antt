@@ -52,10 +52,6 @@ root_no views slop root event progress is live whole e =
     let t = tested views slop root false is live e in
     dispatch_no (scene_of views slop) views.tree f.row f.kids f.siblings event progress (sym whole ∙ f.is) (subst (λ (t : Forest Row). (is_some ((scene_of views slop).rects (head_view t).number) && is_shown (head_view t).facts) ≡ false) f.is t)
 
-pub whole_alone : (list : Forest Row) → later_siblings list ≡ Nothing → first_tree list ≡ list
-whole_alone Nothing single = refl
-whole_alone (Branch row kids siblings) single = ap (Branch row kids) (sym single)
-
 -- the part of a view has no number twice, and is no greater than the tree
 pub part_numbers : (views : Views) (view : ℕ) → IsTree views → IsLive views view → (n : ℕ) → count_of_number n (first_tree (part_from view views.tree)) ≤ 1
 part_numbers views view is live n =

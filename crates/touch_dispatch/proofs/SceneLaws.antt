@@ -72,14 +72,13 @@ pub reach_at : (views : Views) (slop : ℤ) (key : ℕ) (event : Event) (progres
     → reach (scene_of views slop) (views_of (first_tree (part_from key views.tree))) event progress ≡ (child_at views slop key).reach event progress
 reach_at views slop key event progress live = let f = located key views.tree live in rw f.is refl
 
-pub reach_group : (views : Views) (slop : ℤ) (key : ℕ) (event : Event) (progress : Progress) → is_group (class_of views key) ≡ true
-    → (child_at views slop key).reach event progress ≡ group_reached (scene_of views slop) (own_of views key) (kids_of views slop key) event progress
-reach_group views slop key event progress group = rw group refl
+pub reach_group : (views : Views) (slop : ℤ) (key : ℕ) (event : Event) (progress : Progress) → IsLive views key → is_group (class_of views key) ≡ true
+    → reach (scene_of views slop) (views_of (first_tree (part_from key views.tree))) event progress ≡ group_reached (scene_of views slop) (own_of views key) (kids_of views slop key) event progress
+reach_group views slop key event progress live group = reach_at views slop key event progress live ∙ rw group refl
 
-pub reach_own : (views : Views) (slop : ℤ) (key : ℕ) (event : Event) (progress : Progress) → is_group (class_of views key) ≡ false
-    → (child_at views slop key).reach event progress ≡ handled_at views slop key event progress
-reach_own views slop key event progress own =
-    rw own refl
+pub reach_own : (views : Views) (slop : ℤ) (key : ℕ) (event : Event) (progress : Progress) → IsLive views key → is_group (class_of views key) ≡ false
+    → reach (scene_of views slop) (views_of (first_tree (part_from key views.tree))) event progress ≡ handled_at views slop key event progress
+reach_own views slop key event progress live own = reach_at views slop key event progress live ∙ rw own refl
 
 -- a child has fewer views below it
 pub fewer_kid : (views : Views) (view kid : ℕ) → IsLive views view → IsKidAt views view kid
@@ -186,3 +185,13 @@ pub kid_found : (views : Views) (slop : ℤ) (view child : ℕ) → IsTree views
 kid_found views slop view child is live there =
     kid_from views slop view child is live
     (root_found (scene_of views slop) child (children_of_first (part_from view views.tree)) (sym (ap (is_root child) (kids_part views view is live)) ∙ there))
+
+-- a child that is found by its number
+pub kid_named : (views : Views) (slop : ℤ) (view child kid : ℕ) → IsTree views → IsLive views view
+    → is_root child (below_first (part_of (number_of views view) (views_of views.tree))) ≡ true → key_where (λ (v : PlainView). v.number == child) views.tree ≡ Some kid
+    → IsKidAt views view kid × (child_of child (kids_of views slop view) ≡ Some (child_at views slop kid))
+kid_named views slop view child kid is live there found =
+    let k = kid_found views slop view child is live there in
+    let found_is = k.key_is in
+    let key : k.key ≡ kid = cc in
+    (subst (IsKidAt views view) key k.kid, k.is ∙ ap (λ key. Some (child_at views slop key)) key)

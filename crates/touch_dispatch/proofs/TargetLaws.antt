@@ -5,7 +5,7 @@ use Rattle.std.proofs.lemmas.Grind.{common_steps}
 use Rattle.std.specs.Prelude.{◌==◌}
 use Rattle.touch_dispatch.proofs.DistinctLaws.{drop_none, more_same}
 use Rattle.touch_dispatch.specs.Dispatch.{oldest, oldest_or}
-use Rattle.touch_targets.specs.Captures.{Target, drop_pointers, first_child, from_child, is_target, older, put_target}
+use Rattle.touch_targets.specs.Captures.{Target, drop_pointers, first_child, from_child, is_target, older, put_target, targets_from}
 
 any_here : (child : ℕ) (t : Target) (targets : List Target) → (t.child == child) ≡ true → is_target child (t ∷ targets) ≡ true
 any_here child t targets e = grind (arith, common_steps)
@@ -14,7 +14,7 @@ any_there : (child : ℕ) (t : Target) (targets : List Target) → (t.child == c
 any_there child t targets e = grind (arith, common_steps)
 
 -- where a walk is, there is a target
-pub found_target : (child x : ℕ) (targets : List Target) → first_child (from_child child targets) ≡ Some x → is_target child targets ≡ true
+found_target : (child x : ℕ) (targets : List Target) → first_child (from_child child targets) ≡ Some x → is_target child targets ≡ true
 found_target child x [] is = absurd (cc)
 found_target child x (t ∷ targets) is =
     elim (cases_Bool (t.child == child)) [
@@ -40,8 +40,31 @@ headed child (t ∷ targets) there =
     ]
 
 -- a walk falls
-pub fewer_targets : (child : ℕ) (targets : List Target) → is_target child targets ≡ true → length (older (from_child child targets)) < length (from_child child targets)
+fewer_targets : (child : ℕ) (targets : List Target) → is_target child targets ≡ true → length (older (from_child child targets)) < length (from_child child targets)
 fewer_targets child targets there = let h = headed child targets there in rw h.is (omega arith)
+
+-- one target of a walk, and the next older one
+pub record TargetStep (child : ℕ) (now next : Option ℕ) (targets : List Target) : Type 0 where
+  pub there : is_target child targets ≡ true
+  pub part : targets_from next targets ≡ older (from_child child targets)
+  pub first : next ≡ first_child (targets_from next targets)
+  pub fewer : length (targets_from next targets) < length (targets_from now targets)
+
+pub walk_there : (child : ℕ) (now : Option ℕ) (targets : List Target) → now ≡ Some child → now ≡ first_child (targets_from now targets) → is_target child targets ≡ true
+walk_there child now targets is first = found_target child child targets (sym (rw is at first))
+
+pub target_step : (child : ℕ) (now next : Option ℕ) (targets : List Target) → now ≡ Some child → now ≡ first_child (targets_from now targets)
+    → (is_target child targets ≡ true → targets_from next targets ≡ older (from_child child targets))
+    → (is_target child targets ≡ true → next ≡ first_child (older (from_child child targets)))
+    → TargetStep child now next targets
+target_step child now next targets is first rest head =
+    let there = walk_there child now targets is first in
+    record {
+      there = there;
+      part = rest there;
+      first = head there ∙ ap first_child (sym (rest there));
+      fewer = rw (rest there, is) (fewer_targets child targets there);
+    }
 
 -- another child is among those that are left
 pub other_target : (child x : ℕ) (targets : List Target) → is_target child targets ≡ true → child ≢ x

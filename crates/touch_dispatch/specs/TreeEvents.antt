@@ -9,11 +9,12 @@ use Rattle.touch_dispatch.specs.Kept.{Kept, gesture_of, is_open}
 use Rattle.touch_dispatch.specs.declared.log.Entry.{Entry}
 use Rattle.touch_dispatch.specs.declared.log.Log.{Log}
 use Rattle.touch_event.specs.declared.event.Event.{Event}
+use Rattle.touch_event.specs.declared.event.TheConstants.{MAX_POINTERS}
 use Rattle.touch_targets.specs.Captures.{Target, first_ids, from_child, is_target}
 use Rattle.view_model.specs.Forest.{Forest, Nothing, Branch}
 use Rattle.view_model.specs.PlainTree.{PlainView, part_of}
 use Rattle.view_tree.specs.Rows.{Row, ancestors, children_of_first, count_of_key, first_tree, head_view, key_where, part_from, views_of}
-use Rattle.view_tree.specs.Views.{Held, IsLive, SameTree, Views, held_of, held_or, number_of}
+use Rattle.view_tree.specs.Views.{Held, IsLive, IsTree, SameTree, Views, held_of, held_or, number_of}
 
 abbrev pub held_under : Views → Option ℕ → Held
 held_under views None = held_or None
@@ -70,6 +71,21 @@ pub record OnlyScrolls (old new : Views) : Type 0 where
   pub held : (key : ℕ) → held_of new key ≡ record (held_of old key) { offset = (held_of new key).offset }
   -- an offset within the limits of sizes stays within them
   pub fits : (key : ℕ) → IsSide (held_of old key).offset → IsSide (held_of new key).offset
+
+-- an event may be handed to the view of a key
+pub record MayReach (views : Views) (kept : Kept) (key : ℕ) (event : Event) : Type 0 where
+  pub tree : IsTree views
+  pub live : IsLive views key
+  pub pointer : event.pointer < MAX_POINTERS
+  pub caught : IsGestureIn views.tree kept
+
+-- what an event keeps wherever it goes: the tree but for offsets, targets that are children of their groups, the places of
+-- views, and the room of the log
+pub record KeepsScene (old_tree new_tree : Views) (old new : Kept) (old_log new_log : Log) : Type 0 where
+  pub scrolls : OnlyScrolls old_tree new_tree
+  pub caught : IsGestureIn new_tree.tree new
+  pub opened : (number : ℕ) → is_open new number ≡ is_open old number
+  pub room : room_of new_log ≡ room_of old_log
 
 -- the view of a key, as if it was not scrolled
 abbrev pub own_of : Views → ℕ → PlainView

@@ -3,7 +3,7 @@ ghost use Rattle.std.specs.Prelude.{◌≡◌, ◌≤◌, ◌<◌, ◌+◌, ◌*
 ghost use Rattle.touch_dispatch.specs.Dispatch.{cancelled, dispatched, reach};
 ghost use Rattle.touch_dispatch.specs.Kept.{gesture_of, is_open};
 ghost use Rattle.touch_dispatch.specs.Once.{asks, total, touches};
-ghost use Rattle.touch_dispatch.specs.TreeEvents.{IsGestureIn, OnlyScrolls, Unchanged, parent_number, part_at, progress_of, room_of, scene_of};
+ghost use Rattle.touch_dispatch.specs.TreeEvents.{IsGestureIn, KeepsScene, MayReach, OnlyScrolls, Unchanged, parent_number, part_at, progress_of, room_of, scene_of};
 ghost use Rattle.touch_event.specs.declared.event.TheConstants.{MAX_POINTERS};
 ghost use Rattle.touch_targets.specs.Captures.{is_target};
 ghost use Rattle.view_model.specs.Facts.{is_shown};
@@ -68,18 +68,12 @@ fn reach_whole(
     view: Key,
     event: &Event,
 ) -> bool
-    requires tree { IsTree tree.old }
-    requires live { IsLive tree.old view }
-    requires pointer { event.now.pointer < MAX_POINTERS }
-    requires caught { IsGestureIn tree.old.tree gesture.old }
+    requires may { MayReach tree.old gesture.old view event.now }
     requires room { length log.old.entries.items + 3 * count_of tree.old.tree ≤ room_of log.old }
     ensures reached { reach (scene_of tree.old limits.now.slop) (views_of (first_tree (part_from view tree.old.tree))) event.now (progress_of tree.old gesture.old log.old) ≡ record { yes = result; progress = progress_of tree.new gesture.new log.new } }
     ensures touched_once { (n : ℕ) → total (touches n) log.new.entries.items ≤ total (touches n) log.old.entries.items + 1 }
     ensures asked_once { (n : ℕ) → total (asks n) log.new.entries.items ≤ total (asks n) log.old.entries.items + 1 }
-    ensures scrolls { OnlyScrolls tree.old tree.new }
-    ensures caught { IsGestureIn tree.new.tree gesture.new }
-    ensures opened { (number : ℕ) → is_open gesture.new number ≡ is_open gesture.old number }
-    ensures room { room_of log.new ≡ room_of log.old }
+    ensures kept { KeepsScene tree.old tree.new gesture.old gesture.new log.old log.new }
 {
     gesture.tell_distinct();
     reach(tree, gesture, log, limits, view, event)

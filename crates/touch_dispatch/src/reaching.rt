@@ -1,13 +1,12 @@
 //! An event goes down a tree.
-ghost use Rattle.std.specs.Prelude.{◌≡◌, ◌<◌, ◌≤◌, ◌||◌, true, false, ℕ};
+ghost use Rattle.std.specs.Prelude.{◌≡◌, ◌≤◌, ◌||◌, true, false};
 ghost use Rattle.touch_dispatch.specs.Dispatch.{answered, group_reached, hand_out, hand_to, is_handed, is_taken, offered, reach, try_child, try_children};
 ghost use Rattle.touch_dispatch.specs.Handling.{many};
-ghost use Rattle.touch_dispatch.specs.Kept.{gesture_of, is_open};
-ghost use Rattle.touch_dispatch.specs.TreeEvents.{IsGestureIn, IsKidAt, OnlyScrolls, child_at, handled_at, kids_of, own_of, progress_of, room_of, scene_of, target_of};
-ghost use Rattle.touch_event.specs.declared.event.TheConstants.{MAX_POINTERS};
+ghost use Rattle.touch_dispatch.specs.Kept.{gesture_of};
+ghost use Rattle.touch_dispatch.specs.TreeEvents.{IsGestureIn, IsKidAt, KeepsScene, MayReach, child_at, handled_at, kids_of, own_of, progress_of, room_of, scene_of, target_of};
 ghost use Rattle.touch_targets.specs.Captures.{is_target};
 ghost use Rattle.view_tree.specs.Rows.{first_tree, part_from, views_of};
-ghost use Rattle.view_tree.specs.Views.{IsLive, IsTree};
+ghost use Rattle.view_tree.specs.Views.{IsLive};
 
 use crate::gesture::Gesture;
 use crate::groups::{begin, end, is_target, settle};
@@ -17,7 +16,7 @@ use crate::log::Log;
 use crate::points::{id_bit, is_offered, is_tried, part_for, tried_event, tried_ids};
 use crate::scrolling::{handle_drag, receiver_at};
 use crate::taker::Taker;
-use touch_event::{Event, MAX_POINTERS};
+use touch_event::Event;
 use view_tree::{Key, ViewTree};
 
 /// Hands an event to a view, in its coordinates.
@@ -30,15 +29,10 @@ pub fn reach(
     view: Key,
     event: &Event,
 ) -> bool
-    requires live { IsLive tree.old view }
-    requires pointer { event.now.pointer < MAX_POINTERS }
-    requires caught { IsGestureIn tree.old.tree gesture.old }
+    requires may { MayReach tree.old gesture.old view event.now }
     requires fits { many (reach (scene_of tree.old limits.now.slop) (views_of (first_tree (part_from view tree.old.tree))) event.now (progress_of tree.old gesture.old log.old)).progress ≤ room_of log.old }
     ensures reached { reach (scene_of tree.old limits.now.slop) (views_of (first_tree (part_from view tree.old.tree))) event.now (progress_of tree.old gesture.old log.old) ≡ record { yes = result; progress = progress_of tree.new gesture.new log.new } }
-    ensures scrolls { OnlyScrolls tree.old tree.new }
-    ensures caught { IsGestureIn tree.new.tree gesture.new }
-    ensures opened { (number : ℕ) → is_open gesture.new number ≡ is_open gesture.old number }
-    ensures room { room_of log.new ≡ room_of log.old }
+    ensures kept { KeepsScene tree.old tree.new gesture.old gesture.new log.old log.new }
 {
     if tree.class(view).is_group() {
         reach_group(tree, gesture, log, limits, view, event)
@@ -60,10 +54,7 @@ fn handle_at(
     requires caught { IsGestureIn tree.old.tree gesture.old }
     requires fits { many (handled_at tree.old limits.now.slop view event.now (progress_of tree.old gesture.old log.old)).progress ≤ room_of log.old }
     ensures reached { handled_at tree.old limits.now.slop view event.now (progress_of tree.old gesture.old log.old) ≡ record { yes = result; progress = progress_of tree.new gesture.new log.new } }
-    ensures scrolls { OnlyScrolls tree.old tree.new }
-    ensures caught { IsGestureIn tree.new.tree gesture.new }
-    ensures opened { (number : ℕ) → is_open gesture.new number ≡ is_open gesture.old number }
-    ensures room { room_of log.new ≡ room_of log.old }
+    ensures kept { KeepsScene tree.old tree.new gesture.old gesture.new log.old log.new }
 {
     let own = receiver_at(tree, limits, view);
     if own.scrolls {
@@ -73,6 +64,8 @@ fn handle_at(
     }
 }
 
+/// A group is handed an event: it may take it from its children, offers it to them, and then hands it out or handles
+/// it itself.
 #[cycle(reach)]
 fn reach_group(
     tree: &mut ViewTree,
@@ -82,16 +75,10 @@ fn reach_group(
     view: Key,
     event: &Event,
 ) -> bool
-    requires tree { IsTree tree.old }
-    requires live { IsLive tree.old view }
-    requires pointer { event.now.pointer < MAX_POINTERS }
-    requires caught { IsGestureIn tree.old.tree gesture.old }
+    requires may { MayReach tree.old gesture.old view event.now }
     requires fits { many (group_reached (scene_of tree.old limits.now.slop) (own_of tree.old view) (kids_of tree.old limits.now.slop view) event.now (progress_of tree.old gesture.old log.old)).progress ≤ room_of log.old }
     ensures reached { group_reached (scene_of tree.old limits.now.slop) (own_of tree.old view) (kids_of tree.old limits.now.slop view) event.now (progress_of tree.old gesture.old log.old) ≡ record { yes = result; progress = progress_of tree.new gesture.new log.new } }
-    ensures scrolls { OnlyScrolls tree.old tree.new }
-    ensures caught { IsGestureIn tree.new.tree gesture.new }
-    ensures opened { (number : ℕ) → is_open gesture.new number ≡ is_open gesture.old number }
-    ensures room { room_of log.new ≡ room_of log.old }
+    ensures kept { KeepsScene tree.old tree.new gesture.old gesture.new log.old log.new }
 {
     let own = receiver_at(tree, limits, view);
     let split = tree.facts(view).split;
@@ -103,6 +90,7 @@ fn reach_group(
     yes
 }
 
+/// Looks for a child to capture, where a pointer comes down and the group lets its children have it.
 #[cycle(reach)]
 fn offer(
     tree: &mut ViewTree,
@@ -113,16 +101,10 @@ fn offer(
     event: &Event,
     intercepted: bool,
 ) -> Taker
-    requires tree { IsTree tree.old }
-    requires live { IsLive tree.old view }
-    requires pointer { event.now.pointer < MAX_POINTERS }
-    requires caught { IsGestureIn tree.old.tree gesture.old }
+    requires may { MayReach tree.old gesture.old view event.now }
     requires fits { many (offered (scene_of tree.old limits.now.slop) (own_of tree.old view) (kids_of tree.old limits.now.slop view) event.now intercepted (progress_of tree.old gesture.old log.old)).progress ≤ room_of log.old }
     ensures offered { offered (scene_of tree.old limits.now.slop) (own_of tree.old view) (kids_of tree.old limits.now.slop view) event.now intercepted (progress_of tree.old gesture.old log.old) ≡ record { taker = result; progress = progress_of tree.new gesture.new log.new } }
-    ensures scrolls { OnlyScrolls tree.old tree.new }
-    ensures caught { IsGestureIn tree.new.tree gesture.new }
-    ensures opened { (number : ℕ) → is_open gesture.new number ≡ is_open gesture.old number }
-    ensures room { room_of log.new ≡ room_of log.old }
+    ensures kept { KeepsScene tree.old tree.new gesture.old gesture.new log.old log.new }
 {
     if intercepted || !is_offered(event.action, tree.facts(view).split) {
         return Taker::Nobody;
@@ -132,6 +114,7 @@ fn offer(
     taker
 }
 
+/// Tries the children from the last, which lies on top, until one takes the pointer.
 #[cycle(reach)]
 fn try_children(
     tree: &mut ViewTree,
@@ -141,16 +124,10 @@ fn try_children(
     view: Key,
     event: &Event,
 ) -> Taker
-    requires tree { IsTree tree.old }
-    requires live { IsLive tree.old view }
-    requires pointer { event.now.pointer < MAX_POINTERS }
-    requires caught { IsGestureIn tree.old.tree gesture.old }
+    requires may { MayReach tree.old gesture.old view event.now }
     requires fits { many (try_children (scene_of tree.old limits.now.slop) (own_of tree.old view) event.now (kids_of tree.old limits.now.slop view) (progress_of tree.old gesture.old log.old)).progress ≤ room_of log.old }
     ensures tried { try_children (scene_of tree.old limits.now.slop) (own_of tree.old view) event.now (kids_of tree.old limits.now.slop view) (progress_of tree.old gesture.old log.old) ≡ record { taker = result; progress = progress_of tree.new gesture.new log.new } }
-    ensures scrolls { OnlyScrolls tree.old tree.new }
-    ensures caught { IsGestureIn tree.new.tree gesture.new }
-    ensures opened { (number : ℕ) → is_open gesture.new number ≡ is_open gesture.old number }
-    ensures room { room_of log.new ≡ room_of log.old }
+    ensures kept { KeepsScene tree.old tree.new gesture.old gesture.new log.old log.new }
 {
     let mut next = tree.last(view);
     while let Some(kid) = next {
@@ -163,6 +140,7 @@ fn try_children(
     Taker::Nobody
 }
 
+/// Tries one child: it is handed the event where the pointer lies in it, unless it is a target already.
 #[cycle(reach)]
 fn try_child(
     tree: &mut ViewTree,
@@ -173,17 +151,11 @@ fn try_child(
     event: &Event,
     kid: Key,
 ) -> Taker
-    requires tree { IsTree tree.old }
-    requires live { IsLive tree.old view }
+    requires may { MayReach tree.old gesture.old view event.now }
     requires kid { IsKidAt tree.old view kid }
-    requires pointer { event.now.pointer < MAX_POINTERS }
-    requires caught { IsGestureIn tree.old.tree gesture.old }
     requires fits { many (try_child (scene_of tree.old limits.now.slop) (own_of tree.old view) event.now (child_at tree.old limits.now.slop kid) (progress_of tree.old gesture.old log.old)).progress ≤ room_of log.old }
     ensures tried { try_child (scene_of tree.old limits.now.slop) (own_of tree.old view) event.now (child_at tree.old limits.now.slop kid) (progress_of tree.old gesture.old log.old) ≡ record { taker = result; progress = progress_of tree.new gesture.new log.new } }
-    ensures scrolls { OnlyScrolls tree.old tree.new }
-    ensures caught { IsGestureIn tree.new.tree gesture.new }
-    ensures opened { (number : ℕ) → is_open gesture.new number ≡ is_open gesture.old number }
-    ensures room { room_of log.new ≡ room_of log.old }
+    ensures kept { KeepsScene tree.old tree.new gesture.old gesture.new log.old log.new }
 {
     let own = *tree.facts(view);
     let group = tree.number(view);
@@ -204,6 +176,7 @@ fn try_child(
     Taker::Handed(child)
 }
 
+/// The answer of a group: that of its targets, or its own where it has none.
 #[cycle(reach)]
 fn answer(
     tree: &mut ViewTree,
@@ -215,16 +188,10 @@ fn answer(
     intercepted: bool,
     taker: Taker,
 ) -> bool
-    requires tree { IsTree tree.old }
-    requires live { IsLive tree.old view }
-    requires pointer { event.now.pointer < MAX_POINTERS }
-    requires caught { IsGestureIn tree.old.tree gesture.old }
+    requires may { MayReach tree.old gesture.old view event.now }
     requires fits { many (answered (scene_of tree.old limits.now.slop) (own_of tree.old view) (kids_of tree.old limits.now.slop view) event.now intercepted taker (progress_of tree.old gesture.old log.old)).progress ≤ room_of log.old }
     ensures answered { answered (scene_of tree.old limits.now.slop) (own_of tree.old view) (kids_of tree.old limits.now.slop view) event.now intercepted taker (progress_of tree.old gesture.old log.old) ≡ record { yes = result; progress = progress_of tree.new gesture.new log.new } }
-    ensures scrolls { OnlyScrolls tree.old tree.new }
-    ensures caught { IsGestureIn tree.new.tree gesture.new }
-    ensures opened { (number : ℕ) → is_open gesture.new number ≡ is_open gesture.old number }
-    ensures room { room_of log.new ≡ room_of log.old }
+    ensures kept { KeepsScene tree.old tree.new gesture.old gesture.new log.old log.new }
 {
     if gesture.newest(tree.number(view)).is_none() {
         return handle_at(tree, gesture, log, limits, view, event);
@@ -232,6 +199,7 @@ fn answer(
     hand_out(tree, gesture, log, limits, view, event, intercepted, taker)
 }
 
+/// Hands an event to each target, the newest first, and answers whether one has taken it.
 #[cycle(reach)]
 fn hand_out(
     tree: &mut ViewTree,
@@ -243,16 +211,10 @@ fn hand_out(
     intercepted: bool,
     taker: Taker,
 ) -> bool
-    requires tree { IsTree tree.old }
-    requires live { IsLive tree.old view }
-    requires pointer { event.now.pointer < MAX_POINTERS }
-    requires caught { IsGestureIn tree.old.tree gesture.old }
+    requires may { MayReach tree.old gesture.old view event.now }
     requires fits { many (hand_out (scene_of tree.old limits.now.slop) (own_of tree.old view) (kids_of tree.old limits.now.slop view) event.now intercepted taker ((gesture_of gesture.old).targets (own_of tree.old view).number) false (progress_of tree.old gesture.old log.old)).progress ≤ room_of log.old }
     ensures handed { hand_out (scene_of tree.old limits.now.slop) (own_of tree.old view) (kids_of tree.old limits.now.slop view) event.now intercepted taker ((gesture_of gesture.old).targets (own_of tree.old view).number) false (progress_of tree.old gesture.old log.old) ≡ record { yes = result; progress = progress_of tree.new gesture.new log.new } }
-    ensures scrolls { OnlyScrolls tree.old tree.new }
-    ensures caught { IsGestureIn tree.new.tree gesture.new }
-    ensures opened { (number : ℕ) → is_open gesture.new number ≡ is_open gesture.old number }
-    ensures room { room_of log.new ≡ room_of log.old }
+    ensures kept { KeepsScene tree.old tree.new gesture.old gesture.new log.old log.new }
 {
     let group = tree.number(view);
     let mut yes = false;
@@ -275,6 +237,7 @@ fn hand_out(
     yes
 }
 
+/// Hands a target its part of an event, unless it had it when it was captured.
 #[cycle(reach)]
 fn hand_to(
     tree: &mut ViewTree,
@@ -287,17 +250,11 @@ fn hand_to(
     taker: Taker,
     child: u64,
 ) -> bool
-    requires tree { IsTree tree.old }
-    requires live { IsLive tree.old view }
-    requires pointer { event.now.pointer < MAX_POINTERS }
+    requires may { MayReach tree.old gesture.old view event.now }
     requires target { is_target child ((gesture_of gesture.old).targets (own_of tree.old view).number) ≡ true }
-    requires caught { IsGestureIn tree.old.tree gesture.old }
     requires fits { many (hand_to (scene_of tree.old limits.now.slop) (own_of tree.old view) (kids_of tree.old limits.now.slop view) event.now intercepted taker (target_of child ((gesture_of gesture.old).targets (own_of tree.old view).number)) (progress_of tree.old gesture.old log.old)).progress ≤ room_of log.old }
     ensures handed { hand_to (scene_of tree.old limits.now.slop) (own_of tree.old view) (kids_of tree.old limits.now.slop view) event.now intercepted taker (target_of child ((gesture_of gesture.old).targets (own_of tree.old view).number)) (progress_of tree.old gesture.old log.old) ≡ record { yes = result; progress = progress_of tree.new gesture.new log.new } }
-    ensures scrolls { OnlyScrolls tree.old tree.new }
-    ensures caught { IsGestureIn tree.new.tree gesture.new }
-    ensures opened { (number : ℕ) → is_open gesture.new number ≡ is_open gesture.old number }
-    ensures room { room_of log.new ≡ room_of log.old }
+    ensures kept { KeepsScene tree.old tree.new gesture.old gesture.new log.old log.new }
 {
     if is_handed(taker, child) {
         return true;
@@ -318,12 +275,14 @@ fn hand_to(
     }
 }
 
+/// Both are looked at, whatever the first says.
 fn either(first: bool, second: bool) -> bool
     ensures { result ≡ (first || second) }
 {
     first || second
 }
 
+/// Whether a child has the pointer.
 fn is_taken(taker: Taker) -> bool
     ensures { result ≡ is_taken taker }
 {
@@ -333,6 +292,7 @@ fn is_taken(taker: Taker) -> bool
     }
 }
 
+/// Whether this child was handed the event when it was captured.
 fn is_handed(taker: Taker, child: u64) -> bool
     ensures { result ≡ is_handed taker child }
 {

@@ -20,5 +20,5 @@ returns-clause-gone c = λ group parent.
 pub returns-clause-caught : goal.returns-clause-caught
 returns-clause-caught c =
     let tree = c.reach_whole-2.new.tree.tree in
-    gesture_in tree c.reach_whole-2.new.gesture c.remove.new.self c.reach_whole-2.ensures.caught c.remove.ensures.opened
-    (caught_without (views_of tree) (gesture_of c.reach_whole-2.new.gesture) (gesture_of c.remove.new.self) c.number-number.result c.remove.ensures.gesture c.reach_whole-2.ensures.caught.children)
+    gesture_in tree c.reach_whole-2.new.gesture c.remove.new.self c.reach_whole-2.ensures.kept.caught c.remove.ensures.opened
+    (caught_without (views_of tree) (gesture_of c.reach_whole-2.new.gesture) (gesture_of c.remove.new.self) c.number-number.result c.remove.ensures.gesture c.reach_whole-2.ensures.kept.caught.children)

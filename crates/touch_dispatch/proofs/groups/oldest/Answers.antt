@@ -1,25 +1,20 @@
-use Rattle.std.proofs.Common.{◌≡◌, true, Some, sym, ◌∙◌, ap}
-use Rattle.touch_dispatch.proofs.TargetLaws.{fewer_targets, found_target, oldest_on}
+use Rattle.std.proofs.Common.{Some, ◌∙◌, ap}
+use Rattle.touch_dispatch.proofs.TargetLaws.{TargetStep, oldest_on, target_step}
 use Rattle.touch_dispatch.specs.Dispatch.{oldest_or}
 use Rattle.touch_dispatch.specs.Kept.{gesture_of}
-use Rattle.touch_targets.specs.Captures.{first_child, is_target}
 use Rattle.touch_dispatch.proofs.groups.oldest.Goals as goal
+use Rattle.touch_dispatch.proofs.groups.oldest.Goals.{After-next-next}
+
+step : (c : After-next-next) → TargetStep c.in-Some.target c.loop-next.next c.next-next.result ((gesture_of c.args.gesture.now).targets c.args.group)
+step c = target_step _ _ _ _ c.in-Some.is c.loop-next.invariant.next (c.next-next.ensures.part c.args.group) (c.next-next.ensures.child c.args.group)
 
 pub loop-next-smaller : goal.loop-next-smaller
-loop-next-smaller c =
-    let targets = (gesture_of c.args.gesture.now).targets c.args.group in
-    let i = rw c.in-Some.is at c.loop-next.invariant.next in
-    let there : is_target c.in-Some.target targets ≡ true = found_target c.in-Some.target c.in-Some.target targets (sym i) in
-    rw (c.next-next.ensures.part c.args.group there, c.in-Some.is) (fewer_targets c.in-Some.target targets there)
+loop-next-smaller c = (step c).fewer
 
 pub loop-next-preserved : goal.loop-next-preserved
 loop-next-preserved c =
-    let targets = (gesture_of c.args.gesture.now).targets c.args.group in
-    let i = rw c.in-Some.is at c.loop-next.invariant.next in
-    let r = rw c.in-Some.is at c.loop-next.invariant.rest in
-    let there : is_target c.in-Some.target targets ≡ true = found_target c.in-Some.target c.in-Some.target targets (sym i) in
-    let part = c.next-next.ensures.part c.args.group there in
+    let s = step c in
     record {
-      next = c.next-next.ensures.child c.args.group there ∙ ap first_child (sym part);
-      rest = ap (oldest_or (Some c.in-Some.target)) part ∙ oldest_on c.in-Some.target c.loop-next.last targets there ∙ r;
+      next = s.first;
+      rest = ap (oldest_or (Some c.in-Some.target)) s.part ∙ oldest_on c.in-Some.target c.loop-next.last _ s.there ∙ rw c.in-Some.is at c.loop-next.invariant.rest;
     }

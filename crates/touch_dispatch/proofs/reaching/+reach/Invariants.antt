@@ -1,10 +1,10 @@
-use Rattle.std.proofs.Common.{◌≡◌, ◌+◌, ◌*◌, ℕ, false, length}
+use Rattle.std.proofs.Common.{◌≡◌, ◌+◌, ◌*◌, false, length}
 use Rattle.view_model.specs.Forest.{count_of}
 use Rattle.view_tree.specs.Rows.{first_tree, part_from, children_of_first}
 use Rattle.touch_dispatch.proofs.TryWalk.{TryWalk, before}
 use Rattle.touch_dispatch.specs.Dispatch.{hand_out}
-use Rattle.touch_dispatch.specs.Kept.{gesture_of, is_open}
-use Rattle.touch_dispatch.specs.TreeEvents.{IsGestureIn, OnlyScrolls, kids_of, own_of, progress_of, room_of, scene_of}
+use Rattle.touch_dispatch.specs.Kept.{gesture_of}
+use Rattle.touch_dispatch.specs.TreeEvents.{KeepsScene, kids_of, own_of, progress_of, scene_of}
 use Rattle.touch_targets.specs.Captures.{first_child, targets_from}
 use Rattle.touch_dispatch.proofs.reaching.+reach.Given as goal
 
@@ -34,10 +34,7 @@ decreases-hand_to l = 8 * count_of (first_tree (part_from l.view l.tree.now.tree
 
 abbrev pub invariant-try_children-loop-next : goal.invariant-try_children-loop-next
 invariant-try_children-loop-next l = record {
-  scrolls : OnlyScrolls l.fn.tree l.tree;
-  caught : IsGestureIn l.tree.tree l.gesture;
-  opened : (number : ℕ) → is_open l.gesture number ≡ is_open l.fn.gesture number;
-  room : room_of l.log ≡ room_of l.fn.log;
+  kept : KeepsScene l.fn.tree l.tree l.fn.gesture l.gesture l.fn.log l.log;
   walked : TryWalk l.fn.tree l.limits.slop l.view l.event l.next (progress_of l.fn.tree l.fn.gesture l.fn.log) (progress_of l.tree l.gesture l.log);
 }
 
@@ -48,10 +45,7 @@ abbrev pub invariant-hand_out-loop-next : goal.invariant-hand_out-loop-next
 invariant-hand_out-loop-next l =
     let targets = (gesture_of l.fn.gesture).targets (own_of l.fn.tree l.view).number in
     record {
-      scrolls : OnlyScrolls l.fn.tree l.tree;
-      caught : IsGestureIn l.tree.tree l.gesture;
-      opened : (number : ℕ) → is_open l.gesture number ≡ is_open l.fn.gesture number;
-      room : room_of l.log ≡ room_of l.fn.log;
+      kept : KeepsScene l.fn.tree l.tree l.fn.gesture l.gesture l.fn.log l.log;
       group : l.group ≡ (own_of l.fn.tree l.view).number;
       same : (gesture_of l.gesture).targets (own_of l.fn.tree l.view).number ≡ targets;
       next : l.next ≡ first_child (targets_from l.next targets);
