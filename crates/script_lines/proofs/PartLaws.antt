@@ -3,7 +3,7 @@ use Rattle.std.proofs.Common.{◌≡◌, ℕ, ◌+◌, ◌<◌, Bool, true, fals
 use Rattle.std.specs.Prelude.{filter, Result, Ok, Err}
 use Rattle.std.specs.List.{All, onto_first, prefix_len, slice_split}
 use Rattle.std.proofs.lemmas.Bool.{cases_Bool}
-use Rattle.std.proofs.lemmas.List.{append-nil, append_cancel_right, take-append-drop}
+use Rattle.std.proofs.lemmas.List.{append-nil, append_cancel_right, take-append-drop, take_all}
 use Rattle.std.proofs.lemmas.List.Elements.{All-push, filter-append}
 use Rattle.std.proofs.lemmas.List.Splits.{length-slice_split, slice_split-cons_no, slice_split-cons_yes, slice_split_at, slice_split_none}
 use Rattle.script_lines.specs.Hooks.{parts_edits}
@@ -125,3 +125,10 @@ word_next bytes at word rest h is behind_is =
       forward = omega (arith, h, less, long, length-drop at bytes);
       within = omega (arith, less, long, length-drop at bytes);
     }
+
+-- the same where the word was read from what stands behind the place
+pub word_read : (bytes : List ℕ) (at : ℕ) (word rest : List ℕ) → at ≤ length bytes → Ok (word, words rest) ≡ word_in (words (take (length bytes - at) (drop at bytes)))
+    → rest ≡ after_word (take (length bytes - at) (drop at bytes)) → IsNext bytes at word rest
+word_read bytes at word rest h is behind_is =
+    let same : take (length bytes - at) (drop at bytes) ≡ drop at bytes = take_all (length bytes - at) (drop at bytes) (omega (arith, length-drop at bytes)) in
+    word_next bytes at word rest h (cc (same, is)) (cc (same, behind_is))

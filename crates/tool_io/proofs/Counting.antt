@@ -1,7 +1,7 @@
 -- Counts of failed calls.
 use Rattle.std.proofs.Common.{◌≡◌, ℕ, ◌+◌, ◌-◌, ◌^◌, ◌<◌, ◌≤◌, min, is_ok, arith}
 use Rattle.std.specs.Prelude.{Result, Ok, Err}
-use Rattle.tool_io.specs.Counts.{raised, faults_after, Rose}
+use Rattle.tool_io.specs.Counts.{raised, faults_after}
 use Rattle.tool_io.specs.Fetched.{CountsFetch}
 use Rattle.tool_io.specs.declared.shelf.Found.{Found}
 use Rattle.tool_io.specs.declared.shelf.ShelfFault.{ShelfFault}

@@ -16,11 +16,12 @@ use Rattle.view_model.specs.PlainTree.{PlainView, with_facts}
 use Rattle.view_tree.specs.Hidden.{HidesGone, IsConsistent}
 use Rattle.view_tree.specs.Rows.{Row, changed_at_key}
 use Rattle.view_tree.specs.Views.{Held, IsLive, IsTree, KeepsOthers, Views, facts_of, geometry_of, held_of, laid_rows, number_of, plain_of}
+use Rattle.view_tree.proofs.values.ChangeLaws.{same_change}
 use Rattle.view_tree.proofs.values.GeometryLaws.{geometry-put}
-use Rattle.view_tree.proofs.values.HiddenLaws.{hides-put, hides_along}
+use Rattle.view_tree.proofs.values.HiddenLaws.{gone_nowhere, hides-put, hides_along}
 use Rattle.traversal.specs.Changing.{SameShape, bare}
 use Rattle.traversal.specs.Frames.{edits_of}
-use Rattle.traversal.proofs.ChangeLaws.{bare_put, gone_nowhere, same_change}
+use Rattle.traversal.proofs.ChangeLaws.{bare_put}
 
 -- a change is none of the names of a view, of its offset and of whether it takes part in layout
 pub record Leaves (old new : Facts) : Type 0 where

@@ -5,7 +5,7 @@ use Rattle.std.specs.Prelude.{◌==◌, pos}
 use Rattle.view_model.specs.Facts.{new_facts}
 use Rattle.view_model.specs.Forest.{Forest, Nothing, Branch, count_of, map_rows, or_else, sum_of}
 use Rattle.view_model.specs.PlainTree.{PlainView}
-use Rattle.view_tree.specs.Rows.{Row, count_of_key, count_of_number, head_view, part_from, views_of}
+use Rattle.view_tree.specs.Rows.{Row, count_of_key, head_view, part_from, views_of}
 use Rattle.view_tree.specs.Views.{Views, number_of}
 use Rattle.traversal.specs.Changing.{SameShape, bare}
 
@@ -22,9 +22,6 @@ count_of-same shape = sum-same (λ row. 1) (λ row. refl) shape
 
 pub count_of_key-same : {old new : Views} (key : ℕ) → SameShape old new → count_of_key key new.tree ≡ count_of_key key old.tree
 count_of_key-same key shape = sum-same _ (λ row. refl) shape
-
-pub count_of_number-same : {old new : Views} (number : ℕ) → SameShape old new → count_of_number number new.tree ≡ count_of_number number old.tree
-count_of_number-same number shape = sum-same _ (λ row. refl) shape
 
 or_else-bare : (first second : Forest Row) → or_else (map_rows bare first) (map_rows bare second) ≡ map_rows bare (or_else first second)
 or_else-bare Nothing second = refl

@@ -14,3 +14,4 @@ mod reporting;
 pub use framing::frame;
 pub use laying::lay_out;
 pub use outcome::Frame;
+pub use reporting::near_size;

@@ -41,8 +41,8 @@ fn report_at(tree: &ViewTree, hooks: &mut Hooks, view: Key)
     }
 }
 
-/// The size of a rectangle, or the nearest that there is.
-fn near_size(rect: Rect) -> Size
+/// The size of a rectangle in pixels, or the nearest that there is.
+pub fn near_size(rect: Rect) -> Size
     ensures { result ≡ near_size rect }
 {
     Size {

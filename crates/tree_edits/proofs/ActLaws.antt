@@ -17,15 +17,15 @@ use Rattle.view_tree.specs.Hidden.{HidesGone, IsConsistent, NoBounds}
 use Rattle.view_tree.specs.Rows.{Row, first_tree, part_from, head_view, changed_at_key, count_of_key}
 use Rattle.view_tree.specs.Views.{Held, IsLive, IsTree, KeepsOthers, SameTree, Views, facts_of, geometry_of, held_of, laid_rows, number_of, plain_of, plain_rows}
 use Rattle.view_tree.proofs.values.GeometryLaws.{geometry-hidden, geometry-put, laid_along, no_bounds}
-use Rattle.view_tree.proofs.values.HiddenLaws.{hidden-part, hides-put, hides_along, no_bounds_along}
-use Rattle.view_tree.proofs.forest.KeyLaws.{Within, here, in_below, in_after, located}
+use Rattle.view_tree.proofs.values.ChangeLaws.{same_change}
+use Rattle.view_tree.proofs.values.HiddenLaws.{gone_nowhere, hidden-part, hides-put, hides_along, no_bounds_along}
 use Rattle.view_tree.proofs.forest.PlainLaws.{plain_along}
 use Rattle.tree_edits.specs.Editing.{after_act, hidden, hides, names_views}
 use Rattle.tree_edits.specs.declared.edits.Edit.TheVariants as edit
 use Rattle.tree_edits.specs.Hiding.{held_hiding, hidden_at, unplaced}
 use Rattle.tree_edits.specs.Keeping.{KeepsViews}
 use Rattle.tree_edits.specs.Scene.{Scene, scene_of}
-use Rattle.tree_edits.proofs.FactLaws.{gone_after, names_alone, names_stay, renamed, same_change}
+use Rattle.tree_edits.proofs.FactLaws.{gone_after, names_alone, names_stay, renamed}
 use Rattle.tree_edits.proofs.KeepLaws.{names_keep}
 use Rattle.view_tree.proofs.forest.ChangingWalks.{changed_more}
 
@@ -40,18 +40,6 @@ same_scene t u m n g h trees numbers geometries = cc
 pub record Made (old : Views) (view : ℕ) (act : Act) (new : Views) : Type 0 where
   pub scene : scene_of new ≡ after_act (scene_of old) (number_of old view) act
   pub kept : IsConsistent old → IsConsistent new
-
--- a part of a tree keeps that the views that are gone lie nowhere
-pub hides_within : (held : ℕ → Held) {part tree : Forest Row} → Within part tree → HidesGone held tree → HidesGone held part
-hides_within held here hides = hides
-hides_within held (in_below w) hides = hides_within held w hides.1
-hides_within held (in_after w) hides = hides_within held w hides.2
-
-pub gone_nowhere : (held : ℕ → Held) (key : ℕ) (tree : Forest Row) → 0 < count_of_key key tree → HidesGone held tree
-    → is_shown (head_view (part_from key tree)).facts ≡ false → NoBounds held (first_tree (part_from key tree))
-gone_nowhere held key tree live hides gone =
-    let found = located key tree live in
-    rw found.is ((hides_within held found.within hides).0 (rw found.is at gone))
 
 -- a view is changed, but for its number and whether it is gone
 pub record Stays (old new : Views) : Type 0 where

@@ -1,4 +1,5 @@
 -- Laws of what contracts see of a tree.
+pub mod ChangeLaws
 pub mod GeometryLaws
 pub mod HiddenLaws
 pub mod KeptLaws

@@ -7,21 +7,14 @@ use Rattle.touch_dispatch.specs.TreeEvents.{AreChildren, IsGestureIn}
 use Rattle.view_model.specs.Forest.{Forest, Nothing, Branch}
 use Rattle.view_model.specs.PlainTree.{PlainView}
 use Rattle.view_tree.specs.Rows.{Row, count_of_key, count_of_number, head_view, part_from, views_of}
-use Rattle.view_tree.specs.Views.{Held, IsTree, SameTree, Views, held_of, plain_of, plain_rows}
+use Rattle.view_tree.specs.Views.{Held, IsTree, Views, held_of, plain_of, plain_rows}
 use Rattle.view_tree.proofs.forest.KeyLaws.{Within, count_of_key-within, from_within, here, in_after, in_below, number_live, times_self, zero_or_more}
-use Rattle.view_world.proofs.ShapeLaws.{children_alike, shape-views, shape_of, times_alike, times_in}
+use Rattle.view_world.proofs.ShapeLaws.{children_alike, shape-views, times_in}
 
 -- a gesture has a place for each view of a plain tree, and each target is a child of its group there
 pub record IsCaughtIn (tree : Forest PlainView) (kept : Kept) : Type 0 where
   pub opened : (number : ℕ) → 0 < times_in number tree → is_open kept number ≡ true
   pub children : AreChildren tree (gesture_of kept)
-
--- only numbers and shape are read
-pub caught_alike : (old new : Forest PlainView) (kept : Kept) → shape_of new ≡ shape_of old → IsCaughtIn old kept → IsCaughtIn new kept
-caught_alike old new kept same caught = record {
-  opened = λ number there. caught.opened number (subst (λ n. 0 < n) (times_alike number old new same) there);
-  children = children_alike old new (gesture_of kept) same caught.children;
-}
 
 pub times-plain : (held : ℕ → Held) (number : ℕ) (tree : Forest Row) → times_in number (plain_rows held tree) ≡ count_of_number number tree
 times-plain held number Nothing = refl
@@ -71,6 +64,3 @@ caught_keyed views kept caught = record {
   opened = λ key live. caught.opened _ (subst (λ n. 0 < n) (sym (times-plain (held_of views) (head_view (part_from key views.tree)).number views.tree)) (number_live key views.tree live));
   children = children_alike (plain_of views) (views_of views.tree) (gesture_of kept) (shape-views (held_of views) views.tree) caught.children;
 }
-
-pub gesture_same : (old new : Views) (kept : Kept) → SameTree old new → IsGestureIn old.tree kept → IsGestureIn new.tree kept
-gesture_same old new kept same caught = subst (λ (tree : Forest Row). IsGestureIn tree kept) (sym same.tree) caught

@@ -1,12 +1,10 @@
 -- Which views are children is told by the numbers of the views and the shape of their tree.
-use Rattle.std.proofs.Common.{◌≡◌, ℕ, ◌+◌, Bool, false, List, refl, sym, ◌∙◌, ap, inl, inr}
+use Rattle.std.proofs.Common.{◌≡◌, ℕ, Bool, false, refl, sym, ◌∙◌, ap, inl, inr}
 use Rattle.std.proofs.lemmas.Bool.{cases_Bool}
 use Rattle.std.specs.Prelude.{if◌then◌else◌, ◌==◌, ◌||◌}
 use Rattle.touch_dispatch.specs.Gestures.{PlainGesture}
 use Rattle.touch_dispatch.specs.TreeEvents.{AreChildren, below_first, is_root}
 use Rattle.view_model.specs.Forest.{Forest, Nothing, Branch, map_rows, or_else, sum_of}
-use Rattle.view_model.specs.Geometry.{Laid}
-use Rattle.view_model.specs.Offsets.{ranged}
 use Rattle.view_model.specs.PlainTree.{PlainView, part_of}
 use Rattle.view_tree.specs.Rows.{Row, views_of}
 use Rattle.view_tree.specs.Views.{Held, plain_rows}
@@ -62,24 +60,10 @@ pub children_alike : (old new : Forest PlainView) (gesture : PlainGesture) → s
 children_alike old new gesture same caught group child there =
     shape-child child group new ∙ ap (λ t. root_in child (below_in (part_in group t))) same ∙ sym (shape-child child group old) ∙ caught group child there
 
-times-shape : (number : ℕ) (tree : Forest PlainView) → times_in number tree ≡ sum_of (λ (own : ℕ). if own == number then 1 else 0) (shape_of tree)
-times-shape number Nothing = refl
-times-shape number (Branch view below after) =
-    ap (λ n. (if view.number == number then 1 else 0) + (n + times_in number after)) (times-shape number below)
-    ∙ ap (λ n. (if view.number == number then 1 else 0) + (sum_of (λ (own : ℕ). if own == number then 1 else 0) (shape_of below) + n)) (times-shape number after)
-
-pub times_alike : (number : ℕ) (old new : Forest PlainView) → shape_of new ≡ shape_of old → times_in number new ≡ times_in number old
-times_alike number old new same =
-    times-shape number new ∙ ap (λ t. sum_of (λ (own : ℕ). if own == number then 1 else 0) t) same ∙ sym (times-shape number old)
-
 -- changes that keep the numbers
 pub shape-map : (change : PlainView → PlainView) (tree : Forest PlainView) → ((view : PlainView) → (change view).number ≡ view.number) → shape_of (map_rows change tree) ≡ shape_of tree
 shape-map change Nothing same = refl
 shape-map change (Branch view below after) same = rw (same view, shape-map change below same, shape-map change after same) refl
-
-pub shape-ranged : (geometry : List Laid) (tree : Forest PlainView) → shape_of (ranged geometry tree) ≡ shape_of tree
-shape-ranged geometry Nothing = refl
-shape-ranged geometry (Branch view below after) = rw (shape-ranged geometry below, shape-ranged geometry after) refl
 
 -- the offsets of views are none of their numbers
 pub shape-views : (held : ℕ → Held) (tree : Forest Row) → shape_of (views_of tree) ≡ shape_of (plain_rows held tree)

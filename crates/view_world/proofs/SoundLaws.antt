@@ -1,5 +1,5 @@
 -- What a world keeps, where its tree is another one.
-use Rattle.std.proofs.Common.{◌≡◌, ℕ, ap, arith}
+use Rattle.std.proofs.Common.{◌≡◌, ℕ, arith}
 use Rattle.std.specs.Prelude.{OnErr, OnOk, Option, Result, Ok, Err}
 use Rattle.saved_state.specs.Saving.{OffsetsFit}
 use Rattle.traversal.specs.Changing.{FitAll}
@@ -7,13 +7,11 @@ use Rattle.tree_edits.specs.Keeping.{KeepsViews}
 use Rattle.tree_edits.specs.declared.edits.Edit.{Edit}
 use Rattle.tree_edits.specs.declared.fault.EditFault.{EditFault}
 use Rattle.touch_dispatch.specs.Kept.{Kept}
-use Rattle.view_model.specs.Forest.{count_of}
 use Rattle.view_tree.specs.Hidden.{IsConsistent}
-use Rattle.view_tree.specs.Views.{SameTree, Views, geometry_of, plain_of}
+use Rattle.view_tree.specs.Views.{Views, geometry_of, plain_of}
 use Rattle.view_world.specs.Changed.{LeavesViews}
 use Rattle.view_world.specs.Sound.{IsSound}
 use Rattle.view_world.specs.declared.world.World.TheInside.{Inside}
-use Rattle.view_world.proofs.CaughtLaws.{gesture_same}
 use Rattle.view_world.proofs.EditedCaught.{Stays, edit_stays, same_stays}
 
 pub sound_stays : (inside : Inside) (new : Views) → Stays inside.tree new inside.gesture → IsConsistent new → FitAll (geometry_of new) → OffsetsFit (plain_of new) → IsSound inside
@@ -27,10 +25,6 @@ sound_stays inside new stays consistent narrow offsets sound = record {
   narrow = narrow;
   offsets = offsets;
 }
-
--- nothing but states and offsets is other
-pub tree_stays : (old new : Views) (kept : Kept) → SameTree old new → Stays old new kept
-tree_stays old new kept same = record { caught = λ caught. gesture_same old new kept same caught; next = same.next; count = ap count_of same.tree }
 
 -- an edit was made by which no view comes or goes, or none was
 pub result_stays : (old new : Views) (edit : Edit) (kept : Kept) (result : Result (Option ℕ) EditFault) → LeavesViews edit → OnOk result (KeepsViews old new edit) → OnErr result (new ≡ old)

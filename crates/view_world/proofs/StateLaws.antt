@@ -2,31 +2,24 @@
 use Rattle.std.proofs.Common.{◌≡◌, ◌≢◌, ℕ, true, List, [], Option, Some, None, Result, Ok, Err, refl, sym, ◌∙◌, ap}
 use Rattle.std.specs.Prelude.{OnErr, OnOk, is_some}
 use Rattle.saved_state.specs.Restoring.{is_for_other_class, restored}
-use Rattle.saved_state.specs.Saving.{OffsetsFit, saved_of}
+use Rattle.saved_state.specs.Saving.{saved_of}
 use Rattle.saved_state.specs.State.{decoded, encoded}
 use Rattle.view_model.specs.Forest.{Forest, Nothing, Branch, rows}
 use Rattle.view_model.specs.Geometry.{Laid}
 use Rattle.view_model.specs.PlainTree.{PlainView}
-use Rattle.view_model.specs.Refusals.{refusal_numbered}
-use Rattle.view_model.specs.declared.refusals.TheConstants.{NO_ROOT}
-use Rattle.view_tree.specs.Hidden.{IsConsistent}
 use Rattle.view_tree.specs.Rows.{Row, first_key}
 use Rattle.view_tree.specs.Views.{Held, SameTree, Views, geometry_of, held_of, plain_of, plain_rows}
-use Rattle.view_world.proofs.SoundLaws.{tree_stays}
 use Rattle.view_world.specs.Changed.{CarriesOut}
 use Rattle.view_world.specs.KeyedWorld.{KeyedWorld, geometry_in, world_of}
 use Rattle.view_world.specs.Replies.{state_bytes, state_text}
-use Rattle.view_world.specs.Sound.{IsSound}
-use Rattle.view_world.specs.Stated.{ReadsState, TakesUp}
+use Rattle.view_world.specs.Stated.{TakesUp}
 use Rattle.view_world.specs.Step.{Done, Refused, Reply, saved, taken_up, with_offsets, with_state}
 use Rattle.view_world.specs.World.{World}
 use Rattle.view_world.specs.declared.fault.StepFault.{StepFault}
 use Rattle.view_world.specs.declared.fault.StepFault.TheVariants as fault
 use Rattle.view_world.specs.declared.response.Response.{Response}
 use Rattle.view_world.specs.declared.response.Response.TheVariants as response
-use Rattle.view_world.specs.declared.stage.Stage.{Stage}
-use Rattle.view_world.specs.declared.stage.Stage.TheVariants.{NoWindow, NoFrame, Unsettled, Settled}
-use Rattle.view_world.specs.declared.world.World.TheInside.{Inside}
+use Rattle.view_world.proofs.WorldLaws.{geometry_in-same}
 
 -- the state of a tree that has a root
 
@@ -52,14 +45,6 @@ state_kept old bytes states some is back read = (
   tt,
 )
 
--- they are read back, unless there is no memory
-pub state_back : (reply : Reply) (world : KeyedWorld) (bytes : List ℕ) (states : List (ℕ × ℕ)) (fault : StepFault) → decoded bytes ≡ Ok states → ReadsState (decoded bytes) (Err fault)
-    → CarriesOut reply world (Err fault)
-state_back reply world bytes states (fault.Refused refusal) back read = absurd (let wrong = read.1 in cc)
-state_back reply world bytes states fault.NoMemory back read = tt
-state_back reply world bytes states fault.Sink back read = absurd read
-state_back reply world bytes states fault.Shelf back read = absurd read
-
 -- a state that is taken up by a tree that has a root
 
 taken_none : (world : World) (held : ℕ → Held) (tree : Forest Row) → tree ≢ Nothing → taken_up world (plain_rows held tree) None ≡ with_offsets world world.kept
@@ -71,19 +56,13 @@ taken_some world held Nothing text some = absurd (some refl)
 taken_some world held (Branch row kids siblings) text some = refl
 
 -- the world with another tree that lies as the old one
-geometry_same : (stage : Stage) (old new : Views) → geometry_of new ≡ geometry_of old → geometry_in stage new ≡ geometry_in stage old
-geometry_same NoWindow old new same = refl
-geometry_same NoFrame old new same = refl
-geometry_same Unsettled old new same = refl
-geometry_same Settled old new same = same
-
 world_restored : (old : KeyedWorld) (new : Views) (tree : Forest PlainView) → plain_of new ≡ tree → SameTree old.views new → geometry_of new ≡ geometry_of old.views
     → record (world_of old) { tree = tree } ≡ world_of (record old { views = new })
 world_restored old new tree plain same geometry =
     let with : Forest PlainView → ℕ → List Laid → World = λ trees next laid. record (world_of old) { tree = trees; next = next; geometry = laid } in
     ap (λ (trees : Forest PlainView). with trees old.views.next (geometry_in old.stage old.views)) (sym plain)
     ∙ ap (λ (next : ℕ). with (plain_of new) next (geometry_in old.stage old.views)) (sym same.next)
-    ∙ ap (with (plain_of new) new.next) (sym (geometry_same old.stage old.views new geometry))
+    ∙ ap (with (plain_of new) new.next) (sym (geometry_in-same old.stage old.views new geometry))
 
 pub offsets_taken : (old : KeyedWorld) (new : Views) (states : List (ℕ × ℕ)) (result : Result Response StepFault) → TakesUp (is_for_other_class states (rows (plain_of old.views))) result
     → OnOk result (plain_of new ≡ restored states (plain_of old.views)) → OnErr result (new ≡ old.views) → SameTree old.views new → geometry_of new ≡ geometry_of old.views
@@ -107,33 +86,3 @@ pub text_taken : (old : KeyedWorld) (new : KeyedWorld) (text bytes : List ℕ) (
 text_taken old new text bytes states result some is read carried =
     let at : decoded (state_bytes text) ≡ Ok states = ap decoded (sym is) ∙ read in
     rw (taken_some (world_of old) (held_of old.views) old.views.tree text some, at) carried
-
-pub text_wrong : (old : KeyedWorld) (new : KeyedWorld) (text bytes : List ℕ) (fault : StepFault) → old.views.tree ≢ Nothing
-    → bytes ≡ state_bytes text → ReadsState (decoded bytes) (Err fault) → CarriesOut (taken_up (world_of old) (plain_of old.views) (Some text)) new (Err fault)
-text_wrong old new text bytes (fault.Refused refusal) some is read =
-    let at = ap decoded (sym is) ∙ read.1 in
-    rw (taken_some (world_of old) (held_of old.views) old.views.tree text some, at) (ap Refused (sym read.2))
-text_wrong old new text bytes fault.NoMemory some is read = tt
-text_wrong old new text bytes fault.Sink some is read = absurd read
-text_wrong old new text bytes fault.Shelf some is read = absurd read
-
--- without a root, there is no state to keep or to take up
-pub saved_rootless : (world : World) (held : ℕ → Held) (tree : Forest Row) → tree ≡ Nothing → saved world (plain_rows held tree) ≡ Refused (refusal_numbered NO_ROOT)
-saved_rootless world held tree none = rw none refl
-
-pub taken_rootless : (world : World) (held : ℕ → Held) (tree : Forest Row) (text : Option (List ℕ)) → tree ≡ Nothing → taken_up world (plain_rows held tree) text ≡ Refused (refusal_numbered NO_ROOT)
-taken_rootless world held tree text none = rw none refl
-
--- a world stays sound
-pub sound_taken : (inside : Inside) (new : Views) → SameTree inside.tree new → geometry_of new ≡ geometry_of inside.tree → (IsConsistent inside.tree → IsConsistent new)
-    → (OffsetsFit (plain_of inside.tree) → OffsetsFit (plain_of new)) → IsSound inside → IsSound (record inside { tree = new })
-sound_taken inside new same geometry consistent fits sound =
-    let stays = tree_stays inside.tree new inside.gesture same in record {
-      consistent = consistent sound.consistent;
-      caught = stays.caught sound.caught;
-      fresh = λ number later. sound.fresh number (rw same.next at later);
-      room = rw same.tree sound.room;
-      down = sound.down;
-      narrow = rw geometry sound.narrow;
-      offsets = fits sound.offsets;
-    }

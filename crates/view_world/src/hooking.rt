@@ -1,24 +1,22 @@
-//! What lines change of hooks, and what decides of that.
+//! What decides of a hook that is to be armed.
 
-ghost use Rattle.std.specs.Prelude.{◌≡◌, ◌≤◌, length, IfSome};
+ghost use Rattle.std.specs.Prelude.{◌≡◌, ◌≤◌, length};
 ghost use Rattle.std.specs.List.{list_all};
 ghost use Rattle.std.specs.Option.{option_map};
 ghost use Rattle.traversal.specs.Changing.{FitAll};
-ghost use Rattle.traversal.specs.Reporting.{near_size};
-ghost use Rattle.view_model.specs.PlainTree.{numbers_of, view_in};
+ghost use Rattle.view_model.specs.PlainTree.{view_in};
 ghost use Rattle.view_model.specs.declared.changes.NumEdit.{NumEdit as PlainEdit};
 ghost use Rattle.view_model.specs.declared.limits.TheConstants.{MAX_EDITS};
-ghost use Rattle.view_tree.specs.Rows.{first_tree, part_from, rest_from, views_of};
 ghost use Rattle.view_tree.specs.Views.{IsLive, geometry_of, number_of, plain_of};
 ghost use Rattle.view_world.specs.KeyedWorld.{geometry_in};
-ghost use Rattle.view_world.specs.Step.{all_disarmed, may_change, numbered_edits, size_in};
+ghost use Rattle.view_world.specs.Step.{may_change, numbered_edits, size_in};
 
 use crate::naming::find;
 use crate::stage::Stage;
 use arrayvec::ArrayVec;
-use geom_core::{Rect, Size};
+use geom_core::Size;
 use script_lines::Asked;
-use size_hooks::Hooks;
+use traversal::near_size;
 use tree_edits::takes_change;
 use view_model::NumEdit;
 use view_model::limits::MAX_EDITS;
@@ -26,28 +24,6 @@ use view_tree::{Key, ViewTree};
 
 /// The size of a view that lies nowhere.
 const NOTHING: Size = Size { w: 0, h: 0 };
-
-/// Takes the hooks of a view and of all below it away.
-pub fn disarm_part(tree: &ViewTree, hooks: &mut Hooks, view: Key)
-    requires { IsLive tree.now view }
-    ensures { hooks.new ≡ all_disarmed (numbers_of (views_of (first_tree (part_from view tree.now.tree)))) hooks.old }
-{
-    hooks.disarm(tree.number(view));
-    disarm_from(tree, hooks, tree.first(view));
-}
-
-/// Takes the hooks of a view, of its later siblings and of all below them away.
-fn disarm_from(tree: &ViewTree, hooks: &mut Hooks, first: Option<Key>)
-    requires { IfSome first (λ view. IsLive tree.now view) }
-    ensures { hooks.new ≡ all_disarmed (numbers_of (views_of (rest_from first tree.now.tree))) hooks.old }
-{
-    let mut next = first;
-    while let Some(view) = next {
-        hooks.disarm(tree.number(view));
-        disarm_from(tree, hooks, tree.first(view));
-        next = tree.next(view);
-    }
-}
 
 /// The edits of a hook, each with the number of its view, or none where a view is not there.
 pub fn numbered_edits(tree: &ViewTree, asked: &[Asked]) -> Option<ArrayVec<NumEdit, MAX_EDITS>>
@@ -108,15 +84,5 @@ fn present_size(tree: &ViewTree, view: Key) -> Size
     match tree.state(view).bounds {
         Some(rect) => near_size(rect),
         None => NOTHING,
-    }
-}
-
-/// The size of a rectangle, or the nearest that there is.
-fn near_size(rect: Rect) -> Size
-    ensures { result ≡ near_size rect }
-{
-    Size {
-        w: rect.right.saturating_sub(rect.left),
-        h: rect.bottom.saturating_sub(rect.top),
     }
 }

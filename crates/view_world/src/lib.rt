@@ -4,6 +4,7 @@
 mod bounds;
 mod deliveries;
 mod fault;
+mod forgetting;
 mod hooking;
 mod inflating;
 mod naming;

@@ -77,6 +77,11 @@ pub record Walk (tree list : Forest Row) (next : Option ℕ) : Type 0 where
 pub walk_start : (tree list : Forest Row) (next : Option ℕ) → rest_from next tree ≡ list → IfSome next (λ key. 0 < count_of_key key tree) → Walk tree list next
 walk_start tree list next is live = record { live = live; few = rw is (omega arith) }
 
+-- a walk falls with each step
+pub walk_falls : (tree list : Forest Row) (at next : Option ℕ) (key : ℕ) → at ≡ Some key → Walk tree list at → rest_from next tree ≡ later_siblings (part_from key tree)
+    → count_of (rest_from next tree) < count_of (rest_from at tree)
+walk_falls tree list at next key is walk part = let walk = rw is at walk in rw (part, is) (live_after key tree walk.live)
+
 pub walk_on : (tree list : Forest Row) (key : ℕ) (next : Option ℕ) → Walk tree list (Some key)
     → rest_from next tree ≡ later_siblings (part_from key tree) → IfSome next (λ key. 0 < count_of_key key tree) → Walk tree list next
 walk_on tree list key next walk is live =

@@ -12,7 +12,7 @@ use Rattle.view_tree.specs.Rows.{Row, first_tree, pruned_at_key, part_from, grow
 use Rattle.view_tree.specs.Views.{Held, IsTree, Views, fresh, held_of}
 use Rattle.view_tree.specs.declared.state.State.{State}
 use Rattle.view_tree.proofs.forest.ForestLaws.{every-edited, every-joined, every_branch-edited, every_branch-joined}
-use Rattle.view_tree.proofs.forest.KeyLaws.{absent, or_else_live, times_self, zero_or_more}
+use Rattle.view_tree.proofs.forest.KeyLaws.{Within, absent, here, in_after, in_below, located, or_else_live, times_self, zero_or_more}
 use Rattle.view_tree.proofs.forest.NumberLaws.{count_of_key-pruned_at_key, put_absent}
 
 -- views that lay nowhere lie nowhere where no bounds are set
@@ -162,3 +162,16 @@ hidden-gained old new (Some parent) added gained hides =
 -- what a tree keeps between lines, it keeps once a sapling has come
 pub consistent-grafted : (old new : Views) (parent : Option ℕ) (sapling : Forest Seed) (key : ℕ) → Grafted old parent sapling key new → IsConsistent old → IsConsistent new
 consistent-grafted old new parent sapling key grafted kept = record { hidden = hidden-gained old new parent grafted.added grafted.gained kept.hidden }
+
+-- so it is in a part of a tree
+pub hides_within : (held : ℕ → Held) {part tree : Forest Row} → Within part tree → HidesGone held tree → HidesGone held part
+hides_within held here hides = hides
+hides_within held (in_below w) hides = hides_within held w hides.1
+hides_within held (in_after w) hides = hides_within held w hides.2
+
+-- a view that is gone lies nowhere, and none of those below it does
+pub gone_nowhere : (held : ℕ → Held) (key : ℕ) (tree : Forest Row) → 0 < count_of_key key tree → HidesGone held tree
+    → is_shown (head_view (part_from key tree)).facts ≡ false → NoBounds held (first_tree (part_from key tree))
+gone_nowhere held key tree live hides gone =
+    let found = located key tree live in
+    rw found.is ((hides_within held found.within hides).0 (rw found.is at gone))

@@ -11,9 +11,9 @@ ghost use Rattle.view_world.specs.Touching.{after_progress, leaving, is_told, pa
 
 use super::World;
 use crate::fault::StepFault;
-use crate::hooking::disarm_part;
+use crate::forgetting::forget;
 use crate::response::Response;
-use crate::touching::{close_part, slop_at};
+use crate::touching::slop_at;
 use std::alloc::Global;
 use touch_dispatch::cancel_view;
 use tree_edits::{Edit, apply};
@@ -30,8 +30,7 @@ impl World {
         ensures numbers { self.new.views.next ≡ self.old.views.next }
     {
         self.tell_leaving(view);
-        close_part(&self.tree, &mut self.gesture, view);
-        disarm_part(&self.tree, &mut self.hooks, view);
+        forget(&self.tree, &mut self.hooks, &mut self.gesture, view);
         match apply(alloc, &mut self.tree, Edit::Remove(view)) {
             Ok(_) => Ok(self.deliveries()),
             Err(_) => unreachable!(),

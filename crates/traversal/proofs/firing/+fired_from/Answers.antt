@@ -2,8 +2,7 @@ use Rattle.std.proofs.Common.{arith, ap, ◌∙◌, sym}
 use Rattle.view_model.specs.Forest.{Forest}
 use Rattle.view_tree.specs.Rows.{Row, children_of_first, part_from}
 use Rattle.view_tree.specs.Views.{held_of, laid_rows}
-use Rattle.view_tree.proofs.forest.Forests.{live_after}
-use Rattle.view_tree.proofs.forest.Walks.{fewer_below, walk_on, walk_start}
+use Rattle.view_tree.proofs.forest.Walks.{fewer_below, walk_falls, walk_on, walk_start}
 use Rattle.traversal.specs.Frames.{fired_in}
 use Rattle.traversal.proofs.FiringLaws.{fired_alone, fired_list, or_first, or_second}
 use Rattle.traversal.proofs.firing.+fired_from.Goals as goal
@@ -40,9 +39,7 @@ returns-in-Some-fired_from t c =
     )
 
 pub loop-next-smaller : goal.loop-next-smaller
-loop-next-smaller t c =
-    let i = rw c.in-Some-next.is at c.loop-next.invariant in
-    rw (c.next-next.ensures.part, c.in-Some-next.is) (live_after c.in-Some-next.kid c.args.tree.now.tree i.walk.live)
+loop-next-smaller t c = walk_falls c.args.tree.now.tree _ c.loop-next.next c.next-next.result c.in-Some-next.kid c.in-Some-next.is c.loop-next.invariant.walk c.next-next.ensures.part
 
 pub loop-next-preserved : goal.loop-next-preserved
 loop-next-preserved t c =

@@ -2,8 +2,7 @@ use Rattle.std.proofs.Common.{arith, ap, ◌∙◌, sym}
 use Rattle.view_model.specs.Forest.{Forest}
 use Rattle.view_tree.specs.Rows.{Row, children_of_first, later_siblings, part_from}
 use Rattle.view_tree.specs.Views.{held_of, laid_rows}
-use Rattle.view_tree.proofs.forest.Forests.{live_after}
-use Rattle.view_tree.proofs.forest.Walks.{fewer_below, walk_on, walk_start}
+use Rattle.view_tree.proofs.forest.Walks.{fewer_below, walk_falls, walk_on, walk_start}
 use Rattle.traversal.specs.Reporting.{told_in}
 use Rattle.traversal.proofs.ReportLaws.{told_alone, told_list}
 use Rattle.traversal.proofs.reporting.+report_from.Goals as goal
@@ -28,9 +27,7 @@ report_from-requires t c =
     (omega arith, i.walk.live)
 
 pub loop-next-smaller : goal.loop-next-smaller
-loop-next-smaller t c =
-    let i = rw c.in-Some.is at c.loop-next.invariant in
-    rw (c.next-next.ensures.part, c.in-Some.is) (live_after c.in-Some.kid c.args.tree.now.tree i.walk.live)
+loop-next-smaller t c = walk_falls c.args.tree.now.tree _ c.loop-next.next c.next-next.result c.in-Some.kid c.in-Some.is c.loop-next.invariant.walk c.next-next.ensures.part
 
 pub loop-next-preserved : goal.loop-next-preserved
 loop-next-preserved t c =

@@ -4,8 +4,7 @@ use Rattle.view_model.specs.Painting.{is_drawn, painted}
 use Rattle.view_tree.specs.declared.state.State.{State}
 use Rattle.view_tree.specs.Rows.{children_of_first, first_tree, later_siblings, part_from}
 use Rattle.view_tree.specs.Views.{held_of}
-use Rattle.view_tree.proofs.forest.Forests.{live_after}
-use Rattle.view_tree.proofs.forest.Walks.{fewer_below, walk_on}
+use Rattle.view_tree.proofs.forest.Walks.{fewer_below, walk_falls, walk_on}
 use Rattle.tree_painter.specs.Painted.{IsCounted, area_in, from_origin, placed_rows, share_of}
 use Rattle.tree_painter.proofs.AreaLaws.{area_in-same, counted_same}
 use Rattle.tree_painter.proofs.TreeLaws.{counted_children, counted_own, own_drawn, own_hidden, own_nowhere, painted_parts, share_parts}
@@ -20,8 +19,7 @@ paint_children-paint_view-requires t c =
 
 pub paint_children-loop-next-smaller : goal.paint_children-loop-next-smaller
 paint_children-loop-next-smaller t c =
-    let walk = rw c.in-Some.is at c.loop-next.invariant.walk in
-    rw (c.next-next.ensures.part, c.in-Some.is) (live_after c.in-Some.child c.args.tree.now.tree walk.live)
+    walk_falls c.args.tree.now.tree _ c.loop-next.next c.next-next.result c.in-Some.child c.in-Some.is c.loop-next.invariant.walk c.next-next.ensures.part
 
 pub paint_children-loop-next-preserved : goal.paint_children-loop-next-preserved
 paint_children-loop-next-preserved t c =

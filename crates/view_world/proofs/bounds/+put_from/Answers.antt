@@ -1,7 +1,8 @@
 use Rattle.std.proofs.Common.{◌<◌, ◌≤◌, arith}
 use Rattle.view_model.specs.Forest.{count_of}
 use Rattle.view_tree.specs.Rows.{part_from, rest_from}
-use Rattle.view_tree.proofs.forest.Forests.{count_alone, live_after, live_below}
+use Rattle.view_tree.proofs.forest.Forests.{count_alone, live_below}
+use Rattle.view_tree.proofs.forest.Walks.{walk_falls}
 use Rattle.view_world.proofs.WalkLaws.{sent_end, sent_on, sent_start}
 use Rattle.view_world.proofs.bounds.+put_from.Goals as goal
 
@@ -27,9 +28,7 @@ pub next-next-requires : goal.next-next-requires
 next-next-requires t g c = let w = rw c.in-Some.is at c.loop-next.invariant.walk in w.live
 
 pub loop-next-smaller : goal.loop-next-smaller
-loop-next-smaller t g c =
-    let w = rw c.in-Some.is at c.loop-next.invariant.walk in
-    rw (c.in-Some.is, c.next-next.ensures.part) (live_after c.in-Some.view c.args.tree.now.tree w.live)
+loop-next-smaller t g c = walk_falls c.args.tree.now.tree _ c.loop-next.next c.next-next.result c.in-Some.view c.in-Some.is c.loop-next.invariant.walk c.next-next.ensures.part
 
 pub loop-next-preserved : goal.loop-next-preserved
 loop-next-preserved t g c =

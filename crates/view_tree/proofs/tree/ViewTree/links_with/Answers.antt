@@ -1,14 +1,11 @@
 use Rattle.std.proofs.Common.{◌∙◌}
 use Rattle.view_tree.specs.Rows.{children_of_first, part_from}
-use Rattle.view_tree.proofs.forest.Forests.{live_after}
-use Rattle.view_tree.proofs.forest.Walks.{walk_on}
+use Rattle.view_tree.proofs.forest.Walks.{walk_falls, walk_on}
 use Rattle.view_tree.proofs.orders.CycleLaws.{linked_step}
 use Rattle.view_tree.proofs.tree.ViewTree.links_with.Goals as goal
 
 pub loop-next-smaller : goal.loop-next-smaller
-loop-next-smaller c =
-    let walk = rw c.in-Some.is at c.loop-next.invariant.walk in
-    rw (c.next-next.ensures.part, c.in-Some.is) (live_after c.in-Some.kid c.args.self.now.tree walk.live)
+loop-next-smaller c = walk_falls c.args.self.now.tree _ c.loop-next.next c.next-next.result c.in-Some.kid c.in-Some.is c.loop-next.invariant.walk c.next-next.ensures.part
 
 pub loop-next-preserved : goal.loop-next-preserved
 loop-next-preserved c =

@@ -1,12 +1,10 @@
-use Rattle.view_world.specs.Responses.{response_text}
 use Rattle.view_world.proofs.world.World.command.Goals as goal
-use Rattle.view_world.proofs.world.World.command.Goals.{in-Ok, in-Err}
 
 pub returns-clause-carried : goal.returns-clause-carried
-returns-clause-carried g c =
-    let changed = rw (← c.self.view_is) at c.in_ok-response.ensures.changed in
-    let text = response_text c.self.inside.tree c.self.inside.surface c.self.inside.log.entries.items c.self.inside.saved.items c.in_ok-response.response in
-    elim c.match-write_response.branch [
-      | in-Ok w ↦ let told = rw c.as_slice.ensures.value at w.in-Ok.ensures.delivered in rw w.result-is (text, changed.0, told.whole, told.counted)
-      | in-Err w ↦ let told = rw c.as_slice.ensures.value at w.in-Err.ensures.delivered in rw w.result-is (text, changed.0, told.prefix, told.counted)
-    ]
+returns-clause-carried g c = rw c.in_ok-response.ensures.changed.0 c.tell.ensures.carried
+
+pub returns-clause-memory : goal.returns-clause-memory
+returns-clause-memory g c none = absurd (rw none at c.tell.ensures.done)
+
+pub returns-clause-no_shelf : goal.returns-clause-no_shelf
+returns-clause-no_shelf g c failed = rw failed at c.tell.ensures.done

@@ -1,10 +1,8 @@
 use Rattle.std.specs.Prelude.{Err}
 use Rattle.std.proofs.Common.{◌≡◌}
 use Rattle.std.proofs.lemmas.Result.{err_from_is_err_and}
-use Rattle.view_world.specs.Responses.{response_text}
-use Rattle.view_world.proofs.InflatingLaws.{writes_fault}
+use Rattle.view_world.proofs.InflatingLaws.{told_counts, writes_fault}
 use Rattle.view_world.proofs.world.World.inflate_line.Goals as goal
-use Rattle.view_world.proofs.world.World.inflate_line.Goals.{in-Ok, in-Err}
 
 pub returns-in_err-response-clause-carried : goal.returns-in_err-response-clause-carried
 returns-in_err-response-clause-carried g c files at =
@@ -13,10 +11,10 @@ returns-in_err-response-clause-carried g c files at =
     writes_fault _ c.inflate.new.self (g.K.Sink.state c.args.sink.now) (g.K.Sink.state c.args.sink.now) c.in_err-response.field-0.0 c.from_residual.result e (c.in_err-response.ensures.changed files at)
 
 pub returns-clause-carried : goal.returns-clause-carried
-returns-clause-carried g c files at =
-    let changed = rw (← c.self.view_is) at c.in_ok-response.ensures.changed files at in
-    let text = response_text c.self.inside.tree c.self.inside.surface c.self.inside.log.entries.items c.self.inside.saved.items c.in_ok-response.response in
-    elim c.match-write_response.branch [
-      | in-Ok w ↦ let told = rw c.as_slice.ensures.value at w.in-Ok.ensures.delivered in rw w.result-is (text, changed.0, told.whole, told.counted)
-      | in-Err w ↦ let told = rw c.as_slice.ensures.value at w.in-Err.ensures.delivered in rw w.result-is (text, changed.0, told.prefix, told.counted)
-    ]
+returns-clause-carried g c files at = let changed = c.in_ok-response.ensures.changed files at in rw changed.0 c.tell.ensures.carried
+
+pub returns-clause-shelf_failed : goal.returns-clause-shelf_failed
+returns-clause-shelf_failed g c = told_counts _ _ c.tell.result c.tell.ensures.done c.in_ok-response.ensures.shelf_failed
+
+pub returns-clause-asked : goal.returns-clause-asked
+returns-clause-asked g c failed = absurd (rw failed at c.tell.ensures.done)

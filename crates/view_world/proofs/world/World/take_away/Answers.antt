@@ -23,7 +23,7 @@ invariant_of-self c =
     let live : IsLive views c.args.view = subst (λ (w : KeyedWorld). IsLive w.views c.args.view) (sym c.self.view_is) c.tell_leaving.ensures.live in
     let plain = plain_removed views c.apply.new.tree (number_of views c.args.view) c.in-Ok.field-0 c.in-Ok.ensures.applied in
     let narrow = fits_edited views c.apply.new.tree (Remove (number_of views c.args.view)) c.in-Ok.field-0 c.in-Ok.ensures.applied c.self.invariant.narrow in
-    sound_removed c.self.inside c.apply.new.tree c.close_part.new.gesture c.disarm_part.new.hooks c.args.view is live c.in-Ok.ensures.kept plain c.close_part.ensures.gesture c.close_part.ensures.opened
+    sound_removed c.self.inside c.apply.new.tree c.forget.new.gesture c.forget.new.hooks c.args.view is live c.in-Ok.ensures.kept plain c.forget.ensures.gesture c.forget.ensures.opened
     (c.apply.ensures.consistent c.self.invariant.consistent) narrow
     (offsets_edited views c.apply.new.tree (edit.Remove c.args.view) (Ok c.in-Ok.field-0) tt c.in-Ok.ensures.applied tt c.self.invariant.offsets) c.self.invariant
 
@@ -31,7 +31,7 @@ pub returns-clause-changed : goal.returns-clause-changed
 returns-clause-changed c =
     let old = c.args.self.now in
     let mid = keyed c.self.inside in
-    let now : KeyedWorld = record mid { views = c.apply.new.tree; gesture = c.close_part.new.gesture; hooks = c.disarm_part.new.hooks } in
+    let now : KeyedWorld = record mid { views = c.apply.new.tree; gesture = c.forget.new.gesture; hooks = c.forget.new.hooks } in
     let progress = leaving (world_of old) (number_of old.views c.args.view) in
     let is : IsTree mid.views = subst (λ (w : KeyedWorld). IsTree w.views) (sym c.self.view_is) c.tell_leaving.ensures.is_tree in
     let live : IsLive mid.views c.args.view = subst (λ (w : KeyedWorld). IsLive w.views c.args.view) (sym c.self.view_is) c.tell_leaving.ensures.live in
@@ -41,4 +41,4 @@ returns-clause-changed c =
     let done : c.apply.result ≡ Ok None =
     remove_done (edited_of mid.views) (edited_of c.apply.new.tree) (number_of mid.views c.args.view) c.apply.result c.apply.ensures.applied c.apply.ensures.memory in
     subst (λ (response : Response). CarriesOut (removed (world_of old) (number_of old.views c.args.view)) now (Ok response)) (sym c.deliveries.ensures)
-    (Changed-remove old mid c.apply.new.tree c.close_part.new.gesture c.disarm_part.new.hooks c.args.view c.apply.result is live same world told c.close_part.ensures.gesture c.disarm_part.ensures done c.apply.ensures.applied)
+    (Changed-remove old mid c.apply.new.tree c.forget.new.gesture c.forget.new.hooks c.args.view c.apply.result is live same world told c.forget.ensures.gesture c.forget.ensures.hooks done c.apply.ensures.applied)
