@@ -17,6 +17,3 @@ mod values;
 
 pub use fault::AttrFault;
 pub use taking::{Taken, take};
-
-#[cfg(test)]
-mod tests;

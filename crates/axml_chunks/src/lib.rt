@@ -12,6 +12,3 @@ pub use cause::Cause;
 pub use chunk::{Chunk, chunk_at, u16_at, u32_at};
 pub use fault::{Fault, ReadFault};
 pub use pool::Pool;
-
-#[cfg(test)]
-mod tests;

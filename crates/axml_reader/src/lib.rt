@@ -13,6 +13,3 @@ mod reading;
 pub use decode::read;
 pub use doc::{Attr, Doc, NO_STRING, Node};
 pub use dump::print;
-
-#[cfg(test)]
-mod tests;

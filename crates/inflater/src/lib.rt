@@ -13,6 +13,3 @@ mod inflating;
 pub use fault::GrowFault;
 pub use grown::Grown;
 pub use inflating::inflate;
-
-#[cfg(test)]
-mod tests;

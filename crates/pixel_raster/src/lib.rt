@@ -10,6 +10,3 @@ mod rows;
 mod surface;
 
 pub use surface::Surface;
-
-#[cfg(test)]
-mod tests;

@@ -21,6 +21,3 @@ mod taking;
 pub use ordering::{OrderFault, Orders, order};
 pub use plan::RelativePlan;
 pub use view_model::{Anchor, Anchors, Edges, Link};
-
-#[cfg(test)]
-mod tests;

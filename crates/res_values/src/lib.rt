@@ -10,6 +10,3 @@ mod value;
 pub use fault::ResFault;
 pub use resources::Resources;
 pub use value::Value;
-
-#[cfg(test)]
-mod tests;

@@ -18,6 +18,3 @@ pub use reading::read;
 pub use restoring::restore;
 pub use saving::save;
 pub use states::States;
-
-#[cfg(test)]
-mod tests;

@@ -8,6 +8,3 @@ mod writing;
 
 pub use buffer::TextBuffer;
 pub use writing::{hex, number, put};
-
-#[cfg(test)]
-mod tests;

@@ -20,6 +20,3 @@ pub use dispatching::{cancel_view, dispatch};
 pub use drag::Drag;
 pub use gesture::Gesture;
 pub use log::{Entry, Kind, Log};
-
-#[cfg(test)]
-mod tests;

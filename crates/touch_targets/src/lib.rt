@@ -10,6 +10,3 @@ mod node;
 mod targets;
 
 pub use targets::Targets;
-
-#[cfg(test)]
-mod tests;

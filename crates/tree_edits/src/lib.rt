@@ -13,6 +13,3 @@ pub use applying::apply;
 pub use classes::takes_change;
 pub use edits::Edit;
 pub use fault::EditFault;
-
-#[cfg(test)]
-mod tests;

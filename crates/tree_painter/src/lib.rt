@@ -11,6 +11,3 @@ mod painting;
 mod text;
 
 pub use painting::paint;
-
-#[cfg(test)]
-mod tests;

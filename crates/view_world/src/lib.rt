@@ -23,6 +23,3 @@ mod world;
 
 pub use fault::StepFault;
 pub use world::World;
-
-#[cfg(test)]
-mod tests;

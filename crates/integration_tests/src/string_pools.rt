@@ -1,6 +1,5 @@
 //! Pools in both encodings, and the limits of strings.
-use crate::cause::Cause;
-use crate::{Fault, Pool, ReadFault, chunk_at};
+use axml_chunks::{Cause, Fault, Pool, ReadFault, chunk_at};
 use layout_samples::{NARROW, WIDE};
 use std::alloc::{AllocError, Global};
 use std::test::Fail;

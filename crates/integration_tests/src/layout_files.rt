@@ -1,8 +1,8 @@
 //! A small layout file in both encodings, cut short, and with broken headers.
 ghost use Rattle.std.specs.Prelude.{◌+◌, ◌<◌, ◌≤◌, length};
 
-use crate::{Doc, print, read};
 use axml_chunks::{Cause, Fault, ReadFault};
+use axml_reader::{Doc, print, read};
 use layout_samples::{NARROW, WIDE};
 use std::alloc::{AllocError, Global};
 use std::test::Fail;
@@ -127,23 +127,6 @@ fn a_document_that_is_cut_short_has_its_fault(rt: HostRuntime) -> Result<(), Fai
     for quarter in 2..88usize {
         let fault = cut(alloc, 4 * quarter, true)?;
         assert!(rt; fault == cut_fault(4 * quarter));
-    }
-    Ok(())
-}
-
-#[test]
-fn any_size_in_a_header_is_answered(rt: HostRuntime) -> Result<(), Fail> {
-    let alloc = rt.alloc();
-    for at in [
-        0usize, 4, 8, 12, 16, 20, 24, 28, 32, 164, 168, 180, 184, 204, 208, 300, 304, 324, 328,
-    ] {
-        for byte in [0u8, 0xff] {
-            let mut bytes = Vec::from_slice(alloc, &NARROW)?;
-            for k in at..at + 4 {
-                bytes[k] = byte;
-            }
-            let _ = read(alloc, &bytes);
-        }
     }
     Ok(())
 }

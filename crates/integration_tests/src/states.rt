@@ -1,6 +1,6 @@
 //! States with ample memory: an answer for want of it would meet their clauses too.
 
-use crate::{StateFault, read, restore, save};
+use saved_state::{StateFault, read, restore, save};
 use std::alloc::Global;
 use std::test::Fail;
 use view_model::{Class, Detail, Facts, Rules, Text};

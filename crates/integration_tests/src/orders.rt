@@ -1,6 +1,6 @@
 //! Orders with ample memory: an answer for want of it would meet their clauses too.
 
-use crate::{Link, OrderFault, order};
+use relative_layout::{Link, OrderFault, order};
 use std::test::Fail;
 use view_model::Rules;
 use view_model::verbs::RIGHT_OF;

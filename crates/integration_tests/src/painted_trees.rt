@@ -1,8 +1,8 @@
 //! Worked pictures through `paint`, with what they count: digests of the pixels, row by row, by `sha256sum`.
-use crate::paint;
 use geom_core::{Argb, Insets, Rect, Size};
 use pixel_raster::Surface;
 use std::test::Fail;
+use tree_painter::paint;
 use view_model::{Class, Facts, Text, Work};
 use view_tree::ViewTree;
 

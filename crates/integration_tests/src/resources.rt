@@ -1,7 +1,7 @@
 //! Resources with ample memory: an answer for want of it would meet their clauses too.
 
-use crate::{Resources, Value};
 use geom_core::Argb;
+use res_values::{Resources, Value};
 use std::test::Fail;
 use view_model::Text;
 

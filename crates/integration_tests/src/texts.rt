@@ -1,8 +1,8 @@
 //! Text that goes to sinks in memory.
 
-use crate::{TextBuffer, hex, number, put};
 use std::alloc::Global;
 use std::test::Fail;
+use text_lines::{TextBuffer, hex, number, put};
 use tool_io::{Failed, MemorySink, Sink};
 
 /// A sink that takes a write whole, and keeps how many there were and the longest.

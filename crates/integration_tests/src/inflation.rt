@@ -1,8 +1,8 @@
 //! The sample layout file, and files of its element nested in others of its kind.
 
-use crate::{GrowFault, Grown, inflate};
 use axml_chunks::ReadFault;
 use axml_reader::read;
+use inflater::{GrowFault, Grown, inflate};
 use layout_samples::NARROW;
 use res_values::{Resources, Value};
 use std::alloc::{AllocError, Global};

@@ -1,7 +1,7 @@
 //! Pictures with ample memory, an answer for want of it meeting their clauses too, against digests from elsewhere.
 
-use crate::Surface;
 use geom_core::{Argb, Rect, Size};
+use pixel_raster::Surface;
 use std::test::Fail;
 use view_model::Work;
 

@@ -1,6 +1,6 @@
 //! Each attribute with a value that it takes and with one that it does not, in an element with a width and a height.
 
-use crate::{AttrFault, Taken, take};
+use attr_table::{AttrFault, Taken, take};
 use axml_reader::{Doc, Node, read};
 use geom_core::{Argb, Insets};
 use res_values::{Resources, Value};

@@ -1,0 +1,29 @@
+//! Tests of the libraries through their public calls: those that may want memory, each with ample memory, since an
+//! answer for want of it would meet their clauses too, and the vectors of formats. They stand in one crate above all
+//! others but the program, whose own tests carry out whole scripts, because a crate with tests is proved twice.
+#![tactic(auto)]
+
+#[cfg(test)]
+mod attributes;
+#[cfg(test)]
+mod gestures;
+#[cfg(test)]
+mod inflation;
+#[cfg(test)]
+mod layout_files;
+#[cfg(test)]
+mod orders;
+#[cfg(test)]
+mod painted_trees;
+#[cfg(test)]
+mod pictures;
+#[cfg(test)]
+mod resources;
+#[cfg(test)]
+mod states;
+#[cfg(test)]
+mod string_pools;
+#[cfg(test)]
+mod texts;
+#[cfg(test)]
+mod trees;
