@@ -3,7 +3,7 @@ ghost use Rattle.std.specs.Prelude.{◌≡◌, ◌+◌, [], ◌∷◌, ◌++◌,
 ghost use Rattle.std.specs.Option.{option_map};
 ghost use Rattle.geom_core.specs.Limits.{IsSide};
 ghost use Rattle.view_model.specs.declared.facts.Facts.{Facts as FactsValue};
-ghost use Rattle.view_model.specs.Facts.{unscrolled_facts};
+ghost use Rattle.view_model.specs.Facts.{layout_facts};
 ghost use Rattle.view_model.specs.FrameLayout.{first_specs, frame_rule, has_second_phase, second_specs};
 ghost use Rattle.view_model.specs.Measuring.{Specs, Measured, pair_of, taken_as};
 
@@ -29,7 +29,7 @@ impl FramePlan {
 
     /// The plan of a group with these facts under these specs, before its first child.
     pub fn start(own: &Facts, ws: Spec, hs: Spec) -> FramePlan
-        ensures { StandsFrame result (unscrolled_facts own.now) (record { across = ws; down = hs }) [] [] }
+        ensures { StandsFrame result (layout_facts own.now) (record { across = ws; down = hs }) [] [] }
     {
         FramePlan {
             across: Axis::start(ws, own.min.w, own.padding_across()),
@@ -45,7 +45,7 @@ impl FramePlan {
         ensures { (own : FactsValue) (specs : Specs) (past : List (List Measured)) (taken : List Measured)
             → StandsFrame self.now own specs past taken
             → result ≡ option_map pair_of
-            ((frame_rule own specs).ask past taken (record { facts = unscrolled_facts kid.now; size = size })) }
+            ((frame_rule own specs).ask past taken (record { facts = layout_facts kid.now; size = size })) }
     {
         match self.own_size {
             None => Some(self.first_specs(kid)),
@@ -64,7 +64,7 @@ impl FramePlan {
         ensures { (own : FactsValue) (specs : Specs) (past : List (List Measured)) (taken : List Measured)
             → StandsFrame self.old own specs past taken
             → StandsFrame self.new own specs past
-            (taken ++ taken_as (frame_rule own specs) past taken (unscrolled_facts kid.now) size ∷ []) }
+            (taken ++ taken_as (frame_rule own specs) past taken (layout_facts kid.now) size ∷ []) }
     {
         if self.own_size.is_some() {
             return;

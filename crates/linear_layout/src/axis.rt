@@ -1,6 +1,6 @@
 //! What is read of facts, sizes and specs on one axis, the vertical one or the other. Lengths are in pixels.
 ghost use Rattle.std.specs.Prelude.{◌≡◌, ◌≤ℤ◌, pos, negsuc};
-ghost use Rattle.view_model.specs.Facts.{unscrolled_facts};
+ghost use Rattle.view_model.specs.Facts.{layout_facts};
 ghost use Rattle.view_model.specs.LinearLayout.{alignment_on, dim_on, high_margin, high_padding, low_margin, low_padding, margins_on, min_on, padding_on, size_by, size_on, spec_on, specs_by};
 ghost use Rattle.view_model.specs.Measuring.{pair_of};
 
@@ -23,14 +23,14 @@ pub fn spec_on(vertical: bool, ws: Spec, hs: Spec) -> Spec
 
 #[tactic(auto, unfolding(view_model::specs::LinearLayout::dim_on))]
 pub fn dim_on(vertical: bool, facts: &Facts) -> i32
-    ensures { result ≡ dim_on vertical (unscrolled_facts facts.now) }
+    ensures { result ≡ dim_on vertical (layout_facts facts.now) }
 {
     if vertical { facts.height } else { facts.width }
 }
 
 #[tactic(auto, unfolding(view_model::specs::LinearLayout::min_on))]
 pub fn min_on(vertical: bool, facts: &Facts) -> i32
-    ensures { result ≡ min_on vertical (unscrolled_facts facts.now) }
+    ensures { result ≡ min_on vertical (layout_facts facts.now) }
 {
     if vertical { facts.min.h } else { facts.min.w }
 }
@@ -38,7 +38,7 @@ pub fn min_on(vertical: bool, facts: &Facts) -> i32
 /// Both margins.
 #[tactic(auto, unfolding(view_model::specs::LinearLayout::margins_on))]
 pub fn margins_on(vertical: bool, facts: &Facts) -> i64
-    ensures value { result ≡ margins_on vertical (unscrolled_facts facts.now) }
+    ensures value { result ≡ margins_on vertical (layout_facts facts.now) }
     ensures low { negsuc 4294967295 ≤ℤ result }
     ensures high { result ≤ℤ pos 4294967294 }
 {
@@ -51,7 +51,7 @@ pub fn margins_on(vertical: bool, facts: &Facts) -> i64
 /// Both paddings.
 #[tactic(auto, unfolding(view_model::specs::LinearLayout::padding_on))]
 pub fn padding_on(vertical: bool, facts: &Facts) -> i64
-    ensures value { result ≡ padding_on vertical (unscrolled_facts facts.now) }
+    ensures value { result ≡ padding_on vertical (layout_facts facts.now) }
     ensures low { negsuc 4294967295 ≤ℤ result }
     ensures high { result ≤ℤ pos 4294967294 }
 {
@@ -64,7 +64,7 @@ pub fn padding_on(vertical: bool, facts: &Facts) -> i64
 /// The margin on the left or at the top.
 #[tactic(auto, unfolding(view_model::specs::LinearLayout::low_margin))]
 pub fn low_margin(vertical: bool, facts: &Facts) -> i32
-    ensures { result ≡ low_margin vertical (unscrolled_facts facts.now) }
+    ensures { result ≡ low_margin vertical (layout_facts facts.now) }
 {
     if vertical {
         return facts.margins.top;
@@ -75,7 +75,7 @@ pub fn low_margin(vertical: bool, facts: &Facts) -> i32
 /// The margin on the right or at the bottom.
 #[tactic(auto, unfolding(view_model::specs::LinearLayout::high_margin))]
 pub fn high_margin(vertical: bool, facts: &Facts) -> i32
-    ensures { result ≡ high_margin vertical (unscrolled_facts facts.now) }
+    ensures { result ≡ high_margin vertical (layout_facts facts.now) }
 {
     if vertical {
         return facts.margins.bottom;
@@ -86,7 +86,7 @@ pub fn high_margin(vertical: bool, facts: &Facts) -> i32
 /// The padding on the left or at the top.
 #[tactic(auto, unfolding(view_model::specs::LinearLayout::low_padding))]
 pub fn low_padding(vertical: bool, facts: &Facts) -> i32
-    ensures { result ≡ low_padding vertical (unscrolled_facts facts.now) }
+    ensures { result ≡ low_padding vertical (layout_facts facts.now) }
 {
     if vertical {
         return facts.padding.top;
@@ -97,7 +97,7 @@ pub fn low_padding(vertical: bool, facts: &Facts) -> i32
 /// The padding on the right or at the bottom.
 #[tactic(auto, unfolding(view_model::specs::LinearLayout::high_padding))]
 pub fn high_padding(vertical: bool, facts: &Facts) -> i32
-    ensures { result ≡ high_padding vertical (unscrolled_facts facts.now) }
+    ensures { result ≡ high_padding vertical (layout_facts facts.now) }
 {
     if vertical {
         return facts.padding.bottom;

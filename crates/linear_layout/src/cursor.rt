@@ -4,7 +4,7 @@ ghost use Rattle.geom_core.specs.Limits.{IsCoordinate, IsSide, clamp_coordinate}
 ghost use Rattle.linear_layout.specs.Line.{kid_with};
 ghost use Rattle.view_model.specs.declared.facts.Facts.{Facts as FactsValue};
 ghost use Rattle.view_model.specs.declared.limits.TheConstants.{MAX_VIEWS};
-ghost use Rattle.view_model.specs.Facts.{unscrolled_facts};
+ghost use Rattle.view_model.specs.Facts.{layout_facts};
 ghost use Rattle.view_model.specs.Geometry.{size_of_rect};
 ghost use Rattle.view_model.specs.LinearLayout.{edge_beside, gravity_for, line_begin, linear_place, low_margin, rect_by};
 ghost use Rattle.view_model.specs.Measuring.{Measured};
@@ -31,7 +31,7 @@ impl Cursor {
 
     /// Before the first child of a group of this size, of whose length its children and its padding take `total`.
     pub fn start(own: &Facts, room: Size, total: i64) -> Cursor
-        ensures { PlacesLinear result (unscrolled_facts own.now) room total [] }
+        ensures { PlacesLinear result (layout_facts own.now) room total [] }
     {
         let along = own.vertical;
         Cursor {
@@ -53,11 +53,11 @@ impl Cursor {
         ensures extent { size_of_rect result ≡ size }
         ensures place { (own : FactsValue) (room : SizeValue) (total : ℤ) (before : List Measured)
             → PlacesLinear self.old own room total before
-            → result ≡ linear_place own room total before (record { facts = unscrolled_facts kid.now; size = size }) }
+            → result ≡ linear_place own room total before (record { facts = layout_facts kid.now; size = size }) }
         ensures next { (own : FactsValue) (room : SizeValue) (total : ℤ) (before : List Measured)
             → PlacesLinear self.old own room total before
             → length before < MAX_VIEWS
-            → PlacesLinear self.new own room total (before ++ record { facts = unscrolled_facts kid.now; size = size } ∷ []) }
+            → PlacesLinear self.new own room total (before ++ record { facts = layout_facts kid.now; size = size } ∷ []) }
     {
         let vertical = self.own.vertical;
         let along = self.mark.edge(low_margin(vertical, kid));
@@ -101,7 +101,7 @@ fn behind(padding: i32, spare: i128) -> i128
 
 /// The low edge of a child of this size beside the line.
 fn edge_beside(own: &Facts, room: Size, kid: &Facts, size: Size) -> i32
-    ensures value { result ≡ clamp_coordinate (edge_beside (unscrolled_facts own.now) room (kid_with kid.now size)) }
+    ensures value { result ≡ clamp_coordinate (edge_beside (layout_facts own.now) room (kid_with kid.now size)) }
     ensures edge { IsCoordinate result }
 {
     let beside = !own.vertical;
@@ -117,7 +117,7 @@ fn edge_beside(own: &Facts, room: Size, kid: &Facts, size: Size) -> i32
 
 /// The gravity by which a child is placed beside the line: its own, if it has one.
 fn gravity_for(own: &Facts, kid: &Facts) -> Gravity
-    ensures { result ≡ gravity_for (unscrolled_facts own.now) (unscrolled_facts kid.now) }
+    ensures { result ≡ gravity_for (layout_facts own.now) (layout_facts kid.now) }
 {
     if kid.layout_gravity.given {
         return kid.layout_gravity;

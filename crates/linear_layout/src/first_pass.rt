@@ -5,7 +5,7 @@ ghost use Rattle.geom_core.specs.Limits.{IsSide};
 ghost use Rattle.geom_core.specs.Spec.{child_spec_of};
 ghost use Rattle.view_model.specs.declared.facts.Facts.{Facts as FactsValue};
 ghost use Rattle.view_model.specs.declared.limits.TheConstants.{MAX_VIEWS};
-ghost use Rattle.view_model.specs.Facts.{unscrolled_facts};
+ghost use Rattle.view_model.specs.Facts.{layout_facts};
 ghost use Rattle.view_model.specs.LinearLayout.{first_along, first_dim, first_pass, full_length, has_weight_pass, own_length, spare_of, used_before, whole_weight};
 ghost use Rattle.view_model.specs.Measuring.{Measured, Specs, pair_of};
 
@@ -90,7 +90,7 @@ impl FirstPass {
     fn spec_along(&self, line: &Line, kid: &Facts) -> Spec
         ensures { (kids : List Measured)
             → IsFirstPass self.now (own_in line.now) (specs_in line.now) kids
-            → result ≡ first_along (own_in line.now) (specs_in line.now) kids (unscrolled_facts kid.now) }
+            → result ≡ first_along (own_in line.now) (specs_in line.now) kids (layout_facts kid.now) }
     {
         let along = line.vertical();
         spec_behind(

@@ -1,7 +1,7 @@
 //! A group whose children stand in a line, under its specs, and what a child takes of it. Lengths are in pixels.
 ghost use Rattle.std.specs.Prelude.{◌≡◌, ◌+ℤ◌, ◌≤ℤ◌, ◌^◌, pos, negsuc, not};
 ghost use Rattle.view_model.specs.declared.facts.Facts.{Facts as FactsValue};
-ghost use Rattle.view_model.specs.Facts.{is_match, unscrolled_facts};
+ghost use Rattle.view_model.specs.Facts.{is_match, layout_facts};
 ghost use Rattle.view_model.specs.LinearLayout.{breadth_of, claim, claim_of, dim_on, extent, extent_of, is_exact_beside, is_skipped, skips, spec_beside, spec_on, where_even, where_weighted};
 ghost use Rattle.view_model.specs.Measuring.{Specs};
 
@@ -48,21 +48,21 @@ impl Line {
 
     /// Whether the first pass leaves a child out.
     pub fn skips(&self, kid: &Facts) -> bool
-        ensures { result ≡ skips (own_in self.now) (specs_in self.now) (unscrolled_facts kid.now) }
+        ensures { result ≡ skips (own_in self.now) (specs_in self.now) (layout_facts kid.now) }
     {
         is_skipped(self.spec_along(), dim_on(self.vertical(), kid), kid.weight)
     }
 
     /// Whether a child wants to be as broad as the group.
     pub fn matches(&self, kid: &Facts) -> bool
-        ensures { result ≡ is_match (dim_on (not self.now.own.vertical) (unscrolled_facts kid.now)) }
+        ensures { result ≡ is_match (dim_on (not self.now.own.vertical) (layout_facts kid.now)) }
     {
         dim_on(!self.vertical(), kid) == MATCH
     }
 
     /// The spec of a child beside the line.
     pub fn kid_spec_beside(&self, kid: &Facts) -> Spec
-        ensures { result ≡ spec_beside (own_in self.now) (specs_in self.now) (unscrolled_facts kid.now) }
+        ensures { result ≡ spec_beside (own_in self.now) (specs_in self.now) (layout_facts kid.now) }
     {
         let beside = !self.vertical();
         child_spec_within(

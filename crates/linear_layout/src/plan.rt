@@ -5,7 +5,7 @@ ghost use Rattle.geom_core.specs.Limits.{IsSide};
 ghost use Rattle.linear_layout.specs.declared.weight_pass.WeightPass.{WeightPass as WeightPassValue};
 ghost use Rattle.view_model.specs.declared.facts.Facts.{Facts as FactsValue};
 ghost use Rattle.view_model.specs.declared.limits.TheConstants.{MAX_VIEWS};
-ghost use Rattle.view_model.specs.Facts.{unscrolled_facts};
+ghost use Rattle.view_model.specs.Facts.{layout_facts};
 ghost use Rattle.view_model.specs.LinearLayout.{breadth_for, breadth_once, breadth_twice, is_exact_beside, linear_rule};
 ghost use Rattle.view_model.specs.Measuring.{Measured, Specs, pair_of, taken_as};
 
@@ -43,7 +43,7 @@ impl LinearPlan {
 
     /// The plan of a group with these facts under these specs, before its first child.
     pub fn start(own: &Facts, ws: Spec, hs: Spec) -> LinearPlan
-        ensures { StandsLinear result (unscrolled_facts own.now) (record { across = ws; down = hs }) [] [] }
+        ensures { StandsLinear result (layout_facts own.now) (record { across = ws; down = hs }) [] [] }
     {
         LinearPlan {
             line: Line { own: *own, ws, hs },
@@ -58,7 +58,7 @@ impl LinearPlan {
         ensures { (own : FactsValue) (specs : Specs) (past : List (List Measured)) (taken : List Measured)
             → StandsLinear self.now own specs past taken
             → result ≡ option_map pair_of
-            ((linear_rule own specs).ask past taken (record { facts = unscrolled_facts kid.now; size = size })) }
+            ((linear_rule own specs).ask past taken (record { facts = layout_facts kid.now; size = size })) }
     {
         match self.phase {
             Phase::First => self.first.ask(&self.line, kid, size),
@@ -73,7 +73,7 @@ impl LinearPlan {
             → StandsLinear self.old own specs past taken
             → length taken < MAX_VIEWS
             → StandsLinear self.new own specs past
-            (taken ++ taken_as (linear_rule own specs) past taken (unscrolled_facts kid.now) size ∷ []) }
+            (taken ++ taken_as (linear_rule own specs) past taken (layout_facts kid.now) size ∷ []) }
     {
         match self.phase {
             Phase::First => {

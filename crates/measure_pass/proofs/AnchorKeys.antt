@@ -16,7 +16,7 @@ use Rattle.view_model.specs.declared.relative.Axis.TheVariants.{Horizontal, Vert
 use Rattle.view_model.specs.declared.relative.Link.{Link}
 use Rattle.view_model.specs.declared.relative.Tie.{Tie}
 use Rattle.view_model.specs.Course.{Child}
-use Rattle.view_model.specs.Facts.{is_shown, unscrolled_facts}
+use Rattle.view_model.specs.Facts.{is_shown, layout_facts}
 use Rattle.view_model.specs.Forest.{Forest, Nothing, Branch, count_of}
 use Rattle.view_model.specs.RelativeCourse.{anchor_by, anchor_with, child_at, link_of, links_of}
 use Rattle.view_model.specs.RelativeLayout.{span_or_none, tied_on}
@@ -150,7 +150,7 @@ rules_at tree list key place live part =
 
 -- its facts as an anchor
 pub facts_at : (tree list : Forest Row) (key place : ℕ) → 0 < count_of_key key tree → part_from key tree ≡ siblings_from place list
-    → (child_at (kids_in list) place).facts ≡ unscrolled_facts (head_view (part_from key tree)).facts
+    → (child_at (kids_in list) place).facts ≡ layout_facts (head_view (part_from key tree)).facts
 facts_at tree list key place live part =
     let x = located key tree live in
     ap (λ (kid : Child). kid.facts) (kid_at list place ∙ ap first_child (sym part)) ∙ rw x.is refl
@@ -181,7 +181,7 @@ pub record AnchorWalk (tree list : Forest Row) (shown : ℕ → Bool) (named : �
   pub same : anchor_within left shown named here ≡ anchor
 
 -- what an axis reads of facts
-pub tied_same : (axis : Axis) (facts : Facts) → tied_on axis (unscrolled_facts facts) ≡ tied_on axis facts
+pub tied_same : (axis : Axis) (facts : Facts) → tied_on axis (layout_facts facts) ≡ tied_on axis facts
 tied_same Horizontal facts = refl
 tied_same Vertical facts = refl
 
@@ -263,7 +263,7 @@ anchor_none tree list axis held tie place h =
 
 pub anchor_some : (tree list : Forest Row) (axis : Axis) (held : ℕ → Held) (tie : Tie) (place key : ℕ) (anchor : Anchor)
     → IsKidAt tree list (anchor_of axis tie (links_of (kids_in list)) (λ sibling. is_shown (child_at (kids_in list) sibling).facts) place) (Some key)
-    → anchor ≡ anchor_with axis (unscrolled_facts (head_view (part_from key tree)).facts) (first_span axis held (part_from key tree))
+    → anchor ≡ anchor_with axis (layout_facts (head_view (part_from key tree)).facts) (first_span axis held (part_from key tree))
     → Some anchor ≡ anchor_by axis (kids_in list) (kept_spans axis held list) tie place
 anchor_some tree list axis held tie place key anchor h is =
     let at = anchor_of axis tie (links_of (kids_in list)) (λ sibling. is_shown (child_at (kids_in list) sibling).facts) place in
@@ -278,3 +278,14 @@ pub span_at_key : (axis : Axis) (tree : Forest Row) (key : ℕ) (held : ℕ → 
 span_at_key axis tree key held live =
     let x = located key tree live in
     rw x.is (ap (λ key. span_or_none (edge_on axis (held key).state.edges)) x.key_is)
+
+-- a child whose rule names nobody has no anchor
+pub unnamed : (tree list : Forest Row) (kid place : ℕ) (axis : Axis) (held : ℕ → Held) (tie : Tie) (id : ℕ) → 0 < count_of_key kid tree → part_from kid tree ≡ siblings_from place list
+    → id ≡ anchor_id axis tie (head_view (part_from kid tree)).facts.rules → id ≡ 0
+    → None ≡ anchor_by axis (kids_in list) (kept_spans axis held list) tie place
+unnamed tree list kid place axis held tie id alive part id_is none_is =
+    let links = links_of (kids_in list) in
+    let shown : ℕ → Bool = λ sibling. is_shown (child_at (kids_in list) sibling).facts in
+    let none : named_sibling axis tie links place ≡ None =
+    subst (λ id. other_than place (last_with_id links id) ≡ None) (sym none_is ∙ id_is ∙ ap (anchor_id axis tie) (sym (rules_at tree list kid place alive part))) refl in
+    anchor_none tree list axis held tie place (subst (λ at. IsKidAt tree list at None) (sym (within_none (length links) shown (named_sibling axis tie links) place none)) tt)

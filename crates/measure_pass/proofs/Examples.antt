@@ -2,7 +2,8 @@
 use Rattle.std.specs.Prelude.{◌≡◌, ℕ, ℤ, pos, negsuc, refl, [], ◌∷◌}
 use Rattle.geom_core.specs.declared.measuring.Mode.TheVariants.{Exactly, AtMost}
 use Rattle.geom_core.specs.Spec.{child_spec_of, default_size_of, remaining_of, resolve_of}
-use Rattle.measure_pass.specs.Measured.{calls_under, finals_under, last_specs, size_under}
+use Rattle.kept_views.specs.Kept.{last_specs}
+use Rattle.measure_pass.specs.Measured.{calls_under, finals_under, size_under}
 use Rattle.view_model.specs.declared.facts.Facts.{Facts}
 use Rattle.view_model.specs.declared.kinds.Class.{Class}
 use Rattle.view_model.specs.declared.kinds.Class.TheVariants as class
@@ -39,7 +40,8 @@ at_most = record { across = record { mode = AtMost; size = pos 100 }; down = rec
 exactly : ℕ → ℕ → Specs
 exactly w h = record { across = record { mode = Exactly; size = pos w }; down = record { mode = Exactly; size = pos h } }
 
--- a group as large as its content: two frames that match it, one with a view below it, around one of 30 by 20 and one that is gone
+-- a group as large as its content: two frames that match it, one with a view below it, around one of 30 by 20 and one
+-- that is gone
 group : Forest Row
 group =
     Branch (frame 1 wrap wrap) (Branch (frame 2 match match) (Branch (leaf 3 (pos 10) (pos 10)) Nothing Nothing)
@@ -60,7 +62,7 @@ unfolding group frame leaf gone row at_most exactly match wrap child_spec_of def
 finals_are_exact = refl
 
 held_by_key : ℕ → Held
-held_by_key key = record { state = record fresh { ws = (exactly key 1).across; hs = (exactly key 1).down }; offset = pos 0 }
+held_by_key key = record { state = record fresh { ws = (exactly key 1).across; hs = (exactly key 1).down }; offset = pos 0; cache = [] }
 
 gone_has_no_last_specs : last_specs held_by_key (Branch (leaf 1 wrap wrap) Nothing (Branch (gone 2) Nothing (Branch (leaf 3 wrap wrap) Nothing Nothing))) ≡ exactly 1 1 ∷ exactly 3 1 ∷ []
 unfolding held_by_key frame leaf gone row exactly wrap

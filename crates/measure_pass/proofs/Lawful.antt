@@ -1,5 +1,5 @@
--- What measuring wants of a rule: that it measures every child that takes part in layout, and never looks at a size of an
--- earlier measuring; and general halves of that.
+-- What measuring wants of a rule: that it measures every child that takes part in layout, and never looks at a size of
+-- an earlier measuring; and general halves of that.
 use Rattle.std.proofs.Common.{◌≡◌, Bool, true, false, Option, Some, None, List, [], ◌∷◌, ◌++◌, ap, ◌∙◌, sym, refl}
 use Rattle.std.specs.Prelude.{pos, if◌then◌else◌}
 use Rattle.std.specs.Option.{is_some}
@@ -19,7 +19,7 @@ pub record IsLawful (group : Bool) (rule : Rule) : Type 0 where
   pub width : (past : List (List Measured)) → IsSide (rule.size past).w
   pub height : (past : List (List Measured)) → IsSide (rule.size past).h
 
--- a first phase that does not look at the size that it is handed
+-- a first phase that does not look at the size that it is given
 abbrev pub IsBlind : Rule → Type 0
 IsBlind rule = (taken : List Measured) (facts : Facts) (size other : Size) → rule.ask [] taken (record { facts = facts; size = size }) ≡ rule.ask [] taken (record { facts = facts; size = other })
 

@@ -1,7 +1,12 @@
 pub mod AnchorKeys
+pub mod AtPlace
+pub mod Calm
+pub mod Edged
 mod Examples
 pub mod Counts
 pub mod FrameLaws
+pub mod Frames
+pub mod Grows
 pub mod Lawful
 pub mod Laws
 pub mod LeafLaws

@@ -1,12 +1,12 @@
 -- What is said of a list of views: it depends on these views alone, and is said of the first one and of the others.
-use Rattle.std.proofs.Common.{◌≡◌, ℕ, ◌+◌, List, [], ◌∷◌, ◌++◌, append_assoc, arith, ap, ◌∙◌, sym, refl, subst}
+use Rattle.std.proofs.Common.{◌≡◌, ℕ, ◌+◌, false, List, [], ◌∷◌, ◌++◌, append_assoc, arith, ap, ◌∙◌, sym, refl, subst}
 use Rattle.std.specs.Prelude.{Option}
 use Rattle.std.proofs.lemmas.List.{append-nil}
 use Rattle.measure_pass.specs.Courses.{CanTurn, InCourse, MeasuredFor, phase_calls}
-use Rattle.measure_pass.specs.Measured.{IsSized, Sized, last_edges, last_specs}
+use Rattle.kept_views.specs.Kept.{IsSized, Sized, last_edges, last_specs}
 use Rattle.view_model.specs.declared.facts.Facts.{Facts}
 use Rattle.view_model.specs.Course.{Requested, after_phase, after_turn, last_of, size_in, sizes_of}
-use Rattle.view_model.specs.Facts.{unscrolled_facts}
+use Rattle.view_model.specs.Facts.{layout_facts}
 use Rattle.view_model.specs.Forest.{Forest, Nothing, Branch}
 use Rattle.view_model.specs.Measuring.{Measured, Rule, Specs}
 use Rattle.view_tree.specs.Rows.{Row, later_siblings, first_tree, children_of_first, head_view}
@@ -15,7 +15,7 @@ use Rattle.view_tree.proofs.forest.Walks.{KeepsInside-kids, KeepsInside-self, Ke
 
 -- the facts of the first view of a list, as layout sees them
 abbrev pub facts_in : Forest Row → Facts
-facts_in list = unscrolled_facts (head_view list).facts
+facts_in list = layout_facts (head_view list).facts
 
 pub last_specs-along : (old new : ℕ → Held) (list : Forest Row) → KeepsInside old new list → last_specs new list ≡ last_specs old list
 last_specs-along old new Nothing same = refl
@@ -34,17 +34,18 @@ last_edges-along old new (Branch row kids siblings) same =
 pub IsSized-along : (old new : ℕ → Held) (own : Held) (row : Row) (kids : Forest Row) → KeepsInside old new kids → IsSized old own row kids → IsSized new own row kids
 IsSized-along old new own row kids same h = record {
   size = h.size;
-  finals = last_specs-along old new kids same ∙ h.finals;
+  finals = λ whole. last_specs-along old new kids same ∙ h.finals whole;
   total = h.total;
-  edges = λ is. last_edges-along old new kids same ∙ h.edges is;
+  edges = λ whole is. last_edges-along old new kids same ∙ h.edges whole is;
 }
 
 pub Sized-along : (old new : ℕ → Held) (list : Forest Row) → KeepsInside old new list → Sized old list → Sized new list
 Sized-along old new Nothing same h = tt
 Sized-along old new (Branch row kids siblings) same h =
-    let children_of_first = KeepsInside-kids old new row kids siblings same in
+    let below = KeepsInside-kids old new row kids siblings same in
     let e : old row.key ≡ new row.key = sym (KeepsInside-self old new row kids siblings same) in (
-      λ here. (subst (λ (own : Held). IsSized new own row kids) e (IsSized-along old new (old row.key) row kids children_of_first (h.0 here).0), Sized-along old new kids children_of_first (h.0 here).1),
+      λ here. subst (λ (own : Held). IsSized new own row kids × (own.state.measure_first ≡ false → Sized new kids)) e
+          (IsSized-along old new (old row.key) row kids below (h.0 here).0, λ whole. Sized-along old new kids below ((h.0 here).1 whole)),
       Sized-along old new siblings (KeepsInside-siblings old new row kids siblings same) h.1,
     )
 
@@ -52,8 +53,8 @@ MeasuredFor-along : (old new : ℕ → Held) (row : Row) (kids : Forest Row) (re
     → MeasuredFor old row kids requests → MeasuredFor new row kids requests
 MeasuredFor-along old new row kids [] own same h = tt
 MeasuredFor-along old new row kids (specs ∷ more) own same h =
-    subst (λ (own : Held). (specs_of own.state ≡ last_of specs more) × IsSized new own row kids × Sized new kids) (sym own)
-    (h.0, IsSized-along old new (old row.key) row kids same h.1, Sized-along old new kids same h.2)
+    subst (λ (own : Held). (specs_of own.state ≡ last_of specs more) × IsSized new own row kids × (own.state.measure_first ≡ false → Sized new kids)) (sym own)
+    (h.0, IsSized-along old new (old row.key) row kids same h.1, λ whole. Sized-along old new kids same (h.2 whole))
 
 pub InCourse-along : (old new : ℕ → Held) (list : Forest Row) (kids : List Requested) → KeepsInside old new list → InCourse old list kids → InCourse new list kids
 InCourse-along old new Nothing [] same h = tt
@@ -65,7 +66,7 @@ InCourse-along old new (Branch row children_of_first siblings) (kid ∷ more) sa
   InCourse-along old new siblings more (KeepsInside-siblings old new row children_of_first siblings same) h.2,
 )
 
--- the children of the first view of a list and of those behind it
+-- the children of the first view of a list and of those after it
 pub record Split (rule : Rule) (past : List (List Measured)) (held : ℕ → Held) (list : Forest Row) (kids : List Requested) : Type 0 where
   pub first : List Requested
   pub rest : List Requested
@@ -91,7 +92,7 @@ InCourse-join held (Branch row children_of_first siblings) [] rest one more = ab
 InCourse-join held (Branch row children_of_first siblings) (kid ∷ []) rest one more = (one.0, one.1, more)
 InCourse-join held (Branch row children_of_first siblings) (kid ∷ other ∷ kids) rest one more = absurd one.2
 
--- a phase of children, one part behind the other
+-- a phase of children, one part after the other
 pub after_phase-append : (ask : List Measured → Measured → Option Specs) (taken : List Measured) (first rest : List Requested)
     → after_phase ask taken (first ++ rest) ≡ after_phase ask taken first ++ after_phase ask (taken ++ sizes_of (after_phase ask taken first)) rest
 after_phase-append ask taken [] rest = ap (λ taken. after_phase ask taken rest) (sym (append-nil taken))

@@ -1,7 +1,7 @@
 -- The children of a list by their places.
 use Rattle.std.proofs.Common.{◌≡◌, ◌≢◌, ℕ, zero, suc, ◌+◌, ◌<◌, ◌≤◌, List, length, get_or, arith, sym, refl, subst, inl, inr}
 use Rattle.std.proofs.lemmas.Bool.{cases_lt}
-use Rattle.measure_pass.specs.Measured.{IsSized}
+use Rattle.kept_views.specs.Kept.{IsSized}
 use Rattle.measure_pass.specs.Siblings.{FirstHasEdges, FirstHasSize, first_child}
 use Rattle.measure_pass.proofs.Parts.{IsSized-along, Sized-along}
 use Rattle.view_model.specs.declared.relative.Edges.{Edges}
@@ -60,14 +60,9 @@ FirstHasEdges-along old new specs edges (Branch row kids siblings) same h = λ h
     record {
       last = rw own was.last;
       sized = subst (λ (held : Held). IsSized new held row kids) (sym own) (IsSized-along old new (old row.key) row kids below was.sized);
-      below = Sized-along old new kids below was.below;
+      below = λ whole. Sized-along old new kids below (was.below (rw own at whole));
       sides = rw own was.sides;
     }
-
-pub kid_count : (list : Forest Row) (place : ℕ) → place < length (children_of (views_of list)) → siblings_from place list ≢ Nothing
-kid_count Nothing place small = absurd (omega arith)
-kid_count (Branch row kids siblings) zero small = λ none. let e : Branch row kids siblings ≡ Nothing = none in absurd (cc)
-kid_count (Branch row kids siblings) (suc place) small = kid_count siblings place (omega arith)
 
 pub FirstHasSize-along : (old new : ℕ → Held) (list : Forest Row) → KeepsInside old new (first_tree list) → FirstHasSize old list → FirstHasSize new list
 FirstHasSize-along old new Nothing same h = tt

@@ -1,5 +1,5 @@
 -- A relative layout whose children are settled was measured as a whole.
-use Rattle.std.proofs.Common.{◌≡◌, ℤ, ℕ, suc, ◌+◌, ◌<◌, Bool, true, false, Option, Some, None, List, [], ◌∷◌, length, arith, ap, ◌∙◌, sym, refl, subst}
+use Rattle.std.proofs.Common.{◌≡◌, ℤ, ℕ, zero, suc, ◌+◌, ◌<◌, Bool, true, false, Option, Some, None, List, [], ◌∷◌, length, arith, ap, ◌∙◌, sym, refl, subst, inl, inr}
 use Rattle.std.proofs.lemmas.List.Sums.{sum_by-cons}
 use Rattle.std.proofs.lemmas.List.{length-map}
 use Rattle.std.specs.List.{range_with_len}
@@ -8,9 +8,12 @@ use Rattle.geom_core.specs.declared.geometry.Rect.{Rect}
 use Rattle.geom_core.specs.declared.geometry.Size.{Size}
 use Rattle.geom_core.specs.Limits.{IsSide}
 use Rattle.measure_pass.specs.Courses.{InCourse, IsMeasuredBelow, MeasuredFor, calls_of, has_requests}
-use Rattle.measure_pass.specs.Measured.{Costs, calls_under, last_edges}
-use Rattle.measure_pass.specs.Siblings.{FirstHasEdges, HasEdges, IsSettled, calls_in_turn, edges_of, kids_in, phase_of}
+use Rattle.measure_pass.specs.Caches.{Among, AskedAt, Grown}
+use Rattle.kept_views.specs.Kept.{last_edges}
+use Rattle.measure_pass.specs.Measured.{Costs, calls_under}
+use Rattle.measure_pass.specs.Siblings.{FirstHasEdges, HasEdges, IsSettled, asked_in, calls_in_turn, edges_of, kids_in, phase_of}
 use Rattle.measure_pass.proofs.Counts.{costs_own, costs_same}
+use Rattle.measure_pass.proofs.Grows.{Grown-mono, Grown-trans}
 use Rattle.measure_pass.proofs.SiblingTurns.{orders_as}
 use Rattle.measure_pass.proofs.Whole.{AllAsked, GoneLeft, calls_shown, course_lasts, course_sized, finals_of, lasts_of, no_true, shown_calls}
 use Rattle.relative_layout.proofs.TurnLaws.{in_turns, size_in_turns}
@@ -20,9 +23,9 @@ use Rattle.view_model.specs.declared.facts.Facts.{Facts}
 use Rattle.view_model.specs.declared.kinds.Class.TheVariants.{RelativeLayout}
 use Rattle.view_model.specs.declared.relative.Axis.TheVariants.{Horizontal, Vertical}
 use Rattle.view_model.specs.Course.{Child, Course, Requested}
-use Rattle.view_model.specs.Facts.{is_shown, unscrolled_facts}
+use Rattle.view_model.specs.Facts.{is_shown, layout_facts}
 use Rattle.view_model.specs.Forest.{Forest, Nothing, Branch}
-use Rattle.view_model.specs.Layout.{Final, child_under, course_by, course_in, manner_by, unscrolled}
+use Rattle.view_model.specs.Layout.{Final, child_under, course_by, course_in, manner_by, for_layout}
 use Rattle.view_model.specs.Measuring.{Specs}
 use Rattle.view_model.specs.Orders.{IsOrder}
 use Rattle.view_model.specs.RelativeCourse.{Arrangement, arranged, child_at, each_from, edges_at, link_of, links_of, relative_course, requested_at, requests_at}
@@ -161,6 +164,34 @@ both_calls own specs all p (kid ∷ kids) same =
         by_test true = let two = sum_by-cons kid.calls a (d ∷ []) in let one = sum_by-cons kid.calls d [] in omega arith
         by_test false = omega arith
 
+-- what a child was asked in its turns is among what the course asks of it
+asked_course : (own : Facts) (specs : Specs) (all : List Child) (found : Arrangement) (p : ℕ) (kids : List Child) (place : ℕ) (other : Specs) → is_shown (child_at kids place).facts ≡ true
+    → Among (requests_at own specs all found (place + p)) other → AskedAt (each_from p (requested_at own specs all found) kids) place other
+asked_course own specs all found p [] place other here h = none place here
+  where
+    none : {A : Type 0} (place : ℕ) → is_shown (child_at [] place).facts ≡ true → A
+    none zero here = absurd (let e : false ≡ true = here in cc)
+    none (suc place) here = absurd (let e : false ≡ true = here in cc)
+asked_course own specs all found p (kid ∷ kids) zero other here h = rw here (let from : 0 + p ≡ p = omega arith in subst (λ at. Among (requests_at own specs all found at) other) from h)
+asked_course own specs all found p (kid ∷ kids) (suc place) other here h =
+    asked_course own specs all found (suc p) kids place other here (subst (λ at. Among (requests_at own specs all found at) other) (along p place) h)
+
+asked_both : (own : Facts) (specs : Specs) (kids : List Child) (place : ℕ) (other : Specs) → is_shown (child_at kids place).facts ≡ true
+    → Among (requests_at own specs kids (arranged own specs kids) place) other → AskedAt (relative_course own specs kids).kids place other
+asked_both own specs kids place other here h =
+    let from : place ≡ place + 0 = omega arith in
+    asked_course own specs kids (arranged own specs kids) 0 kids place other here (subst (λ at. Among (requests_at own specs kids (arranged own specs kids) at) other) from h)
+
+pub caches_both : (own : Facts) (specs : Specs) (before mid held : ℕ → Held) (list : Forest Row) → Grown (asked_in (phase_of Horizontal own specs (kids_in list)) (kids_in list)) before mid list
+    → Grown (asked_in (phase_of Vertical own specs (kids_in list)) (kids_in list)) mid held list → Grown (AskedAt (relative_course own specs (kids_in list)).kids) before held list
+caches_both own specs before mid held list first second =
+    let kids = kids_in list in
+    Grown-trans (AskedAt (relative_course own specs kids).kids) before mid held list
+    (Grown-mono (asked_in (phase_of Horizontal own specs kids) kids) (AskedAt (relative_course own specs kids).kids) before mid list
+    (λ place other h. asked_both own specs kids place other h.0 (inl (sym h.1))) first)
+    (Grown-mono (asked_in (phase_of Vertical own specs kids) kids) (AskedAt (relative_course own specs kids).kids) mid held list
+    (λ place other h. asked_both own specs kids place other h.0 (inr (inl (sym h.1)))) second)
+
 -- the size is that of the children in the list
 pub size_as : (own : Facts) (specs : Specs) (list : Forest Row) (orders : PlainOrders) → AreOrders (links_in (views_of list)) orders
     → relative_size own specs (spanned_in (kids_in list) (phase_of Horizontal own specs (kids_in list)).spans orders.across)
@@ -175,21 +206,22 @@ size_as own specs list orders are =
 
 -- the whole
 pub settled_row : (row : Row) (kids siblings : Forest Row) (specs : Specs) (orders : PlainOrders) (before held : ℕ → Held) (answer : Size) (total : ℤ) (old new : ℕ)
-    → (let own = (unscrolled row.view).facts in
+    → (let own = (for_layout row.view).facts in
     row.view.class ≡ RelativeLayout → AreOrders (links_in (views_of kids)) orders
     → answer ≡ (arranged own specs (kids_in kids)).size → total ≡ pos 0
     → IsSide answer.w → IsSide answer.h
     → ((place : ℕ) → place < length (kids_in kids) → IsSettled own specs held kids place)
     → Costs kids before held old (sum_by (calls_in_turn (phase_of Horizontal own specs (kids_in kids)) (kids_in kids)) orders.across
     + sum_by (calls_in_turn (phase_of Vertical own specs (kids_in kids)) (kids_in kids)) orders.down) new
+    → Grown (AskedAt (relative_course own specs (kids_in kids)).kids) before held kids
     → IsMeasuredBelow (Branch row kids siblings) specs before held answer total old new)
-settled_row row kids siblings specs orders before held answer total old new class are size summed width height settled costs =
-    let own = (unscrolled row.view).facts in
+settled_row row kids siblings specs orders before held answer total old new class are size summed width height settled costs caches =
+    let own = (for_layout row.view).facts in
     let all = kids_in kids in
     let across = calls_in_turn (phase_of Horizontal own specs all) all in
     let down = calls_in_turn (phase_of Vertical own specs all) all in
     let course = relative_course own specs all in
-    let same : course_by (unscrolled row.view) all specs ≡ course = ap (λ class. course_in (manner_by class (unscrolled row.view) specs) (unscrolled row.view) all specs) class in
+    let same : course_by (for_layout row.view) all specs ≡ course = ap (λ class. course_in (manner_by class (for_layout row.view) specs) (for_layout row.view) all specs) class in
     let from : (i : ℕ) → i + 0 ≡ i = λ i. omega arith in
     let on : SettledFrom own specs all held 0 kids = λ i small.
     subst (λ at. FirstHasEdges held ((phase_of Vertical own specs all).asks at) (edges_of (edges_at own specs all (arranged own specs all) at)) (siblings_from i kids)) (sym (from i)) (settled i small) in
@@ -214,13 +246,14 @@ settled_row row kids siblings specs orders before held answer total old new clas
       finals = course_lasts held kids specs course.kids stands asked ∙ ap (λ (course : Course). lasts_of specs course.kids) (sym same);
       edges = λ class. settled_edges own specs all held 0 kids on ∙ ap (λ (course : Course). course_edges specs course.kids) (sym same);
       costs = costs_same kids before held old (1 + (sum_by across orders.across + sum_by down orders.down)) (calls_under (Branch row kids siblings) specs) (new + 1) calls
-          (costs_own kids kids before held held old (sum_by across orders.across + sum_by down orders.down) new costs);
+          (costs_own kids before held old (sum_by across orders.across + sum_by down orders.down) new costs);
+      caches = subst (λ (course : Course). Grown (AskedAt course.kids) before held kids) (sym same) caches;
     }
 
 -- the same of the view of a key
 pub settled_at : (tree : Forest Row) (view : ℕ) (specs : Specs) (orders : PlainOrders) (before held : ℕ → Held) (answer : Size) (total : ℤ) (old new : ℕ) → 0 < count_of_key view tree
     → (let part = part_from view tree in
-    let own = unscrolled_facts (head_view part).facts in
+    let own = layout_facts (head_view part).facts in
     let list = children_of_first part in
     (head_view part).class ≡ RelativeLayout → AreOrders (links_in (views_of list)) orders
     → answer ≡ (arranged own specs (kids_in list)).size → total ≡ pos 0
@@ -228,7 +261,8 @@ pub settled_at : (tree : Forest Row) (view : ℕ) (specs : Specs) (orders : Plai
     → ((place : ℕ) → place < length (kids_in list) → IsSettled own specs held list place)
     → Costs list before held old (sum_by (calls_in_turn (phase_of Horizontal own specs (kids_in list)) (kids_in list)) orders.across
     + sum_by (calls_in_turn (phase_of Vertical own specs (kids_in list)) (kids_in list)) orders.down) new
+    → Grown (AskedAt (relative_course own specs (kids_in list)).kids) before held list
     → IsMeasuredBelow part specs before held answer total old new)
-settled_at tree view specs orders before held answer total old new live class are size summed width height settled costs =
+settled_at tree view specs orders before held answer total old new live class are size summed width height settled costs caches =
     let x = located view tree live in
-    rw x.is (settled_row x.row x.kids x.siblings specs orders before held answer total old new (rw x.is at class) (rw x.is at are) (rw x.is at size) summed width height (rw x.is at settled) (rw x.is at costs))
+    rw x.is (settled_row x.row x.kids x.siblings specs orders before held answer total old new (rw x.is at class) (rw x.is at are) (rw x.is at size) summed width height (rw x.is at settled) (rw x.is at costs) (rw x.is at caches))

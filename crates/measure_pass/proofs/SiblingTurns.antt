@@ -12,11 +12,16 @@ use Rattle.geom_core.specs.Limits.{IsSide}
 use Rattle.geom_core.specs.declared.geometry.Rect.{Rect}
 use Rattle.geom_core.specs.declared.geometry.Size.{Size}
 use Rattle.geom_core.specs.declared.measuring.Spec.{Spec}
-use Rattle.measure_pass.specs.Measured.{Costs, IsSized, Sized}
-use Rattle.measure_pass.specs.Siblings.{AfterTurn, AfterTurns, IsSettled, FirstHasEdges, FirstHasSize, FirstIsKnown, HasEdges, TurnIsFixed, TurnIsOver, calls_in_turn, edge_on, edges_of, first_child, first_span, kept_spans, kids_in, no_edges, order_on, phase_of, step_on}
-use Rattle.measure_pass.proofs.Counts.{costs_nothing, costs_same, costs_twice}
+use Rattle.measure_pass.specs.Caches.{Grown}
+use Rattle.kept_views.specs.Kept.{IsSized, Sized}
+use Rattle.measure_pass.specs.Measured.{Costs}
+use Rattle.measure_pass.specs.Siblings.{AfterTurn, AfterTurns, IsSettled, FirstHasEdges, FirstHasSize, FirstIsKnown, HasEdges, TurnIsFixed, TurnIsOver, asked_in, calls_in_turn, edge_on, edges_of, first_child, first_span, kept_spans, kids_in, no_edges, order_on, phase_of, step_on}
+use Rattle.measure_pass.proofs.AtPlace.{Grown-at, costs_at}
+use Rattle.measure_pass.proofs.Counts.{costs_nothing, costs_same}
+use Rattle.measure_pass.proofs.Edged.{costs-edged, edged-write, grown-edged, sized-edged}
+use Rattle.measure_pass.proofs.Grows.{Grown-first, Grown-refl}
 use Rattle.measure_pass.proofs.Own.{Wrote}
-use Rattle.measure_pass.proofs.Parts.{Sized-along, last_edges-along, last_specs-along}
+use Rattle.measure_pass.proofs.Parts.{Sized-along}
 use Rattle.measure_pass.proofs.Places.{FirstHasEdges-along, kid_at, past_kids, still_there}
 use Rattle.relative_layout.proofs.CourseLaws.{IsKidOrder, anchors_same, spans_across-fixed, spans_down-fixed}
 use Rattle.relative_layout.specs.RelativePlan.{StandsRelative, edges_as, spanned_as, spanned_at, spanned_in}
@@ -31,7 +36,7 @@ use Rattle.view_model.specs.declared.relative.Edges.{Edges}
 use Rattle.view_model.specs.declared.relative.Link.{Link}
 use Rattle.view_model.proofs.RelativeAlike.{shown_at}
 use Rattle.view_model.specs.Course.{Child}
-use Rattle.view_model.specs.Facts.{is_shown, unscrolled_facts}
+use Rattle.view_model.specs.Facts.{is_shown, layout_facts}
 use Rattle.view_model.specs.Forest.{Forest, Nothing, Branch}
 use Rattle.view_model.specs.Layout.{child_under, children_of, measure_calls, measured_size}
 use Rattle.view_model.specs.Measuring.{Specs, pair_of}
@@ -136,17 +141,11 @@ pub edges_kept : (mid held : ℕ → Held) (row : Row) (kids : Forest Row) (spec
 edges_kept mid held row kids specs edges once here sized last w =
     let own : Held = record (mid row.key) { state = record (mid row.key).state { edges = edges } } in
     let same = KeepsInside-below mid held row kids Nothing once w.others in
-    let was = (sized.0 here).0 in
-    let is : IsSized held own row kids = record {
-      size = was.size;
-      finals = last_specs-along mid held kids same ∙ was.finals;
-      total = was.total;
-      edges = λ class. last_edges-along mid held kids same ∙ was.edges class;
-    } in
+    let is : IsSized held own row kids = sized-edged mid held (mid row.key) edges row kids same (sized.0 here).0 in
     record {
       last = rw w.at last;
       sized = subst (λ (own : Held). IsSized held own row kids) (sym w.at) is;
-      below = Sized-along mid held kids same (sized.0 here).1;
+      below = λ whole. Sized-along mid held kids same ((sized.0 here).1 (rw w.at at whole));
       sides = rw w.at refl;
     }
 
@@ -158,6 +157,7 @@ pub record Turning (plan : RelativePlan) (axis : Axis) (own : Facts) (specs : Sp
   pub ahead : (q : ℕ) → turn ≤ q → q < length order
       → FirstIsKnown axis now ((phase_of axis own specs (kids_in list)).before (get_or order q 0)) (siblings_from (get_or order q 0) list)
   pub costs : Costs list start now old (sum_by (calls_in_turn (phase_of axis own specs (kids_in list)) (kids_in list)) (take turn order)) count
+  pub caches : Grown (asked_in (phase_of axis own specs (kids_in list)) (kids_in list)) start now list
 
 pub turning_start : (plan : RelativePlan) (axis : Axis) (own : Facts) (specs : Specs) (past : List (List Spanned)) (order : List ℕ) (now : ℕ → Held) (list : Forest Row) (count : ℕ)
     → StandsRelative plan own specs past []
@@ -168,6 +168,7 @@ turning_start plan axis own specs past order now list count stands known = recor
   over = λ q before. absurd (omega arith);
   ahead = λ q after inside. known (get_or order q 0);
   costs = costs_nothing list now count;
+  caches = Grown-refl (asked_in (phase_of axis own specs (kids_in list)) (kids_in list)) now list;
 }
 
 FirstIsKnown-along : (axis : Axis) (old new : ℕ → Held) (edges : Edges) (list : Forest Row) → KeepsInside old new (first_tree list) → FirstIsKnown axis old edges list → FirstIsKnown axis new edges list
@@ -212,7 +213,8 @@ turning_on before plan axis own specs past order turn start old new list first c
       ahead = λ q after there.
           FirstIsKnown-along axis old new (phase.before (get_or order q 0)) (siblings_from (get_or order q 0) list) (stays q there (λ same. omega arith)) (t.ahead q (omega arith) there);
       costs = costs_same list start new first (sum_by calls (take turn order) + calls place) (sum_by calls (take (turn + 1) order)) next (calls_more calls order turn inside)
-          (costs_twice list start old new first count next (sum_by calls (take turn order)) (calls place) t.costs (record { counted = a.costs.counted }));
+          (costs_at start old new place list first count next (sum_by calls (take turn order)) (calls place) once others t.costs a.costs);
+      caches = Grown-at (asked_in phase (kids_in list)) start old new place list once others t.caches a.caches;
     }
 
 pub turning_end : (plan : RelativePlan) (axis : Axis) (own : Facts) (specs : Specs) (past : List (List Spanned)) (order : List ℕ) (turn : ℕ) (start now : ℕ → Held) (list : Forest Row) (old count : ℕ)
@@ -228,6 +230,7 @@ turning_end plan axis own specs past order turn start now list old count most le
       over = λ place small. let q = each place small in subst (TurnIsOver phase now list) q.2 (t.over q.0 (omega (arith, q.1)));
       costs = costs_same list start now old (sum_by (calls_in_turn phase (kids_in list)) (take turn order)) (sum_by (calls_in_turn phase (kids_in list)) order) count
           (ap (sum_by (calls_in_turn phase (kids_in list))) (sym all)) t.costs;
+      caches = t.caches;
     }
 
 axis_of : (axis : Axis) (own : Facts) (specs : Specs) (kids : List Child) → (phase_of axis own specs kids).axis ≡ axis
@@ -262,12 +265,13 @@ module _ (axis : Axis) (own : Facts) (specs : Specs) (past : List (List Spanned)
     over = λ here. absurd (let e : true ≡ false = sym here ∙ gone in cc);
     costs = costs_same (Branch row below Nothing) held held count 0 (calls_in_turn (phase_of axis own specs (kids_in list)) (kids_in list) place) count (calls_here false gone)
         (costs_nothing (Branch row below Nothing) held count);
+    caches = Grown-refl (λ i. asked_in (phase_of axis own specs (kids_in list)) (kids_in list) place) held (Branch row below Nothing);
   }
 
   -- one that takes part is measured, and its sides are kept
   pub turn_taken : (plan : RelativePlan) (before mid held : ℕ → Held) (facts : Facts) (edges sides : Edges) (anchors : Anchors) (asked : Specs) (size : Size) (count next : ℕ)
       → phase_axis past ≡ axis → TurnIsFixed axis own specs (kids_in list) (kept_spans axis before list) place
-      → is_shown row.view.facts ≡ true → facts ≡ unscrolled_facts row.view.facts
+      → is_shown row.view.facts ≡ true → facts ≡ layout_facts row.view.facts
       → edges ≡ (phase_of axis own specs (kids_in list)).before place
       → anchors ≡ anchors_by axis (kids_in list) (kept_spans axis before list) place
       → pair_of asked ≡ pair_of (phase_specs own specs past facts edges anchors)
@@ -278,8 +282,9 @@ module _ (axis : Axis) (own : Facts) (specs : Specs) (past : List (List Spanned)
       → Wrote mid held row.key (record (mid row.key) { state = record (mid row.key).state { edges = sides } })
       → count_of_key row.key (Branch row below Nothing) ≤ 1
       → Costs (Branch row below Nothing) before mid count (measure_calls row.view (views_of below) asked) next
+      → Grown (λ place other. other ≡ asked) before mid (Branch row below Nothing)
       → AfterTurn plan own specs past taken (phase_of axis own specs (kids_in list)) (kids_in list) place before held (Branch row below siblings) count next
-  turn_taken plan before mid held facts edges sides anchors asked size count next is fixed here facts_are known anchored asks measured sized last sides_are stands wrote once costs =
+  turn_taken plan before mid held facts edges sides anchors asked size count next is fixed here facts_are known anchored asks measured sized last sides_are stands wrote once costs caches =
       let kids = kids_in list in
       let phase = phase_of axis own specs kids in
       let same : facts ≡ (child_at kids place).facts = facts_are ∙ ap (λ (kid : Child). kid.facts) (sym kid_here) in
@@ -298,10 +303,12 @@ module _ (axis : Axis) (own : Facts) (specs : Specs) (past : List (List Spanned)
         plan_stands = subst (λ more. StandsRelative plan own specs past (taken ++ more)) (ap (λ kid. kid ∷ []) spanned ∙ sym (one_taken true here)) stands;
         over = λ here. subst (λ edges. HasEdges held (phase.asks place) edges row below) sides_same
             (edges_kept mid held row below (phase.asks place) sides once here sized (last ∙ asked_same) wrote);
-        costs = record {
-          counted = (costs_same (Branch row below Nothing) before mid count (measure_calls row.view (views_of below) asked) (calls_in_turn phase kids place) next
-              (calls_here true here ∙ ap (measure_calls row.view (views_of below)) (sym asked_same)) costs).counted;
-        };
+        costs = costs-edged (Branch row below Nothing) before mid held count (calls_in_turn phase kids place) next (edged-write mid held row.key sides wrote)
+            (costs_same (Branch row below Nothing) before mid count (measure_calls row.view (views_of below) asked) (calls_in_turn phase kids place) next
+            (calls_here true here ∙ ap (measure_calls row.view (views_of below)) (sym asked_same)) costs);
+        caches = grown-edged (λ i. asked_in phase kids place) before mid held (Branch row below Nothing) (edged-write mid held row.key sides wrote)
+            (Grown-first (λ place other. other ≡ asked) (λ i. asked_in phase kids place) before mid row below
+            (λ other is. (ap (λ (kid : Child). is_shown kid.facts) kid_here ∙ here, is ∙ asked_same)) caches);
       }
 
 -- what the second phase goes by is what the first has left
@@ -343,7 +350,7 @@ once_below view tree live once key =
 -- a child that is moved to where it lies in the end
 pub moved_row : (row : Row) (kids siblings : Forest Row) (old new : ℕ → Held) (own : Facts) (specs asked : Specs) (room : Size) (edges : Edges) (rect : Rect)
     → count_of_key row.key (Branch row kids Nothing) ≤ 1
-    → rect ≡ final_rect own specs room (unscrolled_facts row.view.facts) (old row.key).state.edges (old row.key).state.measured
+    → rect ≡ final_rect own specs room (layout_facts row.view.facts) (old row.key).state.edges (old row.key).state.measured
     → Wrote old new row.key (record (old row.key) { state = record (old row.key).state { edges = edges_of rect } })
     → FirstHasEdges old asked edges (Branch row kids siblings)
     → FirstHasEdges new asked (edges_of (final_rect own specs room (first_child (Branch row kids siblings)).facts edges ((first_child (Branch row kids siblings)).measure asked)))
@@ -351,23 +358,23 @@ pub moved_row : (row : Row) (kids siblings : Forest Row) (old new : ℕ → Held
 moved_row row kids siblings old new own specs asked room edges rect once rect_is wrote h = λ here.
     let was = h here in
     let size : (old row.key).state.measured ≡ measured_size row.view (views_of kids) asked = was.sized.size ∙ ap (measured_size row.view (views_of kids)) was.last in
-    let moved : rect ≡ final_rect own specs room (unscrolled_facts row.view.facts) edges (measured_size row.view (views_of kids) asked) =
-    rect_is ∙ ap (λ edges. final_rect own specs room (unscrolled_facts row.view.facts) edges (old row.key).state.measured) was.sides
-    ∙ ap (final_rect own specs room (unscrolled_facts row.view.facts) edges) size in
+    let moved : rect ≡ final_rect own specs room (layout_facts row.view.facts) edges (measured_size row.view (views_of kids) asked) =
+    rect_is ∙ ap (λ edges. final_rect own specs room (layout_facts row.view.facts) edges (old row.key).state.measured) was.sides
+    ∙ ap (final_rect own specs room (layout_facts row.view.facts) edges) size in
     subst (λ rect. HasEdges new asked (edges_of rect) row kids) moved
     (edges_kept old new row kids asked (edges_of rect) once here (λ shown. (was.sized, was.below), tt) was.last wrote)
 
 pub moved_at : (tree : Forest Row) (kid : ℕ) (old new : ℕ → Held) (own : Facts) (specs asked : Specs) (room : Size) (edges : Edges) (rect : Rect)
     → 0 < count_of_key kid tree → ((key : ℕ) → count_of_key key tree ≤ 1)
-    → rect ≡ final_rect own specs room (unscrolled_facts (head_view (part_from kid tree)).facts) (old kid).state.edges (old kid).state.measured
+    → rect ≡ final_rect own specs room (layout_facts (head_view (part_from kid tree)).facts) (old kid).state.edges (old kid).state.measured
     → Wrote old new kid (record (old kid) { state = record (old kid).state { edges = edges_of rect } })
     → FirstHasEdges old asked edges (part_from kid tree)
     → FirstHasEdges new asked (edges_of (final_rect own specs room (first_child (part_from kid tree)).facts edges ((first_child (part_from kid tree)).measure asked))) (part_from kid tree)
 moved_at tree kid old new own specs asked room edges rect live once rect_is wrote h =
     let x = located kid tree live in
     let all : count_of_key x.row.key (Branch x.row x.kids x.siblings) ≤ 1 = rw x.is at (once_from tree kid once live x.row.key) in
-    let rect_is : rect ≡ final_rect own specs room (unscrolled_facts x.row.view.facts) (old x.row.key).state.edges (old x.row.key).state.measured =
-    subst (λ key. rect ≡ final_rect own specs room (unscrolled_facts x.row.view.facts) (old key).state.edges (old key).state.measured) (sym x.key_is) (rw x.is at rect_is) in
+    let rect_is : rect ≡ final_rect own specs room (layout_facts x.row.view.facts) (old x.row.key).state.edges (old x.row.key).state.measured =
+    subst (λ key. rect ≡ final_rect own specs room (layout_facts x.row.view.facts) (old key).state.edges (old key).state.measured) (sym x.key_is) (rw x.is at rect_is) in
     let wrote : Wrote old new x.row.key (record (old x.row.key) { state = record (old x.row.key).state { edges = edges_of rect } }) =
     subst (λ key. Wrote old new key (record (old key) { state = record (old key).state { edges = edges_of rect } })) (sym x.key_is) wrote in
     rw x.is (moved_row x.row x.kids x.siblings old new own specs asked room edges rect (omega arith) rect_is wrote (rw x.is at h))

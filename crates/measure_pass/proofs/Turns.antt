@@ -7,9 +7,12 @@ use Rattle.geom_core.specs.declared.geometry.Size.{Size}
 use Rattle.geom_core.specs.declared.measuring.Spec.{Spec}
 use Rattle.measure_pass.specs.declared.plan.Plan.{Plan}
 use Rattle.measure_pass.specs.Courses.{AfterPhase, CanTurn, InCourse, MeasuredFor, calls_for, child_of, has_requests, turn_calls}
-use Rattle.measure_pass.specs.Measured.{Costs, IsSized, Sized, calls_under, size_under}
+use Rattle.measure_pass.specs.Caches.{Among, AskedAt, Grown}
+use Rattle.kept_views.specs.Kept.{IsSized, Sized}
+use Rattle.measure_pass.specs.Measured.{Costs, calls_under, size_under}
 use Rattle.measure_pass.specs.Plans.{Group, Stands, rule_in}
 use Rattle.measure_pass.proofs.Counts.{costs_nothing, costs_same}
+use Rattle.measure_pass.proofs.Grows.{Among-last, Grown-first, Grown-refl}
 use Rattle.view_model.specs.declared.facts.Facts.{Facts}
 use Rattle.view_model.specs.Course.{Child, Requested, after_turn, asked_for, last_of, measured_of, size_after, size_in, sizes_of}
 use Rattle.view_model.specs.Facts.{is_shown}
@@ -28,7 +31,7 @@ size_after-push child [] specs = refl
 size_after-push child (first ∷ more) specs = ap child.measure (last_of-push first more specs)
 
 MeasuredFor-push : (held : ℕ → Held) (row : Row) (kids : Forest Row) (requests : List Specs) (specs : Specs) → specs_of (held row.key).state ≡ specs → IsSized held (held row.key) row kids
-    → Sized held kids → MeasuredFor held row kids (requests ++ specs ∷ [])
+    → ((held row.key).state.measure_first ≡ false → Sized held kids) → MeasuredFor held row kids (requests ++ specs ∷ [])
 MeasuredFor-push held row kids [] specs last sized below = (last, sized, below)
 MeasuredFor-push held row kids (first ∷ more) specs last sized below = (last ∙ sym (last_of-push first more specs), sized, below)
 
@@ -42,15 +45,16 @@ present_size held row kids child (first ∷ more) is m has =
 -- a turn that leaves this of a child
 turned_to : (plan : Plan) (group : Group) (past : List (List Measured)) (taken : List Measured) (kid next : Requested) (before held : ℕ → Held) (list : Forest Row) (old new : ℕ)
     → after_turn ((rule_in group).ask past) taken kid ≡ next → Stands plan group past (taken ++ size_in next) → InCourse held list (next ∷ [])
-    → Costs list before held old (turn_calls ((rule_in group).ask past) taken kid) new
+    → Costs list before held old (turn_calls ((rule_in group).ask past) taken kid) new → Grown (AskedAt (next ∷ [])) before held list
     → AfterPhase plan group past taken (kid ∷ []) before held list old new
-turned_to plan group past taken kid next before held list old new is stands course costs =
+turned_to plan group past taken kid next before held list old new is stands course costs caches =
     let calls = turn_calls ((rule_in group).ask past) taken kid in
     let P : Requested → Type 0 = λ next. Stands plan group past (taken ++ sizes_of (next ∷ [])) in
     record {
       plan_stands = subst P (sym is) (subst (λ sizes. Stands plan group past (taken ++ sizes)) (sym (append-nil (size_in next))) stands);
       course = subst (λ next. InCourse held list (next ∷ [])) (sym is) course;
       costs = costs_same list before held old calls (calls + 0) new (omega arith) costs;
+      caches = subst (λ next. Grown (AskedAt (next ∷ [])) before held list) (sym is) caches;
     }
 
 pub gone_row : (plan : Plan) (group : Group) (past : List (List Measured)) (taken : List Measured) (row : Row) (kids : Forest Row) (asked : List Requested) (held : ℕ → Held)
@@ -68,6 +72,7 @@ gone_row plan group past taken row kids (kid ∷ []) held count gone stands cour
     course
     (costs_same (Branch row kids Nothing) held held count 0 (turn_calls ask taken kid) count
     (ap (λ b. if b then calls_for (ask taken (measured_of kid)) kid.child else 0) gone') (costs_nothing (Branch row kids Nothing) held count))
+    (Grown-refl (AskedAt (kid ∷ [])) held (Branch row kids Nothing))
 
 none_of : {A B : Type 0} (f : A → B) (o : Option A) → None ≡ option_map f o → o ≡ None
 none_of f None e = refl
@@ -111,6 +116,7 @@ left_row plan group past taken row kids (kid ∷ []) held present count here pre
     (costs_same (Branch row kids Nothing) held held count 0 (turn_calls ask taken kid) count
     (ap (λ b. if b then calls_for (ask taken (measured_of kid)) kid.child else 0) here' ∙ ap (λ answer. calls_for answer kid.child) none)
     (costs_nothing (Branch row kids Nothing) held count))
+    (Grown-refl (AskedAt (kid ∷ [])) held (Branch row kids Nothing))
 
 -- a child that was measured in this phase
 pub asked_row : (plan : Plan) (group : Group) (past : List (List Measured)) (taken : List Measured) (row : Row) (kids siblings : Forest Row) (asked : List Requested)
@@ -119,15 +125,16 @@ pub asked_row : (plan : Plan) (group : Group) (past : List (List Measured)) (tak
     → Some (pair_of specs) ≡ option_map pair_of ((rule_in group).ask past taken (record { facts = (child_of row kids).facts; size = present }))
     → size ≡ size_under (Branch row kids siblings) specs → Sized held (Branch row kids Nothing) → specs_of (held row.key).state ≡ specs
     → Stands plan group past (taken ++ taken_as (rule_in group) past taken (child_of row kids).facts size ∷ []) → Costs (Branch row kids Nothing) before held old (calls_under (Branch row kids siblings) specs) new
+    → Grown (λ place other. other ≡ specs) before held (Branch row kids Nothing)
     → InCourse before (Branch row kids Nothing) asked
     → CanTurn (rule_in group) past asked
     → AfterPhase plan group past taken asked before held (Branch row kids Nothing) old new
-asked_row plan group past taken row kids siblings [] before held present size specs old new here present_is answer measured sized last stands costs course can =
+asked_row plan group past taken row kids siblings [] before held present size specs old new here present_is answer measured sized last stands costs caches course can =
     absurd course
 asked_row plan group past taken row kids siblings (kid ∷ other ∷ more) before held present size specs old new here present_is answer measured sized last stands
-    costs course can = absurd course.2
+    costs caches course can = absurd course.2
 asked_row plan group past taken row kids siblings (kid ∷ []) before held present size specs old new here present_is answer measured sized last stands costs
-    course can =
+    caches course can =
     let rule = rule_in group in
     let ask = rule.ask past in
     let here' : is_shown kid.child.facts ≡ true = ap (λ (child : Child). is_shown child.facts) course.0 ∙ here in
@@ -152,3 +159,4 @@ asked_row plan group past taken row kids siblings (kid ∷ []) before held prese
     (costs_same (Branch row kids Nothing) before held old (calls_under (Branch row kids siblings) specs) (turn_calls ask taken kid) new
     (ap (λ b. if b then calls_for (ask taken (measured_of kid)) kid.child else 0) here' ∙ ap (λ answer. calls_for answer kid.child) got
     ∙ ap (λ (child : Child). child.calls specs) course.0) costs)
+    (Grown-first (λ place other. other ≡ specs) (AskedAt (next ∷ [])) before held row kids (λ other e. subst (Among (kid.requests ++ specs ∷ [])) (sym e) (Among-last kid.requests specs)) caches)

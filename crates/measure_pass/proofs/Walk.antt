@@ -4,9 +4,13 @@ use Rattle.std.specs.Prelude.{if◌then◌else◌}
 use Rattle.std.proofs.lemmas.List.{append-nil}
 use Rattle.measure_pass.specs.declared.plan.Plan.{Plan}
 use Rattle.measure_pass.specs.Courses.{AfterPhase, CanTurn, InCourse, phase_calls}
+use Rattle.measure_pass.specs.Caches.{AskedAt, Grown}
+use Rattle.kept_views.specs.Kept.{Ready}
 use Rattle.measure_pass.specs.Measured.{Costs}
 use Rattle.measure_pass.specs.Plans.{Group, Stands, rule_in}
 use Rattle.measure_pass.proofs.Counts.{costs_nothing, costs_parts, costs_same}
+use Rattle.measure_pass.proofs.Frames.{Ready-after, Ready-along, Ready-join}
+use Rattle.measure_pass.proofs.Grows.{Grown-along, Grown-join}
 use Rattle.measure_pass.proofs.Parts.{InCourse-along, InCourse-join, after_phase-append, phase_calls-append, sizes_of-append, split}
 use Rattle.view_model.specs.declared.limits.TheConstants.{MAX_VIEWS}
 use Rattle.view_model.specs.Course.{Requested, after_phase, measured_of, sizes_of, size_in}
@@ -14,8 +18,31 @@ use Rattle.view_model.specs.Facts.{is_shown}
 use Rattle.view_model.specs.Forest.{Forest, Nothing, Branch, count_of}
 use Rattle.view_model.specs.Measuring.{Measured, Specs}
 use Rattle.view_tree.specs.Rows.{Row, later_siblings, first_tree, count_of_key}
-use Rattle.view_tree.specs.Views.{Held, KeepsOutside}
-use Rattle.view_tree.proofs.forest.Walks.{KeepsInside-first, KeepsInside-rest, KeepsOutside-parts, count_of-parts}
+use Rattle.view_tree.specs.Views.{Held, KeepsInside, KeepsOutside}
+use Rattle.view_tree.proofs.forest.Walks.{KeepsInside-first, KeepsInside-rest, KeepsOutside-parts, count_of-parts, count_of_key-parts}
+
+-- a walk over these children, where the rest is left, that leaves each ready
+pub record ReadyWalk (kids rest : Forest Row) (now : ℕ → Held) : Type 0 where
+  pub ready : Ready now rest
+  pub whole : (end : ℕ → Held) → KeepsOutside now end rest → Ready end rest → Ready end kids
+
+pub ready_start : (kids : Forest Row) (now : ℕ → Held) → Ready now kids → ReadyWalk kids kids now
+ready_start kids now ready = record { ready = ready; whole = λ end others h. h }
+
+pub ready_on : (kids part : Forest Row) (old mid : ℕ → Held) → ((key : ℕ) → count_of_key key part ≤ 1) → KeepsOutside old mid (first_tree part) → Ready mid (first_tree part)
+    → ReadyWalk kids part old → ReadyWalk kids (later_siblings part) mid
+ready_on kids part old mid once others own walk = record {
+  ready = Ready-along old mid (later_siblings part) (KeepsInside-rest old mid part once others) (Ready-after old part walk.ready);
+  whole = λ end agree h. walk.whole end (KeepsOutside-parts old mid end part others agree)
+      (Ready-join end part (Ready-along mid end (first_tree part) (KeepsInside-first mid end part once agree) own) h);
+}
+
+pub ready_end : (kids : Forest Row) (now : ℕ → Held) → ReadyWalk kids Nothing now → Ready now kids
+ready_end kids now walk = walk.whole now (λ key absent. refl) walk.ready
+
+-- the first tree that is left is as it was at the start of a walk
+first_still : (begin old : ℕ → Held) (part : Forest Row) → KeepsInside begin old part → KeepsInside old begin (first_tree part)
+first_still begin old part still = λ key here. sym (still key (let parts = count_of_key-parts key part in omega arith))
 
 -- the plan of a group in a phase, where these children are left
 pub record Phasing (plan : Plan) (group : Group) (past : List (List Measured)) (asked : List Requested) (kids rest : Forest Row) (begin now : ℕ → Held) (start count : ℕ) : Type 0 where
@@ -30,12 +57,14 @@ pub record Phasing (plan : Plan) (group : Group) (past : List (List Measured)) (
       → InCourse end kids (after_phase ((rule_in group).ask past) [] asked)
   pub costs : (end : ℕ → Held) (last : ℕ) → KeepsOutside now end rest → Costs rest now end count (phase_calls ((rule_in group).ask past) taken ahead) last
       → Costs kids begin end start (phase_calls ((rule_in group).ask past) [] asked) last
+  pub caches : (end : ℕ → Held) → KeepsOutside now end rest → Grown (AskedAt (after_phase ((rule_in group).ask past) taken ahead)) begin end rest
+      → Grown (AskedAt (after_phase ((rule_in group).ask past) [] asked)) begin end kids
 
 pub phase_start : (plan : Plan) (group : Group) (past : List (List Measured)) (asked : List Requested) (kids : Forest Row) (now : ℕ → Held) (count : ℕ)
     → Stands plan group past [] → count_of kids ≤ MAX_VIEWS → InCourse now kids asked → CanTurn (rule_in group) past asked
     → Phasing plan group past asked kids kids now now count count
 phase_start plan group past asked kids now count stands few course can =
-    record { taken = []; ahead = asked; plan_stands = stands; few = omega arith; before = course; can = can; sizes = refl; done = λ end agree h. h; costs = λ end last agree h. h }
+    record { taken = []; ahead = asked; plan_stands = stands; few = omega arith; before = course; can = can; sizes = refl; done = λ end agree h. h; costs = λ end last agree h. h; caches = λ end agree h. h }
 
 -- no more sizes than views
 pub few_if : (v : Bool) (m : Measured) → length (if v then m ∷ [] else []) ≤ 1
@@ -54,11 +83,11 @@ sizes_few now (Branch row below siblings) (kid ∷ more) h =
 
 pub phase_on : (before plan : Plan) (group : Group) (past : List (List Measured)) (asked : List Requested) (kids part : Forest Row) (begin old mid : ℕ → Held) (start count new : ℕ)
     → ((key : ℕ) → count_of_key key part ≤ 1)
-    → Phasing before group past asked kids part begin old start count → KeepsOutside old mid (first_tree part)
+    → Phasing before group past asked kids part begin old start count → KeepsOutside old mid (first_tree part) → KeepsInside begin old part
     → ((taken : List Measured) (first : List Requested) → Stands before group past taken → length taken + count_of (first_tree part) ≤ MAX_VIEWS → InCourse old (first_tree part) first
     → CanTurn (rule_in group) past first → AfterPhase plan group past taken first old mid (first_tree part) count new)
     → Phasing plan group past asked kids (later_siblings part) begin mid start new
-phase_on before plan group past asked kids part begin old mid start count new once f others turn =
+phase_on before plan group past asked kids part begin old mid start count new once f others still turn =
     let ask = (rule_in group).ask past in
     let s = split (rule_in group) past old part f.ahead f.before f.can in
     let parts = count_of-parts part in
@@ -86,12 +115,16 @@ phase_on before plan group past asked kids part begin old mid start count new on
       costs = λ end last agree h. f.costs end last (KeepsOutside-parts old mid end part others agree)
           (costs_same part old end count (phase_calls ask f.taken s.first + phase_calls ask taken s.rest) (phase_calls ask f.taken f.ahead) last calls
           (costs_parts part old mid end count new last (phase_calls ask f.taken s.first) (phase_calls ask taken s.rest) once others agree phase.costs h));
+      caches = λ end agree h. f.caches end (KeepsOutside-parts old mid end part others agree)
+          (subst (λ all. Grown (AskedAt all) begin end part) (sym apart)
+          (Grown-join mid begin end part first rest phase.course
+          (Grown-along (AskedAt first) old begin mid end (first_tree part) (first_still begin old part still) (KeepsInside-first mid end part once agree) phase.caches) h));
     }
 
 -- no child is left
 pub phase_end : (plan : Plan) (group : Group) (past : List (List Measured)) (asked : List Requested) (kids : Forest Row) (begin now : ℕ → Held) (start count : ℕ)
     → Phasing plan group past asked kids Nothing begin now start count → AfterPhase plan group past [] asked begin now kids start count
-phase_end plan group past asked kids begin now start count f = ended f.ahead f.before f.sizes f.done (f.costs now count (λ key absent. refl))
+phase_end plan group past asked kids begin now start count f = ended f.ahead f.before f.sizes f.done (f.costs now count (λ key absent. refl)) (f.caches now (λ key absent. refl))
   where
     ask : List Measured → Measured → Option Specs
     ask = (rule_in group).ask past
@@ -100,10 +133,12 @@ phase_end plan group past asked kids begin now start count f = ended f.ahead f.b
         → f.taken ++ sizes_of (after_phase ask f.taken ahead) ≡ sizes_of (after_phase ask [] asked)
         → ((end : ℕ → Held) → KeepsOutside now end Nothing → InCourse end Nothing (after_phase ask f.taken ahead) → InCourse end kids (after_phase ask [] asked))
         → (Costs Nothing now now count (phase_calls ask f.taken ahead) count → Costs kids begin now start (phase_calls ask [] asked) count)
+        → (Grown (AskedAt (after_phase ask f.taken ahead)) begin now Nothing → Grown (AskedAt (after_phase ask [] asked)) begin now kids)
         → AfterPhase plan group past [] asked begin now kids start count
-    ended (kid ∷ more) none sizes done costs = absurd none
-    ended [] none sizes done costs = record {
+    ended (kid ∷ more) none sizes done costs caches = absurd none
+    ended [] none sizes done costs caches = record {
       plan_stands = subst (λ all. Stands plan group past all) (sym (append-nil f.taken) ∙ sizes) f.plan_stands;
       course = done now (λ key absent. refl) tt;
       costs = costs (costs_nothing Nothing now count);
+      caches = caches tt;
     }

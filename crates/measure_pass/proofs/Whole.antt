@@ -7,13 +7,16 @@ use Rattle.geom_core.specs.declared.geometry.Size.{Size}
 use Rattle.geom_core.specs.Limits.{IsSide}
 use Rattle.measure_pass.specs.declared.plan.Plan.{Plan}
 use Rattle.measure_pass.specs.Courses.{AfterAll, AfterPhase, CanTurn, InCourse, IsMeasuredBelow, MeasuredFor, StaysReady, calls_for, calls_of, from_here, has_requests, phase_calls}
-use Rattle.measure_pass.specs.Measured.{IsSized, Sized, calls_under, last_specs}
+use Rattle.measure_pass.specs.Caches.{AskedAt, Grown}
+use Rattle.kept_views.specs.Kept.{IsSized, Sized, last_specs}
+use Rattle.measure_pass.specs.Measured.{calls_under}
 use Rattle.measure_pass.specs.Plans.{Group, group_by, rule_in}
 use Rattle.measure_pass.proofs.Counts.{costs_own, costs_same, costs_twice}
+use Rattle.measure_pass.proofs.Grows.{AskedAt-on, AskedAt-through, Grown-mono, Grown-trans}
 use Rattle.view_model.specs.Course.{Child, Course, Progress, Requested, after_phase, after_turn, asked_for, begun, course_of, last_of, measured_of, one_phase, phases_on, size_in}
 use Rattle.view_model.specs.Facts.{is_shown}
 use Rattle.view_model.specs.Forest.{Forest, Nothing, Branch}
-use Rattle.view_model.specs.Layout.{Final, children_of, course_by, course_in, manner_by, manner_of, unscrolled}
+use Rattle.view_model.specs.Layout.{Final, children_of, course_by, course_in, manner_by, manner_of, for_layout}
 use Rattle.view_model.specs.Measuring.{ByRule, BySiblings, Measured, Rule, Specs}
 use Rattle.view_tree.specs.Rows.{Row, children_of_first, views_of}
 use Rattle.view_tree.specs.Views.{Held, specs_of}
@@ -87,6 +90,7 @@ phases_end plan group left past kids before held list answer total old new ends 
   more = phase_calls ((rule_in group).ask past) [] kids;
   calls = ap (λ (progress : Progress). calls_of progress.kids) ends ∙ calls_after ((rule_in group).ask past) [] kids;
   costs = phase.costs;
+  caches = subst (λ (progress : Progress). Grown (AskedAt progress.kids) before held list) (sym ends) phase.caches;
 }
 
 pub ends_at_0 : (group : Group) (left : ℕ) (progress : Progress) → left ≡ 0 → phases_on left (rule_in group) progress ≡ progress
@@ -117,6 +121,11 @@ phases_more plan group left past kids before mid held list answer total old betw
       more = phase_calls (rule.ask past) [] kids + rest.more;
       calls = ap (λ (progress : Progress). calls_of progress.kids) is ∙ all;
       costs = costs_twice list before mid held old between new (phase_calls (rule.ask past) [] kids) rest.more phase.costs rest.costs;
+      caches = subst (λ (progress : Progress). Grown (AskedAt progress.kids) before held list) (sym is)
+          (Grown-trans _ before mid held list
+          (Grown-mono _ _ before mid list (λ place specs h. AskedAt-through (left - 1) rule (one_phase rule (one_phase rule progress)) place specs
+          (AskedAt-on (rule.ask (one_phase rule progress).past) [] (one_phase rule progress).kids place specs h)) phase.caches)
+          rest.caches);
     }
 
 -- every child that takes part in layout was measured, and no other
@@ -182,7 +191,7 @@ begun_course held (Branch row kids siblings) = (refl, tt, begun_course held sibl
 
 -- what is left with children of which all that take part in layout were measured
 measured_sized : (held : ℕ → Held) (row : Row) (kids : Forest Row) (requests : List Specs) → MeasuredFor held row kids requests → has_requests requests ≡ true
-    → IsSized held (held row.key) row kids × Sized held kids
+    → IsSized held (held row.key) row kids × ((held row.key).state.measure_first ≡ false → Sized held kids)
 measured_sized held row kids [] m has = let e : true ≡ false = sym has in absurd (cc)
 measured_sized held row kids (specs ∷ more) m has = (m.1, m.2)
 
@@ -248,14 +257,14 @@ shown_calls (kid ∷ kids) h =
 
 -- a view that was measured whole by a rule
 pub whole_row : (row : Row) (kids siblings : Forest Row) (specs : Specs) (rule : Rule) (before held : ℕ → Held) (answer : Size) (total : ℤ) (old new : ℕ)
-    → manner_of (unscrolled row.view) specs ≡ ByRule rule
+    → manner_of (for_layout row.view) specs ≡ ByRule rule
     → AllAsked (course_of rule (children_of (views_of kids))).kids
     → IsSide answer.w → IsSide answer.h
-    → AfterAll (group_by rule (unscrolled row.view) specs) 2 (begun (children_of (views_of kids))) before held kids answer total old new
+    → AfterAll (group_by rule (for_layout row.view) specs) 2 (begun (children_of (views_of kids))) before held kids answer total old new
     → IsMeasuredBelow (Branch row kids siblings) specs before held answer total old new
 whole_row row kids siblings specs rule before held answer total old new is asked width height after =
     let course = course_of rule (children_of (views_of kids)) in
-    let same : course_by (unscrolled row.view) (children_of (views_of kids)) specs ≡ course = ap (λ manner. course_in manner (unscrolled row.view) (children_of (views_of kids)) specs) is in
+    let same : course_by (for_layout row.view) (children_of (views_of kids)) specs ≡ course = ap (λ manner. course_in manner (for_layout row.view) (children_of (views_of kids)) specs) is in
     let none = calls_begun (children_of (views_of kids)) in
     let all : calls_of course.kids ≡ after.more = after.calls ∙ ap (λ n. n + after.more) none ∙ zero_on after.more in
     let shown = shown_calls course.kids (gone_course rule (children_of (views_of kids))) in
@@ -268,9 +277,10 @@ whole_row row kids siblings specs rule before held answer total old new is asked
       height = height;
       sized = course_sized held kids course.kids after.stands asked;
       finals = course_lasts held kids specs course.kids after.stands asked ∙ ap (λ (course : Course). lasts_of specs course.kids) (sym same);
-      edges = λ class. absurd (by_rule (ap (λ class. manner_by class (unscrolled row.view) specs) (sym class) ∙ is));
+      edges = λ class. absurd (by_rule (ap (λ class. manner_by class (for_layout row.view) specs) (sym class) ∙ is));
       costs = costs_same kids before held old (1 + after.more) (calls_under (Branch row kids siblings) specs) (new + 1) calls
-          (costs_own kids kids before held held old after.more new after.costs);
+          (costs_own kids before held old after.more new after.costs);
+      caches = subst (λ (course : Course). Grown (AskedAt course.kids) before held kids) (sym same) after.caches;
     }
   where
     zero_on : (n : ℕ) → 0 + n ≡ n

@@ -3,7 +3,9 @@ use Rattle.std.specs.Prelude.{◌≡◌, ℤ, ℕ, ◌+◌, zero, suc, Bool, tru
 use Rattle.geom_core.specs.Limits.{IsSide}
 use Rattle.geom_core.specs.declared.geometry.Size.{Size}
 use Rattle.measure_pass.specs.declared.plan.Plan.{Plan}
-use Rattle.measure_pass.specs.Measured.{Costs, IsSized, Sized, calls_under, edges_under, finals_under, last_edges, last_specs, size_under, total_under}
+use Rattle.measure_pass.specs.Caches.{AskedAt, Grown, asked_under}
+use Rattle.kept_views.specs.Kept.{IsSized, Sized, last_edges, last_specs}
+use Rattle.measure_pass.specs.Measured.{Costs, calls_under, edges_under, finals_under, size_under, total_under}
 use Rattle.measure_pass.specs.Plans.{Group, Stands, rule_in}
 use Rattle.view_model.specs.declared.kinds.Class.TheVariants.{RelativeLayout}
 use Rattle.view_model.specs.Course.{Child, Progress, Requested, after_phase, after_turn, last_of, measured_of, one_phase, phases_on, size_after, size_in, sizes_of}
@@ -18,11 +20,12 @@ use Rattle.view_tree.specs.Views.{Held, specs_of}
 abbrev pub child_of : Row → Forest Row → Child
 child_of row kids = child_under row.view (views_of kids)
 
--- a view was last measured under the last of these specs, if there are any, and all below it for that
+-- a view was last measured under the last of these specs, if there are any, and all below it for that, down to marked
+-- ones
 abbrev pub MeasuredFor : (ℕ → Held) → Row → Forest Row → List Specs → Type 0
 MeasuredFor held row kids [] = Unit {0}
 MeasuredFor held row kids (specs ∷ more) =
-    (specs_of (held row.key).state ≡ last_of specs more) × IsSized held (held row.key) row kids × Sized held kids
+    (specs_of (held row.key).state ≡ last_of specs more) × IsSized held (held row.key) row kids × ((held row.key).state.measure_first ≡ false → Sized held kids)
 
 -- the views of a list are these children, each measured for what was asked of it so far
 abbrev pub InCourse : (ℕ → Held) → Forest Row → List Requested → Type 0
@@ -36,8 +39,9 @@ abbrev pub has_requests : List Specs → Bool
 has_requests [] = false
 has_requests (specs ∷ more) = true
 
--- a child whose turn comes: what its group asks, and with which size it is taken, are the same where it is handed the size
--- that is kept of it, which is of an earlier measuring of the whole group where this one did not measure it so far
+-- a child whose turn comes: what its group asks, and with which size it is taken, are the same where it is given the
+-- size that is kept of it, which is of an earlier measuring of the whole group where this one did not measure it so
+-- far
 pub record TurnIsKnown (rule : Rule) (past : List (List Measured)) (kid : Requested) : Type 0 where
   pub asked : (taken : List Measured) (present : Size) → (has_requests kid.requests ≡ true → present ≡ size_after kid.child kid.requests)
       → rule.ask past taken (record { facts = kid.child.facts; size = present }) ≡ rule.ask past taken (measured_of kid)
@@ -74,8 +78,8 @@ phase_calls ask taken (kid ∷ kids) = turn_calls ask taken kid + phase_calls as
 abbrev pub calls_of : List Requested → ℕ
 calls_of kids = sum_by (λ (kid : Requested). sum_by kid.child.calls kid.requests) kids
 
--- the views below the first one of a list were measured for it under these specs: its size is known, and its own measuring
--- is all that is still to be counted
+-- the views below the first one of a list were measured for it under these specs: its size is known, and its own
+-- measuring is all that is still to be counted
 pub record IsMeasuredBelow (part : Forest Row) (specs : Specs) (before held : ℕ → Held) (answer : Size) (total : ℤ) (old new : ℕ) : Type 0 where
   pub size : answer ≡ size_under part specs
   pub length : total ≡ total_under part specs
@@ -85,13 +89,15 @@ pub record IsMeasuredBelow (part : Forest Row) (specs : Specs) (before held : �
   pub finals : last_specs held (children_of_first part) ≡ finals_under part specs
   pub edges : (head_view part).class ≡ RelativeLayout → last_edges held (children_of_first part) ≡ edges_under part specs
   pub costs : Costs (children_of_first part) before held old (calls_under part specs) (new + 1)
+  pub caches : Grown (asked_under part specs) before held (children_of_first part)
 
--- a plan has taken the views of a list, which are these children, behind others of the same phase
+-- a plan has taken the views of a list, which are these children, after others of the same phase
 pub record AfterPhase (plan : Plan) (group : Group) (past : List (List Measured)) (taken : List Measured) (kids : List Requested)
     (before held : ℕ → Held) (list : Forest Row) (old new : ℕ) : Type 0 where
   pub plan_stands : Stands plan group past (taken ++ sizes_of (after_phase ((rule_in group).ask past) taken kids))
   pub course : InCourse held list (after_phase ((rule_in group).ask past) taken kids)
   pub costs : Costs list before held old (phase_calls ((rule_in group).ask past) taken kids) new
+  pub caches : Grown (AskedAt (after_phase ((rule_in group).ask past) taken kids)) before held list
 
 -- what follows for the children of a group from phases that are over and the next one, up to so many more
 abbrev pub from_here : Group → ℕ → Progress → Progress
@@ -106,3 +112,4 @@ pub record AfterAll (group : Group) (left : ℕ) (progress : Progress) (before h
   pub more : ℕ
   pub calls : calls_of (from_here group left progress).kids ≡ calls_of progress.kids + more
   pub costs : Costs list before held old more new
+  pub caches : Grown (AskedAt (from_here group left progress).kids) before held list

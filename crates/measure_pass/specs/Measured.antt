@@ -1,14 +1,17 @@
 -- What a measuring leaves with the views of a tree.
-use Rattle.std.specs.Prelude.{◌≡◌, ℕ, ℤ, ◌+◌, ◌-◌, ◌^◌, min, pos, true, if◌then◌else◌, List, [], ◌∷◌, Option}
+use Rattle.std.specs.Prelude.{◌≡◌, ◌≢◌, ◌≤◌, ◌⊎◌, ℕ, ℤ, ◌+◌, ◌-◌, ◌^◌, min, pos, true, false, Bool, if◌then◌else◌, List, [], Option, None}
 use Rattle.geom_core.specs.declared.geometry.Rect.{Rect}
 use Rattle.geom_core.specs.declared.geometry.Size.{Size}
-use Rattle.view_model.specs.declared.kinds.Class.TheVariants.{RelativeLayout}
+use Rattle.measure_cache.specs.declared.cache.Entry.{Entry}
+use Rattle.measure_cache.specs.Entries.{found, put_in, same_spec}
+use Rattle.kept_views.specs.Kept.{Ready, Sized, owed}
+use Rattle.view_model.specs.declared.work.Work.{Work}
 use Rattle.view_model.specs.Facts.{is_shown}
 use Rattle.view_model.specs.Forest.{Forest, Nothing, Branch}
 use Rattle.view_model.specs.Layout.{final_edges, final_specs, measure_calls, measured_size, total_size}
 use Rattle.view_model.specs.Measuring.{Specs}
-use Rattle.view_model.specs.RelativeLayout.{sides_of}
-use Rattle.view_tree.specs.Rows.{Row, first_tree, part_from, views_of}
+use Rattle.view_tree.specs.declared.state.State.{State}
+use Rattle.view_tree.specs.Rows.{Row, first_tree, head_view, part_from, views_of}
 use Rattle.view_tree.specs.Views.{Held, Views, IsLive, held_of, specs_of, state_of}
 
 -- the size of the first view of a list under these specs
@@ -31,57 +34,83 @@ abbrev pub calls_under : Forest Row → Specs → ℕ
 calls_under Nothing specs = 0
 calls_under (Branch row kids siblings) specs = measure_calls row.view (views_of kids) specs
 
--- the specs of the last measuring of each view of a list that takes part in layout
-abbrev pub last_specs : (ℕ → Held) → Forest Row → List Specs
-last_specs held Nothing = []
-last_specs held (Branch row kids siblings) =
-    if is_shown row.view.facts then specs_of (held row.key).state ∷ last_specs held siblings else last_specs held siblings
-
--- the sides that a relative layout found for its children that take part in layout
-abbrev pub last_edges : (ℕ → Held) → Forest Row → List (Option Rect)
-last_edges held Nothing = []
-last_edges held (Branch row kids siblings) =
-    if is_shown row.view.facts then sides_of (held row.key).state.edges ∷ last_edges held siblings else last_edges held siblings
-
 -- those that it is to find
 abbrev pub edges_under : Forest Row → Specs → List (Option Rect)
 edges_under Nothing specs = []
 edges_under (Branch row kids siblings) specs = final_edges row.view (views_of kids) specs
 
--- a view, with which this is kept, has its size under the specs of its last measuring, and its children were last measured
--- under its final specs for them; those of a relative layout have their sides
-pub record IsSized (held : ℕ → Held) (own : Held) (row : Row) (kids : Forest Row) : Type 0 where
-  pub size : own.state.measured ≡ measured_size row.view (views_of kids) (specs_of own.state)
-  pub finals : last_specs held kids ≡ final_specs row.view (views_of kids) (specs_of own.state)
-  pub total : own.state.total ≡ total_size row.view (views_of kids) (specs_of own.state)
-  pub edges : row.view.class ≡ RelativeLayout → last_edges held kids ≡ final_edges row.view (views_of kids) (specs_of own.state)
-
--- so is each view of a list that takes part in layout
-abbrev pub Sized : (ℕ → Held) → Forest Row → Type 0
-Sized held Nothing = Unit {0}
-Sized held (Branch row kids siblings) =
-    (is_shown row.view.facts ≡ true → IsSized held (held row.key) row kids × Sized held kids) × Sized held siblings
-
 -- what a view has to be so that it can be measured
 pub record IsReady (views : Views) (view : ℕ) : Type 0 where
   pub live : IsLive views view
+  pub shown : is_shown (head_view (part_from view views.tree)).facts ≡ true
+  pub ready : Ready (held_of views) (first_tree (part_from view views.tree))
 
--- a view was measured under these specs, and all below it for that
+-- and so that its children can be measured for its last specs
+pub record IsFit (views : Views) (view : ℕ) : Type 0 where
+  pub live : IsLive views view
+  pub shown : is_shown (head_view (part_from view views.tree)).facts ≡ true
+  pub ready : Ready (held_of views) (first_tree (part_from view views.tree))
+  pub sized : Sized (held_of views) (first_tree (part_from view views.tree))
+
+-- a view was measured under these specs, and all below it for that, down to marked ones
 pub record IsMeasured (views : Views) (view : ℕ) (specs : Specs) : Type 0 where
   pub last : specs_of (state_of views view) ≡ specs
   pub size : (state_of views view).measured ≡ size_under (part_from view views.tree) specs
   pub sized : Sized (held_of views) (first_tree (part_from view views.tree))
+  pub ready : Ready (held_of views) (first_tree (part_from view views.tree))
 
--- a measuring leaves where views lie, and how far they have scrolled
+-- a measuring leaves where views lie, how far they have scrolled, and whether they are forced
 pub record Keeps (old new : ℕ → Held) : Type 0 where
   pub bounds : (key : ℕ) → (new key).state.bounds ≡ (old key).state.bounds
   pub offsets : (key : ℕ) → (new key).offset ≡ (old key).offset
+  pub forced : (key : ℕ) → (new key).state.forced ≡ (old key).state.forced
+
+-- nothing of what is kept of views is other, but their sides in a relative layout
+abbrev pub KeepsAllButEdges : (ℕ → Held) → (ℕ → Held) → Type 0
+KeepsAllButEdges old new =
+    (key : ℕ) → new key ≡ record (old key) { state = record (old key).state { edges = (new key).state.edges } }
+
+abbrev pub entry_for : Specs → Size → Entry
+entry_for specs size = record { ws = specs.across; hs = specs.down; size = size }
 
 -- what is kept with a view that was measured under these specs, once its children were
 abbrev pub done_with : Held → Specs → Size → ℤ → Held
 done_with own specs size total =
-    record own { state = record own.state { measured = size; ws = specs.across; hs = specs.down; total = total } }
+    record own {
+      state = record own.state { measured = size; ws = specs.across; hs = specs.down; total = total; measure_first = false; layout_needed = true };
+      cache = put_in own.cache (entry_for specs size);
+    }
 
--- the measuring of the views of a list raises a count by so much; it stays at the greatest number once it is there
+-- with one whose size for these specs was in its cache
+abbrev pub hit_with : Held → Specs → Size → Held
+hit_with own specs size =
+    record own { state = record own.state { measured = size; ws = specs.across; hs = specs.down; measure_first = true; layout_needed = true } }
+
+-- and with a marked one, once its children were measured for its last specs
+abbrev pub made_up : Held → Size → ℤ → Held
+made_up own size total = record own { state = record own.state { measured = size; total = total; measure_first = false } }
+
+-- a view of this state was last measured under these specs, and is not forced
+abbrev pub current : State → Specs → Bool
+current state specs =
+    if state.forced then false else (if same_spec state.ws specs.across then same_spec state.hs specs.down else false)
+
+-- the size of a view for these specs is known: they are its last ones and it is not forced, or they are in its cache
+abbrev pub IsKnown : Held → Specs → Type 0
+IsKnown own specs = ((own.state.forced ≡ false) × (specs_of own.state ≡ specs)) ⊎ (found own.cache specs ≢ None)
+
+-- the measuring of the views of a list raises a count by no more than this, and together with what marked ones still
+-- have to measure by no more either
 pub record Costs (list : Forest Row) (before held : ℕ → Held) (old calls new : ℕ) : Type 0 where
-  pub counted : min new (2 ^ 64 - 1) ≡ min (old + calls) (2 ^ 64 - 1)
+  pub spent : new ≤ old + calls
+  pub owing : new + owed held list ≤ old + owed before list + calls
+
+-- each measuring, of which there were so many at least, was counted both in the work and in the tree; a count stays at
+-- the greatest number once it is there. Nothing else was
+pub record Counted (least : ℕ) (before after : Views) (old new : Work) : Type 0 where
+  pub by : ℕ
+  pub enough : least ≤ by
+  pub work : min new.measured (2 ^ 64 - 1) ≡ min (old.measured + by) (2 ^ 64 - 1)
+  pub tree : min after.counts.measures (2 ^ 64 - 1) ≡ min (before.counts.measures + by) (2 ^ 64 - 1)
+  pub laid : after.counts.laid ≡ before.counts.laid
+  pub painted : new.painted ≡ old.painted

@@ -1,9 +1,11 @@
--- What is left with the children of a relative layout in the course of its measuring. They are measured out of order, so that
--- all is said of the child of a place.
-use Rattle.std.specs.Prelude.{◌≡◌, ℕ, ◌<◌, ℤ, true, if◌then◌else◌, List, [], ◌∷◌, ◌++◌, length, Option, Some, None, sum_by}
+-- What is left with the children of a relative layout in the course of its measuring. They are measured out of order,
+-- so that all is said of the child of a place.
+use Rattle.std.specs.Prelude.{◌≡◌, ℕ, ◌<◌, ℤ, true, false, if◌then◌else◌, List, [], ◌∷◌, ◌++◌, length, Option, Some, None, sum_by}
 use Rattle.geom_core.specs.Limits.{IsSide}
 use Rattle.geom_core.specs.declared.geometry.Rect.{Rect}
-use Rattle.measure_pass.specs.Measured.{Costs, IsSized, Sized}
+use Rattle.measure_pass.specs.Caches.{Grown}
+use Rattle.kept_views.specs.Kept.{IsSized, Sized}
+use Rattle.measure_pass.specs.Measured.{Costs}
 use Rattle.relative_layout.specs.RelativePlan.{StandsRelative, spanned_in}
 use Rattle.relative_layout.specs.declared.plan.RelativePlan.{RelativePlan}
 use Rattle.view_model.specs.declared.facts.Facts.{Facts}
@@ -28,8 +30,8 @@ no_edges = record { across = None; down = None }
 abbrev pub edges_of : Rect → Edges
 edges_of rect = record { across = Some (rect.left, rect.right); down = Some (rect.top, rect.bottom) }
 
--- a phase of a group's measuring: of the child of each place what it is asked, what is known of its sides before, and its
--- sides on the axis
+-- a phase of a group's measuring: of the child of each place what it is asked, what is known of its sides before, and
+-- its sides on the axis
 pub record Phase : Type 0 where
   pub axis : Axis
   pub asks : ℕ → Specs
@@ -57,7 +59,7 @@ phase_of Vertical own specs kids =
 pub record HasEdges (held : ℕ → Held) (specs : Specs) (edges : Edges) (row : Row) (kids : Forest Row) : Type 0 where
   pub last : specs_of (held row.key).state ≡ specs
   pub sized : IsSized held (held row.key) row kids
-  pub below : Sized held kids
+  pub below : (held row.key).state.measure_first ≡ false → Sized held kids
   pub sides : (held row.key).state.edges ≡ edges
 
 -- so it is with the first view of a list, if it takes part in layout
@@ -93,6 +95,10 @@ kept_spans axis held list place = first_span axis held (siblings_from place list
 abbrev pub calls_in_turn : Phase → List Child → ℕ → ℕ
 calls_in_turn phase kids place = if is_shown (child_at kids place).facts then (child_at kids place).calls (phase.asks place) else 0
 
+-- under these specs the child of a place is measured in its turn, if it takes part in layout
+abbrev pub asked_in : Phase → List Child → ℕ → Specs → Type 0
+asked_in phase kids place other = (is_shown (child_at kids place).facts ≡ true) × (other ≡ phase.asks place)
+
 -- what a phase goes by is known of the first view of a list, if it takes part in layout: nothing in the first phase
 abbrev pub FirstIsKnown : Axis → (ℕ → Held) → Edges → Forest Row → Type 0
 FirstIsKnown Horizontal held edges list = Unit {0}
@@ -110,7 +116,8 @@ abbrev pub step_on : Axis → Facts → Specs → List Child → (ℕ → ℤ ×
 step_on Horizontal own specs kids = span_across own specs kids
 step_on Vertical own specs kids = span_down own specs kids (spans_across own specs kids)
 
--- where the turn of a child comes, its sides are what the step makes of them, and the kept sides of its anchors are theirs
+-- where the turn of a child comes, its sides are what the step makes of them, and the kept sides of its anchors are
+-- theirs
 pub record TurnIsFixed (axis : Axis) (own : Facts) (specs : Specs) (kids : List Child) (kept : ℕ → ℤ × ℤ) (place : ℕ) : Type 0 where
   pub fixed : (phase_of axis own specs kids).spans place ≡ step_on axis own specs kids (phase_of axis own specs kids).spans place
   pub anchored : anchors_by axis kids kept place ≡ anchors_by axis kids (phase_of axis own specs kids).spans place
@@ -135,6 +142,7 @@ pub record AfterTurn (plan : RelativePlan) (own : Facts) (specs : Specs) (past :
   pub plan_stands : StandsRelative plan own specs past (taken ++ spanned_in kids phase.spans (place ∷ []))
   pub over : FirstHasEdges held (phase.asks place) (edges_with phase.axis (phase.spans place) (phase.before place)) part
   pub costs : Costs (first_tree part) before held old (calls_in_turn phase kids place) new
+  pub caches : Grown (λ i. asked_in phase kids place) before held (first_tree part)
 
 -- the children of a list after a phase in which these were the turns, and the plan
 pub record AfterTurns (plan : RelativePlan) (own : Facts) (specs : Specs) (past : List (List Spanned)) (phase : Phase) (order : List ℕ)
@@ -142,6 +150,7 @@ pub record AfterTurns (plan : RelativePlan) (own : Facts) (specs : Specs) (past 
   pub plan_stands : StandsRelative plan own specs past (spanned_in (kids_in list) phase.spans order)
   pub over : (place : ℕ) → place < length (kids_in list) → TurnIsOver phase held list place
   pub costs : Costs list before held old (sum_by (calls_in_turn phase (kids_in list)) order) new
+  pub caches : Grown (asked_in phase (kids_in list)) before held list
 
 -- a key is that of the child of a place, where there is one
 abbrev pub IsKidAt : Forest Row → Forest Row → Option ℕ → Option ℕ → Type 0

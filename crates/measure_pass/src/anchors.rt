@@ -2,7 +2,7 @@
 ghost use Rattle.std.specs.Prelude.{◌≡◌, ℕ, IfSome};
 ghost use Rattle.measure_pass.specs.Siblings.{IsKidAt, edge_on, first_span, kept_spans, kids_in};
 ghost use Rattle.view_model.specs.declared.kinds.Class.TheVariants.{RelativeLayout};
-ghost use Rattle.view_model.specs.Facts.{is_shown, unscrolled_facts};
+ghost use Rattle.view_model.specs.Facts.{is_shown, layout_facts};
 ghost use Rattle.view_model.specs.RelativeCourse.{anchor_by, anchor_with, anchors_by, child_at, links_of};
 ghost use Rattle.view_model.specs.RelativeLayout.{span_or_none};
 ghost use Rattle.view_model.specs.SiblingRules.{anchor_of, named_sibling};
@@ -30,7 +30,8 @@ pub fn anchors_of(tree: &ViewTree, view: Key, kid: Key, axis: Axis) -> Anchors
     }
 }
 
-/// The anchor to which a child is tied so, if there is one.
+/// The anchor to which a child is tied so, if there is one. Most children have no such rule, which is seen without a
+/// look-up.
 fn anchor_of(tree: &ViewTree, view: Key, kid: Key, axis: Axis, tie: Tie) -> Option<Anchor>
     requires live { IsLive tree.now view }
     requires siblings { class_of tree.now view ≡ RelativeLayout }
@@ -39,6 +40,10 @@ fn anchor_of(tree: &ViewTree, view: Key, kid: Key, axis: Axis, tie: Tie) -> Opti
         → result ≡ anchor_by axis (kids_in (children_of_first (part_from view tree.now.tree)))
         (kept_spans axis (held_of tree.now) (children_of_first (part_from view tree.now.tree))) tie place }
 {
+    let id = tie.anchor_id(axis, &tree.facts(kid).rules);
+    if id == 0 {
+        return None;
+    }
     match anchor_key(tree, view, kid, axis, tie) {
         None => None,
         Some(anchor) => Some(anchor_with(tree, anchor, axis)),
@@ -48,7 +53,7 @@ fn anchor_of(tree: &ViewTree, view: Key, kid: Key, axis: Axis, tie: Tie) -> Opti
 /// A child as an anchor, with the sides that are kept of it.
 fn anchor_with(tree: &ViewTree, kid: Key, axis: Axis) -> Anchor
     requires { IsLive tree.now kid }
-    ensures { result ≡ anchor_with axis (unscrolled_facts (head_view (part_from kid tree.now.tree)).facts) (first_span axis (held_of tree.now) (part_from kid tree.now.tree)) }
+    ensures { result ≡ anchor_with axis (layout_facts (head_view (part_from kid tree.now.tree)).facts) (first_span axis (held_of tree.now) (part_from kid tree.now.tree)) }
 {
     let tied = axis.tied(tree.facts(kid));
     anchor_between(kept_span(tree, kid, axis), tied)
@@ -78,8 +83,8 @@ fn kept_span(tree: &ViewTree, kid: Key, axis: Axis) -> (i32, i32)
     }
 }
 
-/// The sibling to which a child is tied so. Where the one that it names is gone, it is the one that is named by that one's
-/// rule, and so on.
+/// The sibling to which a child is tied so. Where the one that it names is gone, it is the one that is named by that
+/// one's rule, and so on.
 fn anchor_key(tree: &ViewTree, view: Key, kid: Key, axis: Axis, tie: Tie) -> Option<Key>
     requires live { IsLive tree.now view }
     requires siblings { class_of tree.now view ≡ RelativeLayout }

@@ -1,9 +1,12 @@
 //! Measuring a view through all views below it: the walk, which is the same for every class.
-ghost use Rattle.std.specs.Prelude.{◌≡◌, ◌≤◌, ◌<◌, ◌+◌, ◌-◌, ◌^◌, ℕ, min, [], ◌∷◌, ◌++◌, List, length};
+ghost use Rattle.std.specs.Prelude.{◌≡◌, ◌≤◌, ◌<◌, ◌+◌, ◌-◌, ◌^◌, ℕ, min, None, true, false, [], ◌∷◌, ◌++◌, List, length};
 ghost use Rattle.geom_core.specs.Limits.{IsSide};
 ghost use Rattle.measure_pass.specs.Courses.{AfterAll, AfterPhase, CanTurn, InCourse, IsMeasuredBelow, StaysReady};
-ghost use Rattle.measure_pass.specs.Measured.{IsMeasured, IsReady, Keeps, calls_under, done_with, size_under};
-ghost use Rattle.measure_pass.specs.Plans.{Group, Stands, rule_in};
+ghost use Rattle.measure_cache.specs.Entries.{found, put_in};
+ghost use Rattle.measure_pass.specs.Caches.{Grown};
+ghost use Rattle.kept_views.specs.Kept.{Ready, owed};
+ghost use Rattle.measure_pass.specs.Measured.{Costs, Counted, IsFit, IsKnown, IsMeasured, IsReady, Keeps, calls_under, current, done_with, entry_for, hit_with, made_up, size_under, total_under};
+ghost use Rattle.measure_pass.specs.Plans.{Group, HasPlan, Stands, rule_in};
 ghost use Rattle.measure_pass.specs.Siblings.{AfterTurn, AfterTurns, FirstHasSize, FirstIsKnown, TurnIsFixed, kept_spans, kids_in, order_on, phase_of};
 ghost use Rattle.relative_layout.specs.RelativePlan.{StandsRelative};
 ghost use Rattle.view_model.specs.declared.facts.Facts.{Facts as FactsValue};
@@ -16,18 +19,25 @@ ghost use Rattle.view_model.specs.Cycles.{links_in};
 ghost use Rattle.view_tree.specs.Ordering.{AreOrders};
 ghost use Rattle.view_tree.specs.Rows.{first_tree, children_of_first, part_from, siblings_from, views_of};
 ghost use Rattle.view_model.specs.declared.kinds.Class.TheVariants.{RelativeLayout};
-ghost use Rattle.view_tree.specs.Views.{IsLive, IsTree, KeepsOthers, KeepsOutside, SameTree, class_of, held_of, orders_of};
+ghost use Rattle.view_tree.specs.Views.{IsLive, IsTree, KeepsOthers, KeepsOutside, SameTree, cache_of, class_of, held_of, orders_of, specs_of, state_of};
 
 use crate::anchors::anchors_of;
-use crate::plan::Plan;
+use crate::plan::{Plan, minimal_size};
 use crate::siblings::{edges_before, keep_edges, kid_in_turn, settle, turns};
+use crate::text_size::text_size;
 use geom_core::{Size, Spec};
+use measure_cache::same_spec;
 use relative_layout::RelativePlan;
-use view_model::{Axis, Work};
-use view_tree::{Key, ViewTree};
+use view_model::{Axis, Class, Work};
+use view_tree::{Key, State, ViewTree};
 
-/// Measures a view under these specs, for its width and for its height; the answer is its size. What is below it is
-/// measured as its groups ask for it. A view that is gone is measured like any other; those below that are gone are not.
+/// Measures a view that takes part in layout under these specs, for its width and for its height; the result is its
+/// size in pixels. Layout calls it for the root, and a group for its children as its class asks for them.
+///
+/// Nothing is done where the view was last measured under these specs and is not forced. Where its size for them is in
+/// its cache it gets that size and is marked: what is below it stays as it is, and `remeasure` makes up for it before
+/// it is laid out. Otherwise what is below it is measured, its size is remembered, and the measuring is counted. An
+/// exact spec that is the measured size is no reason to skip it. Views below it that are gone are not measured.
 #[cycle(measure)]
 pub fn measure(tree: &mut ViewTree, view: Key, ws: Spec, hs: Spec, work: &mut Work) -> Size
     requires ready { IsReady tree.old view }
@@ -38,66 +48,213 @@ pub fn measure(tree: &mut ViewTree, view: Key, ws: Spec, hs: Spec, work: &mut Wo
     ensures measured { IsMeasured tree.new view (record { across = ws; down = hs }) }
     ensures keeps { Keeps (held_of tree.old) (held_of tree.new) }
     ensures others { KeepsOutside (held_of tree.old) (held_of tree.new) (first_tree (part_from view tree.old.tree)) }
-    ensures painted { work.new.painted ≡ work.old.painted }
-    ensures counted { work.new.measured ≡ min (work.old.measured + calls_under (part_from view tree.old.tree) (record { across = ws; down = hs })) (2 ^ 64 - 1) }
+    ensures counted { Counted 0 tree.old tree.new work.old work.new }
+    ensures costs { Costs (first_tree (part_from view tree.old.tree)) (held_of tree.old) (held_of tree.new) work.old.measured
+        (calls_under (part_from view tree.old.tree) (record { across = ws; down = hs })) work.new.measured }
+    ensures caches { Grown (λ place other. other ≡ (record { across = ws; down = hs })) (held_of tree.old) (held_of tree.new) (first_tree (part_from view tree.old.tree)) }
+    ensures still { current (state_of tree.old view) (record { across = ws; down = hs }) ≡ true → tree.new ≡ tree.old }
+    ensures idle { IsKnown (held_of tree.old view) (record { across = ws; down = hs })
+        → (work.new ≡ work.old) × (cache_of tree.new view ≡ cache_of tree.old view) × (tree.new.counts ≡ tree.old.counts) }
+    ensures busy { (IsKnown (held_of tree.old view) (record { across = ws; down = hs }) → ⊥) → Counted 1 tree.old tree.new work.old work.new
+        × (cache_of tree.new view ≡ put_in (cache_of tree.old view) (entry_for (record { across = ws; down = hs }) result)) }
+{
+    let state = tree.state(view);
+    if is_current(&state, ws, hs) {
+        return state.measured;
+    }
+    if let Some(size) = tree.cache(view).find(ws, hs) {
+        hit(tree, view, ws, hs, size);
+        return size;
+    }
+    measure_anew(tree, view, ws, hs, work)
+}
+
+/// Whether a view is not forced and was last measured under these specs.
+fn is_current(state: &State, ws: Spec, hs: Spec) -> bool
+    ensures { result ≡ current state.now (record { across = ws; down = hs }) }
+{
+    if state.forced {
+        return false;
+    }
+    if !same_spec(state.ws, ws) {
+        return false;
+    }
+    same_spec(state.hs, hs)
+}
+
+/// Takes the size of a view from its cache, and marks it: what is below it was measured for another pair.
+#[inline(never)]
+fn hit(tree: &mut ViewTree, view: Key, ws: Spec, hs: Spec, size: Size)
+    requires { IsLive tree.old view }
+    ensures same { SameTree tree.old tree.new }
+    ensures held { held_of tree.new view ≡ hit_with (held_of tree.old view) (record { across = ws; down = hs }) size }
+    ensures others { KeepsOthers tree.old tree.new view }
+    ensures counts { tree.new.counts ≡ tree.old.counts }
+{
+    let mut state = tree.state(view);
+    state.measured = size;
+    state.ws = ws;
+    state.hs = hs;
+    state.measure_first = true;
+    state.layout_needed = true;
+    tree.set_state(view, state);
+}
+
+/// Measures a view through what is below it. Most calls of `measure` don't come here.
+#[cycle(measure)]
+#[inline(never)]
+fn measure_anew(tree: &mut ViewTree, view: Key, ws: Spec, hs: Spec, work: &mut Work) -> Size
+    requires ready { IsReady tree.old view }
+    requires miss { found (cache_of tree.old view) (record { across = ws; down = hs }) ≡ None }
+    ensures size { result ≡ size_under (part_from view tree.old.tree) (record { across = ws; down = hs }) }
+    ensures same { SameTree tree.old tree.new }
+    ensures measured { IsMeasured tree.new view (record { across = ws; down = hs }) }
+    ensures keeps { Keeps (held_of tree.old) (held_of tree.new) }
+    ensures others { KeepsOutside (held_of tree.old) (held_of tree.new) (first_tree (part_from view tree.old.tree)) }
+    ensures counted { Counted 1 tree.old tree.new work.old work.new }
+    ensures costs { Costs (first_tree (part_from view tree.old.tree)) (held_of tree.old) (held_of tree.new) work.old.measured
+        (calls_under (part_from view tree.old.tree) (record { across = ws; down = hs })) work.new.measured }
+    ensures caches { Grown (λ place other. other ≡ (record { across = ws; down = hs })) (held_of tree.old) (held_of tree.new) (first_tree (part_from view tree.old.tree)) }
+    ensures cache { cache_of tree.new view ≡ put_in (cache_of tree.old view) (entry_for (record { across = ws; down = hs }) result) }
 {
     let outcome = measure_below(tree, view, ws, hs, work);
     finish(tree, view, ws, hs, outcome, work);
     outcome.size
 }
 
-/// What a measuring comes to: the view's size, and what its children took along its axis.
+/// Measures the children of a marked view for its last specs, and takes the mark away; its size, its specs and its
+/// cache stay. Layout calls it before it places the children. It is a measuring of the view, and counted as one.
+pub fn remeasure(tree: &mut ViewTree, view: Key, work: &mut Work)
+    requires fit { IsFit tree.old view }
+    requires marked { (state_of tree.old view).measure_first ≡ true }
+    ensures same { SameTree tree.old tree.new }
+    ensures held { held_of tree.new view ≡ record (held_of tree.old view) {
+      state = record (state_of tree.old view) {
+        total = total_under (part_from view tree.old.tree) (specs_of (state_of tree.old view));
+        measure_first = false;
+      };
+    } }
+    ensures measured { IsMeasured tree.new view (specs_of (state_of tree.old view)) }
+    ensures keeps { Keeps (held_of tree.old) (held_of tree.new) }
+    ensures others { KeepsOutside (held_of tree.old) (held_of tree.new) (first_tree (part_from view tree.old.tree)) }
+    ensures counted { Counted 1 tree.old tree.new work.old work.new }
+    ensures caches { Grown (λ place other. other ≡ specs_of (state_of tree.old view)) (held_of tree.old) (held_of tree.new) (first_tree (part_from view tree.old.tree)) }
+    ensures back { work.new.measured + owed (held_of tree.new) (first_tree (part_from view tree.old.tree)) ≤ work.old.measured + owed (held_of tree.old) (first_tree (part_from view tree.old.tree)) }
+    ensures spent { work.new.measured ≤ work.old.measured + calls_under (part_from view tree.old.tree) (specs_of (state_of tree.old view)) }
+{
+    let state = tree.state(view);
+    let outcome = measure_below(tree, view, state.ws, state.hs, work);
+    make_up(tree, view, outcome, work);
+}
+
+/// Keeps what the measuring of a marked view's children came to, and counts it.
+fn make_up(tree: &mut ViewTree, view: Key, outcome: Outcome, work: &mut Work)
+    requires { IsLive tree.old view }
+    ensures same { SameTree tree.old tree.new }
+    ensures held { held_of tree.new view ≡ made_up (held_of tree.old view) outcome.size outcome.total }
+    ensures others { KeepsOthers tree.old tree.new view }
+    ensures counts { tree.new.counts ≡ record tree.old.counts { measures = min (tree.old.counts.measures + 1) (2 ^ 64 - 1) } }
+    ensures counted { work.new ≡ record work.old { measured = min (work.old.measured + 1) (2 ^ 64 - 1) } }
+{
+    let mut state = tree.state(view);
+    state.total = outcome.total;
+    state.measure_first = false;
+    tree.set_state(view, state);
+    tree.set_measured(view, outcome.size, state.ws, state.hs, work);
+}
+
+/// What a measuring comes to: the view's size, and what its children took along its axis, with its padding, in pixels.
 #[derive(Clone, Copy, Debug)]
 struct Outcome {
     size: Size,
     total: i64,
 }
 
-/// Keeps what a measuring came to, and counts it.
+/// Keeps what a measuring came to, remembers the size, and counts it.
 fn finish(tree: &mut ViewTree, view: Key, ws: Spec, hs: Spec, outcome: Outcome, work: &mut Work)
     requires live { IsLive tree.old view }
     ensures same { SameTree tree.old tree.new }
     ensures held { held_of tree.new view ≡ done_with (held_of tree.old view) (record { across = ws; down = hs }) outcome.size outcome.total }
     ensures others { KeepsOthers tree.old tree.new view }
+    ensures counts { tree.new.counts ≡ record tree.old.counts { measures = min (tree.old.counts.measures + 1) (2 ^ 64 - 1) } }
     ensures counted { work.new ≡ record work.old { measured = min (work.old.measured + 1) (2 ^ 64 - 1) } }
 {
     let mut state = tree.state(view);
     state.total = outcome.total;
+    state.measure_first = false;
+    state.layout_needed = true;
     tree.set_state(view, state);
     tree.set_measured(view, outcome.size, ws, hs, work);
+    tree.remember(view, ws, hs, outcome.size);
 }
 
-/// Measures what is below a view that is measured under these specs, and says what that comes to.
+/// Measures what is below a view that is measured under these specs, and says what that comes to. A view without
+/// children comes to its size at once.
 #[cycle(measure)]
 fn measure_below(tree: &mut ViewTree, view: Key, ws: Spec, hs: Spec, work: &mut Work) -> Outcome
     requires live { IsLive tree.old view }
+    requires ready { Ready (held_of tree.old) (children_of_first (part_from view tree.old.tree)) }
+    ensures ready { Ready (held_of tree.new) (children_of_first (part_from view tree.old.tree)) }
     ensures is_tree { IsTree tree.old }
     ensures measured { IsMeasuredBelow (part_from view tree.old.tree) (record { across = ws; down = hs }) (held_of tree.old) (held_of tree.new)
         result.size result.total work.old.measured work.new.measured }
     ensures same { SameTree tree.old tree.new }
     ensures keeps { Keeps (held_of tree.old) (held_of tree.new) }
     ensures others { KeepsOutside (held_of tree.old) (held_of tree.new) (children_of_first (part_from view tree.old.tree)) }
-    ensures painted { work.new.painted ≡ work.old.painted }
+    ensures counted { Counted 0 tree.old tree.new work.old work.new }
 {
-    match Plan::start(tree, view, ws, hs) {
-        Some(mut plan) => measure_phases(tree, view, &mut plan, 2, work),
-        None => measure_siblings(tree, view, ws, hs, work),
+    let facts = tree.facts(view);
+    match tree.class(view) {
+        Class::View => Outcome {
+            size: minimal_size(facts, ws, hs),
+            total: 0,
+        },
+        Class::TextView => Outcome {
+            size: text_size(facts, tree.text(view), ws, hs),
+            total: 0,
+        },
+        Class::RelativeLayout => measure_siblings(tree, view, ws, hs, work),
+        _ => measure_group(tree, view, ws, hs, work),
     }
+}
+
+/// Measures what is below a group that has a plan, and says what that comes to. What a plan holds is cleared where the
+/// function that holds it begins, so it has one of its own, which no view without children comes to.
+#[cycle(measure)]
+#[inline(never)]
+fn measure_group(tree: &mut ViewTree, view: Key, ws: Spec, hs: Spec, work: &mut Work) -> Outcome
+    requires live { IsLive tree.old view }
+    requires class { HasPlan (class_of tree.old view) }
+    requires ready { Ready (held_of tree.old) (children_of_first (part_from view tree.old.tree)) }
+    ensures ready { Ready (held_of tree.new) (children_of_first (part_from view tree.old.tree)) }
+    ensures is_tree { IsTree tree.old }
+    ensures measured { IsMeasuredBelow (part_from view tree.old.tree) (record { across = ws; down = hs }) (held_of tree.old) (held_of tree.new)
+        result.size result.total work.old.measured work.new.measured }
+    ensures same { SameTree tree.old tree.new }
+    ensures keeps { Keeps (held_of tree.old) (held_of tree.new) }
+    ensures others { KeepsOutside (held_of tree.old) (held_of tree.new) (children_of_first (part_from view tree.old.tree)) }
+    ensures counted { Counted 0 tree.old tree.new work.old work.new }
+{
+    let mut plan = Plan::start(tree, view, ws, hs);
+    measure_phases(tree, view, &mut plan, 2, work)
 }
 
 /// Measures what is below a relative layout under these specs: each child on the horizontal axis and then each on the
 /// vertical one, in the orders of their rules.
 #[cycle(measure)]
+#[inline(never)]
 fn measure_siblings(tree: &mut ViewTree, view: Key, ws: Spec, hs: Spec, work: &mut Work) -> Outcome
     requires live { IsLive tree.old view }
     requires siblings { class_of tree.old view ≡ RelativeLayout }
+    requires ready { Ready (held_of tree.old) (children_of_first (part_from view tree.old.tree)) }
+    ensures ready { Ready (held_of tree.new) (children_of_first (part_from view tree.old.tree)) }
     ensures is_tree { IsTree tree.old }
     ensures measured { IsMeasuredBelow (part_from view tree.old.tree) (record { across = ws; down = hs }) (held_of tree.old) (held_of tree.new)
         result.size result.total work.old.measured work.new.measured }
     ensures same { SameTree tree.old tree.new }
     ensures keeps { Keeps (held_of tree.old) (held_of tree.new) }
     ensures others { KeepsOutside (held_of tree.old) (held_of tree.new) (children_of_first (part_from view tree.old.tree)) }
-    ensures painted { work.new.painted ≡ work.old.painted }
+    ensures counted { Counted 0 tree.old tree.new work.old work.new }
 {
     let mut plan = RelativePlan::start(tree.facts(view), ws, hs);
     measure_turns(tree, view, Axis::Horizontal, &mut plan, work);
@@ -121,6 +278,8 @@ fn measure_turns(
 )
     requires live { IsLive tree.old view }
     requires siblings { class_of tree.old view ≡ RelativeLayout }
+    requires ready { Ready (held_of tree.old) (children_of_first (part_from view tree.old.tree)) }
+    ensures ready { Ready (held_of tree.new) (children_of_first (part_from view tree.old.tree)) }
     ensures turns { (own : FactsValue) (specs : Specs) (past : List (List Spanned))
         → StandsRelative plan.old own specs past []
         → phase_axis past ≡ axis
@@ -134,7 +293,7 @@ fn measure_turns(
     ensures same { SameTree tree.old tree.new }
     ensures keeps { Keeps (held_of tree.old) (held_of tree.new) }
     ensures others { KeepsOutside (held_of tree.old) (held_of tree.new) (children_of_first (part_from view tree.old.tree)) }
-    ensures painted { work.new.painted ≡ work.old.painted }
+    ensures counted { Counted 0 tree.old tree.new work.old work.new }
 {
     for turn in 0..turns(tree, view) {
         let kid = kid_in_turn(tree, view, axis, turn);
@@ -155,6 +314,8 @@ fn measure_in_turn(
     requires live { IsLive tree.old view }
     requires siblings { class_of tree.old view ≡ RelativeLayout }
     requires kid { IsLive tree.old kid }
+    requires ready { Ready (held_of tree.old) (first_tree (part_from kid tree.old.tree)) }
+    ensures ready { Ready (held_of tree.new) (first_tree (part_from kid tree.old.tree)) }
     ensures turn { (own : FactsValue) (specs : Specs) (past : List (List Spanned)) (taken : List Spanned) (place : ℕ)
         → StandsRelative plan.old own specs past taken
         → phase_axis past ≡ axis
@@ -169,7 +330,7 @@ fn measure_in_turn(
     ensures same { SameTree tree.old tree.new }
     ensures keeps { Keeps (held_of tree.old) (held_of tree.new) }
     ensures others { KeepsOutside (held_of tree.old) (held_of tree.new) (first_tree (part_from kid tree.old.tree)) }
-    ensures painted { work.new.painted ≡ work.old.painted }
+    ensures counted { Counted 0 tree.old tree.new work.old work.new }
 {
     if !tree.facts(kid).is_shown() {
         return;
@@ -193,6 +354,8 @@ fn measure_phases(
 ) -> Outcome
     requires live { IsLive tree.old view }
     requires left { left ≤ 2 }
+    requires ready { Ready (held_of tree.old) (children_of_first (part_from view tree.old.tree)) }
+    ensures ready { Ready (held_of tree.new) (children_of_first (part_from view tree.old.tree)) }
     ensures is_tree { IsTree tree.old }
     ensures phases { (group : Group) (past : List (List Measured)) (kids : List Requested)
         → Stands plan.old group past []
@@ -203,7 +366,7 @@ fn measure_phases(
     ensures same { SameTree tree.old tree.new }
     ensures keeps { Keeps (held_of tree.old) (held_of tree.new) }
     ensures others { KeepsOutside (held_of tree.old) (held_of tree.new) (children_of_first (part_from view tree.old.tree)) }
-    ensures painted { work.new.painted ≡ work.old.painted }
+    ensures counted { Counted 0 tree.old tree.new work.old work.new }
 {
     measure_kids(tree, view, plan, work);
     if left == 0 {
@@ -234,6 +397,8 @@ fn outcome_of(plan: &Plan) -> Outcome
 #[cycle(measure)]
 fn measure_kids(tree: &mut ViewTree, view: Key, plan: &mut Plan, work: &mut Work)
     requires live { IsLive tree.old view }
+    requires ready { Ready (held_of tree.old) (children_of_first (part_from view tree.old.tree)) }
+    ensures ready { Ready (held_of tree.new) (children_of_first (part_from view tree.old.tree)) }
     ensures is_tree { IsTree tree.old }
     ensures phase { (group : Group) (past : List (List Measured)) (kids : List Requested)
         → Stands plan.old group past []
@@ -243,7 +408,7 @@ fn measure_kids(tree: &mut ViewTree, view: Key, plan: &mut Plan, work: &mut Work
     ensures same { SameTree tree.old tree.new }
     ensures keeps { Keeps (held_of tree.old) (held_of tree.new) }
     ensures others { KeepsOutside (held_of tree.old) (held_of tree.new) (children_of_first (part_from view tree.old.tree)) }
-    ensures painted { work.new.painted ≡ work.old.painted }
+    ensures counted { Counted 0 tree.old tree.new work.old work.new }
 {
     let mut next = tree.first(view);
     while let Some(kid) = next {
@@ -256,6 +421,8 @@ fn measure_kids(tree: &mut ViewTree, view: Key, plan: &mut Plan, work: &mut Work
 #[cycle(measure)]
 fn measure_kid(tree: &mut ViewTree, kid: Key, plan: &mut Plan, work: &mut Work)
     requires live { IsLive tree.old kid }
+    requires ready { Ready (held_of tree.old) (first_tree (part_from kid tree.old.tree)) }
+    ensures ready { Ready (held_of tree.new) (first_tree (part_from kid tree.old.tree)) }
     ensures phase { (group : Group) (past : List (List Measured)) (taken : List Measured) (kids : List Requested)
         → Stands plan.old group past taken
         → length taken + count_of (first_tree (part_from kid tree.old.tree)) ≤ MAX_VIEWS
@@ -265,7 +432,7 @@ fn measure_kid(tree: &mut ViewTree, kid: Key, plan: &mut Plan, work: &mut Work)
     ensures same { SameTree tree.old tree.new }
     ensures keeps { Keeps (held_of tree.old) (held_of tree.new) }
     ensures others { KeepsOutside (held_of tree.old) (held_of tree.new) (first_tree (part_from kid tree.old.tree)) }
-    ensures painted { work.new.painted ≡ work.old.painted }
+    ensures counted { Counted 0 tree.old tree.new work.old work.new }
 {
     let facts = tree.facts(kid);
     if !facts.is_shown() {

@@ -1,6 +1,7 @@
-//! The children of a relative layout: whose turn it is, to which siblings they are tied, and the sides that are kept of them.
+//! The children of a relative layout: whose turn it is, and the sides that are kept of them.
 ghost use Rattle.std.specs.Prelude.{◌≡◌, ◌<◌, ℕ, [], ◌∷◌, List, length, slice_index};
-ghost use Rattle.measure_pass.specs.Measured.{Keeps};
+ghost use Rattle.kept_views.specs.Kept.{Ready};
+ghost use Rattle.measure_pass.specs.Measured.{Keeps, KeepsAllButEdges};
 ghost use Rattle.measure_pass.specs.Siblings.{FirstHasEdges, FirstHasSize, IsSettled, TurnIsOver, edges_of, first_child, kids_in, no_edges, order_on, phase_of};
 ghost use Rattle.relative_layout.specs.RelativePlan.{StandsRelative};
 ghost use Rattle.view_model.specs.declared.facts.Facts.{Facts as FactsValue};
@@ -12,7 +13,7 @@ ghost use Rattle.view_model.specs.RelativeCourse.{arranged};
 ghost use Rattle.view_model.specs.RelativeLayout.{Spanned, final_rect, relative_size};
 ghost use Rattle.view_model.specs.Cycles.{links_in};
 ghost use Rattle.view_tree.specs.Ordering.{AreOrders};
-ghost use Rattle.view_tree.specs.Rows.{children_of_first, part_from, siblings_from, views_of};
+ghost use Rattle.view_tree.specs.Rows.{children_of_first, first_tree, part_from, siblings_from, views_of};
 ghost use Rattle.view_tree.specs.Views.{IsLive, IsTree, KeepsOthers, KeepsOutside, SameTree, class_of, held_of, orders_of, state_of};
 
 use geom_core::Rect;
@@ -61,7 +62,8 @@ fn place_in_turn(tree: &ViewTree, view: Key, axis: Axis, turn: usize) -> usize
     }
 }
 
-/// What is known of a child's sides before its turn on an axis: nothing on the first one, whatever an earlier measuring left.
+/// What is known of a child's sides before its turn on an axis: nothing on the first one, whatever an earlier
+/// measuring left.
 pub fn edges_before(tree: &ViewTree, kid: Key, axis: Axis) -> Edges
     requires live { IsLive tree.now kid }
     ensures first { axis ≡ Axis.Horizontal → result ≡ no_edges }
@@ -82,14 +84,15 @@ pub fn keep_edges(tree: &mut ViewTree, kid: Key, edges: Edges)
     ensures same { SameTree tree.old tree.new }
     ensures held { held_of tree.new kid ≡ record (held_of tree.old kid) { state = record (held_of tree.old kid).state { edges = edges } } }
     ensures others { KeepsOthers tree.old tree.new kid }
+    ensures counts { tree.new.counts ≡ tree.old.counts }
 {
     let mut state = tree.state(kid);
     state.edges = edges;
     tree.set_state(kid, state);
 }
 
-/// Moves the children of a relative layout to where they lie in the end, once its own size is known: those in its middle and
-/// those at its far sides.
+/// Moves the children of a relative layout to where they lie in the end, once its own size is known: those in its
+/// middle and those at its far sides.
 pub fn settle(tree: &mut ViewTree, view: Key, plan: &RelativePlan)
     requires live { IsLive tree.old view }
     requires siblings { class_of tree.old view ≡ RelativeLayout }
@@ -105,6 +108,9 @@ pub fn settle(tree: &mut ViewTree, view: Key, plan: &RelativePlan)
     ensures same { SameTree tree.old tree.new }
     ensures keeps { Keeps (held_of tree.old) (held_of tree.new) }
     ensures others { KeepsOutside (held_of tree.old) (held_of tree.new) (children_of_first (part_from view tree.old.tree)) }
+    ensures edged { KeepsAllButEdges (held_of tree.old) (held_of tree.new) }
+    ensures ready { Ready (held_of tree.old) (children_of_first (part_from view tree.old.tree)) → Ready (held_of tree.new) (children_of_first (part_from view tree.old.tree)) }
+    ensures counts { tree.new.counts ≡ tree.old.counts }
 {
     for place in 0..turns(tree, view) {
         let kid = tree.child_at(view, place);
@@ -124,6 +130,9 @@ fn settle_kid(tree: &mut ViewTree, kid: Key, plan: &RelativePlan)
     ensures same { SameTree tree.old tree.new }
     ensures keeps { Keeps (held_of tree.old) (held_of tree.new) }
     ensures others { KeepsOthers tree.old tree.new kid }
+    ensures edged { KeepsAllButEdges (held_of tree.old) (held_of tree.new) }
+    ensures ready { Ready (held_of tree.old) (first_tree (part_from kid tree.old.tree)) → Ready (held_of tree.new) (first_tree (part_from kid tree.old.tree)) }
+    ensures counts { tree.new.counts ≡ tree.old.counts }
 {
     if !tree.facts(kid).is_shown() {
         return;

@@ -1,7 +1,7 @@
 //! The size of a view that shows a text. Lengths are in pixels.
 ghost use Rattle.std.specs.Prelude.{◌≡◌, ◌<◌, ◌≤◌, ◌*◌, pos};
 ghost use Rattle.view_model.specs.declared.limits.TheConstants.{CELL_HEIGHT};
-ghost use Rattle.view_model.specs.Facts.{unscrolled_facts};
+ghost use Rattle.view_model.specs.Facts.{layout_facts};
 ghost use Rattle.view_model.specs.TextView.{cells_across, cells_in, text_height, text_size, text_width};
 
 use cell_text::{cells_in, count, widest};
@@ -11,7 +11,7 @@ use view_model::{Facts, Text, own_side};
 
 /// The size of a view with this text. How many lines the text takes depends on the width that comes out.
 pub fn text_size(own: &Facts, text: &Text, ws: Spec, hs: Spec) -> Size
-    ensures { result ≡ text_size (unscrolled_facts own.now) text.now (record { across = ws; down = hs }) }
+    ensures { result ≡ text_size (layout_facts own.now) text.now (record { across = ws; down = hs }) }
 {
     let width = text_width(own, text, ws);
     Size {
@@ -22,7 +22,7 @@ pub fn text_size(own: &Facts, text: &Text, ws: Spec, hs: Spec) -> Size
 
 #[tactic(auto, unfolding(view_model::specs::TextView::text_width))]
 fn text_width(own: &Facts, text: &Text, spec: Spec) -> i32
-    ensures { result ≡ text_width (unscrolled_facts own.now) text.now spec }
+    ensures { result ≡ text_width (layout_facts own.now) text.now spec }
 {
     let most = length_of(CELL_WIDTH, widest(text));
     own_side(own.min.w, most, own.padding_across(), spec)
@@ -30,7 +30,7 @@ fn text_width(own: &Facts, text: &Text, spec: Spec) -> i32
 
 #[tactic(auto, unfolding(view_model::specs::TextView::text_height))]
 fn text_height(own: &Facts, text: &Text, spec: Spec, width: i32) -> i32
-    ensures { result ≡ text_height (unscrolled_facts own.now) text.now spec width }
+    ensures { result ≡ text_height (layout_facts own.now) text.now spec width }
 {
     let lines = count(text, cells_across(own, width));
     let most = length_of(CELL_HEIGHT, lines);
@@ -47,7 +47,7 @@ fn length_of(side: u32, cells: u32) -> i64
 
 /// How many cells a line has in a view of this width.
 fn cells_across(own: &Facts, width: i32) -> u32
-    ensures value { result ≡ cells_across (unscrolled_facts own.now) width }
+    ensures value { result ≡ cells_across (layout_facts own.now) width }
     ensures some { 0 < result }
 {
     cells_in(i64::from(width) - own.padding_across())

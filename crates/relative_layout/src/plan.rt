@@ -2,7 +2,7 @@
 ghost use Rattle.std.specs.Prelude.{◌≡◌, ◌+◌, [], ◌∷◌, ◌++◌, List};
 ghost use Rattle.geom_core.specs.Limits.{IsSide};
 ghost use Rattle.view_model.specs.declared.facts.Facts.{Facts as FactsValue};
-ghost use Rattle.view_model.specs.Facts.{unscrolled_facts};
+ghost use Rattle.view_model.specs.Facts.{layout_facts};
 ghost use Rattle.view_model.specs.Measuring.{Specs, pair_of};
 ghost use Rattle.view_model.specs.RelativeLayout.{Spanned, across_specs, down_specs, final_rect, phase_specs, relative_size, span_or_none};
 
@@ -28,7 +28,7 @@ impl RelativePlan {
 
     /// The plan of a group with these facts under these specs, before its first child.
     pub fn start(own: &Facts, ws: Spec, hs: Spec) -> RelativePlan
-        ensures { StandsRelative result (unscrolled_facts own.now) (record { across = ws; down = hs }) [] [] }
+        ensures { StandsRelative result (layout_facts own.now) (record { across = ws; down = hs }) [] [] }
     {
         RelativePlan {
             axis: Axis::Horizontal,
@@ -41,7 +41,7 @@ impl RelativePlan {
     pub fn ask(&self, kid: &Facts, edges: Edges, anchors: &Anchors) -> (Spec, Spec)
         ensures { (own : FactsValue) (specs : Specs) (past : List (List Spanned)) (taken : List Spanned)
             → StandsRelative self.now own specs past taken
-            → result ≡ pair_of (phase_specs own specs past (unscrolled_facts kid.now) edges anchors.now) }
+            → result ≡ pair_of (phase_specs own specs past (layout_facts kid.now) edges anchors.now) }
     {
         match self.axis {
             Axis::Horizontal => self.across_specs(kid, anchors),
@@ -55,10 +55,10 @@ impl RelativePlan {
         requires height { IsSide size.h }
         ensures edges { (own : FactsValue) (specs : Specs) (past : List (List Spanned)) (taken : List Spanned)
             → StandsRelative self.old own specs past taken
-            → result ≡ edges_as own specs past (unscrolled_facts kid.now) edges anchors.now size }
+            → result ≡ edges_as own specs past (layout_facts kid.now) edges anchors.now size }
         ensures taken { (own : FactsValue) (specs : Specs) (past : List (List Spanned)) (taken : List Spanned)
             → StandsRelative self.old own specs past taken
-            → StandsRelative self.new own specs past (taken ++ spanned_as own specs past (unscrolled_facts kid.now) anchors.now size ∷ []) }
+            → StandsRelative self.new own specs past (taken ++ spanned_as own specs past (layout_facts kid.now) anchors.now size ∷ []) }
     {
         match self.axis {
             Axis::Horizontal => {
@@ -115,7 +115,7 @@ impl RelativePlan {
         requires height { IsSide size.h }
         ensures { (own : FactsValue) (specs : Specs) (first second : List Spanned)
             → StandsRelative self.now own specs (first ∷ []) second
-            → result ≡ final_rect own specs (relative_size own specs first second) (unscrolled_facts kid.now) edges size }
+            → result ≡ final_rect own specs (relative_size own specs first second) (layout_facts kid.now) edges size }
     {
         rect_between(
             self.across

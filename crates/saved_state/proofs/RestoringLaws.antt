@@ -2,50 +2,39 @@
 use Rattle.std.proofs.Common.{◌≡◌, ◌≢◌, ℕ, ◌+◌, ◌<◌, ℤ, Option, Some, None, refl, sym, ◌∙◌, ap, arith, inl, inr, List, ◌∷◌, drop}
 use Rattle.std.proofs.lemmas.Bool.{cases_eq, eq-eqb, ne_eqb}
 use Rattle.std.specs.Prelude.{◌==◌, if◌then◌else◌, unwrap_or}
+use Rattle.saved_state.specs.Restored.{wanted}
 use Rattle.saved_state.specs.Restoring.{given_offset, restored}
 use Rattle.view_model.specs.Forest.{Forest, Nothing, Branch}
 use Rattle.view_model.specs.PlainTree.{PlainView}
 use Rattle.view_tree.specs.Preorder.{rows_from}
 use Rattle.view_tree.specs.Rows.{Row, count_of_key, head_view, part_from}
-use Rattle.view_tree.specs.Views.{Held, IsTree, Views, held_of, plain_of, plain_rows, scrolled}
+use Rattle.view_tree.specs.Views.{Held, IsTree, Views, held_of, offset_of, plain_of, plain_rows, scrolled}
 use Rattle.view_tree.proofs.forest.KeyLaws.{Within, count_of_key-within, from_within, here, times_self}
 use Rattle.view_tree.proofs.forest.Forests.{Within-children_of_first, Within-later_siblings}
 use Rattle.view_tree.proofs.forest.PreorderLaws.{key_count, standing}
 
--- the offset that a state gives the view of a key
-abbrev pub wanted : List (ℕ × ℕ) → Forest Row → ℕ → Option ℤ
-wanted entries tree key = given_offset entries (head_view (part_from key tree))
+-- the offset of a view that occurs this often among those that are set
+abbrev pub set_at : ℕ → Option ℤ → ℤ → ℤ
+set_at count given offset = if count == 0 then offset else unwrap_or given offset
 
--- what is kept of a view that occurs this often among those that are set
-abbrev pub set_at : ℕ → Option ℤ → Held → Held
-set_at count offset held = if count == 0 then held else record held { offset = unwrap_or offset held.offset }
+set_more : (n : ℕ) (given : Option ℤ) (offset : ℤ) → 0 < n → set_at n given offset ≡ unwrap_or given offset
+set_more n given offset more = let some : n ≢ 0 = omega arith in rw ne_eqb
 
-pub set_more : (n : ℕ) (offset : Option ℤ) (held : Held) → 0 < n → set_at n offset held ≡ record held { offset = unwrap_or offset held.offset }
-set_more n offset held more = let some : n ≢ 0 = omega arith in rw ne_eqb
-
-pub set_state : (n : ℕ) (offset : Option ℤ) (held : Held) → (set_at n offset held).state ≡ held.state
-set_state n offset held = elim (cases_eq n 0) [
-  | inl none ↦ rw none refl
-  | inr some ↦ ap (λ (h : Held). h.state) (set_more n offset held (omega arith))
-]
-
-set_again : (offset : Option ℤ) (before : ℤ) → unwrap_or offset (unwrap_or offset before) ≡ unwrap_or offset before
+set_again : (given : Option ℤ) (before : ℤ) → unwrap_or given (unwrap_or given before) ≡ unwrap_or given before
 set_again None before = refl
 set_again (Some offset) before = refl
 
 -- a view that is set twice is set
-set_twice : (n : ℕ) (offset : Option ℤ) (held : Held) → set_at n offset (record held { offset = unwrap_or offset held.offset }) ≡ record held { offset = unwrap_or offset held.offset }
-set_twice n offset held = elim (cases_eq n 0) [
+set_twice : (n : ℕ) (given : Option ℤ) (before : ℤ) → set_at n given (unwrap_or given before) ≡ unwrap_or given before
+set_twice n given before = elim (cases_eq n 0) [
   | inl none ↦ rw none refl
-  | inr some ↦
-      set_more n offset (record held { offset = unwrap_or offset held.offset }) (omega arith)
-      ∙ ap (λ (offset : ℤ). record held { offset = offset }) (set_again offset held.offset)
+  | inr some ↦ set_more n given (unwrap_or given before) (omega arith) ∙ set_again given before
 ]
 
 -- one view more was set
-pub set_on : (entries : List (ℕ × ℕ)) (tree : Forest Row) (view : ℕ) (next : Option ℕ) (old new : ℕ → Held) → 0 < count_of_key view tree
+pub set_on : (entries : List (ℕ × ℕ)) (tree : Forest Row) (view : ℕ) (next : Option ℕ) (old new : ℕ → ℤ) → 0 < count_of_key view tree
     → rows_from next tree ≡ drop 1 (rows_from (Some view) tree)
-    → new view ≡ record (old view) { offset = unwrap_or (wanted entries tree view) (old view).offset }
+    → new view ≡ unwrap_or (wanted entries tree view) (old view)
     → ((other : ℕ) → other ≢ view → new other ≡ old other)
     → (key : ℕ) → set_at (key_count key (rows_from next tree)) (wanted entries tree key) (new key)
     ≡ set_at (key_count key (rows_from (Some view) tree)) (wanted entries tree key) (old key)
@@ -58,7 +47,7 @@ set_on entries tree view next old new live is own others key =
       | inl e ↦
           let at_view : key ≡ view = sym e ∙ f.key_is in
           let one : key_count key (rows_from (Some view) tree) ≡ 1 + key_count key left = rw (eq-eqb f.row.key key e) at count in
-          let set : new key ≡ record (old key) { offset = unwrap_or (wanted entries tree key) (old key).offset } = rw at_view own in
+          let set : new key ≡ unwrap_or (wanted entries tree key) (old key) = rw at_view own in
           ap (set_at (key_count key left) (wanted entries tree key)) set
           ∙ set_twice (key_count key left) (wanted entries tree key) (old key)
           ∙ sym (set_more (key_count key (rows_from (Some view) tree)) (wanted entries tree key) (old key) (omega arith))
@@ -84,10 +73,10 @@ module _ (old : Views) (is : IsTree old) (entries : List (ℕ × ℕ)) (new : �
       ∙ ap (λ (after : Forest PlainView). Branch (view last) (restored entries (plain_rows (held_of old) kids)) after) (rows_restored siblings (Within-later_siblings w))
 
 pub plain_restored : (old new : Views) (entries : List (ℕ × ℕ)) → IsTree old → new.tree ≡ old.tree
-    → ((key : ℕ) → held_of new key ≡ set_at (count_of_key key old.tree) (wanted entries old.tree key) (held_of old key))
+    → ((key : ℕ) → offset_of new key ≡ set_at (count_of_key key old.tree) (wanted entries old.tree key) (offset_of old key))
     → plain_of new ≡ restored entries (plain_of old)
 plain_restored old new entries is tree came =
     ap (plain_rows (held_of new)) tree
     ∙ rows_restored old is entries (held_of new)
-    (λ key live. ap (λ (held : Held). held.offset) (came key) ∙ ap (λ (held : Held). held.offset) (set_more (count_of_key key old.tree) (wanted entries old.tree key) (held_of old key) live))
+    (λ key live. came key ∙ set_more (count_of_key key old.tree) (wanted entries old.tree key) (offset_of old key) live)
     old.tree here

@@ -1,4 +1,5 @@
 pub mod Answers
+pub mod Restored
 pub mod Restoring
 pub mod Saving
 pub mod State

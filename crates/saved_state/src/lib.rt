@@ -1,8 +1,8 @@
-//! The saved state of a tree: the offset of each scroll view that has an id, as bytes; and what comes of such bytes in a
-//! tree.
+//! The saved state of a tree: the offset of each scroll view that has an id, as bytes; and what comes of such bytes in
+//! a tree.
 //!
-//! `saving` makes the bytes, `reading` takes them apart, and `restoring` sets the offsets, for which `marking` tells
-//! whether the tree fits.
+//! `saving` makes the bytes, `reading` takes them apart, and `restoring` sets the offsets and requests layout where it
+//! does, once `marking` says that the tree fits.
 #![tactic(auto)]
 
 mod fault;

@@ -14,8 +14,8 @@ use std::alloc::{AllocError, Global};
 use std::collections::BTreeMap;
 use view_tree::{Key, ViewTree};
 
-/// The bytes of what is saved of a tree: the offset of each scroll view that has an id, of those with the same id that of
-/// the last in preorder.
+/// The bytes of what is saved of a tree: the offset of each scroll view that has an id, of those with the same id that
+/// of the last in preorder.
 pub fn save(alloc: Global, tree: &ViewTree) -> Result<Vec<u8>, AllocError>
     requires { OffsetsFit (plain_of tree.now) }
     ensures bytes { IfOk result (λ bytes. bytes.items ≡ encoded (saved_of (plain_of tree.now))) }

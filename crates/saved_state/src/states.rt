@@ -7,8 +7,8 @@ ghost use Rattle.saved_state.specs.declared.format.TheConstants.{MAX_ENTRIES};
 use std::alloc::Global;
 use std::marker::Model;
 
-/// A saved state that was read: offsets in pixels by the ids of the scroll views that have them. Contracts see it as the
-/// list of its entries, whose ids rise.
+/// A saved state that was read: offsets in pixels by the ids of the scroll views that have them. Contracts see it as
+/// the list of its entries, whose ids rise.
 #[derive(Drop)]
 pub struct States {
     pub(crate) entries: Vec<(u32, u32)>,

@@ -1,3 +1,1 @@
-mod BringingWalk
 mod RangeLaws
-mod PlainRanged

@@ -1,8 +1,8 @@
--- What is kept of views once offsets are brought into their ranges.
-use Rattle.std.specs.Prelude.{ℕ, ◌==◌, ℤ, if◌then◌else◌, Option, None}
+-- The ranges of offsets, by where views lie now.
+use Rattle.std.specs.Prelude.{ℕ, ℤ, Option, None}
 use Rattle.geom_core.specs.declared.geometry.Rect.{Rect}
 use Rattle.view_model.specs.Forest.{Forest, Nothing, Branch}
-use Rattle.view_model.specs.Offsets.{brought, range_by}
+use Rattle.view_model.specs.Offsets.{range_by}
 use Rattle.view_tree.specs.Rows.{Row, part_from}
 use Rattle.view_tree.specs.Views.{Held, Views, held_of}
 
@@ -19,7 +19,3 @@ first_range held (Branch row kids siblings) = range_by row.view.class row.view.f
 -- that of the view of a key
 abbrev pub range_at : Views → ℕ → Option ℤ
 range_at views key = first_range (held_of views) (part_from key views.tree)
-
--- what is kept of a view that occurs this often among those that are brought into range
-abbrev pub brought_at : ℕ → Option ℤ → Held → Held
-brought_at count range held = if count == 0 then held else record held { offset = brought range held.offset }

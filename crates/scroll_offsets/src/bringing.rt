@@ -1,52 +1,25 @@
-//! The walk over a tree that was laid out, in which each scroll view gets its offset into its range.
-ghost use Rattle.std.specs.Prelude.{◌≡◌, ℕ};
-ghost use Rattle.scroll_offsets.specs.Bringing.{brought_at, child_rect, range_at};
+//! The offset of a scroll view, which was laid out, comes into its range.
+ghost use Rattle.std.specs.Prelude.{◌≡◌};
+ghost use Rattle.scroll_offsets.specs.Bringing.{child_rect, range_at};
 ghost use Rattle.view_model.specs.declared.kinds.Class.TheVariants.{ScrollView};
-ghost use Rattle.view_model.specs.Offsets.{brought, range_by, ranged};
+ghost use Rattle.view_model.specs.Offsets.{brought, range_by};
 ghost use Rattle.view_model.specs.ScrollView.{offset_within};
-ghost use Rattle.view_tree.specs.Hidden.{IsConsistent};
-ghost use Rattle.view_tree.specs.Rows.{children_of_first, count_of_key, first_tree, part_from};
-ghost use Rattle.view_tree.specs.Views.{IsLive, KeepsOthers, SameTree, facts_of, geometry_of, held_of, offset_of, plain_of, state_of};
+ghost use Rattle.view_tree.specs.Rows.{children_of_first, part_from};
+ghost use Rattle.view_tree.specs.Views.{IsLive, KeepsOthers, SameTree, facts_of, held_of, offset_of, state_of};
 
 use geom_core::Rect;
 use scroll_view::{offset_within, range_in};
 use view_model::{Class, Facts};
 use view_tree::{Key, ViewTree};
 
-/// Brings the offset of each scroll view that lies somewhere into the range that it has there.
-pub fn bring_into_range(tree: &mut ViewTree)
-    ensures same { SameTree tree.old tree.new }
-    ensures plain { plain_of tree.new ≡ ranged (geometry_of tree.old) (plain_of tree.old) }
-    ensures geometry { geometry_of tree.new ≡ geometry_of tree.old }
-    ensures consistent { IsConsistent tree.old → IsConsistent tree.new }
-    ensures held { (key : ℕ) → held_of tree.new key ≡ brought_at (count_of_key key tree.old.tree) (range_at tree.old key) (held_of tree.old key) }
-{
-    if let Some(root) = tree.root() {
-        bring(tree, root);
-    }
-}
-
-/// The same of a view and all below it.
-fn bring(tree: &mut ViewTree, view: Key)
-    requires { IsLive tree.old view }
-    ensures same { SameTree tree.old tree.new }
-    ensures held { (key : ℕ) → held_of tree.new key
-        ≡ brought_at (count_of_key key (first_tree (part_from view tree.old.tree))) (range_at tree.old key) (held_of tree.old key) }
-{
-    bring_one(tree, view);
-    let mut next = tree.first(view);
-    while let Some(kid) = next {
-        bring(tree, kid);
-        next = tree.next(kid);
-    }
-}
-
-/// The same of a view alone.
-fn bring_one(tree: &mut ViewTree, view: Key)
+/// Brings the offset of a view, if it is a scroll view that lies somewhere, into the range that it has where it and its
+/// first child lie now. Nothing else changes, and an offset that is in its range stays.
+pub fn bring_one(tree: &mut ViewTree, view: Key)
     requires { IsLive tree.old view }
     ensures same { SameTree tree.old tree.new }
     ensures held { held_of tree.new view ≡ record (held_of tree.old view) { offset = brought (range_at tree.old view) (offset_of tree.old view) } }
     ensures others { KeepsOthers tree.old tree.new view }
+    ensures counts { tree.new.counts ≡ tree.old.counts }
 {
     let Some(range) = range_of(tree, view) else {
         return;

@@ -1,6 +1,8 @@
-//! The offsets of scroll views, once a tree is laid out: each is brought into its range.
+//! The offsets of scroll views: once a view and its children are laid out, its offset is brought into its range.
+//!
+//! `bringing` is that of one view. Nothing takes memory.
 #![tactic(auto)]
 
 mod bringing;
 
-pub use bringing::bring_into_range;
+pub use bringing::bring_one;

@@ -3,13 +3,13 @@ use Rattle.std.specs.Prelude.{◌≡◌, Bool, true, false, List, [], ◌∷◌,
 use Rattle.frame_layout.specs.FramePlan.{StandsFrame}
 use Rattle.scroll_view.specs.declared.plan.ScrollPlan.{ScrollPlan}
 use Rattle.view_model.specs.declared.facts.Facts.{Facts}
-use Rattle.view_model.specs.Facts.{unscrolled_facts}
+use Rattle.view_model.specs.Facts.{layout_facts}
 use Rattle.view_model.specs.Measuring.{Specs, Measured}
 use Rattle.view_model.specs.ScrollView.{scroll_rule}
 
 -- the facts and the specs that a plan has
 abbrev pub own_in : ScrollPlan → Facts
-own_in plan = unscrolled_facts plan.own
+own_in plan = layout_facts plan.own
 
 abbrev pub specs_in : ScrollPlan → Specs
 specs_in plan = record { across = plan.ws; down = plan.hs }

@@ -3,7 +3,7 @@ ghost use Rattle.std.specs.Prelude.{◌≡◌, negsuc, pos, ◌+ℤ◌, ◌-ℤ�
 ghost use Rattle.std.specs.Option.{option_map};
 ghost use Rattle.geom_core.specs.Limits.{IsSide};
 ghost use Rattle.view_model.specs.declared.facts.Facts.{Facts as FactsValue};
-ghost use Rattle.view_model.specs.Facts.{unscrolled_facts};
+ghost use Rattle.view_model.specs.Facts.{layout_facts};
 ghost use Rattle.view_model.specs.Measuring.{Specs, Measured, pair_of, taken_as};
 ghost use Rattle.view_model.specs.ScrollView.{filling_specs, free_specs, is_filled, is_short, scroll_rule, is_unspecified};
 
@@ -30,7 +30,7 @@ impl ScrollPlan {
 
     /// The plan of a group with these facts under these specs, before its first child.
     pub fn start(own: &Facts, ws: Spec, hs: Spec) -> ScrollPlan
-        ensures { StandsScroll result (unscrolled_facts own.now) (record { across = ws; down = hs }) [] [] }
+        ensures { StandsScroll result (layout_facts own.now) (record { across = ws; down = hs }) [] [] }
     {
         ScrollPlan {
             own: *own,
@@ -47,7 +47,7 @@ impl ScrollPlan {
         ensures { (own : FactsValue) (specs : Specs) (past : List (List Measured)) (taken : List Measured)
             → StandsScroll self.now own specs past taken
             → result ≡ option_map pair_of
-            ((scroll_rule own specs).ask past taken (record { facts = unscrolled_facts kid.now; size = size })) }
+            ((scroll_rule own specs).ask past taken (record { facts = layout_facts kid.now; size = size })) }
     {
         if !self.filling {
             return Some(self.free_specs(kid));
@@ -65,7 +65,7 @@ impl ScrollPlan {
         ensures { (own : FactsValue) (specs : Specs) (past : List (List Measured)) (taken : List Measured)
             → StandsScroll self.old own specs past taken
             → StandsScroll self.new own specs past
-            (taken ++ taken_as (scroll_rule own specs) past taken (unscrolled_facts kid.now) size ∷ []) }
+            (taken ++ taken_as (scroll_rule own specs) past taken (layout_facts kid.now) size ∷ []) }
     {
         if !self.filling {
             self.frame.take(kid, size);
@@ -98,7 +98,7 @@ impl ScrollPlan {
 
     /// The spec of a child's width, in both phases.
     fn width_spec(&self, kid: &Facts) -> Spec
-        ensures { result ≡ (free_specs (own_in self.now) (specs_in self.now) (unscrolled_facts kid.now)).across }
+        ensures { result ≡ (free_specs (own_in self.now) (specs_in self.now) (layout_facts kid.now)).across }
     {
         child_spec_within(
             self.ws,
@@ -110,7 +110,7 @@ impl ScrollPlan {
 
     /// The specs of a child's first measuring.
     fn free_specs(&self, kid: &Facts) -> (Spec, Spec)
-        ensures { result ≡ pair_of (free_specs (own_in self.now) (specs_in self.now) (unscrolled_facts kid.now)) }
+        ensures { result ≡ pair_of (free_specs (own_in self.now) (specs_in self.now) (layout_facts kid.now)) }
     {
         let height = Spec {
             mode: Mode::Unspecified,
@@ -121,14 +121,14 @@ impl ScrollPlan {
 
     /// The specs of a child that is to fill a group of this size.
     fn filling_specs(&self, room: Size, kid: &Facts) -> (Spec, Spec)
-        ensures { result ≡ pair_of (filling_specs (own_in self.now) (specs_in self.now) room.h (unscrolled_facts kid.now)) }
+        ensures { result ≡ pair_of (filling_specs (own_in self.now) (specs_in self.now) room.h (layout_facts kid.now)) }
     {
         (self.width_spec(kid), self.full_height(room.h, kid))
     }
 
     /// The spec of the height of a child that is to fill a group of this height.
     fn full_height(&self, height: i32, kid: &Facts) -> Spec
-        ensures { result ≡ (filling_specs (own_in self.now) (specs_in self.now) height (unscrolled_facts kid.now)).down }
+        ensures { result ≡ (filling_specs (own_in self.now) (specs_in self.now) height (layout_facts kid.now)).down }
     {
         Spec {
             mode: Mode::Exactly,
@@ -139,7 +139,7 @@ impl ScrollPlan {
     /// Whether a child of this size leaves a part of the height of a group of the size `room` empty.
     #[tactic(auto, unfolding(view_model::specs::ScrollView::is_short))]
     fn is_short(&self, room: Size, kid: &Facts, size: Size) -> bool
-        ensures { result ≡ is_short (own_in self.now) room.h (record { facts = unscrolled_facts kid.now; size = size }) }
+        ensures { result ≡ is_short (own_in self.now) room.h (record { facts = layout_facts kid.now; size = size }) }
     {
         is_below(size.h, room.h, self.own.padding_down(), kid.margins_down())
     }

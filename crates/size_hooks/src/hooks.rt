@@ -1,5 +1,5 @@
 //! The table of armed hooks.
-ghost use Rattle.std.specs.Prelude.{◌≡◌, ◌==◌, ◌<◌, ◌↔◌, ℕ, if◌then◌else◌, nat_eq, IfSome, [], None, Some, OnOk, OnErr, IsErr, length};
+ghost use Rattle.std.specs.Prelude.{◌≡◌, ◌==◌, true, ◌<◌, ◌↔◌, ℕ, if◌then◌else◌, nat_eq, IfSome, [], None, Some, OnOk, OnErr, IsErr, length};
 ghost use Rattle.std.specs.Option.{option_map};
 ghost use Rattle.size_hooks.specs.Entries.{hook_in};
 ghost use Rattle.size_hooks.specs.Hook.{Hook};
@@ -44,6 +44,14 @@ impl Hooks {
         Hooks {
             entries: ArrayVec::new(),
         }
+    }
+
+    /// Whether no hook is armed.
+    pub fn is_empty(&self) -> bool
+        ensures empty { (result ≡ true) ↔ (self.now ≡ []) }
+        ensures map { IsMap self.now }
+    {
+        self.entries.is_empty()
     }
 
     /// Arms the hook of a view, in the place of one that it has. `reported` is the size in pixels that is no news.

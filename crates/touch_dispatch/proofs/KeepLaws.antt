@@ -20,7 +20,7 @@ use Rattle.view_tree.specs.Rows.{views_of}
 use Rattle.view_tree.specs.Views.{Views}
 
 pub none_scrolls : (views : Views) → OnlyScrolls views views
-none_scrolls views = record { same = record { tree = refl; orders = refl; next = refl }; held = λ key. refl; fits = λ key side. side }
+none_scrolls views = record { same = record { tree = refl; orders = refl; next = refl }; counts = refl; held = λ key. refl; fits = λ key side. side; consistent = λ kept. kept }
 
 -- nothing has happened
 pub kept_still : {views : Views} {kept : Kept} {log : Log} → IsGestureIn views.tree kept → KeepsScene views views kept kept log log

@@ -1,6 +1,7 @@
 mod OnceLaws
 mod OnceTheorem
 mod OnceTries
+mod RangeLaws
 mod RootLaws
 mod ParentLaws
 mod ScrollSteps

@@ -47,8 +47,10 @@ same_child old new slop view s =
 pub only_scrolls_on : (first second third : Views) → OnlyScrolls first second → OnlyScrolls second third → OnlyScrolls first third
 only_scrolls_on first second third a b = record {
   same = record { tree = b.same.tree ∙ a.same.tree; orders = b.same.orders ∙ a.same.orders; next = b.same.next ∙ a.same.next };
+  counts = b.counts ∙ a.counts;
   held = λ key. b.held key ∙ ap (λ (h : Held). record h { offset = (held_of third key).offset }) (a.held key);
   fits = λ key side. b.fits key (a.fits key side);
+  consistent = λ kept. b.consistent (a.consistent kept);
 }
 
 -- what is kept of a view, by its number

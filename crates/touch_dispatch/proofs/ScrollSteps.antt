@@ -6,6 +6,7 @@ use Rattle.std.specs.Prelude.{◌==◌, is_some, not}
 use Rattle.view_model.specs.declared.kinds.Answer.{Answer}
 use Rattle.geom_core.specs.Limits.{IsSide}
 use Rattle.geom_core.specs.declared.geometry.Rect.{Rect}
+use Rattle.kept_views.specs.Kept.{IsConsistent, first_place}
 use Rattle.touch_dispatch.proofs.SceneLaws.{rect_live}
 use Rattle.touch_dispatch.specs.Dispatch.{Scene, event_children, first_rect}
 use Rattle.touch_dispatch.specs.Gestures.{at_number}
@@ -67,6 +68,19 @@ first_rect_is views slop view kid is live part =
     ∙ ap (λ (t : Forest Row). (scene_of views slop).rects (head_view t).number) (sym part) ∙ rect_live views slop kid is live
     )
 
+-- where the first child of a view lies, by its key
+pub first_lies : (views : Views) (view kid : ℕ) → IsLive views kid → part_from kid views.tree ≡ children_of_first (part_from view views.tree)
+    → (state_of views kid).bounds ≡ first_place (held_of views) (children_of_first (part_from view views.tree))
+first_lies views view kid live part =
+    let f = located kid views.tree live in
+    subst (λ (list : Forest Row). (state_of views kid).bounds ≡ first_place (held_of views) list) (sym f.is ∙ part)
+    (ap (λ (key : ℕ). (state_of views key).bounds) (sym f.key_is))
+
+-- a list that has no first view has none that lies anywhere
+pub first_nowhere : (held : ℕ → Held) (list : Forest Row) → None ≡ first_key list → None ≡ first_place held list
+first_nowhere held Nothing none = refl
+first_nowhere held (Branch row kids siblings) none = absurd (cc)
+
 pub no_kids : (scene : Scene) (list : Forest Row) (first : Option ℕ) (b : Bool) → is_some first ≡ not b → first ≡ first_key list → b ≡ is_nil (event_children scene (views_of list))
 no_kids scene Nothing first true some is = refl
 no_kids scene Nothing first false some is = absurd (let some = rw is at some in cc)
@@ -81,10 +95,11 @@ pub receiver_same : (n1 n2 : ℕ) (s1 s2 : Bool) (a1 a2 : Answer) (i1 i2 : ℕ) 
 receiver_same n1 n2 s1 s2 a1 a2 i1 i2 r1 r2 g1 g2 c1 c2 l1 l2 e1 e2 e3 e4 e5 e6 e7 e8 = rw (e1, e2, e3, e4, e5, e6, e7, e8) refl
 
 -- the offset of a view that is set
-pub only_offset : (old new : Views) (key : ℕ) (offset : ℤ) → SameTree old new → held_of new key ≡ record (held_of old key) { offset = offset }
-    → ((other : ℕ) → other ≢ key → held_of new other ≡ held_of old other) → IsSide offset → OnlyScrolls old new
-only_offset old new key offset same own others side = record {
+pub only_offset : (old new : Views) (key : ℕ) (offset : ℤ) → SameTree old new → new.counts ≡ old.counts → held_of new key ≡ record (held_of old key) { offset = offset }
+    → ((other : ℕ) → other ≢ key → held_of new other ≡ held_of old other) → IsSide offset → (IsConsistent old → IsConsistent new) → OnlyScrolls old new
+only_offset old new key offset same counts own others side kept = record {
   same = same;
+  counts = counts;
   held = λ k. elim (cases_eq k key) [
     | inl e ↦
         subst (λ k. held_of new k ≡ record (held_of old k) { offset = (held_of new k).offset }) (sym e)
@@ -95,4 +110,5 @@ only_offset old new key offset same own others side = record {
     | inl e ↦ subst (λ k. IsSide (held_of new k).offset) (sym e) (subst IsSide (sym (ap (λ (h : Held). h.offset) own)) side)
     | inr ne ↦ subst IsSide (sym (ap (λ (h : Held). h.offset) (others k ne))) was
   ];
+  consistent = kept;
 }

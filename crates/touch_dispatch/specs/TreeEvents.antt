@@ -2,7 +2,8 @@
 use Rattle.std.specs.Prelude.{◌∷◌, [], ◌≡◌, ◌<◌, ℕ, ◌==◌, ℤ, Bool, true, false, ◌||◌, List, Option, Some, None}
 use Rattle.std.specs.Vec.{vec_capacity}
 use Rattle.geom_core.specs.Limits.{IsSide}
-use Rattle.touch_dispatch.specs.Dispatch.{EventChild, Scene, event_children, reached_by, receiver}
+use Rattle.kept_views.specs.Kept.{IsConsistent, first_place}
+use Rattle.touch_dispatch.specs.Dispatch.{EventChild, Scene, event_children, range_for, reached_by, receiver}
 use Rattle.touch_dispatch.specs.Gestures.{PlainGesture}
 use Rattle.touch_dispatch.specs.Handling.{Progress, Reached, handled}
 use Rattle.touch_dispatch.specs.Kept.{Kept, gesture_of, is_open}
@@ -12,9 +13,10 @@ use Rattle.touch_event.specs.declared.event.Event.{Event}
 use Rattle.touch_event.specs.declared.event.TheConstants.{MAX_POINTERS}
 use Rattle.touch_targets.specs.Captures.{Target, first_ids, from_child, is_target}
 use Rattle.view_model.specs.Forest.{Forest, Nothing, Branch}
+use Rattle.view_model.specs.Offsets.{scrolls}
 use Rattle.view_model.specs.PlainTree.{PlainView, part_of}
 use Rattle.view_tree.specs.Rows.{Row, ancestors, children_of_first, count_of_key, first_tree, head_view, key_where, part_from, views_of}
-use Rattle.view_tree.specs.Views.{Held, IsLive, IsTree, SameTree, Views, held_of, held_or, number_of}
+use Rattle.view_tree.specs.Views.{Held, IsLive, IsTree, SameTree, Views, held_of, held_or, number_of, state_of}
 
 abbrev pub held_under : Views → Option ℕ → Held
 held_under views None = held_or None
@@ -65,12 +67,21 @@ pub record IsGestureIn (tree : Forest Row) (kept : Kept) : Type 0 where
   pub opened : (key : ℕ) → 0 < count_of_key key tree → is_open kept (head_view (part_from key tree)).number ≡ true
   pub children : AreChildren (views_of tree) (gesture_of kept)
 
+-- the range of the offset of the view of a key, which lies with its first child where they lie
+abbrev pub own_range : Views → ℕ → ℤ
+own_range views key =
+    let own = head_view (part_from key views.tree) in
+    range_for (scrolls own.class) own.facts (state_of views key).bounds (first_place (held_of views) (children_of_first (part_from key views.tree)))
+
 -- nothing but offsets is other
 pub record OnlyScrolls (old new : Views) : Type 0 where
   pub same : SameTree old new
+  pub counts : new.counts ≡ old.counts
   pub held : (key : ℕ) → held_of new key ≡ record (held_of old key) { offset = (held_of new key).offset }
   -- an offset within the limits of sizes stays within them
   pub fits : (key : ℕ) → IsSide (held_of old key).offset → IsSide (held_of new key).offset
+  -- what every tree keeps between lines is kept, since each offset that is set is in its range
+  pub consistent : IsConsistent old → IsConsistent new
 
 -- an event may be handed to the view of a key
 pub record MayReach (views : Views) (kept : Kept) (key : ℕ) (event : Event) : Type 0 where

@@ -1,14 +1,16 @@
 //! How a scroll view moves its child at an event.
 ghost use Rattle.std.specs.Prelude.{◌≡◌, ◌≤◌, ◌≤ℤ◌, ℕ, ℤ, pos, true, IfSome};
 ghost use Rattle.geom_core.specs.Limits.{IsSide};
+ghost use Rattle.kept_views.specs.Kept.{first_place};
 ghost use Rattle.touch_dispatch.specs.Dispatch.{first_rect, range_for, receiver};
 ghost use Rattle.touch_dispatch.specs.Drags.{IsWay};
 ghost use Rattle.touch_dispatch.specs.Gestures.{PlainGesture, at_number};
 ghost use Rattle.touch_dispatch.specs.Handling.{drag_handled, is_same_offset, many, moved_by, offset_after};
 ghost use Rattle.touch_dispatch.specs.Kept.{is_open};
-ghost use Rattle.touch_dispatch.specs.TreeEvents.{OnlyScrolls, kids_of, offsets_in, own_of, progress_by, progress_of, room_of, scene_of};
+ghost use Rattle.touch_dispatch.specs.TreeEvents.{OnlyScrolls, kids_of, offsets_in, own_of, own_range, progress_by, progress_of, room_of, scene_of};
 ghost use Rattle.view_model.specs.ScrollView.{offset_within};
-ghost use Rattle.view_tree.specs.Views.{IsLive, IsTree, facts_of, number_of};
+ghost use Rattle.view_tree.specs.Rows.{children_of_first, part_from};
+ghost use Rattle.view_tree.specs.Views.{IsLive, IsTree, facts_of, held_of, number_of};
 
 use crate::drag::pulled;
 use crate::gesture::Gesture;
@@ -27,6 +29,7 @@ pub fn receiver_at(tree: &ViewTree, limits: &Limits, view: Key) -> Receiver
     requires { IsLive tree.now view }
     ensures value { result ≡ receiver (scene_of tree.now limits.now.slop) (own_of tree.now view) (kids_of tree.now limits.now.slop view) }
     ensures range { IsSide result.range }
+    ensures own { result.range ≡ own_range tree.now view }
     ensures is_tree { IsTree tree.now }
 {
     let facts = tree.facts(view);
@@ -47,7 +50,8 @@ pub fn receiver_at(tree: &ViewTree, limits: &Limits, view: Key) -> Receiver
 /// Where the first child of a view lies.
 fn first_rect(tree: &ViewTree, view: Key) -> Option<Rect>
     requires { IsLive tree.now view }
-    ensures { (slop : ℤ) → result ≡ first_rect (scene_of tree.now slop) (kids_of tree.now slop view) }
+    ensures scene { (slop : ℤ) → result ≡ first_rect (scene_of tree.now slop) (kids_of tree.now slop view) }
+    ensures place { result ≡ first_place (held_of tree.now) (children_of_first (part_from view tree.now.tree)) }
 {
     match tree.first(view) {
         None => None,
@@ -77,6 +81,7 @@ pub fn handle_drag(
 ) -> bool
     requires live { IsLive tree.old view }
     requires number { own.now.number ≡ number_of tree.old view }
+    requires own { own.now.range ≡ own_range tree.old view }
     requires open { is_open gesture.old own.now.number ≡ true }
     requires range { IsSide own.now.range }
     requires fits { many (drag_handled own.now event.now (progress_of tree.old gesture.old log.old)).progress ≤ room_of log.old }
@@ -104,6 +109,7 @@ fn move_child(
 )
     requires live { IsLive tree.old view }
     requires number { own.now.number ≡ number_of tree.old view }
+    requires own { own.now.range ≡ own_range tree.old view }
     requires range { IsSide own.now.range }
     requires way { IfSome by IsWay }
     requires fits { (g : PlainGesture) → many (moved_by by own.now event.now (progress_by (offsets_in tree.old) g log.old.entries.items)) ≤ room_of log.old }
@@ -170,12 +176,13 @@ fn is_same_offset(old: &Facts, new: &Facts) -> bool
     old.offset == new.offset
 }
 
-/// Sets the facts of a view, of which the offset alone is another.
+/// Sets the facts of a view, of which the offset alone is another, and that is within the range of the view.
 fn set_offset(tree: &mut ViewTree, view: Key, facts: Facts)
     requires live { IsLive tree.old view }
     requires tree { IsTree tree.old }
     requires facts { facts ≡ record (facts_of tree.old view) { offset = facts.offset } }
     requires side { IsSide facts.offset }
+    requires within { offset_within (own_range tree.old view) facts.offset ≡ facts.offset }
     ensures scrolls { OnlyScrolls tree.old tree.new }
     ensures offsets { offsets_in tree.new ≡ at_number (number_of tree.old view) facts.offset (offsets_in tree.old) }
 {

@@ -1,44 +1,45 @@
--- How many views the passes of a frame measure.
-use Rattle.std.proofs.Common.{◌≡◌, ℕ, ◌+◌, ◌≤◌, min, true, false, List, refl, sym, ◌∙◌, ap, arith}
+-- How many views the passes of a frame measure, and how many lie elsewhere after them.
+use Rattle.std.proofs.Common.{◌≡◌, ℕ, ◌+◌, ◌≤◌, Bool, true, false, List, refl, sym, ◌∙◌, ap, arith}
+use Rattle.std.specs.Prelude.{if◌then◌else◌}
 use Rattle.geom_core.specs.declared.geometry.Size.{Size}
+use Rattle.kept_views.specs.Laying.{differ, same_bounds}
 use Rattle.size_hooks.specs.Hook.{Hook}
-use Rattle.view_model.specs.Forest.{Forest}
+use Rattle.view_model.specs.Forest.{Forest, Nothing, Branch, count_of}
 use Rattle.view_model.specs.Layout.{root_calls}
 use Rattle.view_model.specs.PlainTree.{PlainView}
+use Rattle.view_tree.specs.Rows.{Row}
+use Rattle.view_tree.specs.Views.{Held}
 use Rattle.traversal.specs.Frames.{Pass, after_pass, frame_calls, second_calls}
-
-no_second : (window : Size) (pass : Pass) → pass.fired ≡ false → second_calls window pass ≡ 0
-no_second window pass quiet = rw quiet refl
 
 one_second : (window : Size) (pass : Pass) → pass.fired ≡ true → second_calls window pass ≡ root_calls pass.tree window
 one_second window pass fired = rw fired refl
 
-both_counted : (old first second top : ℕ) → min (min (old + first) top + second) top ≡ min (old + (first + second)) top
-both_counted old first second top = omega arith
-
-none_more : (old first top : ℕ) → min (old + first) top ≡ min (old + (first + 0)) top
-none_more old first top = omega arith
-
 -- the first pass was the only one
-pub counted_once : (tree : Forest PlainView) (hooks : List Hook) (window : Size) (old new top : ℕ) → (after_pass tree hooks window).fired ≡ false
-    → new ≡ min (old + root_calls tree window) top → new ≡ min (old + frame_calls tree hooks window) top
-counted_once tree hooks window old new top quiet counted =
-    counted ∙ none_more old (root_calls tree window) top
-    ∙ ap (λ (n : ℕ). min (old + (root_calls tree window + n)) top) (sym (no_second window (after_pass tree hooks window) quiet))
+pub measured_once : (tree : Forest PlainView) (hooks : List Hook) (window : Size) (old new : ℕ) → new ≤ old + root_calls tree window → new ≤ old + frame_calls tree hooks window
+measured_once tree hooks window old new first = sums old new (root_calls tree window) (second_calls window (after_pass tree hooks window)) first
+  where
+    sums : (old new a b : ℕ) → new ≤ old + a → new ≤ old + (a + b)
+    sums old new a b first = omega arith
 
 -- a second one followed, over this tree
-pub counted_twice : (tree again : Forest PlainView) (hooks : List Hook) (window : Size) (old mid new top : ℕ) → (after_pass tree hooks window).fired ≡ true
-    → again ≡ (after_pass tree hooks window).tree → mid ≡ min (old + root_calls tree window) top → new ≡ min (mid + root_calls again window) top
-    → new ≡ min (old + frame_calls tree hooks window) top
-counted_twice tree again hooks window old mid new top fired same first second =
-    second
-    ∙ ap (λ (n : ℕ). min (n + root_calls again window) top) first
-    ∙ both_counted old (root_calls tree window) (root_calls again window) top
-    ∙ ap (λ (t : Forest PlainView). min (old + (root_calls tree window + root_calls t window)) top) same
-    ∙ ap (λ (n : ℕ). min (old + (root_calls tree window + n)) top) (sym (one_second window (after_pass tree hooks window) fired))
+pub measured_twice : (tree again : Forest PlainView) (hooks : List Hook) (window : Size) (old mid new : ℕ) → (after_pass tree hooks window).fired ≡ true
+    → again ≡ (after_pass tree hooks window).tree → mid ≤ old + root_calls tree window → new ≤ mid + root_calls again window → new ≤ old + frame_calls tree hooks window
+measured_twice tree again hooks window old mid new fired same first second =
+    sums old mid new (root_calls tree window) (root_calls again window) (second_calls window (after_pass tree hooks window))
+    (ap (λ (t : Forest PlainView). root_calls t window) same ∙ sym (one_second window (after_pass tree hooks window) fired)) first second
+  where
+    sums : (old mid new a b c : ℕ) → b ≡ c → mid ≤ old + a → new ≤ mid + b → new ≤ old + (a + c)
+    sums old mid new a b c e first second = omega arith
 
-pub no_more_counted : (old calls new top : ℕ) → new ≡ min (old + calls) top → new ≤ old + calls
-no_more_counted old calls new top counted = omega arith
-
-pub no_less_counted : (old calls new top : ℕ) → old ≤ top → new ≡ min (old + calls) top → old ≤ new
-no_less_counted old calls new top within counted = omega arith
+-- no more lie elsewhere than there are
+pub differ_few : (old new : ℕ → Held) (list : Forest Row) → differ old new list ≤ count_of list
+differ_few old new Nothing = omega arith
+differ_few old new (Branch row kids siblings) =
+    let own = one (same_bounds (old row.key).state.bounds (new row.key).state.bounds) in
+    let below = differ_few old new kids in
+    let rest = differ_few old new siblings in
+    omega arith
+  where
+    one : (v : Bool) → (if v then 0 else 1) ≤ 1
+    one true = omega arith
+    one false = omega arith

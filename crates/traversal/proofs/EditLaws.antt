@@ -1,5 +1,5 @@
 -- What the edits of a hook make of a tree.
-use Rattle.std.proofs.Common.{◌≡◌, ℕ, ◌+◌, true, false, [], ◌∷◌, drop, Option, None, Some, refl, sym, ◌∙◌, ap, subst, inl, inr, arith}
+use Rattle.std.proofs.Common.{◌≡◌, ℕ, ◌+◌, true, false, [], ◌∷◌, drop, Option, None, Some, refl, sym, ◌∙◌, ap, inl, inr, arith}
 use Rattle.std.proofs.lemmas.Bool.{cases_eq}
 use Rattle.std.proofs.lemmas.List.{drop_all, drop_more}
 use Rattle.std.proofs.lemmas.Option.{get_or_from_slice_get, slice_get_cases, slice_get_within}
@@ -11,14 +11,12 @@ use Rattle.view_model.specs.declared.changes.Change.{Change}
 use Rattle.view_model.specs.declared.changes.Change.TheVariants as change
 use Rattle.view_model.specs.declared.changes.NumEdit.{NumEdit}
 use Rattle.view_model.specs.Facts.{is_shown, unscrolled_facts}
-use Rattle.view_model.specs.Forest.{Forest, map_rows}
+use Rattle.view_model.specs.Forest.{map_rows}
 use Rattle.view_model.specs.PlainTree.{PlainView, with_facts}
-use Rattle.view_tree.specs.Hidden.{HidesGone, IsConsistent}
-use Rattle.view_tree.specs.Rows.{Row, changed_at_key}
+use Rattle.view_tree.specs.Rows.{changed_at_key}
 use Rattle.view_tree.specs.Views.{Held, IsLive, IsTree, KeepsOthers, Views, facts_of, geometry_of, held_of, laid_rows, number_of, plain_of}
 use Rattle.view_tree.proofs.values.ChangeLaws.{same_change}
 use Rattle.view_tree.proofs.values.GeometryLaws.{geometry-put}
-use Rattle.view_tree.proofs.values.HiddenLaws.{gone_nowhere, hides-put, hides_along}
 use Rattle.traversal.specs.Changing.{SameShape, bare}
 use Rattle.traversal.specs.Frames.{edits_of}
 use Rattle.traversal.proofs.ChangeLaws.{bare_put}
@@ -45,9 +43,8 @@ pub record Edited (old : Views) (edit : NumEdit) (new : Views) : Type 0 where
   pub plain : plain_of new ≡ with_facts edit.view (facts_after_change edit.change) (plain_of old)
   pub geometry : geometry_of new ≡ geometry_of old
   pub shape : SameShape old new
-  pub consistent : IsConsistent new
 
-pub edit_made : (old new : Views) (view : ℕ) (edit : NumEdit) (facts : Facts) → IsTree old → IsLive old view → IsConsistent old → number_of old view ≡ edit.view
+pub edit_made : (old new : Views) (view : ℕ) (edit : NumEdit) (facts : Facts) → IsTree old → IsLive old view → number_of old view ≡ edit.view
     → facts ≡ facts_after_change edit.change (facts_of old view)
     → new.tree ≡ changed_at_key view (λ (v : PlainView). record v { facts = unscrolled_facts facts }) old.tree
     → plain_of new ≡ with_facts (number_of old view) (λ _. facts) (plain_of old)
@@ -56,7 +53,7 @@ pub edit_made : (old new : Views) (view : ℕ) (edit : NumEdit) (facts : Facts) 
     → held_of new view ≡ record (held_of old view) { offset = facts.offset }
     → KeepsOthers old new view
     → Edited old edit new
-edit_made old new view edit facts is live kept number made tree plain orders next own others =
+edit_made old new view edit facts is live number made tree plain orders next own others =
     let change : PlainView → PlainView = λ v. record v { facts = unscrolled_facts facts } in
     let leaves = change_leaves edit.change (facts_of old view) in
     let bounds : (key : ℕ) → (held_of new key).state.bounds ≡ (held_of old key).state.bounds =
@@ -64,18 +61,10 @@ edit_made old new view edit facts is live kept number made tree plain orders nex
       | inl e ↦ rw e (ap (λ (h : Held). h.state.bounds) own)
       | inr ne ↦ ap (λ (h : Held). h.state.bounds) (others key ne)
     ] in
-    let along = hides_along (held_of old) (held_of new) old.tree (λ key _ none. bounds key ∙ none) kept.hidden in
-    let shown : is_shown facts ≡ is_shown (facts_of old view) = ap is_shown made ∙ leaves.shown in
     record {
       plain = plain ∙ same_change old view (λ _. facts) (facts_after_change edit.change) is live made ∙ ap (λ n. with_facts n (facts_after_change edit.change) (plain_of old)) number;
       geometry = ap (laid_rows (held_of new)) tree ∙ geometry-put (held_of old) (held_of new) view change old.tree (λ _. refl) bounds;
       shape = record { rows = ap (map_rows bare) tree ∙ bare_put view change old.tree (λ _. refl) (λ _. refl) (λ _. refl); orders = orders; next = next };
-      consistent = record {
-        hidden =
-            subst (λ (t : Forest Row). HidesGone (held_of new) t) (sym tree)
-            (hides-put (held_of new) view change old.tree (is.keys view) along
-            (λ gone. gone_nowhere (held_of new) view old.tree live along (sym shown ∙ gone)));
-      };
     }
 
 pub shape_then : {old mid new : Views} → SameShape old mid → SameShape mid new → SameShape old new

@@ -38,7 +38,8 @@ at number left right = record { number = number; rect = record { left = pos left
 window : Size
 window = record { w = pos 100; h = pos 20 }
 
--- the third view is laid out and has no size reported; the second pass lays out what its hook has made of the second view
+-- the third view is laid out and has no size reported; the second pass lays out what its hook has made of the second
+-- view
 a_hook_fires_once :
     after_frame (tree 10 20) (hook 3 0 0 2 40 ∷ []) window
     ≡ record { tree = tree 40 20; hooks = []; settled = true; fired = 1; geometry = at 1 0 100 ∷ at 2 0 40 ∷ at 3 40 60 ∷ [] }

@@ -1,5 +1,5 @@
 -- Which hook fires, from what fires in the parts of a tree.
-use Rattle.std.proofs.Common.{◌≡◌, ℕ, ◌<◌, List, ◌++◌, Option, Some, None, sym, ◌∙◌, ap}
+use Rattle.std.proofs.Common.{◌≡◌, ℕ, ◌<◌, List, [], ◌∷◌, ◌++◌, Option, Some, None, refl, sym, ◌∙◌, ap}
 use Rattle.std.proofs.lemmas.List.Folds.{find-append}
 use Rattle.std.specs.Prelude.{find}
 use Rattle.std.specs.Option.{option_map, option_or}
@@ -31,3 +31,8 @@ or_first second is = ap (λ o. option_or o second) (sym is)
 
 pub or_second : {first : Option ℕ} (second : Option ℕ) → first ≡ None → option_or first second ≡ second
 or_second second is = ap (λ o. option_or o second) is
+
+-- none fires where none is armed
+pub fired_none : (geometry : List Laid) → fired_in [] geometry ≡ None
+fired_none [] = refl
+fired_none (laid ∷ geometry) = fired_none geometry

@@ -14,7 +14,7 @@ use Rattle.view_model.specs.Course.{Child, Requested}
 use Rattle.view_model.specs.Facts.{is_shown}
 use Rattle.view_model.specs.Forest.{Forest, Nothing, Branch}
 use Rattle.view_model.specs.Geometry.{Laid, rect_at, size_of_rect}
-use Rattle.view_model.specs.Layout.{Final, Spot, children_of, course_by, final_by, final_size, full_layout, laid_by, manner_of, measured_size, place_by, place_in, root_specs, total_by, unscrolled}
+use Rattle.view_model.specs.Layout.{Final, Spot, children_of, course_by, final_by, final_size, full_layout, laid_by, manner_of, measured_size, place_by, place_in, root_specs, total_by, for_layout}
 use Rattle.view_model.specs.LinearLayout.{rect_by}
 use Rattle.view_model.specs.Measuring.{Measured, Specs}
 use Rattle.view_model.specs.PlainTree.{PlainView}
@@ -22,7 +22,7 @@ use Rattle.view_model.proofs.CourseLaws.{children_in, course_children}
 use Rattle.traversal.specs.Changing.{FitAll}
 use Rattle.traversal.specs.Narrow.{AreSidesNarrow, IsNarrow, IsStretch}
 use Rattle.traversal.specs.Reporting.{near, near_size, told_each, told_in}
-use Rattle.traversal.proofs.LaidKids.{finals_in, laid_from}
+use Rattle.kept_views.proofs.PlacedKids.{finals_in, laid_from}
 use Rattle.traversal.proofs.LaidWhole.{at_narrow}
 use Rattle.traversal.proofs.NarrowSides.{AllNarrow, finals_narrow, sides_in}
 
@@ -101,7 +101,7 @@ view_fits view below tidy specs rect narrow =
 tidy_children : (tree : Forest PlainView) → TidyAll (children_of tree)
 tidy_children Nothing = tt
 tidy_children (Branch view below after) = (
-  record { size = measured_sides (unscrolled view) (children_of below); lays = view_fits (unscrolled view) below (tidy_children below) },
+  record { size = measured_sides (for_layout view) (children_of below); lays = view_fits (for_layout view) below (tidy_children below) },
   tidy_children after,
 )
 
@@ -110,8 +110,8 @@ layout_fits Nothing window = tt
 layout_fits (Branch view below after) window =
     let specs = root_specs window view.facts in
     let size = measured_size view below specs in
-    let sides = measured_sides (unscrolled view) (children_of below) specs in
-    view_fits (unscrolled view) below (tidy_children below) specs (rect_at (pos 0) (pos 0) size) (at_narrow (pos 0) (pos 0) size sides.0 sides.1)
+    let sides = measured_sides (for_layout view) (children_of below) specs in
+    view_fits (for_layout view) below (tidy_children below) specs (rect_at (pos 0) (pos 0) size) (at_narrow (pos 0) (pos 0) size sides.0 sides.1)
 
 min_is : (n : ℕ) → n ≤ 2147483647 → min n 2147483647 ≡ n
 min_is n few = omega arith

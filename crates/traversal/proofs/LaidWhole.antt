@@ -5,21 +5,25 @@ use Rattle.std.proofs.lemmas.Bool.{eq-eqb}
 use Rattle.geom_core.specs.Limits.{IsSide}
 use Rattle.geom_core.specs.declared.geometry.Rect.{Rect}
 use Rattle.geom_core.specs.declared.geometry.Size.{Size}
-use Rattle.measure_pass.specs.Measured.{Sized, calls_under, size_under}
+use Rattle.kept_views.specs.Kept.{Kept, Reached, Ready, debt, firm, loose, owed}
+use Rattle.kept_views.specs.Laying.{layout_of}
+use Rattle.kept_views.proofs.LaidCalm.{false_unless, gone_nowhere, not_both, shown_in}
+use Rattle.kept_views.proofs.LaidFrames.{Reached-loose}
+use Rattle.kept_views.proofs.PlacedKids.{laid_gone}
+use Rattle.measure_pass.specs.Measured.{calls_under, size_under}
 use Rattle.view_model.specs.Facts.{is_shown}
 use Rattle.view_model.specs.Forest.{Forest, Nothing, Branch}
 use Rattle.view_model.specs.Geometry.{rect_at}
-use Rattle.view_model.specs.Layout.{full_layout, laid_views, root_calls, root_specs}
+use Rattle.view_model.specs.Layout.{full_layout, laid_views, measured_size, root_calls, root_specs}
 use Rattle.view_model.specs.Measuring.{Specs}
-use Rattle.view_tree.specs.Hidden.{HidesGone}
 use Rattle.view_tree.specs.Rows.{Row, later_siblings, first_tree, first_key, part_from, head_view, views_of}
-use Rattle.view_tree.specs.Views.{Held, laid_rows, plain_rows}
-use Rattle.view_tree.proofs.values.GeometryLaws.{laid_nowhere}
-use Rattle.view_tree.proofs.values.HiddenLaws.{hides_along}
+use Rattle.view_tree.specs.Views.{Held, laid_rows, plain_rows, specs_of}
 use Rattle.view_tree.proofs.values.LayoutLaws.{full_layout_scrolled, root_calls_scrolled}
-use Rattle.traversal.specs.Laying.{CanBeLaid, IsLaid, layout_of}
 use Rattle.traversal.specs.Narrow.{IsNarrow}
-use Rattle.traversal.proofs.LaidKids.{laid_gone}
+use Rattle.view_tree.proofs.forest.KeyLaws.{times_self}
+use Rattle.std.proofs.Common.{Bool, ◌+◌, ◌<◌, [], subst}
+use Rattle.std.specs.Prelude.{if◌then◌else◌}
+use Rattle.view_tree.specs.Rows.{count_of_key}
 
 -- a tree of one root
 record Rooted (tree : Forest Row) (root : ℕ) : Type 0 where
@@ -38,17 +42,41 @@ rooted (Branch row kids siblings) root first none =
 pub root_alone : (tree : Forest Row) (root : ℕ) → first_key tree ≡ Some root → later_siblings tree ≡ Nothing → first_tree (part_from root tree) ≡ tree
 root_alone tree root first none = let r = rooted tree root first none in rw (r.is, r.from_is) refl
 
--- the layout of a tree whose root is gone
-pub gone_whole : (tree : Forest Row) (root : ℕ) (held : ℕ → Held) (window : Size) → first_key tree ≡ Some root → later_siblings tree ≡ Nothing
-    → is_shown (head_view (part_from root tree)).facts ≡ false → HidesGone held tree → laid_rows held tree ≡ full_layout (plain_rows held tree) window
-gone_whole tree root held window first none gone hidden =
-    let r = rooted tree root first none in
-    let hidden : HidesGone held (Branch r.row r.kids Nothing) = rw r.is at hidden in
-    let gone : is_shown r.row.view.facts ≡ false = rw r.from_is at (rw r.is at gone) in
-    rw r.is
-    (laid_nowhere held (Branch r.row r.kids Nothing) (hidden.0 gone)
-    ∙ sym (laid_gone r.row r.kids _ _ gone)
-    ∙ sym (full_layout_scrolled held (Branch r.row r.kids Nothing) window))
+pub root_from : (tree : Forest Row) (root : ℕ) → first_key tree ≡ Some root → later_siblings tree ≡ Nothing → part_from root tree ≡ tree
+root_from tree root first none = let r = rooted tree root first none in rw (r.is, r.from_is) refl
+
+pub root_live : (tree : Forest Row) (root : ℕ) → first_key tree ≡ Some root → 0 < count_of_key root tree
+root_live Nothing root first = absurd (cc)
+root_live (Branch row kids siblings) root first = let key : row.key ≡ root = cc in subst (λ k. 0 < count_of_key k (Branch row kids siblings)) key (times_self row kids siblings)
+
+-- a root that takes part in layout has its size
+pub root_sized : (tree : Forest Row) (root : ℕ) (held : ℕ → Held) → first_key tree ≡ Some root → is_shown (head_view tree).facts ≡ true → Kept [] held firm tree
+    → (held root).state.measured ≡ size_under tree (specs_of (held root).state)
+root_sized Nothing root held first shown k = absurd (cc)
+root_sized (Branch row kids siblings) root held first shown k =
+    let key : row.key ≡ root = cc in
+    let v = k.1 (shown_in row shown) in
+    let unforced = false_unless (held row.key).state.forced (λ f. let no : false ≡ true = v.flags refl f in absurd (cc)) in
+    subst (λ key. (held key).state.measured ≡ measured_size row.view (views_of kids) (specs_of (held key).state)) key (v.sized refl unforced).size
+
+-- and where no view needs layout, it is not marked
+pub root_unmarked : (tree : Forest Row) (root : ℕ) (held : ℕ → Held) → first_key tree ≡ Some root → Reached held false tree → (held root).state.measure_first ≡ false
+root_unmarked Nothing root held first r = absurd (cc)
+root_unmarked (Branch row kids siblings) root held first r =
+    let key : row.key ≡ root = cc in
+    let needed = false_unless (held row.key).state.layout_needed (λ e. let no : false ≡ true = (r.0 e).1 in absurd (cc)) in
+    subst (λ key. (held key).state.measure_first ≡ false) key (false_unless (held row.key).state.measure_first (λ e. not_both (held row.key).state.layout_needed (r.1 e) needed))
+
+-- the layout of a tree whose root is gone, or that has none
+pub gone_whole : (tree : Forest Row) (held : ℕ → Held) (window : Size) → later_siblings tree ≡ Nothing → (is_shown (head_view tree).facts ≡ true → tree ≡ Nothing) → Kept [] held loose tree
+    → (laid_rows held tree ≡ []) × (full_layout (plain_rows held tree) window ≡ [])
+gone_whole Nothing held window none gone k = (refl, refl)
+gone_whole (Branch row kids siblings) held window none gone k =
+    let hidden : is_shown row.view.facts ≡ false = false_unless _ (λ here. let no : Branch row kids siblings ≡ Nothing = gone here in absurd (cc)) in
+    rw none (
+      gone_nowhere [] held loose row kids hidden k.0 k.2,
+      full_layout_scrolled held (Branch row kids Nothing) window ∙ laid_gone row kids _ _ hidden,
+    )
 
 -- a rectangle of a measured size
 pub at_narrow : (left top : ℤ) (size : Size) → IsSide size.w → IsSide size.h → IsNarrow (rect_at left top size)
@@ -62,20 +90,33 @@ at_narrow left top size width height =
       height = record { low = grind (arith, ints); high = grind (arith, ints) };
     }
 
--- a tree that was measured can be laid
-pub whole_ready : (tree : Forest Row) (root : ℕ) (old mid : ℕ → Held) → first_key tree ≡ Some root → later_siblings tree ≡ Nothing
-    → HidesGone old tree → ((key : ℕ) → (mid key).state.bounds ≡ (old key).state.bounds) → Sized mid (first_tree (part_from root tree)) → CanBeLaid mid (first_tree (part_from root tree))
-whole_ready tree root old mid first none hidden same sized =
-    record { sized = sized; hidden = rw (root_alone tree root first none) (hides_along old mid tree (λ key live none. same key ∙ none) hidden) }
+-- between lines nothing is owed
+pub owed_none : (held : ℕ → Held) (list : Forest Row) → Reached held false list → owed held list ≡ 0
+owed_none held Nothing r = refl
+owed_none held (Branch row kids siblings) r =
+    let own = held row.key in
+    let d : own.state.layout_needed ≡ false = false_unless own.state.layout_needed (λ e. let no : false ≡ true = (r.0 e).1 in absurd (cc)) in
+    let m : own.state.measure_first ≡ false = false_unless own.state.measure_first (λ e. not_both own.state.layout_needed (r.1 e) d) in
+    let below = owed_none held kids (subst (λ b. Reached held b kids) d r.2) in
+    let rest = owed_none held siblings r.3 in
+    let free : debt row kids own ≡ 0 = rw m refl in
+    owes (is_shown row.view.facts) (debt row kids own) (owed held kids) (owed held siblings) free below rest
+  where
+    owes : (v : Bool) (a b c : ℕ) → a ≡ 0 → b ≡ 0 → c ≡ 0 → ◌≡◌ {A = ℕ} ((if v then a + b else 0) + c) 0
+    owes true a b c x y z = omega arith
+    owes false a b c x y z = omega arith
+
+pub ready_whole : (held : ℕ → Held) (list : Forest Row) → Kept [] held loose list → Reached held false list → Ready held list
+ready_whole held list k r = record { kept = k; reached = Reached-loose held false list r }
 
 -- the layout of a tree whose root was laid at the origin under the specs of the root
 pub laid_whole : (tree : Forest Row) (root : ℕ) (old new : ℕ → Held) (window : Size) (specs : Specs) (rect : Rect) (size : Size) → first_key tree ≡ Some root → later_siblings tree ≡ Nothing
-    → IsLaid new (first_tree (part_from root tree)) (layout_of (part_from root tree) specs rect) → specs ≡ root_specs window (head_view (part_from root tree)).facts
+    → laid_rows new (first_tree (part_from root tree)) ≡ layout_of (part_from root tree) specs rect → specs ≡ root_specs window (head_view (part_from root tree)).facts
     → rect ≡ rect_at (pos 0) (pos 0) size → size ≡ size_under (part_from root tree) specs
     → laid_rows new tree ≡ full_layout (plain_rows old tree) window
 laid_whole tree root old new window specs rect size first none laid under place measured =
     let r = rooted tree root first none in
-    let lies : laid_rows new (Branch r.row r.kids Nothing) ≡ laid_views r.row.view (views_of r.kids) specs rect = rw r.from_is at (rw r.is at laid.lies) in
+    let lies : laid_rows new (Branch r.row r.kids Nothing) ≡ laid_views r.row.view (views_of r.kids) specs rect = rw r.from_is at (rw r.is at laid) in
     let under : specs ≡ root_specs window r.row.view.facts = rw r.from_is at (rw r.is at under) in
     let measured : size ≡ size_under (Branch r.row r.kids Nothing) specs = rw r.from_is at (rw r.is at measured) in
     rw r.is
@@ -95,10 +136,3 @@ calls_whole tree root held window specs first none shown under =
     let under : specs ≡ root_specs window r.row.view.facts = rw r.from_is at (rw r.is at under) in
     let all : root_calls (views_of (Branch r.row r.kids Nothing)) window ≡ calls_under (Branch r.row r.kids Nothing) specs = rw (shown, under) refl in
     rw (r.is, r.from_is) (sym all ∙ sym (root_calls_scrolled held (Branch r.row r.kids Nothing) window))
-
-pub no_calls : (tree : Forest Row) (root : ℕ) (held : ℕ → Held) (window : Size) → first_key tree ≡ Some root → later_siblings tree ≡ Nothing
-    → is_shown (head_view (part_from root tree)).facts ≡ false → root_calls (plain_rows held tree) window ≡ 0
-no_calls tree root held window first none gone =
-    let r = rooted tree root first none in
-    let gone : is_shown r.row.view.facts ≡ false = rw r.from_is at (rw r.is at gone) in
-    rw (r.is, gone) refl

@@ -1,17 +1,24 @@
 mod ChangeLaws
 mod CountLaws
+mod CountedLaws
 mod EditLaws
 mod Examples
 mod FiringLaws
 pub mod FitLaws
 pub mod FrameLaws
-mod LaidKids
-mod LaidOwn
-mod LaidParts
+mod GrownKeys
+mod GrownLaid
+mod LaidAt
 mod LaidWalk
 mod LaidWhole
+mod LastAsked
 mod NarrowSides
 mod PartLaws
+mod PassEdits
+mod QuietHooks
+mod Ranging
 mod ReportLaws
-mod ReportedLaws
+pub mod ReportedLaws
+mod RestLaws
 pub mod ShapeLaws
+mod Unedited

@@ -7,7 +7,7 @@ use Rattle.std.specs.Prelude.{◌⊎◌, pos, negsuc, ◌≤ℤ◌, ◌+ℤ◌, 
 use Rattle.std.specs.Option.{option_map}
 use Rattle.geom_core.specs.Limits.{IsCoordinate, IsSide, clamp_coordinate}
 use Rattle.geom_core.specs.declared.geometry.Rect.{Rect}
-use Rattle.measure_pass.specs.Measured.{IsSized, last_edges}
+use Rattle.kept_views.specs.Kept.{IsSized, last_edges}
 use Rattle.measure_pass.proofs.Laws.{measured_sides}
 use Rattle.view_model.specs.declared.facts.Facts.{Facts}
 use Rattle.view_model.specs.declared.kinds.Class.{Class}
@@ -19,7 +19,7 @@ use Rattle.view_model.specs.declared.relative.Tied.{Tied}
 use Rattle.view_model.specs.Course.{Child, Requested, last_of}
 use Rattle.view_model.specs.Facts.{is_shown}
 use Rattle.view_model.specs.Forest.{Forest, Nothing, Branch}
-use Rattle.view_model.specs.Layout.{Final, children_of, course_in, manner_by, unscrolled}
+use Rattle.view_model.specs.Layout.{Final, children_of, course_in, manner_by, for_layout}
 use Rattle.view_model.specs.Measuring.{Specs}
 use Rattle.view_model.specs.PlainTree.{PlainView}
 use Rattle.view_model.specs.RelativeCourse.{arranged, child_at, each_from, edges_at, following, requested_at, span_across, span_down, spans_across, unknown}
@@ -161,7 +161,7 @@ nothing_sided = record { low = grind (arith, ints); high = grind (arith, ints) }
 kids_sided : (list : Forest PlainView) → AreSided (children_of list)
 kids_sided Nothing zero specs = (nothing_sided, nothing_sided)
 kids_sided Nothing (suc place) specs = (nothing_sided, nothing_sided)
-kids_sided (Branch view below after) zero specs = measured_sides (unscrolled view) (children_of below) specs
+kids_sided (Branch view below after) zero specs = measured_sides (for_layout view) (children_of below) specs
 kids_sided (Branch view below after) (suc place) specs = kids_sided after place specs
 
 unknown_near : AreNear (pos 0, pos 0)
@@ -227,7 +227,7 @@ kept_narrow held (Branch row kids siblings) all = elim (cases_Bool (is_shown row
 ]
 
 -- the children of a relative layout that was measured
-pub group_narrow : (held : ℕ → Held) (own : Held) (row : Row) (kids : Forest Row) → IsSized held own row kids → row.view.class ≡ RelativeLayout → AreNarrow held kids
-group_narrow held own row kids sized is =
+pub group_narrow : (held : ℕ → Held) (own : Held) (row : Row) (kids : Forest Row) → IsSized held own row kids → own.state.measure_first ≡ false → row.view.class ≡ RelativeLayout → AreNarrow held kids
+group_narrow held own row kids sized whole is =
     kept_narrow held kids
-    (subst AllNarrow (sym (sized.edges is)) (finals_narrow row.view.class (unscrolled row.view) (views_of kids) (specs_of own.state) is))
+    (subst AllNarrow (sym (sized.edges whole is)) (finals_narrow row.view.class (for_layout row.view) (views_of kids) (specs_of own.state) is))

@@ -1,11 +1,12 @@
 -- What trees of the same shape have in common.
-use Rattle.std.proofs.Common.{◌≡◌, ℕ, refl, sym, ◌∙◌, ap, inl, inr}
+use Rattle.std.proofs.Common.{◌≡◌, ℕ, List, [], ◌∷◌, refl, sym, ◌∙◌, ap, inl, inr}
 use Rattle.std.proofs.lemmas.Bool.{cases_Bool}
-use Rattle.std.specs.Prelude.{◌==◌, pos}
+use Rattle.std.specs.Prelude.{◌==◌, if◌then◌else◌, pos}
+use Rattle.kept_views.specs.Pressing.{path_of}
 use Rattle.view_model.specs.Facts.{new_facts}
 use Rattle.view_model.specs.Forest.{Forest, Nothing, Branch, count_of, map_rows, or_else, sum_of}
 use Rattle.view_model.specs.PlainTree.{PlainView}
-use Rattle.view_tree.specs.Rows.{Row, count_of_key, head_view, part_from, views_of}
+use Rattle.view_tree.specs.Rows.{Row, ancestors, around, count_of_key, head_view, part_from, views_of}
 use Rattle.view_tree.specs.Views.{Views, number_of}
 use Rattle.traversal.specs.Changing.{SameShape, bare}
 
@@ -22,6 +23,18 @@ count_of-same shape = sum-same (λ row. 1) (λ row. refl) shape
 
 pub count_of_key-same : {old new : Views} (key : ℕ) → SameShape old new → count_of_key key new.tree ≡ count_of_key key old.tree
 count_of_key-same key shape = sum-same _ (λ row. refl) shape
+
+-- the views around one, whose keys facts have no part in
+around-bare : (outer : List ℕ) (view : ℕ) (tree : Forest Row) → around outer view (map_rows bare tree) ≡ around outer view tree
+around-bare outer view Nothing = refl
+around-bare outer view (Branch row kids siblings) = elim (cases_Bool (row.key == view)) [
+  | inl e ↦ rw e refl
+  | inr e ↦ rw (e, sum-bare (λ (row : Row). if row.key == view then 1 else 0) (λ row. refl) kids, around-bare (row.key ∷ outer) view kids, around-bare outer view siblings) refl
+]
+
+pub path_of-same : {old new : Views} (view : ℕ) → SameShape old new → path_of view new.tree ≡ path_of view old.tree
+path_of-same {old = old} {new = new} view shape =
+    ap (λ list. view ∷ list) (sym (around-bare [] view new.tree) ∙ ap (ancestors view) shape.rows ∙ around-bare [] view old.tree)
 
 or_else-bare : (first second : Forest Row) → or_else (map_rows bare first) (map_rows bare second) ≡ map_rows bare (or_else first second)
 or_else-bare Nothing second = refl

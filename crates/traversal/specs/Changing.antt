@@ -40,6 +40,6 @@ pub record IsFramed (after : Framed) (views : Views) (hooks : List Hook) (frame 
   pub fired : frame.fired ≡ after.fired
   pub geometry : after.settled ≡ true → geometry_of views ≡ after.geometry
 
--- what has to be painted anew: all of the window
+-- what has to be painted: all of the window
 pub record IsDamage (old new : Views) (window : Size) (frame : Frame) : Type 0 where
   pub whole : frame.damage ≡ rect_at (pos 0) (pos 0) window

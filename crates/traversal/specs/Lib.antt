@@ -1,6 +1,9 @@
 pub mod Changing
 pub mod Frames
-pub mod Laying
+pub mod Growing
+pub mod Counting
 pub mod Narrow
 pub mod Placing
 pub mod Reporting
+pub mod Requesters
+pub mod Resting

@@ -1,11 +1,22 @@
 //! A frame: one pass, or two.
-ghost use Rattle.std.specs.Prelude.{◌≡◌, ◌≤◌, ◌+◌, ◌-◌, ◌^◌, min, true, pos};
+ghost use Rattle.std.specs.Prelude.{◌≡◌, ◌≤◌, ◌+◌, ◌*◌, ℕ, None, Some, true, pos};
+ghost use Rattle.measure_pass.specs.Caches.{Grew};
+ghost use Rattle.measure_pass.specs.Measured.{current};
+ghost use Rattle.view_model.specs.Facts.{is_shown};
+ghost use Rattle.view_model.specs.Layout.{root_specs};
+ghost use Rattle.view_tree.specs.Rows.{first_key, head_view};
+ghost use Rattle.kept_views.specs.Kept.{IsConsistent};
+ghost use Rattle.kept_views.specs.Laying.{differ};
+ghost use Rattle.view_model.specs.Forest.{count_of};
+ghost use Rattle.traversal.specs.Counting.{IsCounted};
 ghost use Rattle.traversal.specs.Changing.{FitAll, IsDamage, IsFramed, SameShape};
-ghost use Rattle.traversal.specs.Frames.{after_frame, frame_calls};
+ghost use Rattle.traversal.specs.Frames.{after_frame, fired_in, frame_calls};
+ghost use Rattle.traversal.specs.Growing.{IsMeasuredByFrame, IsUnedited, frame_edits};
 ghost use Rattle.traversal.specs.Reporting.{told_in};
+ghost use Rattle.traversal.specs.Resting.{IsAtRest};
+ghost use Rattle.size_hooks.specs.Hooks.{IsMap};
 ghost use Rattle.view_model.specs.Geometry.{rect_at};
-ghost use Rattle.view_tree.specs.Hidden.{IsConsistent};
-ghost use Rattle.view_tree.specs.Views.{IsTree, geometry_of, plain_of};
+ghost use Rattle.view_tree.specs.Views.{IsLive, IsTree, cache_of, geometry_of, held_of, number_of, plain_of, state_of};
 
 use crate::outcome::Frame;
 use crate::pass::pass;
@@ -15,20 +26,28 @@ use size_hooks::Hooks;
 use view_model::Work;
 use view_tree::ViewTree;
 
-/// Lays the whole tree out in a window of this size: one pass, and a second one where that fired a hook. Where the last
-/// pass fired none, the frame has settled: the views lie where it laid them, and each armed hook has the present size of
-/// its view reported.
+/// Lays the whole tree out in a window of this size, as far as it needs that: one pass, and a second one where that
+/// fired a hook. Where the last pass fired none, the frame has settled: the views lie where it laid them, and each
+/// armed hook has the present size of its view reported. Then nothing is left to do, and another frame changes nothing
+/// until something is asked of a view, a hook is armed or the window changes.
 pub fn frame(tree: &mut ViewTree, hooks: &mut Hooks, window: Size, work: &mut Work) -> Frame
-    requires { IsConsistent tree.old }
+    requires consistent { IsConsistent tree.old }
     ensures framed { IsFramed (after_frame (plain_of tree.old) hooks.old window) tree.new hooks.new result }
     ensures fits { FitAll (geometry_of tree.new) }
     ensures shape { SameShape tree.old tree.new }
     ensures consistent { IsConsistent tree.new }
     ensures damage { IsDamage tree.old tree.new window result }
-    ensures painted { work.new.painted ≡ work.old.painted }
     ensures measured { work.new.measured ≤ work.old.measured + frame_calls (plain_of tree.old) hooks.old window }
-    ensures grew { work.old.measured ≤ work.new.measured }
-    ensures counted { work.new.measured ≡ min (work.old.measured + frame_calls (plain_of tree.old) hooks.old window) (2 ^ 64 - 1) }
+    ensures laid { result.fired ≡ 0 → tree.new.counts.laid ≤ tree.old.counts.laid + differ (held_of tree.old) (held_of tree.new) tree.old.tree }
+    ensures laid_twice { tree.new.counts.laid ≤ tree.old.counts.laid + 2 * count_of tree.old.tree }
+    ensures counted { IsCounted tree.old tree.new work.old work.new }
+    ensures idle { result.fired ≡ 0 → (root : ℕ) → first_key tree.old.tree ≡ Some root → current (state_of tree.old root) (root_specs window (head_view tree.old.tree).facts) ≡ true → work.new.measured ≤ work.old.measured }
+    ensures calm { IsAtRest tree.old window → fired_in hooks.old (geometry_of tree.old) ≡ None → (tree.new ≡ tree.old) × (result.fired ≡ 0) × (result.settled ≡ true) × (work.new ≡ work.old) × (hooks.new ≡ hooks.old) }
+    ensures rest { result.settled ≡ true → IsAtRest tree.new window × (fired_in hooks.new (geometry_of tree.new) ≡ None) }
+    ensures caches { (key : ℕ) → IsLive tree.old key → IsUnedited tree.old.tree (frame_edits (plain_of tree.old) hooks.old window) key
+        → Grew (IsMeasuredByFrame (plain_of tree.old) hooks.old window (number_of tree.old key)) (cache_of tree.old key) (cache_of tree.new key) }
+    ensures last { result.settled ≡ true → (root : ℕ) → first_key tree.new.tree ≡ Some root → is_shown (head_view tree.new.tree).facts ≡ true
+        → current (state_of tree.new root) (root_specs window (head_view tree.new.tree).facts) ≡ true }
 {
     let _in_range = work.measured;
     if !pass(tree, hooks, window, work) {
@@ -48,6 +67,7 @@ pub fn frame(tree: &mut ViewTree, hooks: &mut Hooks, window: Size, work: &mut Wo
 fn settle(tree: &ViewTree, hooks: &mut Hooks, window: Size, fired: u8) -> Frame
     ensures hooks { hooks.new ≡ told_in (geometry_of tree.now) hooks.old }
     ensures is_tree { IsTree tree.now }
+    ensures map { IsMap hooks.old }
     ensures settled { result.settled ≡ true }
     ensures fired { result.fired ≡ fired }
     ensures damage { result.damage ≡ rect_at (pos 0) (pos 0) window }

@@ -3,4 +3,5 @@ mod lay;
 mod placer;
 mod whole;
 
-pub use whole::lay_out;
+pub use lay::settle;
+pub use whole::lay_root;

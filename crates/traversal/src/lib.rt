@@ -1,10 +1,12 @@
-//! A frame: a pass over the whole tree, and a second one where a hook fired in the first.
+//! A frame: a pass over the tree, as far as it needs that, and a second one where a hook fired in the first.
 //!
-//! `framing` is the frame, `outcome` how it has ended, `pass` one pass, `laying` the layout of a tree, `firing` which hook
-//! fires and what it changes, `reporting` the sizes that hooks are told. Nothing takes memory.
+//! `framing` is the frame, `outcome` how it has ended, `pass` one pass, `laying` the layout of a tree, `firing` which
+//! hook fires and what it changes, `forcing` the views whose layout its edits request, `reporting` the sizes that are
+//! reported to hooks. Nothing takes memory.
 #![tactic(auto)]
 
 mod firing;
+mod forcing;
 mod framing;
 mod laying;
 mod outcome;
@@ -12,6 +14,5 @@ mod pass;
 mod reporting;
 
 pub use framing::frame;
-pub use laying::lay_out;
 pub use outcome::Frame;
 pub use reporting::near_size;

@@ -8,6 +8,6 @@ pub struct Frame {
     pub settled: bool,
     /// How many hooks fired: at most one a pass.
     pub fired: u8,
-    /// What has to be painted anew, in the window's coordinates.
+    /// What has to be painted, in the window's coordinates.
     pub damage: Rect,
 }

@@ -1,5 +1,6 @@
-//! The sizes that hooks are told.
+//! The sizes that are reported to hooks.
 ghost use Rattle.std.specs.Prelude.{◌≡◌};
+ghost use Rattle.size_hooks.specs.Hooks.{IsMap};
 ghost use Rattle.traversal.specs.Reporting.{near_size, told_in};
 ghost use Rattle.view_tree.specs.Rows.{first_tree, part_from};
 ghost use Rattle.view_tree.specs.Views.{IsLive, IsTree, geometry_of, held_of, laid_at, laid_rows, number_of, state_of};
@@ -8,12 +9,17 @@ use geom_core::{Rect, Size};
 use size_hooks::Hooks;
 use view_tree::{Key, ViewTree};
 
-/// Each view that lies somewhere reports its size, if its hook is armed.
+/// Each view that lies somewhere reports its size, if its hook is armed. Where no hook is, no view is looked at.
 pub fn report_all(tree: &ViewTree, hooks: &mut Hooks)
     ensures hooks { hooks.new ≡ told_in (geometry_of tree.now) hooks.old }
     ensures is_tree { IsTree tree.now }
+    ensures map { IsMap hooks.old }
 {
-    if let Some(root) = tree.root() {
+    let root = tree.root();
+    if hooks.is_empty() {
+        return;
+    }
+    if let Some(root) = root {
         report_from(tree, hooks, root);
     }
 }

@@ -10,7 +10,7 @@ use Rattle.view_model.specs.declared.changes.Act.{Act}
 use Rattle.view_model.specs.declared.kinds.Class.{Class}
 use Rattle.view_model.specs.declared.refusal.Member.TheVariants as member
 use Rattle.view_model.specs.Facts.{new_facts}
-use Rattle.view_model.specs.Forest.{Forest, Nothing}
+use Rattle.view_model.specs.Forest.{Nothing}
 use Rattle.view_model.specs.Growth.{refusal_at}
 use Rattle.view_model.specs.PlainTree.{PlainView, pruned, view_in, with_facts, with_text}
 use Rattle.view_model.specs.Refusals.{refusal_numbered}
@@ -19,19 +19,17 @@ use Rattle.view_tree.specs.Attached.{Attached}
 use Rattle.view_tree.specs.declared.fault.AttachFault.{AttachFault}
 use Rattle.view_tree.specs.declared.fault.AttachFault.TheVariants as attach
 use Rattle.view_tree.specs.Faults.{IsRefusedExactlyFor, IsRefusedOrCyclic}
-use Rattle.view_tree.specs.Hidden.{HidesGone, IsConsistent}
-use Rattle.view_tree.specs.Rows.{Row, first_tree, pruned_at_key, part_from, changed_at_key}
+use Rattle.view_tree.specs.Rows.{first_tree, pruned_at_key, part_from, changed_at_key}
 use Rattle.view_tree.specs.Views.{Held, IsLive, IsTree, KeepsOutside, Views, class_of, held_of, laid_rows, number_of, plain_of}
-use Rattle.view_tree.proofs.values.GeometryLaws.{geometry-pruned_at_key, geometry-with_child}
-use Rattle.view_tree.proofs.values.HiddenLaws.{hidden-pruned_at_key, hidden-with_child}
+use Rattle.view_tree.proofs.values.GeometryLaws.{geometry-pruned_at_key, geometry-put, geometry-with_child}
 use Rattle.view_tree.proofs.forest.PlainLaws.{number_there}
 use Rattle.tree_edits.specs.Applied.{AppliesEdit, IsAddable, IsDoneOrCyclic, fault_of}
 use Rattle.tree_edits.specs.declared.fault.EditFault.{EditFault}
 use Rattle.tree_edits.specs.declared.fault.EditFault.TheVariants as fault
 use Rattle.tree_edits.specs.Editing.{Add, Outcome, cycle_of_act, names_views, outcome_of_add, outcome_of_act, outcome_of_edit, outcome_unless, new_view, outcome_of_remove, takes, has_text, outcome_of_text}
 use Rattle.tree_edits.specs.Scene.{Scene, scene_of}
-use Rattle.tree_edits.proofs.ActLaws.{same_scene, stays}
 use Rattle.tree_edits.proofs.CycleLaws.{cycle_named, taken_or_cyclic}
+use Rattle.tree_edits.proofs.SceneLaws.{same_scene}
 
 -- a root is added only where there is none
 pub added_root : (views : Views) (parent : Option ℕ) → IsAddable views parent → parent ≡ None → views.tree ≡ Nothing
@@ -65,13 +63,6 @@ attached_scene old new parent class width height key number addable free attache
     (ap (λ (h : Held). h.state.bounds) attached.held) attached.others)))
     ∙ ap (λ (n : ℕ). Ok (scene_of new, Some n)) (sym number_is)
 
-pub attached_kept : (old new : Views) (parent : Option ℕ) (view : PlainView) (key : ℕ) → Attached old parent view key new → IsConsistent old → IsConsistent new
-attached_kept old new parent view key attached kept = record {
-  hidden =
-      subst (λ (t : Forest Row). HidesGone (held_of new) t) (sym attached.tree)
-      (hidden-with_child old (held_of new) parent key view kept.hidden attached.unused (ap (λ (h : Held). h.state.bounds) attached.held) attached.others);
-}
-
 -- a view was not added
 pub not_attached : (old : Views) (after : Scene) (parent : Option ℕ) (class : Class) (width height : ℤ) (given : AttachFault) (answer : Result (Option ℕ) EditFault)
     → IsRefusedExactlyFor {A = ℕ} (refusal_at (plain_of old) (option_map (number_of old) parent)) (Err given)
@@ -95,14 +86,6 @@ pub detached_scene : (old new : Views) (view : ℕ) → IsTree old → IsLive ol
 detached_scene old new view is live tree plain next others =
     ap (λ (scene : Scene). Ok (scene, None))
     (sym (same_scene _ _ _ _ _ _ plain next (ap (laid_rows (held_of new)) tree ∙ geometry-pruned_at_key old (held_of new) view is live others)))
-
-pub detached_kept : (old new : Views) (view : ℕ) → IsTree old
-    → new.tree ≡ pruned_at_key view old.tree
-    → KeepsOutside (held_of old) (held_of new) (first_tree (part_from view old.tree))
-    → IsConsistent old → IsConsistent new
-detached_kept old new view is tree others kept = record {
-  hidden = subst (λ (t : Forest Row). HidesGone (held_of new) t) (sym tree) (hidden-pruned_at_key old (held_of new) view is kept.hidden others);
-}
 
 -- an act is done or refused, by the class of its view
 pub done_by : (views : Views) (view : ℕ) (act : Act) (class : Class) (taken : Bool) → IsTree views → IsLive views view → class ≡ class_of views view
@@ -136,26 +119,22 @@ not_named scene number act outcome after (attach.Refused refusal) (Err fault) na
 not_named scene number act outcome after attach.NoMemory (Err fault) names is refused fault_is =
     subst (λ (f : EditFault). AppliesEdit outcome after (Err f)) (sym fault_is) (subst IsDoneOrCyclic (sym is) (taken_or_cyclic scene number act names))
 
--- what is done, but for want of memory
+-- what is done, unless it is out of memory
 pub no_memory : (outcome : Outcome) (made after : Scene) (answer : Result (Option ℕ) EditFault) → outcome ≡ Ok (made, None)
     → IsErrAnd answer (λ given. given ≡ fault.NoMemory) → AppliesEdit outcome after answer
 no_memory outcome made after (Ok number) is fault_is = absurd fault_is
 no_memory outcome made after (Err fault) is fault_is = subst (λ (f : EditFault). AppliesEdit outcome after (Err f)) (sym fault_is) (subst IsDoneOrCyclic (sym is) tt)
 
 -- a text was set
-pub record TextSet (old : Views) (view : ℕ) (text : List ℕ) (new : Views) : Type 0 where
-  pub scene : scene_of new ≡ record (scene_of old) { tree = with_text (number_of old view) text (plain_of old) }
-  pub kept : IsConsistent old → IsConsistent new
-
-pub text_set : (old new : Views) (view : ℕ) (text outcome_of_text : List ℕ) → IsTree old → IsLive old view → outcome_of_text ≡ text
-    → new.tree ≡ changed_at_key view (λ (v : PlainView). record v { text = outcome_of_text }) old.tree
-    → plain_of new ≡ with_text (number_of old view) outcome_of_text (plain_of old)
+pub text_scene : (old new : Views) (view : ℕ) (text written : List ℕ) → written ≡ text
+    → new.tree ≡ changed_at_key view (λ (v : PlainView). record v { text = written }) old.tree
+    → plain_of new ≡ with_text (number_of old view) written (plain_of old)
     → new.next ≡ old.next
     → ((key : ℕ) → held_of new key ≡ held_of old key)
-    → TextSet old view text new
-text_set old new view text outcome_of_text is live same tree plain next held =
-    let s = stays old new view (λ (v : PlainView). record v { text = outcome_of_text }) is live (λ _. refl) (λ _. refl) tree held in
-    record {
-      scene = same_scene _ _ _ _ _ _ (plain ∙ ap (λ (t : List ℕ). with_text (number_of old view) t (plain_of old)) same) next s.geometry;
-      kept = s.kept;
-    }
+    → scene_of new ≡ record (scene_of old) { tree = with_text (number_of old view) text (plain_of old) }
+text_scene old new view text written same tree plain next held =
+    same_scene _ _ _ _ _ _
+    (plain ∙ ap (λ (t : List ℕ). with_text (number_of old view) t (plain_of old)) same)
+    next
+    (ap (laid_rows (held_of new)) tree
+    ∙ geometry-put (held_of old) (held_of new) view (λ (v : PlainView). record v { text = written }) old.tree (λ _. refl) (λ key. ap (λ (h : Held). h.state.bounds) (held key)))

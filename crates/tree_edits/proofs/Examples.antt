@@ -1,5 +1,6 @@
 -- Worked edits, by computation: what the definitions make of a small scene.
 use Rattle.std.specs.Prelude.{◌≡◌, ℕ, pos, refl, List, [], ◌∷◌, Some, None, Ok, Err, true, false, replicate, slice_set}
+use Rattle.geom_core.specs.declared.color.Argb.{Argb}
 use Rattle.geom_core.specs.declared.geometry.Insets.{Insets}
 use Rattle.view_model.specs.declared.facts.Facts.{Facts}
 use Rattle.view_model.specs.declared.changes.Act.TheVariants as act
@@ -20,9 +21,13 @@ use Rattle.view_model.specs.declared.refusals.TheConstants.{CYCLE}
 use Rattle.view_model.specs.declared.verbs.TheConstants.{ABOVE, BELOW, LEFT_OF, RIGHT_OF}
 use Rattle.view_model.specs.Refusals.{Cycle, refusal_numbered}
 use Rattle.view_model.specs.SiblingRules.{leads, names}
+use Rattle.tree_edits.specs.Asking.{asked_by, excused}
+use Rattle.tree_edits.specs.declared.edits.Edit.TheVariants as edit
 use Rattle.tree_edits.specs.Editing.{Add, ActOn, Remove, SetText, outcome_of_edit, new_view}
-use Rattle.tree_edits.specs.Keeping.{held_acted}
+use Rattle.tree_edits.specs.Hiding.{gone_one}
+use Rattle.tree_edits.specs.Keeping.{held_after}
 use Rattle.tree_edits.specs.Scene.{Scene}
+use Rattle.view_tree.specs.Requests.{forced_one}
 use Rattle.view_tree.specs.Rows.{Row}
 use Rattle.view_tree.specs.Views.{Views, held_of}
 
@@ -38,7 +43,7 @@ laid number right bottom = record { number = number; rect = record { left = pos 
 scene : Forest PlainView → ℕ → List Laid → Scene
 scene tree next geometry = record { tree = tree; next = next; geometry = geometry }
 
--- a frame 1 with a frame 2, which has a view 3, and behind it a view 4
+-- a frame 1 with a frame 2, which has a view 3, and after it a view 4
 inner : Forest PlainView
 inner = Branch (leaf 3) Nothing Nothing
 
@@ -163,29 +168,57 @@ weight_is_set : outcome_of_edit start (ActOn 2 (act.Change (change.Weight 256)))
 unfolding start scene tree_with inner everywhere frame leaf laid
 weight_is_set = refl
 
--- what is kept of a view 7 with a view 8 below it and a view 9 behind it: a scroll sets the offset of one view
+-- what is kept of a view 7 with a view 8 below it and a view 9 after that: a scroll sets the offset of one view, and
+-- requests layout there
 rows : Forest Row
-rows = let row : ℕ → Row = λ key. record { key = key; view = frame key } in Branch (row 7) (Branch (row 8) Nothing Nothing) (Branch (row 9) Nothing Nothing)
+rows = let row : ℕ → Row = λ key. record { key = key; view = frame key } in Branch (row 7) (Branch (row 8) Nothing (Branch (row 9) Nothing Nothing)) Nothing
 
 kept : Views → Views
 kept views = record views { tree = rows }
 
-scrolled_alone : (views : Views) → held_acted (kept views) 7 (act.Scroll (pos 3)) 7 ≡ record (held_of views 7) { offset = pos 3 }
+scrolled_alone : (views : Views) → held_after (kept views) (edit.Act 7 (act.Scroll (pos 3))) 7 ≡ forced_one (record (held_of views 7) { offset = pos 3 })
 unfolding kept rows frame
 scrolled_alone views = refl
 
-others_do_not_scroll : (views : Views) → held_acted (kept views) 7 (act.Scroll (pos 3)) 8 ≡ held_of views 8
+others_do_not_scroll : (views : Views) → held_after (kept views) (edit.Act 7 (act.Scroll (pos 3))) 8 ≡ held_of views 8
 unfolding kept rows frame
 others_do_not_scroll views = refl
 
--- a view that is gone takes the bounds of those below it away, and no others
-gone_takes_bounds : (views : Views) → (held_acted (kept views) 7 (act.Visible Gone) 8).state.bounds ≡ None
+-- a view that is gone takes those below it out of layout, and no others
+gone_takes_kids : (views : Views) → held_after (kept views) (edit.Act 7 (act.Visible Gone)) 8 ≡ gone_one (held_of views 8)
 unfolding kept rows frame
-gone_takes_bounds views = refl
+gone_takes_kids views = refl
 
-gone_leaves_siblings : (views : Views) → held_acted (kept views) 7 (act.Visible Gone) 9 ≡ held_of views 9
+gone_leaves_siblings : (views : Views) → (held_of views 7).state.forced ≡ false → held_after (kept views) (edit.Act 8 (act.Visible Gone)) 9 ≡ held_of views 9
 unfolding kept rows frame
-gone_leaves_siblings views = refl
+gone_leaves_siblings views free = rw free refl
+
+-- a request goes up to the first view that is forced, and to no sibling
+request_goes_up : (views : Views) → (held_of views 7).state.forced ≡ false → held_after (kept views) (edit.Act 8 (act.Change (change.Weight 256))) 7 ≡ forced_one (held_of views 7)
+unfolding kept rows frame
+request_goes_up views free = rw free refl
+
+request_stops : (views : Views) → (held_of views 7).state.forced ≡ true → held_after (kept views) (edit.Act 8 (act.Change (change.Weight 256))) 7 ≡ held_of views 7
+unfolding kept rows frame
+request_stops views forced = rw forced refl
+
+request_leaves_siblings : (views : Views) → excused (kept views) (edit.Act 8 (act.Change (change.Weight 256))) 9 ≡ false
+unfolding kept rows frame
+request_leaves_siblings views = refl
+
+-- a view that goes requests layout at its parent, and the root at none
+removal_asks_parent : (views : Views) → asked_by (kept views) (edit.Remove 8) ≡ 7 ∷ []
+unfolding kept rows frame
+removal_asks_parent views = refl
+
+removed_root_asks_none : (views : Views) → asked_by (kept views) (edit.Remove 7) ≡ []
+unfolding kept rows frame
+removed_root_asks_none views = refl
+
+-- layout reads no background
+background_is_quiet : (views : Views) (color : Argb) → held_after (kept views) (edit.Act 8 (act.Change (change.Background color))) 8 ≡ held_of views 8
+unfolding kept rows frame
+background_is_quiet views color = refl
 
 -- a relative layout 1 with views 2 and 3, of which the first is beside the second and above it
 tied : Forest PlainView

@@ -1,5 +1,5 @@
 -- What acts leave of the facts of a view.
-use Rattle.std.proofs.Common.{◌≡◌, ℤ, pos, true, false, refl, sym, ◌∙◌, ap}
+use Rattle.std.proofs.Common.{◌≡◌, ℕ, ℤ, pos, true, false, [], ◌∷◌, refl, sym, ◌∙◌, ap}
 use Rattle.view_model.specs.Changes.{facts_after_act}
 use Rattle.view_model.specs.declared.facts.Facts.{Facts}
 use Rattle.view_model.specs.declared.changes.Act.{Act}
@@ -7,7 +7,8 @@ use Rattle.view_model.specs.declared.changes.Act.TheVariants as act
 use Rattle.view_model.specs.declared.changes.Change.TheVariants as change
 use Rattle.view_model.specs.declared.changes.Flag.TheVariants as flag
 use Rattle.view_model.specs.declared.kinds.Visibility.TheVariants.{Visible, Invisible, Gone}
-use Rattle.view_model.specs.Facts.{is_shown, unscrolled_facts}
+use Rattle.view_model.specs.Facts.{is_shown, layout_facts, unscrolled_facts}
+use Rattle.tree_edits.specs.Asking.{asked_by_act, requests_layout}
 use Rattle.tree_edits.specs.Editing.{hides, names_views}
 
 -- a view that is gone after an act was gone before, or the act hides it
@@ -101,3 +102,80 @@ names_stay (act.Ink color) names = refl
 names_stay (act.Answer answer) names = refl
 names_stay (act.Intercept actions) names = refl
 names_stay (act.Scroll offset) names = refl
+
+-- an act that sets names requests layout
+pub names_ask : (view : ℕ) (act : Act) → names_views act ≡ true → asked_by_act view act ≡ view ∷ []
+names_ask view (act.Id id) names = refl
+names_ask view (act.Rule verb value) names = refl
+names_ask view (act.Change change) names = absurd (cc)
+names_ask view (act.WeightSum sum) names = refl
+names_ask view (act.Orient vertical) names = refl
+names_ask view (act.Flag flag on) names = absurd (cc)
+names_ask view (act.Visible visibility) names = refl
+names_ask view (act.Ink color) names = absurd (cc)
+names_ask view (act.Answer answer) names = absurd (cc)
+names_ask view (act.Intercept actions) names = absurd (cc)
+names_ask view (act.Scroll offset) names = refl
+
+-- so does one that hides
+pub hides_ask : (view : ℕ) (act : Act) → hides act ≡ true → asked_by_act view act ≡ view ∷ []
+hides_ask view (act.Visible visibility) hid = refl
+hides_ask view (act.Change change) hid = absurd (cc)
+hides_ask view (act.WeightSum sum) hid = refl
+hides_ask view (act.Orient vertical) hid = refl
+hides_ask view (act.Flag flag on) hid = absurd (cc)
+hides_ask view (act.Ink color) hid = absurd (cc)
+hides_ask view (act.Id id) hid = refl
+hides_ask view (act.Rule verb value) hid = refl
+hides_ask view (act.Answer answer) hid = absurd (cc)
+hides_ask view (act.Intercept actions) hid = absurd (cc)
+hides_ask view (act.Scroll offset) hid = refl
+
+-- an act after which a view takes part in layout again leaves the offset
+pub shown_offset : (act : Act) (facts : Facts) → is_shown facts ≡ false → is_shown (facts_after_act act facts) ≡ true → (facts_after_act act facts).offset ≡ facts.offset
+shown_offset (act.Visible visibility) facts gone shown = refl
+shown_offset (act.Scroll offset) facts gone shown = let no : false ≡ true = sym gone ∙ shown in absurd (cc)
+shown_offset (act.Change (change.Size width height)) facts gone shown = refl
+shown_offset (act.Change (change.Min size)) facts gone shown = refl
+shown_offset (act.Change (change.Margins sides)) facts gone shown = refl
+shown_offset (act.Change (change.Padding sides)) facts gone shown = refl
+shown_offset (act.Change (change.Weight weight)) facts gone shown = refl
+shown_offset (act.Change (change.Gravity true gravity)) facts gone shown = refl
+shown_offset (act.Change (change.Gravity false gravity)) facts gone shown = refl
+shown_offset (act.Change (change.Background color)) facts gone shown = refl
+shown_offset (act.WeightSum sum) facts gone shown = refl
+shown_offset (act.Orient vertical) facts gone shown = refl
+shown_offset (act.Flag flag.Clip on) facts gone shown = refl
+shown_offset (act.Flag flag.Fill on) facts gone shown = refl
+shown_offset (act.Flag flag.Split on) facts gone shown = refl
+shown_offset (act.Ink color) facts gone shown = refl
+shown_offset (act.Id id) facts gone shown = refl
+shown_offset (act.Rule verb value) facts gone shown = refl
+shown_offset (act.Answer answer) facts gone shown = refl
+shown_offset (act.Intercept actions) facts gone shown = refl
+
+-- what an act that requests nothing leaves of the facts of a view
+pub record IsQuietAct (act : Act) (facts : Facts) : Type 0 where
+  pub layout : layout_facts (facts_after_act act facts) ≡ layout_facts facts
+  pub offset : (facts_after_act act facts).offset ≡ facts.offset
+
+pub quiet_act : (act : Act) (facts : Facts) → requests_layout act ≡ false → IsQuietAct act facts
+quiet_act (act.Change (change.Background color)) facts quiet = record { layout = refl; offset = refl }
+quiet_act (act.Flag flag.Clip on) facts quiet = record { layout = refl; offset = refl }
+quiet_act (act.Flag flag.Split on) facts quiet = record { layout = refl; offset = refl }
+quiet_act (act.Ink color) facts quiet = record { layout = refl; offset = refl }
+quiet_act (act.Answer answer) facts quiet = record { layout = refl; offset = refl }
+quiet_act (act.Intercept actions) facts quiet = record { layout = refl; offset = refl }
+quiet_act (act.Change (change.Size width height)) facts quiet = absurd (cc)
+quiet_act (act.Change (change.Min size)) facts quiet = absurd (cc)
+quiet_act (act.Change (change.Margins sides)) facts quiet = absurd (cc)
+quiet_act (act.Change (change.Padding sides)) facts quiet = absurd (cc)
+quiet_act (act.Change (change.Weight weight)) facts quiet = absurd (cc)
+quiet_act (act.Change (change.Gravity kids gravity)) facts quiet = absurd (cc)
+quiet_act (act.WeightSum sum) facts quiet = absurd (cc)
+quiet_act (act.Orient vertical) facts quiet = absurd (cc)
+quiet_act (act.Flag flag.Fill on) facts quiet = absurd (cc)
+quiet_act (act.Visible visibility) facts quiet = absurd (cc)
+quiet_act (act.Id id) facts quiet = absurd (cc)
+quiet_act (act.Rule verb value) facts quiet = absurd (cc)
+quiet_act (act.Scroll offset) facts quiet = absurd (cc)

@@ -1,6 +1,11 @@
 mod ActLaws
+mod ConsistentLaws
 mod CycleLaws
 mod EditLaws
 mod Examples
 mod FactLaws
 pub mod KeepLaws
+mod ParentLaws
+mod RequestLaws
+mod SceneLaws
+pub mod UnaskedLaws

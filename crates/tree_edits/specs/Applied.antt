@@ -50,7 +50,7 @@ IsEdit views (edit.Remove view) = IsLive views view
 IsEdit views (edit.Act view act) = IsLive views view × IsVerb act
 IsEdit views (edit.Text view text) = IsLive views view × (length text.now < 2 ^ 31)
 
--- an edit that may want memory: a new view, a text, an id or a rule
+-- an edit that may be out of memory: a new view, a text, an id or a rule
 abbrev pub MayWantMemory : Edit → Type 0
 MayWantMemory (edit.Add parent class width height) = Unit {0}
 MayWantMemory (edit.Remove view) = ⊥
@@ -62,8 +62,8 @@ abbrev pub IsDoneOrCyclic : Outcome → Type 0
 IsDoneOrCyclic (Ok outcome) = Unit {0}
 IsDoneOrCyclic (Err refusal) = refusal.number ≡ CYCLE
 
--- The answer is the outcome: the scene and the number of the new view, or the refusal. Want of memory comes where there is
--- no refusal, or only that of a cycle, since memory is taken before a cycle is known.
+-- The result is the outcome: the scene and the number of the new view, or the refusal. An edit is out of memory where
+-- there is no refusal, or only that of a cycle, since memory is taken before a cycle is known.
 abbrev pub AppliesEdit : Outcome → Scene → Result (Option ℕ) EditFault → Type 0
 AppliesEdit outcome after (Ok number) = outcome ≡ Ok (after, number)
 AppliesEdit outcome after (Err (fault.Refused refusal)) = outcome ≡ Err (plain_refusal refusal)

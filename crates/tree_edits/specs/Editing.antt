@@ -60,7 +60,7 @@ takes_change class (change.Padding sides) = true
 takes_change class (change.Weight weight) = true
 takes_change class (change.Background color) = true
 
--- a view without children clips and splits nothing, and only a child that moves is told to fill
+-- a view without children clips and splits nothing, and only a view that scrolls makes its child fill it
 abbrev pub takes_flag : Class → Flag → Bool
 takes_flag class flag.Clip = is_group class
 takes_flag class flag.Fill = scrolls class

@@ -1,15 +1,15 @@
--- What is kept of views that go out of the geometry.
-use Rattle.std.specs.Prelude.{ℕ, ◌==◌, Bool, if◌then◌else◌, None}
+-- What is kept of views that go out of layout.
+use Rattle.std.specs.Prelude.{ℕ, ◌==◌, Bool, true, if◌then◌else◌, [], None}
 use Rattle.view_tree.specs.Rows.{first_tree, part_from, count_of_key}
 use Rattle.view_tree.specs.Views.{Held, Views, held_of}
 
--- what is kept of a view, its bounds gone
-abbrev pub unplaced : Held → Held
-unplaced held = record held { state = record held.state { bounds = None } }
+-- what is kept of a view that goes out of layout: it is forced, lies nowhere, and no size of it is known
+abbrev pub gone_one : Held → Held
+gone_one held = record held { state = record held.state { bounds = None; forced = true }; cache = [] }
 
 -- what is kept of a view that occurs this often among those that go
 abbrev pub hidden_at : ℕ → Held → Held
-hidden_at count_of_key held = if count_of_key == 0 then held else unplaced held
+hidden_at count_of_key held = if count_of_key == 0 then held else gone_one held
 
 -- what is kept under a key, once a view and all below it have gone, if they go
 abbrev pub held_hiding : Bool → Views → ℕ → ℕ → Held

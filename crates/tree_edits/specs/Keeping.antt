@@ -9,6 +9,7 @@ use Rattle.view_tree.specs.Rows.{Row, pruned_at_key, leaf, changed_at_key, count
 use Rattle.view_tree.specs.Views.{Held, IsLive, Views, facts_of, held_of, held_or}
 use Rattle.tree_edits.specs.declared.edits.Edit.{Edit}
 use Rattle.tree_edits.specs.declared.edits.Edit.TheVariants as edit
+use Rattle.tree_edits.specs.Asking.{asked_by, requested}
 use Rattle.tree_edits.specs.Editing.{hides, new_view}
 use Rattle.tree_edits.specs.Hiding.{held_hiding}
 
@@ -30,21 +31,26 @@ next_after views (edit.Remove view) = views.next
 next_after views (edit.Act view act) = views.next
 next_after views (edit.Text view text) = views.next
 
--- what is kept under a key after an act on a view: what it hides has no bounds; the view's offset is that of its facts
+-- what is kept under a key after an act on a view, before the request for layout: what it hides is out of layout; the
+-- view's offset is that of its facts
 abbrev pub held_acted : Views → ℕ → Act → ℕ → Held
 held_acted views view act key =
     let held = held_hiding (hides act) views view key in
     if key == view then record held { offset = (facts_after_act act (facts_of views view)).offset } else held
 
--- what is kept under the key of a view that an edit leaves in the tree
-abbrev pub held_after : Views → Edit → ℕ → Held
-held_after views (edit.Add parent class width height) key = held_of views key
-held_after views (edit.Remove view) key = held_of views key
-held_after views (edit.Act view act) key = held_acted views view act key
-held_after views (edit.Text view text) key = held_of views key
+-- what is kept under the key of a view that an edit leaves in the tree, before the request for layout
+abbrev pub held_edited : Views → Edit → ℕ → Held
+held_edited views (edit.Add parent class width height) = held_of views
+held_edited views (edit.Remove view) = held_of views
+held_edited views (edit.Act view act) = held_acted views view act
+held_edited views (edit.Text view text) = held_of views
 
--- Each view that stays keeps its key and what is kept of it, but for what the edit hides or scrolls. A new view stands
--- under a key that none had, and nothing was kept of it before.
+-- and after it
+abbrev pub held_after : Views → Edit → ℕ → Held
+held_after views edit = requested (held_edited views edit) (asked_by views edit) views.tree
+
+-- Each view that stays keeps its key and what is kept of it, but for what the edit hides or scrolls and where it
+-- requests layout. A new view comes under a key that none had, and nothing was kept of it before.
 pub record KeepsViews (old new : Views) (edit : Edit) : Type 0 where
   pub fresh : ℕ
   pub unused : count_of_key fresh old.tree ≡ 0

@@ -1,4 +1,5 @@
 pub mod Applied
+pub mod Asking
 pub mod Editing
 pub mod Hiding
 pub mod Keeping

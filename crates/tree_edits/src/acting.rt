@@ -1,6 +1,8 @@
 //! Acts on a view of a tree.
 ghost use Rattle.std.specs.Prelude.{◌≡◌, ℕ, true, false, None, OnErr, OnOk};
+ghost use Rattle.kept_views.specs.Kept.{IsConsistent};
 ghost use Rattle.tree_edits.specs.Applied.{IsVerb};
+ghost use Rattle.tree_edits.specs.Asking.{LeavesUnasked};
 ghost use Rattle.tree_edits.specs.Editing.{after_act, hides, names_views};
 ghost use Rattle.tree_edits.specs.Hiding.{held_hiding};
 ghost use Rattle.tree_edits.specs.Keeping.{KeepsViews};
@@ -9,9 +11,9 @@ ghost use Rattle.view_model.specs.Changes.{facts_after_act};
 ghost use Rattle.view_model.specs.Cycles.{first_cycle};
 ghost use Rattle.view_tree.specs.Faults.{IsRefusedOrCyclic};
 ghost use Rattle.view_model.specs.PlainTree.{with_facts};
-ghost use Rattle.view_tree.specs.Hidden.{IsConsistent};
 ghost use Rattle.view_tree.specs.Views.{IsLive, SameTree, held_of, number_of, plain_of};
 
+use crate::asking::request_by;
 use crate::changing::facts_after_act;
 use crate::edits::Edit;
 use crate::hiding::hide;
@@ -35,12 +37,20 @@ pub fn set_names(tree: &mut ViewTree, view: Key, act: Act) -> Result<(), AttachF
     ensures refused { IsRefusedOrCyclic None (first_cycle Member.View (with_facts (number_of tree.old view) (facts_after_act act) (plain_of tree.old))) result }
     ensures unchanged { OnErr result (tree.new ≡ tree.old) }
     ensures consistent { IsConsistent tree.old → IsConsistent tree.new }
+    ensures asked { LeavesUnasked tree.old tree.new (Edit.Act view act) }
+    ensures measures { tree.new.counts.measures ≡ tree.old.counts.measures }
 {
     let facts = facts_after_act(act, *tree.facts(view));
-    tree.set_rules(view, facts.id, facts.rules)
+    match tree.set_rules(view, facts.id, facts.rules) {
+        Err(fault) => Err(fault),
+        Ok(()) => {
+            tree.request(view);
+            Ok(())
+        }
+    }
 }
 
-/// Sets what else there is of a view. One that is gone from now on leaves the geometry at once, with all below it.
+/// Sets what else there is of a view. One that is gone from now on goes out of layout at once, with all below it.
 pub fn set_facts(tree: &mut ViewTree, view: Key, act: Act)
     requires live { IsLive tree.old view }
     requires verb { IsVerb act }
@@ -48,23 +58,28 @@ pub fn set_facts(tree: &mut ViewTree, view: Key, act: Act)
     ensures scene { scene_of tree.new ≡ after_act (scene_of tree.old) (number_of tree.old view) act }
     ensures kept { KeepsViews tree.old tree.new (Edit.Act view act) }
     ensures consistent { IsConsistent tree.old → IsConsistent tree.new }
+    ensures asked { LeavesUnasked tree.old tree.new (Edit.Act view act) }
+    ensures measures { tree.new.counts.measures ≡ tree.old.counts.measures }
 {
     let facts = facts_after_act(act, *tree.facts(view));
     hide_by(tree, view, act);
     tree.set_facts(view, facts);
+    request_by(tree, view, act);
 }
 
+/// Takes a view, and all below it, out of layout where an act does.
 fn hide_by(tree: &mut ViewTree, view: Key, act: Act)
     requires { IsLive tree.old view }
     ensures same { SameTree tree.old tree.new }
     ensures held { (key : ℕ) → held_of tree.new key ≡ held_hiding (hides act) tree.old view key }
+    ensures measures { tree.new.counts.measures ≡ tree.old.counts.measures }
 {
     if hides(act) {
         hide(tree, view);
     }
 }
 
-/// Whether an act takes a view, and all below it, out of the geometry at once.
+/// Whether an act takes a view, and all below it, out of layout at once.
 fn hides(act: Act) -> bool
     ensures { result ≡ hides act }
 {

@@ -2,14 +2,16 @@
 
 ghost use Rattle.std.specs.Prelude.{◌≡◌, ◌<◌, ◌^◌, true, chars, length, Err, OnErr, OnOk, None, Ok};
 ghost use Rattle.std.specs.Option.{option_map};
+ghost use Rattle.kept_views.specs.Kept.{IsConsistent};
 ghost use Rattle.tree_edits.specs.Applied.{AppliesEdit, IsAddable, IsEdit, IsVerb, MayWantMemory, numbered};
+ghost use Rattle.tree_edits.specs.Asking.{LeavesUnasked};
 ghost use Rattle.tree_edits.specs.Editing.{Add, ActOn, SetText, names_views, outcome_of_edit, outcome_of_remove};
 ghost use Rattle.tree_edits.specs.Keeping.{KeepsViews};
 ghost use Rattle.tree_edits.specs.Scene.{scene_of};
-ghost use Rattle.view_tree.specs.Hidden.{IsConsistent};
-ghost use Rattle.view_tree.specs.Views.{IsLive, number_of};
+ghost use Rattle.view_tree.specs.Views.{IsLive, IsTree, number_of};
 
 use crate::acting::{names_views, set_facts, set_names};
+use crate::asking::request_at;
 use crate::classes::{has_text, takes};
 use crate::edits::Edit;
 use crate::fault::EditFault;
@@ -18,7 +20,8 @@ use view_model::refusals::WRONG_CLASS;
 use view_model::{Act, Class, Facts, Refusal, Text};
 use view_tree::{Key, ViewTree};
 
-/// Makes an edit, and answers the number of the view that it made.
+/// Makes an edit, and requests layout where it may be another one from now on. It returns the number of the view that
+/// it made.
 pub fn apply(alloc: Global, tree: &mut ViewTree, edit: Edit<'_>) -> Result<Option<u64>, EditFault>
     requires edit { IsEdit tree.old edit }
     ensures applied { AppliesEdit (outcome_of_edit (scene_of tree.old) (numbered tree.old edit.entry)) (scene_of tree.new) result }
@@ -26,6 +29,8 @@ pub fn apply(alloc: Global, tree: &mut ViewTree, edit: Edit<'_>) -> Result<Optio
     ensures unchanged { OnErr result (tree.new ≡ tree.old) }
     ensures memory { result ≡ Err EditFault.NoMemory → MayWantMemory edit.entry }
     ensures consistent { IsConsistent tree.old → IsConsistent tree.new }
+    ensures asked { LeavesUnasked tree.old tree.new edit.entry }
+    ensures measures { tree.new.counts.measures ≡ tree.old.counts.measures }
 {
     match edit {
         Edit::Add {
@@ -43,6 +48,7 @@ pub fn apply(alloc: Global, tree: &mut ViewTree, edit: Edit<'_>) -> Result<Optio
     }
 }
 
+/// Makes a view, the last child of its parent or the root. Its facts are the default ones but for its dimensions.
 fn add(
     alloc: Global,
     tree: &mut ViewTree,
@@ -56,22 +62,39 @@ fn add(
     ensures kept { OnOk result (KeepsViews tree.old tree.new (Edit.Add parent class width height)) }
     ensures unchanged { OnErr result (tree.new ≡ tree.old) }
     ensures consistent { IsConsistent tree.old → IsConsistent tree.new }
+    ensures asked { LeavesUnasked tree.old tree.new (Edit.Add parent class width height) }
+    ensures measures { tree.new.counts.measures ≡ tree.old.counts.measures }
 {
+    note_tree(tree);
     let number = tree.next_number();
     let facts = Facts::new(width, height);
     tree.attach(parent, class, facts, Text::empty(alloc))?;
+    request_at(tree, parent);
     Ok(Some(number))
 }
 
+/// Every tree is one. This is for contracts alone.
+fn note_tree(tree: &ViewTree)
+    ensures { IsTree tree.now }
+{
+    let _root = tree.root();
+}
+
+/// Takes a view and all below it away.
 fn remove(tree: &mut ViewTree, view: Key)
     requires live { IsLive tree.old view }
     ensures scene { outcome_of_remove (scene_of tree.old) (number_of tree.old view) ≡ Ok (scene_of tree.new, None) }
     ensures kept { KeepsViews tree.old tree.new (Edit.Remove view) }
     ensures consistent { IsConsistent tree.old → IsConsistent tree.new }
+    ensures asked { LeavesUnasked tree.old tree.new (Edit.Remove view) }
+    ensures measures { tree.new.counts.measures ≡ tree.old.counts.measures }
 {
+    let parent = tree.parent(view);
     tree.detach(view);
+    request_at(tree, parent);
 }
 
+/// Makes an act on a view whose class has what the act sets.
 fn act_on(tree: &mut ViewTree, view: Key, act: Act) -> Result<Option<u64>, EditFault>
     requires live { IsLive tree.old view }
     requires verb { IsVerb act }
@@ -80,6 +103,8 @@ fn act_on(tree: &mut ViewTree, view: Key, act: Act) -> Result<Option<u64>, EditF
     ensures unchanged { OnErr result (tree.new ≡ tree.old) }
     ensures memory { result ≡ Err EditFault.NoMemory → names_views act ≡ true }
     ensures consistent { IsConsistent tree.old → IsConsistent tree.new }
+    ensures asked { LeavesUnasked tree.old tree.new (Edit.Act view act) }
+    ensures measures { tree.new.counts.measures ≡ tree.old.counts.measures }
 {
     if !takes(tree.class(view), act) {
         return Err(EditFault::Refused(Refusal::plain(WRONG_CLASS)));
@@ -92,6 +117,7 @@ fn act_on(tree: &mut ViewTree, view: Key, act: Act) -> Result<Option<u64>, EditF
     Ok(None)
 }
 
+/// Sets the text of a view whose class has one.
 fn write(
     alloc: Global,
     tree: &mut ViewTree,
@@ -104,11 +130,14 @@ fn write(
     ensures kept { OnOk result (KeepsViews tree.old tree.new (Edit.Text view text.entry)) }
     ensures unchanged { OnErr result (tree.new ≡ tree.old) }
     ensures consistent { IsConsistent tree.old → IsConsistent tree.new }
+    ensures asked { LeavesUnasked tree.old tree.new (Edit.Text view text.entry) }
+    ensures measures { tree.new.counts.measures ≡ tree.old.counts.measures }
 {
     if !has_text(tree.class(view)) {
         return Err(EditFault::Refused(Refusal::plain(WRONG_CLASS)));
     }
     let text = Text::new(alloc, text)?;
     tree.set_text(view, text);
+    tree.request(view);
     Ok(None)
 }

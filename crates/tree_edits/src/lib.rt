@@ -3,6 +3,7 @@
 
 mod acting;
 mod applying;
+mod asking;
 mod changing;
 mod classes;
 mod edits;
@@ -10,6 +11,7 @@ mod fault;
 mod hiding;
 
 pub use applying::apply;
+pub use asking::requests_layout;
 pub use classes::takes_change;
 pub use edits::Edit;
 pub use fault::EditFault;

@@ -51,7 +51,7 @@ impl LineRunner {
         sink: &mut K,
         work: &mut Work,
     ) -> Result<(), Stop>
-        requires numbered { self.old.world.views.next < NUMBERS_END }
+        requires numbered { self.old.world.screen.views.next < NUMBERS_END }
         requires short { IsShort line }
         ensures done { (files : Files) (first : Option (List ℕ)) (progress : Progress)
             → F.files shelf.old ≡ Some files
@@ -63,7 +63,7 @@ impl LineRunner {
             → length lines < 2 ^ 63
             → HasCarriedOut first (K.state sink.old).gone self.old (after_lines files lines)
             → IfErr result (StopsIn files first (K.state sink.new).gone (lines ++ line_now line.entry ∷ [])) }
-        ensures numbers { self.new.world.views.next ≤ self.old.world.views.next + MAX_VIEWS }
+        ensures numbers { self.new.world.screen.views.next ≤ self.old.world.screen.views.next + MAX_VIEWS }
         ensures files_stay { F.files shelf.new ≡ F.files shelf.old }
         ensures shelf_failed { CountsFetches (F.faults shelf.old) (F.faults shelf.new) result }
         ensures painted { work.old.painted ≤ work.new.painted }
@@ -112,7 +112,7 @@ fn carry_out<K: Sink, F: Shelf>(
     sink: &mut K,
     work: &mut Work,
 ) -> Result<(), StepFault>
-    requires numbered { world.old.views.next < NUMBERS_END }
+    requires numbered { world.old.screen.views.next < NUMBERS_END }
     requires short { IsShort bytes }
     requires counts { is_idle (line_now bytes) ≡ false }
     ensures carried { (files : Files)
@@ -120,7 +120,7 @@ fn carry_out<K: Sink, F: Shelf>(
         → WritesReply (reply_to_line files (world_of world.old) (line_now bytes.entry)) (world_of world.new) (K.state sink.old) (K.state sink.new) result }
     ensures unchanged { IsDone result ⊎ ((world.new ≡ world.old) × (sink.new ≡ sink.old)) }
     ensures memory { result ≡ Err StepFault.NoMemory → MayWant (line_now bytes.entry) }
-    ensures numbers { world.new.views.next ≤ world.old.views.next + MAX_VIEWS }
+    ensures numbers { world.new.screen.views.next ≤ world.old.screen.views.next + MAX_VIEWS }
     ensures sink_failed { (K.state sink.new).faults ≡ faults_after_line result (K.state sink.old).faults }
     ensures files_stay { F.files shelf.new ≡ F.files shelf.old }
     ensures shelf_failed { CountsShelf (F.faults shelf.old) (F.faults shelf.new) result }
@@ -164,7 +164,7 @@ pub struct Run {
 impl Run {
     pub fn new(alloc: Global) -> Run
         ensures behind { (shelf : Option Files) (first : Option (List ℕ)) → HasReadUpTo shelf first first result [] }
-        ensures numbers { result.runner.world.views.next ≡ 1 }
+        ensures numbers { result.runner.world.screen.views.next ≡ 1 }
     {
         Run {
             lines: Lines::new(),
@@ -193,7 +193,7 @@ impl Run {
         sink: &mut K,
         work: &mut Work,
     ) -> Result<usize, Stop>
-        requires { self.old.runner.world.views.next < NUMBERS_END }
+        requires { self.old.runner.world.screen.views.next < NUMBERS_END }
         ensures within { IfOk result (λ n. n ≤ length piece.now) }
         ensures some { 0 < length piece.now → IfOk result (λ n. 0 < n) }
         ensures done { (first : Option (List ℕ)) (before : List ℕ)
@@ -204,7 +204,7 @@ impl Run {
             → length before < 2 ^ 63
             → HasReadUpTo (F.files shelf.old) first (K.state sink.old).gone self.old before
             → IfErr result (λ stop. WithFiles (F.files shelf.old) (λ files. StopsIn files first (K.state sink.new).gone (cut_of (before ++ piece.now)).lines stop)) }
-        ensures numbers { self.new.runner.world.views.next ≤ self.old.runner.world.views.next + MAX_VIEWS }
+        ensures numbers { self.new.runner.world.screen.views.next ≤ self.old.runner.world.screen.views.next + MAX_VIEWS }
         ensures files_stay { F.files shelf.new ≡ F.files shelf.old }
         ensures shelf_failed { CountsFetches (F.faults shelf.old) (F.faults shelf.new) result }
         ensures painted { work.old.painted ≤ work.new.painted }
@@ -228,7 +228,7 @@ impl Run {
         sink: &mut K,
         work: &mut Work,
     ) -> Result<(), Stop>
-        requires { self.old.runner.world.views.next + MAX_VIEWS * length piece.now < NUMBERS_END }
+        requires { self.old.runner.world.screen.views.next + MAX_VIEWS * length piece.now < NUMBERS_END }
         ensures done { (first : Option (List ℕ)) (before : List ℕ)
             → length (before ++ piece.now) < 2 ^ 63
             → HasReadUpTo (F.files shelf.old) first (K.state sink.old).gone self.old before
@@ -237,7 +237,7 @@ impl Run {
             → length (before ++ piece.now) < 2 ^ 63
             → HasReadUpTo (F.files shelf.old) first (K.state sink.old).gone self.old before
             → IfErr result (λ stop. WithFiles (F.files shelf.old) (λ files. StopsIn files first (K.state sink.new).gone (cut_of (before ++ piece.now)).lines stop)) }
-        ensures numbers { self.new.runner.world.views.next ≤ self.old.runner.world.views.next + MAX_VIEWS * length piece.now }
+        ensures numbers { self.new.runner.world.screen.views.next ≤ self.old.runner.world.screen.views.next + MAX_VIEWS * length piece.now }
         ensures files_stay { F.files shelf.new ≡ F.files shelf.old }
         ensures shelf_failed { CountsFetches (F.faults shelf.old) (F.faults shelf.new) result }
         ensures painted { work.old.painted ≤ work.new.painted }
@@ -259,7 +259,7 @@ impl Run {
         sink: &mut K,
         work: &mut Work,
     ) -> Result<(), Stop>
-        requires { self.old.runner.world.views.next < NUMBERS_END }
+        requires { self.old.runner.world.screen.views.next < NUMBERS_END }
         ensures done { (files : Files) (first : Option (List ℕ)) (script : List ℕ)
             → F.files shelf.old ≡ Some files
             → length script < 2 ^ 63

@@ -50,14 +50,14 @@ fn carry_piece<K: Sink, F: Shelf>(
 ) -> Result<usize, End>
     requires most { length piece.now ≤ left + 1 }
     requires left { left ≤ MAX_SCRIPT }
-    requires numbers { run.old.runner.world.views.next + MAX_VIEWS * (left + 1) < NUMBERS_END }
+    requires numbers { run.old.runner.world.screen.views.next + MAX_VIEWS * (left + 1) < NUMBERS_END }
     ensures comes { (first : Option (List ℕ)) (before : List ℕ)
         → length before + left ≡ MAX_SCRIPT
         → HasReadUpTo (F.files shelf.old) first (K.state sink.old).gone run.old before
         → Comes (F.files shelf.old) first before left piece.now (K.state sink.new).gone run.new result }
     ensures count { IfOk result (λ n. n ≡ length piece.now) }
     ensures most { IfOk result (λ n. n ≤ left) }
-    ensures numbers { IfOk result (λ n. run.new.runner.world.views.next ≤ run.old.runner.world.views.next + MAX_VIEWS * n) }
+    ensures numbers { IfOk result (λ n. run.new.runner.world.screen.views.next ≤ run.old.runner.world.screen.views.next + MAX_VIEWS * n) }
     ensures files_stay { F.files shelf.new ≡ F.files shelf.old }
     ensures shelf_failed { CountsEnd (F.faults shelf.old) (F.faults shelf.new) result }
     ensures painted { work.old.painted ≤ work.new.painted }
@@ -88,14 +88,14 @@ fn read_piece<S: Source, K: Sink, F: Shelf>(
     requires some { 0 < length buffer.old }
     requires most { length buffer.old ≤ left + 1 }
     requires left { left ≤ MAX_SCRIPT }
-    requires numbers { run.old.runner.world.views.next + MAX_VIEWS * (left + 1) < NUMBERS_END }
+    requires numbers { run.old.runner.world.screen.views.next + MAX_VIEWS * (left + 1) < NUMBERS_END }
     ensures reads { (first : Option (List ℕ)) (before : List ℕ)
         → length before + left ≡ MAX_SCRIPT
         → HasReadUpTo (F.files shelf.old) first (K.state sink.old).gone run.old before
         → ReadsPiece (F.files shelf.old) first before left (S.left source.old) (S.left source.new) (K.state sink.new).gone run.new result }
     ensures end { result ≡ Ok 0 → IsAtEnd (S.left source.new) }
     ensures most { IfOk result (λ n. n ≤ left) }
-    ensures numbers { IfOk result (λ n. run.new.runner.world.views.next ≤ run.old.runner.world.views.next + MAX_VIEWS * n) }
+    ensures numbers { IfOk result (λ n. run.new.runner.world.screen.views.next ≤ run.old.runner.world.screen.views.next + MAX_VIEWS * n) }
     ensures files_stay { F.files shelf.new ≡ F.files shelf.old }
     ensures shelf_failed { CountsEnd (F.faults shelf.old) (F.faults shelf.new) result }
     ensures painted { work.old.painted ≤ work.new.painted }
@@ -119,7 +119,7 @@ fn run_to_end<S: Source, K: Sink, F: Shelf>(
     work: &mut Work,
 ) -> Result<bool, End>
     requires behind { (files : Option Files) (first : Option (List ℕ)) → HasReadUpTo files first first run.old [] }
-    requires numbers { run.old.runner.world.views.next ≡ 1 }
+    requires numbers { run.old.runner.world.screen.views.next ≡ 1 }
     ensures runs { RunsFrom (F.files shelf.old) (S.left source.old) (S.left source.new) (K.state sink.old).gone (K.state sink.new).gone result }
     ensures files_stay { F.files shelf.new ≡ F.files shelf.old }
     ensures shelf_failed { CountsEnd (F.faults shelf.old) (F.faults shelf.new) result }

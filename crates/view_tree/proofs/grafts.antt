@@ -4,6 +4,7 @@ pub mod EntryLaws
 pub mod GainLaws
 pub mod Grafts
 pub mod GrownGroups
+pub mod OnlyGrafted
 pub mod Paths
 pub mod Refusing
 pub mod Saplings

@@ -6,6 +6,7 @@ pub mod GroupLaws
 pub mod GroupReads
 pub mod IdPlaces
 pub mod ListLaws
+pub mod OnlyLayouts
 pub mod PlaceLaws
 pub mod RowLaws
 pub mod ToldParents

@@ -52,8 +52,8 @@ IsToldOf name down members fault.NoMemory = Unit {0}
 abbrev pub links_below : Views → ℕ → ℕ → Link → List Link
 links_below views parent number link = linked_in number link (views_of (children_of_first (part_from parent views.tree)))
 
--- orders of the children of a view's parent, once the view has another id and other rules, or why there are none; where the
--- parent is no relative layout there is nothing to put in order
+-- orders of the children of a view's parent, once the view has another id and other rules, or why there are none; where
+-- the parent is no relative layout there is nothing to put in order
 abbrev pub AreNewOrders : Views → ℕ → Link → Option ℕ → Result (Option Orders) AttachFault → Type 0
 AreNewOrders views view link None (Ok None) = Unit {0}
 AreNewOrders views view link None (Ok (Some orders)) = ⊥

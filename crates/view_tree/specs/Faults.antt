@@ -13,8 +13,8 @@ IsRefusedExactlyFor reason (Ok answer) = reason ≡ None
 IsRefusedExactlyFor reason (Err (fault.Refused refusal)) = reason ≡ Some (plain_refusal refusal)
 IsRefusedExactlyFor reason (Err fault.NoMemory) = reason ≡ None
 
--- an answer is a refusal exactly where there is a reason, or else a cycle, and then tells it; memory can be wanting only
--- where there is no reason
+-- an answer is a refusal exactly where there is a reason, or else a cycle, and then tells it; memory can be wanting
+-- only where there is no reason
 abbrev pub IsRefusedOrCyclic : {A : Type 0} → Option PlainRefusal → Option PlainRefusal → Result A AttachFault → Type 0
 IsRefusedOrCyclic reason cycle (Ok answer) = option_or reason cycle ≡ None
 IsRefusedOrCyclic reason cycle (Err (fault.Refused refusal)) = option_or reason cycle ≡ Some (plain_refusal refusal)

@@ -26,8 +26,8 @@ cycle_of name links numbers =
     option_or (cycle_with name false (map (slice_index numbers) (members_of (leads Horizontal links) (length links))))
     (cycle_with name true (map (slice_index numbers) (members_of (leads Vertical links) (length links))))
 
--- of each child of a view of this depth something, by its number: the children are those one deeper among the views behind
--- it in preorder, until one is no deeper; the first of these has this number
+-- of each child of a view of this depth something, by its number: the children are those one deeper among the views
+-- behind it in preorder, until one is no deeper; the first of these has this number
 abbrev pub behind : {X : Type 0} → (ℕ → Sprout → X) → ℕ → ℕ → List Sprout → List X
 behind f depth number [] = []
 behind f depth number (sprout ∷ more) =

@@ -9,15 +9,15 @@ use Rattle.view_model.specs.Forest.{Forest, Nothing, Branch, count_of}
 use Rattle.view_model.specs.Layout.{unscrolled}
 use Rattle.view_model.specs.PlainTree.{PlainView}
 use Rattle.view_tree.specs.Holders.{holders}
-use Rattle.view_tree.specs.Ordering.{IsGrouped, group_at, orders_in}
+use Rattle.view_tree.specs.Ordering.{HasNoOther, IsGrouped, group_at, orders_in}
 use Rattle.view_tree.specs.Rows.{Row, later_siblings, count_where, first_key, key_where, keys_where, last_key, count_of_key}
-use Rattle.view_tree.specs.Views.{Held, IsTree, Views, plain_of}
+use Rattle.view_tree.specs.Views.{Held, IsTree, Views, no_counts, plain_of}
 use Rattle.view_tree.specs.declared.ids.Holders.{Holders}
 use Rattle.view_tree.specs.declared.node.Node.{Node}
 use Rattle.view_tree.specs.declared.tree.ViewTree.TheInside.{Inside}
 
--- what a node says of the tree, and nothing of its state
-pub record Links : Type 0 where
+-- what a node says of the tree: its view and its neighbours, and nothing of its state
+pub record PlainNode : Type 0 where
   pub view : PlainView
   pub parent : Option ℕ
   pub first : Option ℕ
@@ -29,44 +29,44 @@ pub record Links : Type 0 where
 abbrev pub view_of_node : Node → PlainView
 view_of_node node = unscrolled (record { number = node.number; class = node.class; facts = node.facts; text = node.text })
 
-abbrev pub links_of : Node → Links
+abbrev pub links_of : Node → PlainNode
 links_of node = record {
   view = view_of_node node;
-  parent = node.parent;
-  first = node.first;
-  last = node.last;
-  previous = node.previous;
-  next = node.next;
+  parent = node.links.parent;
+  first = node.links.first;
+  last = node.links.last;
+  previous = node.links.previous;
+  next = node.links.next;
 }
 
-abbrev pub links_in : Option Node → Option Links
+abbrev pub links_in : Option Node → Option PlainNode
 links_in None = None
 links_in (Some node) = Some (links_of node)
 
-abbrev pub links_at : Slab Node → ℕ → Option Links
+abbrev pub links_at : Slab Node → ℕ → Option PlainNode
 links_at nodes key = links_in (get nodes key)
 
 -- what is kept of a node's view beside the tree
 abbrev pub held_by : Node → Held
-held_by node = record { state = node.state; offset = node.facts.offset }
+held_by node = record { state = node.state; offset = node.facts.offset; cache = node.cache }
 
 abbrev pub held_in : Option Node → Option Held
 held_in None = None
 held_in (Some node) = Some (held_by node)
 
 -- a view that a node stands for, where its children and its later siblings are known
-abbrev pub branch_at : ℕ → Option Links → (Option ℕ → Forest Row) → Forest Row
+abbrev pub branch_at : ℕ → Option PlainNode → (Option ℕ → Forest Row) → Forest Row
 branch_at key None grow = Nothing
 branch_at key (Some node) grow = Branch (record { key = key; view = node.view }) (grow node.first) (grow node.next)
 
 -- the forest that begins at a node, as far as the fuel goes
-unfoldable pub forest : ℕ → (ℕ → Option Links) → Option ℕ → Forest Row
+unfoldable pub forest : ℕ → (ℕ → Option PlainNode) → Option ℕ → Forest Row
 forest zero at key = Nothing
 forest (suc fuel) at None = Nothing
 forest (suc fuel) at (Some key) = branch_at key (at key) (forest fuel at)
 
 -- what the node of a view says that has these around it
-abbrev pub links_for : Row → Option ℕ → Option ℕ → Forest Row → Forest Row → Links
+abbrev pub links_for : Row → Option ℕ → Option ℕ → Forest Row → Forest Row → PlainNode
 links_for row parent before kids siblings = record {
   view = row.view;
   parent = parent;
@@ -77,26 +77,26 @@ links_for row parent before kids siblings = record {
 }
 
 -- the nodes stand for a list of trees, under this parent and behind this sibling
-abbrev pub RepresentsPart : (ℕ → Option Links) → Option ℕ → Option ℕ → Forest Row → Type 0
+abbrev pub RepresentsPart : (ℕ → Option PlainNode) → Option ℕ → Option ℕ → Forest Row → Type 0
 RepresentsPart at parent before Nothing = Unit {0}
 RepresentsPart at parent before (Branch row kids siblings) =
     (at row.key ≡ Some (links_for row parent before kids siblings)) × RepresentsPart at (Some row.key) None kids × RepresentsPart at parent (Some row.key) siblings
 
 -- the parent of a node, or a sibling right beside it
-abbrev pub IsAround : Links → ℕ → Type 0
+abbrev pub IsAround : PlainNode → ℕ → Type 0
 IsAround node key = (node.parent ≡ Some key) ⊎ ((node.previous ≡ Some key) ⊎ (node.next ≡ Some key))
 
 -- what nodes say after a change of one of them, if any
-abbrev pub changed_at : (ℕ → Option Links) → Option ℕ → (Links → Links) → ℕ → Option Links
+abbrev pub changed_at : (ℕ → Option PlainNode) → Option ℕ → (PlainNode → PlainNode) → ℕ → Option PlainNode
 changed_at at None change key = at key
 changed_at at (Some changed) change key = if key == changed then option_map change (at key) else at key
 
 -- what nodes say once there is one more
-abbrev pub with_node : (ℕ → Option Links) → ℕ → Links → ℕ → Option Links
+abbrev pub with_node : (ℕ → Option PlainNode) → ℕ → PlainNode → ℕ → Option PlainNode
 with_node at new node key = if key == new then Some node else at key
 
 -- what nodes say once one is gone
-abbrev pub without : (ℕ → Option Links) → ℕ → ℕ → Option Links
+abbrev pub without : (ℕ → Option PlainNode) → ℕ → ℕ → Option PlainNode
 without at gone key = if key == gone then None else at key
 
 -- the second where the first is none, and else the third
@@ -110,23 +110,23 @@ key_or None key = Some key
 key_or (Some first) key = Some first
 
 -- the last child that a node names, if there is such a node
-abbrev pub last_named : Option Links → Option ℕ
+abbrev pub last_named : Option PlainNode → Option ℕ
 last_named None = None
 last_named (Some node) = node.last
 
-abbrev pub last_child : (ℕ → Option Links) → Option ℕ → Option ℕ
+abbrev pub last_child : (ℕ → Option PlainNode) → Option ℕ → Option ℕ
 last_child at None = None
 last_child at (Some parent) = last_named (at parent)
 
 -- what nodes say once a view has come under this key, the last child of its parent, behind a sibling
-abbrev pub linked : (ℕ → Option Links) → Option ℕ → ℕ → PlainView → Option ℕ → ℕ → Option Links
+abbrev pub linked : (ℕ → Option PlainNode) → Option ℕ → ℕ → PlainView → Option ℕ → ℕ → Option PlainNode
 linked at parent key view before =
     changed_at (changed_at (with_node at key (record { view = unscrolled view; parent = parent; first = None; last = None; previous = before; next = None }))
     before (λ node. record node { next = Some key }))
     parent (λ node. record node { first = key_or node.first key; last = Some key })
 
 -- what nodes say once one that said this is taken out from among its siblings
-abbrev pub unlinked : (ℕ → Option Links) → ℕ → Links → ℕ → Option Links
+abbrev pub unlinked : (ℕ → Option PlainNode) → ℕ → PlainNode → ℕ → Option PlainNode
 unlinked at key node =
     changed_at (changed_at (changed_at (without at key)
     node.previous (λ before. record before { next = node.next }))
@@ -134,7 +134,7 @@ unlinked at key node =
     node.parent (λ above. record above { first = replaced_if_none node.previous node.next above.first; last = replaced_if_none node.next node.previous above.last })
 
 -- the nodes and the root stand for the whole tree
-pub record RepresentsTree (at : ℕ → Option Links) (root : Option ℕ) (next : ℕ) (tree : Forest Row) : Type 0 where
+pub record RepresentsTree (at : ℕ → Option PlainNode) (root : Option ℕ) (next : ℕ) (tree : Forest Row) : Type 0 where
   pub outer : first_key tree ≡ root
   pub single : later_siblings tree ≡ Nothing
   pub stand : RepresentsPart at None None tree
@@ -144,18 +144,18 @@ pub record RepresentsTree (at : ℕ → Option Links) (root : Option ℕ) (next 
 -- the fields of a tree, apart from what is kept of relative layouts
 abbrev pub fields : Slab Node → IndexMap ℕ ℕ (BuildHasherDefault FoldHasher) → IndexMap ℕ Holders (BuildHasherDefault FoldHasher) → Option ℕ → ℕ → Inside
 fields nodes keys ids root next =
-    record { nodes = nodes; keys = keys; ids = ids; groups = hash_map [] (hasher_of keys) 0; root = root; next = next }
+    record { nodes = nodes; keys = keys; ids = ids; groups = hash_map [] (hasher_of keys) 0; root = root; next = next; counts = no_counts }
 
 abbrev pub tree_of : Inside → Forest Row
 tree_of inside = forest inside.next (links_at inside.nodes) inside.root
 
--- what contracts see of a tree with this root, where this is the number of the view that is made next, but for the orders
--- of relative layouts
+-- what contracts see of a tree with this root, where this is the number of the view that is made next, but for the
+-- orders of relative layouts
 abbrev pub views_in : Slab Node → Option ℕ → ℕ → Views
-views_in nodes root next = record { tree = forest next (links_at nodes) root; held = map held_in nodes.slots; orders = []; next = next }
+views_in nodes root next = record { tree = forest next (links_at nodes) root; held = map held_in nodes.slots; orders = []; next = next; counts = no_counts }
 
 abbrev pub value_of : Inside → Views
-value_of inside = record (views_in inside.nodes inside.root inside.next) { orders = orders_in inside.groups.entries }
+value_of inside = record (views_in inside.nodes inside.root inside.next) { orders = orders_in inside.groups.entries; counts = inside.counts }
 
 abbrev pub has_id : ℕ → PlainView → Bool
 has_id id view = view.facts.id == id
@@ -173,7 +173,8 @@ pub record IsPlanted (inside : Inside) : Type 0 where
   pub named : (id : ℕ) → get_key nat_eq inside.ids id ≡ holders_of id (tree_of inside)
   pub small : (key : ℕ) → 0 < count_of_key key (tree_of inside) → key < 2 ^ 64
 
--- and what is kept of each relative layout is right
+-- and what is kept of each relative layout is right, and nothing else is kept
 pub record IsSound (inside : Inside) : Type 0 where
   pub planted : IsPlanted inside
   pub grouped : IsGrouped (group_at inside.groups) (plain_of (value_of inside))
+  pub only : HasNoOther (group_at inside.groups) (tree_of inside)

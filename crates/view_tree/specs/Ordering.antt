@@ -1,5 +1,5 @@
 -- The orders in which relative layouts measure their children, and what is kept of these beside the tree.
-use Rattle.std.specs.Prelude.{ℕ, suc, ◌≡◌, ◌<◌, ◌≤◌, ◌==◌, ◌++◌, true, List, [], ◌∷◌, length, map, if◌then◌else◌, Option, Some, None, nat_eq, option_map}
+use Rattle.std.specs.Prelude.{ℕ, suc, ◌≡◌, ◌<◌, ◌≤◌, ◌==◌, ◌++◌, Bool, true, false, List, [], ◌∷◌, length, map, if◌then◌else◌, Option, Some, None, nat_eq, option_map}
 use Rattle.std.specs.List.{remove}
 use Rattle.std.specs.Vec.{vec_capacity, vec_len}
 use Rattle.std.specs.declared.hash.BuildHasherDefault.{BuildHasherDefault}
@@ -15,6 +15,7 @@ use Rattle.view_model.specs.PlainTree.{PlainView}
 use Rattle.view_model.specs.SiblingRules.{leads}
 use Rattle.view_tree.specs.declared.groups.Group.{Group}
 use Rattle.view_tree.specs.Places.{IsLowered}
+use Rattle.view_tree.specs.Rows.{Row, count_where}
 
 -- the places of children, for each axis
 pub record PlainOrders : Type 0 where
@@ -120,3 +121,11 @@ IsGroupedAt groups view kids = is_relative view.class ≡ true → IsKeptOf kids
 -- what is kept of every relative layout is right
 abbrev pub IsGrouped : (ℕ → Option PlainGroup) → Forest PlainView → Type 0
 IsGrouped groups tree = EveryBranch (λ (view : PlainView) (kids : Forest PlainView). IsGroupedAt groups view kids) tree
+
+-- whether a view is the relative layout of a number
+abbrev pub is_layout : ℕ → PlainView → Bool
+is_layout number view = if view.number == number then is_relative view.class else false
+
+-- nothing is kept under a number that no relative layout has
+abbrev pub HasNoOther : (ℕ → Option PlainGroup) → Forest Row → Type 0
+HasNoOther groups tree = (number : ℕ) → count_where (is_layout number) tree ≡ 0 → groups number ≡ None

@@ -13,8 +13,9 @@ use relative_layout::Orders;
 use std::alloc::{AllocError, Global};
 use view_model::Class;
 
-/// The children of a relative layout: their places in the orders in which they are measured, and their numbers in list
-/// order.
+/// What is kept of the children of a relative layout: the orders in which they are measured, as places among the
+/// children, and the children's numbers in list order. This list turns the places of the orders into views without a
+/// walk, and is part of the kept orders; no other view has a list of its children.
 #[derive(Drop)]
 pub struct Group {
     pub orders: Orders,
@@ -56,7 +57,7 @@ pub fn make_kid_room(groups: &mut IndexMap<u64, Group>, parent: u64) -> Result<(
     }
 }
 
-/// A new child comes behind the others; it is tied to none of them.
+/// A new child comes after the others; it is tied to none of them.
 fn push_kid(group: &mut Group, kid: u64)
     requires room { HasKidRoom group.old }
     requires few { length group.old.kids.items < 2 ^ 32 }
@@ -183,6 +184,7 @@ pub fn join_group(groups: &mut IndexMap<u64, Group>, parent: Option<u64>, number
     ensures own { is_relative class ≡ true → group_at groups.new number ≡ Some no_group }
     ensures parent { (k : ℕ) → parent ≡ Some k → k ≢ number → group_at groups.new k ≡ option_map (with_kid number) (group_at groups.old k) }
     ensures others { (k : ℕ) → parent ≢ Some k → k ≢ number → group_at groups.new k ≡ group_at groups.old k }
+    ensures unused { (k : ℕ) → (is_relative class ≡ true → k ≢ number) → group_at groups.old k ≡ None → group_at groups.new k ≡ None }
 {
     if let Some(parent) = parent {
         add_kid(groups, parent, number);
@@ -193,10 +195,11 @@ pub fn join_group(groups: &mut IndexMap<u64, Group>, parent: Option<u64>, number
     }
 }
 
-/// Notes that a view has gone, a child of the view of the number `parent`, if it had a parent.
+/// Notes that a view is taken out, a child of the view of the number `parent`, if it had a parent.
 pub fn leave_group(groups: &mut IndexMap<u64, Group>, parent: Option<u64>, number: u64)
     ensures own { (k : ℕ) → parent ≡ Some k → k ≢ number → IsTakenAt number (group_at groups.old k) (group_at groups.new k) }
     ensures others { (k : ℕ) → parent ≢ Some k → k ≢ number → group_at groups.new k ≡ group_at groups.old k }
+    ensures unused { group_at groups.new number ≡ None }
 {
     remove_kid(groups, parent, number);
     groups.swap_remove(&number);
@@ -207,6 +210,7 @@ pub fn set_orders(groups: &mut IndexMap<u64, Group>, number: Option<u64>, orders
     ensures own { (k : ℕ) (new : Orders) → number ≡ Some k → orders ≡ Some new → group_at groups.new k ≡ option_map (with_orders (plain_orders new)) (group_at groups.old k) }
     ensures others { (k : ℕ) → number ≢ Some k → group_at groups.new k ≡ group_at groups.old k }
     ensures none { orders ≡ None → (k : ℕ) → group_at groups.new k ≡ group_at groups.old k }
+    ensures unused { (k : ℕ) → group_at groups.old k ≡ None → group_at groups.new k ≡ None }
 {
     let Some(orders) = orders else {
         return;

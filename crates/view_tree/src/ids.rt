@@ -15,6 +15,7 @@ pub struct Holders {
     pub sum: usize,
 }
 
+/// These views and the one of a key.
 fn one_more(held: Option<Holders>, key: usize) -> Holders
     requires { IfSome held (λ holders. holders.count ≤ MAX_VIEWS) }
     ensures { result ≡ with_holder held key }
@@ -28,6 +29,7 @@ fn one_more(held: Option<Holders>, key: usize) -> Holders
     }
 }
 
+/// These views without the one of a key; none where it was the only one.
 fn one_less(holders: Holders, key: usize) -> Option<Holders>
     ensures { result ≡ without_holder (Some holders) key }
 {

@@ -20,6 +20,7 @@ pub struct Kids {
 }
 
 impl Kids {
+    /// No children.
     pub fn new(alloc: Global) -> Kids
         ensures links { result.links.items ≡ [] }
         ensures numbers { result.numbers.items ≡ [] }

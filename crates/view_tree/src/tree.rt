@@ -14,9 +14,11 @@ mod plain;
 mod plant;
 mod preorder;
 mod relatives;
+mod request;
 mod rules;
 mod setters;
 
+use crate::counts::Counts;
 use crate::groups::Group;
 use crate::ids::Holders;
 use crate::node::Node;
@@ -40,6 +42,7 @@ pub struct ViewTree {
     groups: IndexMap<u64, Group>,
     root: Option<usize>,
     next: u64,
+    counts: Counts,
 }
 
 impl Model for ViewTree {
@@ -69,9 +72,14 @@ impl ViewTree {
             groups: IndexMap::new(alloc),
             root: None,
             next: 1,
+            counts: Counts {
+                measures: 0,
+                laid: 0,
+            },
         }
     }
 
+    /// The root, if there is a view.
     pub fn root(&self) -> Option<Key>
         ensures key { result ≡ first_key self.now.tree }
         ensures part { rest_from result self.now.tree ≡ self.now.tree }
@@ -86,6 +94,20 @@ impl ViewTree {
         ensures { result ≡ self.now.next }
     {
         self.next
+    }
+
+    /// How often a view was measured since the tree was made.
+    pub fn measures(&self) -> u64
+        ensures { result ≡ self.now.counts.measures }
+    {
+        self.counts.measures
+    }
+
+    /// How often bounds were set since the tree was made.
+    pub fn laid(&self) -> u64
+        ensures { result ≡ self.now.counts.laid }
+    {
+        self.counts.laid
     }
 
     /// How many views there are.

@@ -1,7 +1,7 @@
 -- A gesture in a tree of which views are edited that stay.
 use Rattle.std.proofs.Common.{◌≡◌, ℕ, ◌<◌, true, refl, sym, ◌∙◌, ap, subst, arith, inl, inr}
 use Rattle.std.proofs.lemmas.Bool.{cases_Bool}
-use Rattle.std.specs.Prelude.{◌==◌}
+use Rattle.std.specs.Prelude.{◌==◌, if◌then◌else◌}
 use Rattle.touch_dispatch.specs.Kept.{Kept, gesture_of, is_open}
 use Rattle.touch_dispatch.specs.TreeEvents.{IsGestureIn}
 use Rattle.tree_edits.specs.Keeping.{KeepsViews}
@@ -9,10 +9,10 @@ use Rattle.tree_edits.specs.declared.edits.Edit.{Edit}
 use Rattle.tree_edits.specs.declared.edits.Edit.TheVariants as edit
 use Rattle.view_model.specs.Forest.{Forest, Nothing, Branch, count_of}
 use Rattle.view_model.specs.PlainTree.{PlainView}
-use Rattle.view_tree.specs.Rows.{Row, changed_at_key, count_of_key, head_view, part_from, views_of}
+use Rattle.view_tree.specs.Rows.{Row, changed_at_key, count_of_key, count_of_number, head_view, part_from, views_of}
 use Rattle.view_tree.specs.Views.{Views}
 use Rattle.view_tree.proofs.forest.KeyLaws.{absent, or_else_live, zero_or_more}
-use Rattle.view_tree.proofs.forest.NumberLaws.{count-put, count_of_key-put}
+use Rattle.view_tree.proofs.forest.NumberLaws.{count-put, count_of_key-put, sum-put}
 use Rattle.view_world.specs.Changed.{LeavesViews}
 use Rattle.view_world.proofs.ShapeLaws.{children_alike, shape_of}
 
@@ -65,12 +65,15 @@ gesture_edited key change tree kept same caught = record {
 pub record Stays (old new : Views) (kept : Kept) : Type 0 where
   pub caught : IsGestureIn old.tree kept → IsGestureIn new.tree kept
   pub next : new.next ≡ old.next
+  pub numbers : (number : ℕ) → count_of_number number new.tree ≡ count_of_number number old.tree
   pub count : count_of new.tree ≡ count_of old.tree
 
 changed_stays : (old new : Views) (key : ℕ) (change : PlainView → PlainView) (kept : Kept) → KeepsNumber change → new.tree ≡ changed_at_key key change old.tree → new.next ≡ old.next → Stays old new kept
 changed_stays old new key change kept same tree next = record {
   caught = λ caught. subst (λ (t : Forest Row). IsGestureIn t kept) (sym tree) (gesture_edited key change old.tree kept same caught);
   next = next;
+  numbers = λ number.
+      ap (count_of_number number) tree ∙ sum-put (λ (row : Row). if row.view.number == number then 1 else 0) key change old.tree (λ row. ap (λ (n : ℕ). if n == number then 1 else 0) (same row.view));
   count = ap count_of tree ∙ count-put key change old.tree;
 }
 
@@ -81,4 +84,4 @@ edit_stays old new (edit.Act view act) kept leaves keeps = changed_stays old new
 edit_stays old new (edit.Text view text) kept leaves keeps = changed_stays old new view _ kept (λ v. refl) keeps.tree keeps.next
 
 pub same_stays : (old new : Views) (kept : Kept) → new ≡ old → Stays old new kept
-same_stays old new kept same = subst (λ (v : Views). Stays old v kept) (sym same) (record { caught = λ caught. caught; next = refl; count = refl })
+same_stays old new kept same = subst (λ (v : Views). Stays old v kept) (sym same) (record { caught = λ caught. caught; next = refl; numbers = λ number. refl; count = refl })

@@ -19,7 +19,7 @@ use Rattle.view_tree.specs.Rows.{views_of}
 use Rattle.view_tree.specs.Views.{IsTree, Views, geometry_of, plain_of}
 use Rattle.view_world.specs.Changed.{CarriesOut}
 use Rattle.view_world.specs.Deliveries.{done_text, entries_text}
-use Rattle.view_world.specs.KeyedWorld.{KeyedWorld, geometry_in, world_of}
+use Rattle.view_world.specs.KeyedScreen.{KeyedScreen, geometry_in, world_of}
 use Rattle.view_world.specs.Pointers.{AreDown}
 use Rattle.view_world.specs.Sound.{IsSound}
 use Rattle.view_world.specs.Step.{Reply, Done, after_event}
@@ -28,18 +28,18 @@ use Rattle.view_world.specs.World.{World}
 use Rattle.view_world.specs.declared.response.Response.TheVariants as response
 use Rattle.view_world.specs.declared.stage.Stage.{Stage}
 use Rattle.view_world.specs.declared.stage.Stage.TheVariants.{NoWindow, NoFrame, Unsettled, Settled}
-use Rattle.view_world.specs.declared.world.World.TheInside.{Inside}
-use Rattle.view_world.proofs.SceneLaws.{offsets_plain, scene_plain, scrolls_consistent, scrolls_count, scrolls_geometry, scrolls_plain, views_plain}
+use Rattle.view_world.specs.declared.screen.Screen.TheInside.{Inside}
+use Rattle.view_world.proofs.SceneLaws.{offsets_plain, scene_plain, scrolls_count, scrolls_geometry, scrolls_plain, views_plain}
 
 -- where the views of a settled world lie, for dispatch
-scene_settled : (world : KeyedWorld) (slop : ℤ) → IsTree world.views → world.stage ≡ Settled → slop ≡ slop_at world.dpi → scene_in (world_of world) ≡ scene_of world.views slop
+scene_settled : (world : KeyedScreen) (slop : ℤ) → IsTree world.views → world.stage ≡ Settled → slop ≡ slop_at world.dpi → scene_in (world_of world) ≡ scene_of world.views slop
 scene_settled world slop is settled same =
     ap (λ (stage : Stage). let scene : Scene = record { rects = rect_in (geometry_in stage world.views); slop = slop_at world.dpi } in scene) settled
     ∙ ap (λ slop. let scene : Scene = record { rects = rect_in (geometry_of world.views); slop = slop } in scene) (sym same)
     ∙ sym (scene_plain world.views slop is)
 
 -- no view was handed anything yet
-pub progress_plain : (world : KeyedWorld) (entries : List Entry) → IsTree world.views → entries ≡ []
+pub progress_plain : (world : KeyedScreen) (entries : List Entry) → IsTree world.views → entries ≡ []
     → progress_in (world_of world) ≡ progress_by (offsets_kept world.views) (gesture_of world.gesture) entries
 progress_plain world entries is none =
     ap (λ offsets. progress_by offsets (gesture_of world.gesture) []) (sym (offsets_plain world.views is))
@@ -52,8 +52,8 @@ geometry_scrolled NoFrame old new scrolls = refl
 geometry_scrolled Unsettled old new scrolls = refl
 geometry_scrolled Settled old new scrolls = scrolls_geometry old new scrolls
 
-pub world_scrolled : (old : KeyedWorld) (new : Views) (kept : Kept) (told entries : List Entry) → IsTree old.views → OnlyScrolls old.views new
-    → (let after : KeyedWorld = record old { views = new; gesture = kept; told = told } in
+pub world_scrolled : (old : KeyedScreen) (new : Views) (kept : Kept) (told entries : List Entry) → IsTree old.views → OnlyScrolls old.views new
+    → (let after : KeyedScreen = record old { views = new; gesture = kept; told = told } in
     world_of after ≡ after_progress (world_of old) (progress_by (offsets_kept new) (gesture_of kept) entries))
 world_scrolled old new kept told entries is scrolls =
     let world : World = world_of (record old { gesture = kept }) in
@@ -63,7 +63,7 @@ world_scrolled old new kept told entries is scrolls =
     ∙ ap (with (after_progress (world_of old) (progress_by (offsets_kept new) (gesture_of kept) entries)).tree old.views.next) (geometry_scrolled old.stage old.views new scrolls)
 
 -- what becomes of an event
-reached_plain : (world : KeyedWorld) (log : Log) (slop : ℤ) (event : Event) → IsTree world.views → world.stage ≡ Settled → slop ≡ slop_at world.dpi → log.entries.items ≡ []
+reached_plain : (world : KeyedScreen) (log : Log) (slop : ℤ) (event : Event) → IsTree world.views → world.stage ≡ Settled → slop ≡ slop_at world.dpi → log.entries.items ≡ []
     → reached_in (world_of world) event ≡ dispatched (scene_of world.views slop) (views_of world.views.tree) event (progress_of world.views world.gesture log)
 reached_plain world log slop event is settled same none =
     ap (λ (scene : Scene). dispatched scene (unscrolled_tree (plain_of world.views)) event (progress_in (world_of world))) (scene_settled world slop is settled same)
@@ -71,12 +71,12 @@ reached_plain world log slop event is settled same none =
     ∙ ap (dispatched (scene_of world.views slop) (views_of world.views.tree) event) (progress_plain world log.entries.items is none)
 
 -- an event was handed to the root, and these pointers are down then
-pub handed : (old : KeyedWorld) (new : Views) (kept : Kept) (before after : Log) (slop : ℤ) (event : Event) (pointers : List Point) (yes_ : Bool)
+pub handed : (old : KeyedScreen) (new : Views) (kept : Kept) (before after : Log) (slop : ℤ) (event : Event) (pointers : List Point) (yes_ : Bool)
     → IsTree old.views → old.stage ≡ Settled → slop ≡ slop_at old.dpi → before.entries.items ≡ []
     → (let reached : Reached = record { yes = yes_; progress = progress_of new kept after } in
     dispatched (scene_of old.views slop) (views_of old.views.tree) event (progress_of old.views old.gesture before) ≡ reached)
     → OnlyScrolls old.views new
-    → (let now : KeyedWorld = record old { views = new; gesture = kept; pointers = pointers; told = after.entries.items } in
+    → (let now : KeyedScreen = record old { views = new; gesture = kept; pointers = pointers; told = after.entries.items } in
     CarriesOut (after_event (world_of old) event pointers) now (Ok (response.Deliveries (Some yes_))))
 handed old new kept before after slop event pointers yes_ is settled same none reached scrolls =
     let reply : Reached → Reply = λ reached.
@@ -96,9 +96,9 @@ room_cleared before cleared entries none same room = let bare : length cleared.e
 pub sound_scrolled : (old new : Inside) → IsSound old → OnlyScrolls old.tree new.tree → IsGestureIn new.tree.tree new.gesture
     → ((view : ℕ) → is_open new.gesture view ≡ is_open old.gesture view) → room_of new.log ≡ room_of old.log → AreDown new.pointers.items → OffsetsFit (plain_of new.tree) → IsSound new
 sound_scrolled old new sound scrolls caught opened room down offsets = record {
-  consistent = scrolls_consistent old.tree new.tree scrolls sound.consistent;
+  consistent = scrolls.consistent sound.consistent;
   caught = caught;
-  fresh = λ number above. opened number ∙ sound.fresh number (rw scrolls.same.next at above);
+  closed = λ number none. opened number ∙ sound.closed number (rw scrolls.same.tree at none);
   room = rw (room, scrolls_count old.tree new.tree scrolls) sound.room;
   down = down;
   narrow = subst FitAll (sym (scrolls_geometry old.tree new.tree scrolls)) sound.narrow;

@@ -1,6 +1,7 @@
 -- A frame of a world, in terms of the plain world, and what a world keeps then.
 use Rattle.std.proofs.Common.{◌≡◌, ℕ, ◌+◌, ◌*◌, ◌<◌, Bool, true, false, List, [], refl, sym, ◌∙◌, ap, subst, arith}
-use Rattle.std.specs.Prelude.{Option, Some, not}
+use Rattle.std.specs.Prelude.{Option, Some, None, ◌≤◌, ◌==◌, if◌then◌else◌, not}
+use Rattle.kept_views.specs.Laying.{differ}
 use Rattle.std.specs.Option.{is_some}
 use Rattle.geom_core.specs.declared.color.Argb.{Argb}
 use Rattle.geom_core.specs.declared.geometry.Size.{Size}
@@ -10,29 +11,35 @@ use Rattle.size_hooks.specs.Hook.{Hook}
 use Rattle.touch_dispatch.specs.Kept.{Kept, gesture_of, is_open}
 use Rattle.touch_dispatch.specs.TreeEvents.{IsGestureIn}
 use Rattle.traversal.proofs.FrameLaws.{unsettled_nowhere}
-use Rattle.traversal.proofs.ShapeLaws.{bare_view, count_of-same, count_of_key-same, number_of-same, views_of-same}
+use Rattle.traversal.proofs.ShapeLaws.{bare_view, count_of-same, count_of_key-same, number_of-same, sum-same, views_of-same}
 use Rattle.traversal.specs.Changing.{FitAll, IsFramed, SameShape}
-use Rattle.traversal.specs.Frames.{Framed, after_frame as frame_of}
+use Rattle.traversal.specs.Counting.{IsCounted}
+use Rattle.traversal.specs.Frames.{Framed, after_frame as frame_of, fired_in, frame_calls as calls_of_frame}
+use Rattle.measure_pass.specs.Caches.{Grew}
+use Rattle.traversal.specs.Growing.{IsMeasuredByFrame, IsUnedited, frame_edits}
+use Rattle.traversal.specs.Resting.{IsAtRest}
 use Rattle.traversal.specs.declared.outcome.Frame.{Frame}
 use Rattle.view_model.specs.Forest.{Forest, Nothing, Branch, count_of}
 use Rattle.view_model.specs.Geometry.{Laid}
 use Rattle.view_model.specs.PlainTree.{PlainView}
 use Rattle.view_tree.proofs.forest.PlainLaws.{plain-count}
-use Rattle.view_tree.specs.Hidden.{IsConsistent}
+use Rattle.kept_views.specs.Kept.{IsConsistent}
 use Rattle.view_tree.specs.Rows.{Row, count_of_key, first_key, views_of}
-use Rattle.view_tree.specs.Views.{Held, Views, geometry_of, held_of, plain_of, plain_rows}
+use Rattle.view_tree.specs.Views.{Held, IsLive, Views, cache_of, geometry_of, held_of, number_of, plain_of, plain_rows}
 use Rattle.view_world.proofs.ShapeLaws.{children_alike, shape-map, shape_of}
 use Rattle.view_world.proofs.WorldLaws.{window-size}
 use Rattle.view_world.specs.Counting.{RisesWithin, area_of, paint_bound}
-use Rattle.view_world.specs.KeyedWorld.{KeyedWorld, geometry_in, picture_at, stage_of, window_in, window_of, world_of}
+use Rattle.view_world.specs.KeyedScreen.{KeyedScreen, geometry_in, picture_at, stage_of, window_in, window_of, world_of}
+use Rattle.view_model.specs.declared.work.Work.{Work}
 use Rattle.view_world.specs.Replies.{framed_text}
+use Rattle.view_world.specs.Resting.{IsFrameDone, IsShown, LaysOut}
 use Rattle.view_world.specs.Sound.{IsSound}
 use Rattle.view_world.specs.Step.{Done, after_frame, frame_text, framed, picture_after, picture_in, stage_after, with_frame}
 use Rattle.view_world.specs.World as plain
 use Rattle.view_world.specs.World.{World}
 use Rattle.view_world.specs.declared.stage.Stage.{Stage}
 use Rattle.view_world.specs.declared.stage.Stage.TheVariants.{Unsettled, Settled}
-use Rattle.view_world.specs.declared.world.World.TheInside.{Inside}
+use Rattle.view_world.specs.declared.screen.Screen.TheInside.{Inside}
 
 framed-some : (world : World) (size : Size) (window : Option Size) (rows : Forest Row) (held : ℕ → Held) (root : Option ℕ) → window ≡ Some size → root ≡ first_key rows → is_some root ≡ true
     → framed world window (plain_rows held rows) ≡ Done (after_frame world size) (frame_text (frame_of world.tree world.hooks size))
@@ -50,7 +57,7 @@ same_all : (world : World) {tree tree' : Forest PlainView} {next next' : ℕ} {w
 same_all world et en ew es eg ep eh = rw (et, en, ew, es, eg, ep, eh) refl
 
 -- the world after a frame that ends at this stage
-framed_world : (now : KeyedWorld) (new : Views) (hooks : List Hook) (surface : Raster) (stage : Stage) (size : Size) (outcome : Frame) (after : Framed) → IsFramed after new hooks outcome → new.next ≡ now.views.next
+framed_world : (now : KeyedScreen) (new : Views) (hooks : List Hook) (surface : Raster) (stage : Stage) (size : Size) (outcome : Frame) (after : Framed) → IsFramed after new hooks outcome → new.next ≡ now.views.next
     → window_of now ≡ Some size → window_in stage surface ≡ Some size → stage_after after.settled ≡ stage_of stage → after.geometry ≡ geometry_in stage new → picture_after size after ≡ picture_at stage surface
     → Done (with_frame (world_of now) size after) (frame_text after) ≡ Done (world_of (record now { views = new; hooks = hooks; stage = stage; surface = surface })) (framed_text outcome.settled outcome.fired)
 framed_world now new hooks surface stage size outcome after framed next window opened at laid painted =
@@ -66,7 +73,7 @@ unsettled_picture : (size : Size) (after : Framed) → after.settled ≡ false �
 unsettled_picture size after unsettled = rw unsettled refl
 
 -- a frame has settled, and its picture was painted
-pub Changed-settled : (now : KeyedWorld) (new : Views) (hooks : List Hook) (surface : Raster) (size : Size) (outcome : Frame) (root : Option ℕ) → window_of now ≡ Some size → root ≡ first_key now.views.tree
+pub Changed-settled : (now : KeyedScreen) (new : Views) (hooks : List Hook) (surface : Raster) (size : Size) (outcome : Frame) (root : Option ℕ) → window_of now ≡ Some size → root ≡ first_key now.views.tree
     → is_some root ≡ true → IsFramed (frame_of (plain_of now.views) now.hooks size) new hooks outcome → new.next ≡ now.views.next → outcome.settled ≡ true
     → size_of surface ≡ size → surface.pixels ≡ picture_in size (geometry_of new) (plain_of new)
     → framed (world_of now) (window_of now) (plain_of now.views)
@@ -79,7 +86,7 @@ Changed-settled now new hooks surface size outcome root window er some framed ne
     (settled_picture size after (geometry_of new) (plain_of new) has (framed.geometry has) framed.plain ∙ sym painted)
 
 -- a frame has not settled
-pub Changed-unsettled : (now : KeyedWorld) (new : Views) (hooks : List Hook) (size : Size) (outcome : Frame) (root : Option ℕ) → window_of now ≡ Some size → root ≡ first_key now.views.tree
+pub Changed-unsettled : (now : KeyedScreen) (new : Views) (hooks : List Hook) (size : Size) (outcome : Frame) (root : Option ℕ) → window_of now ≡ Some size → root ≡ first_key now.views.tree
     → is_some root ≡ true → IsFramed (frame_of (plain_of now.views) now.hooks size) new hooks outcome → new.next ≡ now.views.next → outcome.settled ≡ false
     → framed (world_of now) (window_of now) (plain_of now.views) ≡ Done (world_of (record now { views = new; hooks = hooks; stage = Unsettled })) (framed_text outcome.settled outcome.fired)
 Changed-unsettled now new hooks size outcome root window er some framed next unsettled =
@@ -99,7 +106,7 @@ is_true true e = refl
 is_true false e = absurd cc
 
 -- how much is painted for a frame
-pub paints_within : (now : KeyedWorld) (new : Views) (size : Size) (before mid after : ℕ) → window_of now ≡ Some size → SameShape now.views new → mid ≡ before
+pub paints_within : (now : KeyedScreen) (new : Views) (size : Size) (before mid after : ℕ) → window_of now ≡ Some size → SameShape now.views new → mid ≡ before
     → RisesWithin ((2 * count_of new.tree + 1) * (now.surface.width * now.surface.height)) mid after → RisesWithin (paint_bound (world_of now)) before after
 unfolding paint_bound
 paints_within now new size before mid after window shape same rises =
@@ -108,6 +115,39 @@ paints_within now new size before mid after window shape same rises =
     let count : count_of (plain_of now.views) ≡ count_of new.tree = plain-count (held_of now.views) now.views.tree ∙ sym (count_of-same shape) in
     let bound : (2 * count_of (plain_of now.views) + 1) * area_of (window_of now) ≡ (2 * count_of new.tree + 1) * (now.surface.width * now.surface.height) = rw (count, area) refl in
     record { grew = omega (arith, rises.grew, same); most = omega (arith, rises.most, same, bound) }
+
+-- what a frame has counted, and what it leaves
+pub frame_done : (old : KeyedScreen) (new : Views) (hooks : List Hook) (surface : Raster) (stage : Stage) (size : Size) (outcome : Frame) (before mid after : Work) → window_of old ≡ Some size → size_of surface ≡ size
+    → IsFramed (frame_of (plain_of old.views) old.hooks size) new hooks outcome → mid.measured ≤ before.measured + calls_of_frame (plain_of old.views) old.hooks size
+    → (IsAtRest old.views size → fired_in old.hooks (geometry_of old.views) ≡ None → mid ≡ before)
+    → (outcome.fired ≡ 0 → new.counts.laid ≤ old.views.counts.laid + differ (held_of old.views) (held_of new) old.views.tree)
+    → new.counts.laid ≤ old.views.counts.laid + 2 * count_of old.views.tree
+    → ((key : ℕ) → IsLive old.views key → IsUnedited old.views.tree (frame_edits (plain_of old.views) old.hooks size) key
+    → Grew (IsMeasuredByFrame (plain_of old.views) old.hooks size (number_of old.views key)) (cache_of old.views key) (cache_of new key))
+    → IsCounted old.views new before mid → after.measured ≡ mid.measured
+    → (stage ≡ Settled → IsAtRest new size × (fired_in hooks (geometry_of new) ≡ None)) → (stage ≡ Settled → surface.pixels ≡ picture_in (size_of surface) (geometry_of new) (plain_of new))
+    → IsFrameDone old (record old { views = new; hooks = hooks; surface = surface; stage = stage }) before after
+frame_done old new hooks surface stage size outcome before mid after window wide framed measured calm laid twice caches counted same rest painted =
+    let own : size_of old.surface ≡ size = window-size old size window in
+    record {
+      measured = rw (same, window) measured;
+      calm = λ rests.
+          let still : mid ≡ before = calm (subst (IsAtRest old.views) own rests.laid) rests.unfired in
+          let even : mid.measured ≡ before.measured = ap (λ (work : Work). work.measured) still in
+          omega (arith, same, even);
+      counted = record { by = counted.by; work = rw same counted.work; tree = counted.tree };
+      laid = λ other at.
+          let one : size ≡ other = cc in
+          subst (LaysOut old (record old { views = new; hooks = hooks; surface = surface; stage = stage })) one (record { once = λ none. laid (framed.fired ∙ none); twice = twice; caches = caches });
+      shows = λ settled.
+          let both = rest settled in
+          record { rests = record { settled = settled; laid = subst (IsAtRest new) (sym wide) both.0; unfired = both.1 }; picture = painted settled };
+    }
+
+-- a frame of a screen that is shown leaves its tree, and counts nothing
+pub still_shown : (now : KeyedScreen) (new : Views) (size : Size) (before after : Work) → window_of now ≡ Some size
+    → (IsAtRest now.views size → fired_in now.hooks (geometry_of now.views) ≡ None → (new ≡ now.views) × (after ≡ before)) → IsShown now → (new ≡ now.views) × (after ≡ before)
+still_shown now new size before after window calm shown = calm (subst (IsAtRest now.views) (window-size now size window) shown.rests.laid) shown.rests.unfired
 
 -- a gesture in a tree of which the facts are others
 gesture_shaped : (old new : Views) (kept : Kept) → SameShape old new → IsGestureIn old.tree kept → IsGestureIn new.tree kept
@@ -126,7 +166,7 @@ pub sound_framed : (old new : Inside) → SameShape old.tree new.tree → IsCons
 sound_framed old new shape consistent narrow offsets gesture log pointers sound = record {
   consistent = consistent;
   caught = rw gesture (gesture_shaped old.tree new.tree old.gesture shape sound.caught);
-  fresh = λ number later. rw gesture (sound.fresh number (rw shape.next at later));
+  closed = λ number none. rw gesture (sound.closed number (rw (sum-same {old = old.tree} {new = new.tree} (λ (row : Row). if row.view.number == number then 1 else 0) (λ row. refl) shape) at none));
   room = rw (log, count_of-same shape) sound.room;
   down = rw pointers sound.down;
   narrow = narrow;

@@ -11,8 +11,8 @@ use Rattle.view_tree.specs.Views.{IsTree, Views, plain_of}
 use Rattle.view_world.proofs.CaughtLaws.{caught_plain}
 use Rattle.view_world.proofs.GrownCaught.{unused_next}
 use Rattle.view_world.proofs.ShapeLaws.{times_in}
-use Rattle.view_world.specs.Places.{AreFree}
-use Rattle.view_world.specs.Sound.{HasNoneFrom}
+use Rattle.view_world.specs.Places.{AreFree, HasNoneFrom}
+use Rattle.view_world.specs.Sound.{HasNoneElse}
 
 root_counted : (child : ℕ) (list : Forest PlainView) → is_root child list ≡ true → 0 < times_in child list
 root_counted child Nothing root = absurd (cc)
@@ -57,5 +57,9 @@ free_next views kept is caught number later group =
           absurd (omega (arith, counted, below, part, none))
     ]
 
-pub are_free : (views : Views) (kept : Kept) → IsTree views → IsGestureIn views.tree kept → HasNoneFrom views.next kept → AreFree views.next kept
-are_free views kept is caught fresh = record { closed = fresh; free = free_next views kept is caught }
+-- nor has it a place
+pub none_from : (views : Views) (kept : Kept) → IsTree views → HasNoneElse views.tree kept → HasNoneFrom views.next kept
+none_from views kept is closed = λ number later. closed number (is.earlier number later)
+
+pub are_free : (views : Views) (kept : Kept) → IsTree views → IsGestureIn views.tree kept → HasNoneElse views.tree kept → AreFree views.next kept
+are_free views kept is caught closed = record { closed = none_from views kept is closed; free = free_next views kept is caught }

@@ -1,8 +1,8 @@
 -- What a world keeps once the views of a file have come.
 use Rattle.std.proofs.Common.{◌≡◌, ◌∙◌, ℕ, suc, ◌+◌, ◌*◌, ◌≤◌, arith, List, length, length-append, refl, sym, ap, subst, inl, inr}
-use Rattle.std.specs.Prelude.{◌==◌, true, Option, Some, None, Result, Err}
+use Rattle.std.specs.Prelude.{◌==◌, ◌<◌, true, IfSome, Option, Some, None, Result, Err}
 use Rattle.std.specs.Option.{option_map, option_or}
-use Rattle.std.proofs.lemmas.Bool.{cases_Bool, cases_lt}
+use Rattle.std.proofs.lemmas.Bool.{cases_Bool, cases_eq, cases_lt, eq-eqb}
 use Rattle.saved_state.specs.Saving.{OffsetsFit}
 use Rattle.touch_dispatch.specs.Kept.{Kept, gesture_of, is_open}
 use Rattle.touch_dispatch.specs.TreeEvents.{room_of}
@@ -17,25 +17,24 @@ use Rattle.view_model.specs.Sprouts.{IsPreorder, Seed, numbered, preorder, seeds
 use Rattle.view_model.specs.declared.sprout.Sprout.{Sprout}
 use Rattle.view_model.proofs.SproutLaws.{preorder-seeds_of}
 use Rattle.view_tree.specs.Faults.{IsRefusedOrCyclic}
-use Rattle.view_tree.specs.Grafted.{Grafted}
-use Rattle.view_tree.specs.Hidden.{IsConsistent}
-use Rattle.view_tree.specs.Views.{IsTree, Views, held_of, number_of, plain_of}
+use Rattle.kept_views.specs.Kept.{IsConsistent}
+use Rattle.view_tree.specs.Views.{IsLive, IsTree, Views, held_of, number_of, plain_of, plain_rows}
 use Rattle.view_tree.specs.declared.fault.AttachFault.{AttachFault}
 use Rattle.view_tree.specs.declared.fault.AttachFault.TheVariants as attach
-use Rattle.view_tree.proofs.forest.KeyLaws.{zero_or_more}
+use Rattle.view_tree.proofs.forest.KeyLaws.{number_live, zero_or_more}
 use Rattle.view_tree.proofs.forest.PlainLaws.{plain-count}
-use Rattle.view_tree.proofs.values.GeometryLaws.{geometry-gained}
 use Rattle.view_world.proofs.CaughtLaws.{times-plain}
 use Rattle.view_world.proofs.GrowingLaws.{placed_root}
 use Rattle.view_world.proofs.GrownCaught.{gesture_grafted}
+use Rattle.view_world.proofs.PartCounts.{times-joined}
 use Rattle.view_world.proofs.ShapeLaws.{times_in}
 use Rattle.view_world.specs.Changed.{CarriesOut, fault_of_graft}
-use Rattle.view_world.specs.KeyedWorld.{KeyedWorld}
-use Rattle.view_world.specs.Places.{AreOpened}
+use Rattle.view_world.specs.KeyedScreen.{KeyedScreen}
+use Rattle.view_world.specs.Places.{AreOpened, HasGained}
 use Rattle.view_world.specs.Sound.{IsSound}
 use Rattle.view_world.specs.Step.{grafted}
 use Rattle.view_world.specs.World.{World}
-use Rattle.view_world.specs.declared.world.World.TheInside.{Inside}
+use Rattle.view_world.specs.declared.screen.Screen.TheInside.{Inside}
 
 length-preorder : (depth : ℕ) (seeds : Forest Seed) → length (preorder depth seeds) ≡ count_of seeds
 length-preorder depth Nothing = refl
@@ -108,6 +107,52 @@ count_grafted old new place seeds is grew =
     let come = count-numbered old.next seeds in
     omega (arith, most, now, before, come)
 
+-- views that come leave those that are there, and are there then
+
+times_grown : (number parent : ℕ) (new tree : Forest PlainView) → times_in number tree ≤ times_in number (grown parent new tree)
+times_grown number parent new Nothing = omega arith
+times_grown number parent new (Branch view below after) = elim (cases_Bool (view.number == parent)) [
+  | inl e ↦ let more = times-joined number below new in rw e (omega (arith, more))
+  | inr e ↦
+      let one = times_grown number parent new below in
+      let two = times_grown number parent new after in
+      rw e (omega (arith, one, two))
+]
+
+times_still : (number : ℕ) (place : Option ℕ) (new tree : Forest PlainView) → (place ≡ None → tree ≡ Nothing) → times_in number tree ≤ times_in number (grown_at place new tree)
+times_still number None new tree root = rw (root refl) (omega arith)
+times_still number (Some parent) new tree root = times_grown number parent new tree
+
+times_new : (number parent : ℕ) (new tree : Forest PlainView) → 0 < times_in parent tree → times_in number new ≤ times_in number (grown parent new tree)
+times_new number parent new Nothing there = absurd (omega arith)
+times_new number parent new (Branch view below after) there = elim (cases_Bool (view.number == parent)) [
+  | inl e ↦ let more = times-joined number below new in rw e (omega (arith, more))
+  | inr e ↦
+      let there : 0 < 0 + (times_in parent below + times_in parent after) = rw e at there in
+      elim (zero_or_more (times_in parent below)) [
+        | inl none ↦ let two = times_new number parent new after (omega (arith, there, none)) in rw e (omega (arith, two))
+        | inr some ↦ let one = times_new number parent new below some in rw e (omega (arith, one))
+      ]
+]
+
+times_come : (number : ℕ) (place : Option ℕ) (new tree : Forest PlainView) → IfSome place (λ (parent : ℕ). 0 < times_in parent tree) → times_in number new ≤ times_in number (grown_at place new tree)
+times_come number None new tree there = omega arith
+times_come number (Some parent) new tree there = times_new number parent new tree there
+
+placed_there : (views : Views) (place : Option ℕ) → IfSome place (λ (view : ℕ). IsLive views view) → IfSome (option_map (number_of views) place) (λ (parent : ℕ). 0 < times_in parent (plain_of views))
+placed_there views None live = tt
+placed_there views (Some view) live = subst (λ (n : ℕ). 0 < n) (sym (times-plain (held_of views) (number_of views view) views.tree)) (number_live view views.tree live)
+
+numbered_there : (number first : ℕ) (seeds : Forest Seed) → first ≤ number → number < first + count_of seeds → 0 < times_in number (numbered first seeds)
+numbered_there number first Nothing from to = absurd (omega (arith, from, to))
+numbered_there number first (Branch seed below after) from to = elim (cases_eq first number) [
+  | inl e ↦ rw (eq-eqb first number e) (omega arith)
+  | inr ne ↦ elim (cases_lt number (suc first + count_of below)) [
+    | inl less ↦ let one = numbered_there number (suc first) below (omega (arith, from, ne)) less in omega (arith, one)
+    | inr more ↦ let two = numbered_there number (suc first + count_of below) after more (omega (arith, to)) in omega (arith, two)
+  ]
+]
+
 stay : (first count : ℕ) (old new : Kept) → AreOpened first count old new → (number : ℕ) → is_open old number ≡ true → is_open new number ≡ true
 stay first count old new opened number was =
     elim (cases_lt number first) [
@@ -116,17 +161,17 @@ stay first count old new opened number was =
     ]
 
 -- the fault of a graft is the reply
-pub graft_told : (world : World) (number : Option ℕ) (plan : Plan) (new : KeyedWorld) (reason cycle : Option PlainRefusal) (why : AttachFault)
+pub graft_told : (world : World) (number : Option ℕ) (plan : Plan) (new : KeyedScreen) (reason cycle : Option PlainRefusal) (why : AttachFault)
     → IsRefusedOrCyclic reason cycle (let r : Result ℕ AttachFault = Err why in r) → CarriesOut (grafted world number plan (option_or reason cycle)) new (Err (fault_of_graft why))
 graft_told world number plan new reason cycle (attach.Refused refusal) told = rw told refl
 graft_told world number plan new reason cycle attach.NoMemory told = tt
 
 -- the views of a file are in the tree, and have places
-pub sound_grafted : (inside : Inside) (new : Views) (gesture : Kept) (log : Log) (place : Option ℕ) (sprouts : List Sprout) (key : ℕ) → IsSound inside → IsTree inside.tree
-    → (place ≡ None → inside.tree.tree ≡ Nothing) → IsPreorder sprouts → Grafted inside.tree place (seeds_of sprouts) key new → IsConsistent new
+pub sound_grafted : (inside : Inside) (new : Views) (gesture : Kept) (log : Log) (place : Option ℕ) (sprouts : List Sprout) → IsSound inside → IsTree inside.tree → IfSome place (λ (view : ℕ). IsLive inside.tree view)
+    → (place ≡ None → inside.tree.tree ≡ Nothing) → IsPreorder sprouts → HasGained inside.tree place (seeds_of sprouts) new → IsConsistent new
     → gesture_of gesture ≡ gesture_of inside.gesture → AreOpened inside.tree.next (length sprouts) inside.gesture gesture
     → (count_of new.tree ≤ count_of inside.tree.tree + length sprouts → 3 * count_of new.tree ≤ room_of log) → OffsetsFit (plain_of new) → IsSound (record inside { tree = new; gesture = gesture; log = log })
-sound_grafted inside new gesture log place sprouts key sound is root order came consistent same opened room offsets =
+sound_grafted inside new gesture log place sprouts sound is live root order came consistent same opened room offsets =
     let count = count-seeds_of sprouts order in
     let old = inside.tree in
     record {
@@ -135,9 +180,26 @@ sound_grafted inside new gesture log place sprouts key sound is root order came 
           gesture_grafted old new (option_map (number_of old) place) (seeds_of sprouts) inside.gesture gesture is (placed_root old place root) came.plain same
           (stay old.next (length sprouts) inside.gesture gesture opened)
           (λ number from to. opened.there number from (omega (arith, to, count))) sound.caught;
-      fresh = λ number later. let next = came.next in opened.above number (omega (arith, later, next, count)) ∙ sound.fresh number (omega (arith, later, next));
+      closed = λ number none.
+          let times : times_in number (grown_at (option_map (number_of old) place) (numbered old.next (seeds_of sprouts)) (plain_of old)) ≡ 0 =
+          ap (times_in number) (sym came.plain) ∙ times-plain (held_of new) number new.tree ∙ none in
+          let before = times_still number (option_map (number_of old) place) (numbered old.next (seeds_of sprouts)) (plain_of old)
+          (λ e. ap (plain_rows (held_of old)) (placed_root old place root e)) in
+          let was = times-plain (held_of old) number old.tree in
+          let shut = sound.closed number (omega (arith, times, before, was)) in
+          elim (cases_lt number old.next) [
+            | inl less ↦ opened.below number less ∙ shut
+            | inr from ↦ elim (cases_lt number (old.next + length sprouts)) [
+              | inr above ↦ opened.above number above ∙ shut
+              | inl to ↦ absurd (
+                  let some = numbered_there number old.next (seeds_of sprouts) from (omega (arith, to, count)) in
+                  let come = times_come number (option_map (number_of old) place) (numbered old.next (seeds_of sprouts)) (plain_of old) (placed_there old place live) in
+                  omega (arith, some, come, times)
+                  )
+            ]
+          ];
       room = room (let most = count_grafted old new place (seeds_of sprouts) is came.plain in omega (arith, most, count));
       down = sound.down;
-      narrow = subst FitAll (sym (geometry-gained old new place came.added root came.gained)) sound.narrow;
+      narrow = subst FitAll (sym came.geometry) sound.narrow;
       offsets = offsets;
     }

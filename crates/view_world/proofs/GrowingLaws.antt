@@ -1,6 +1,6 @@
 -- What a world keeps and tells once it has got views, or has not.
 use Rattle.std.proofs.Common.{◌≡◌, ◌≢◌, ◌∙◌, ℕ, ◌+◌, ◌*◌, ◌<◌, ◌≤◌, arith, true, false, List, refl, sym, ap, subst}
-use Rattle.std.specs.Prelude.{◌==◌, ◌||◌, ℤ, Option, Some, None, Result, Ok, Err, OnErr, IfSome}
+use Rattle.std.specs.Prelude.{◌==◌, ◌||◌, if◌then◌else◌, ℤ, Option, Some, None, Result, Ok, Err, OnErr, IfSome}
 use Rattle.std.specs.Option.{option_map}
 use Rattle.std.specs.Result.{is_err}
 use Rattle.std.proofs.lemmas.Bool.{ne_eqb}
@@ -22,21 +22,21 @@ use Rattle.view_model.specs.Growth.{grown_at, refusal_at}
 use Rattle.view_model.specs.PlainTree.{single}
 use Rattle.view_model.specs.Refusals.{PlainRefusal}
 use Rattle.view_model.specs.declared.kinds.Class.{Class}
-use Rattle.view_tree.specs.Hidden.{IsConsistent}
-use Rattle.view_tree.specs.Rows.{count_of_key, leaf}
+use Rattle.kept_views.specs.Kept.{IsConsistent}
+use Rattle.view_tree.specs.Rows.{Row, count_of_key, count_of_number, leaf}
 use Rattle.view_tree.specs.Views.{IsTree, Views, geometry_of, number_of, plain_of}
-use Rattle.view_tree.proofs.forest.NumberLaws.{count-with_child}
-use Rattle.view_world.proofs.FreshLaws.{free_next}
+use Rattle.view_tree.proofs.forest.NumberLaws.{count-with_child, number-leaf_own, sum-with_child}
+use Rattle.view_world.proofs.FreshLaws.{free_next, none_from}
 use Rattle.view_world.proofs.GrownCaught.{gesture_grown}
 use Rattle.view_world.specs.Changed.{CarriesOut}
-use Rattle.view_world.specs.KeyedWorld.{KeyedWorld, world_of}
+use Rattle.view_world.specs.KeyedScreen.{KeyedScreen, world_of}
 use Rattle.view_world.specs.Responses.{response_of, response_text}
-use Rattle.view_world.specs.Sound.{HasNoneFrom, IsSound}
+use Rattle.view_world.specs.Sound.{HasNoneElse, IsSound}
 use Rattle.view_world.specs.Step.{Done, Reply}
 use Rattle.view_world.specs.declared.fault.StepFault.{StepFault}
 use Rattle.view_world.specs.declared.fault.StepFault.TheVariants as fault
 use Rattle.view_world.specs.declared.response.Response.{Response}
-use Rattle.view_world.specs.declared.world.World.TheInside.{Inside}
+use Rattle.view_world.specs.declared.screen.Screen.TheInside.{Inside}
 
 -- what a call ensures where it has failed
 pub failed : {A E : Type 0} (P : Type 0) (result : Result A E) → true ≡ is_err result → OnErr result P → P
@@ -53,19 +53,19 @@ made_well P (Ok number) result ok is = rw is tt
 made_well P (Err error) result ok is = absurd (cc)
 
 -- a refusal is one whatever the world is then
-refused_any : (reply : Reply) (world other : KeyedWorld) (result : Result Response StepFault) → is_err result ≡ true → CarriesOut reply world result → CarriesOut reply other result
+refused_any : (reply : Reply) (world other : KeyedScreen) (result : Result Response StepFault) → is_err result ≡ true → CarriesOut reply world result → CarriesOut reply other result
 refused_any reply world other (Ok response) err told = absurd (cc)
 refused_any reply world other (Err (fault.Refused refusal)) err told = told
 refused_any reply world other (Err fault.NoMemory) err told = told
 refused_any reply world other (Err fault.Sink) err told = told
 refused_any reply world other (Err fault.Shelf) err told = told
 
-pub refused_still : (reply : Reply) (world other : KeyedWorld) (made : Result (Option ℕ) EditFault) → true ≡ is_err made → CarriesOut reply world (response_of made) → CarriesOut reply other (response_of made)
+pub refused_still : (reply : Reply) (world other : KeyedScreen) (made : Result (Option ℕ) EditFault) → true ≡ is_err made → CarriesOut reply world (response_of made) → CarriesOut reply other (response_of made)
 refused_still reply world other (Ok number) err told = absurd (cc)
 refused_still reply world other (Err error) err told = refused_any reply world other (response_of (Err error)) refl told
 
 -- places of views are not seen in the plain world
-pub carried_with : (reply : Reply) (world : KeyedWorld) (gesture : Kept) (told : List Entry) (result : Result Response StepFault) → gesture_of gesture ≡ gesture_of world.gesture → told ≡ world.told
+pub carried_with : (reply : Reply) (world : KeyedScreen) (gesture : Kept) (told : List Entry) (result : Result Response StepFault) → gesture_of gesture ≡ gesture_of world.gesture → told ≡ world.told
     → CarriesOut reply world result → CarriesOut reply (record world { gesture = gesture; told = told }) result
 carried_with reply world gesture told result same entries carried =
     subst (λ (t : List Entry). CarriesOut reply (record world { gesture = gesture; told = t }) result) (sym entries) (with_gesture result carried)
@@ -79,19 +79,19 @@ carried_with reply world gesture told result same entries carried =
     with_gesture (Err fault.Shelf) h = h
 
 -- nothing has changed
-pub same_world : (world : KeyedWorld) (views : Views) (gesture : Kept) (told : List Entry) → views ≡ world.views → gesture ≡ world.gesture → told ≡ world.told
+pub same_world : (world : KeyedScreen) (views : Views) (gesture : Kept) (told : List Entry) → views ≡ world.views → gesture ≡ world.gesture → told ≡ world.told
     → record world { views = views; gesture = gesture; told = told } ≡ world
 same_world world views gesture told one two three =
-    ap (λ (v : Views). let w : KeyedWorld = record world { views = v; gesture = gesture; told = told } in w) one
-    ∙ ap (λ (g : Kept). let w : KeyedWorld = record world { gesture = g; told = told } in w) two
-    ∙ ap (λ (t : List Entry). let w : KeyedWorld = record world { told = t } in w) three
+    ap (λ (v : Views). let w : KeyedScreen = record world { views = v; gesture = gesture; told = told } in w) one
+    ∙ ap (λ (g : Kept). let w : KeyedScreen = record world { gesture = g; told = told } in w) two
+    ∙ ap (λ (t : List Entry). let w : KeyedScreen = record world { told = t } in w) three
 
 pub sound_same : (inside : Inside) (views : Views) (gesture : Kept) (log : Log) → views ≡ inside.tree → gesture ≡ inside.gesture → 3 * count_of inside.tree.tree ≤ room_of log
     → IsSound inside → IsSound (record inside { tree = views; gesture = gesture; log = log })
 sound_same inside views gesture log one two room sound = record {
   consistent = subst IsConsistent (sym one) sound.consistent;
   caught = subst (λ (v : Views). IsGestureIn v.tree gesture) (sym one) (subst (IsGestureIn inside.tree.tree) (sym two) sound.caught);
-  fresh = subst (λ (v : Views). HasNoneFrom v.next gesture) (sym one) (subst (HasNoneFrom inside.tree.next) (sym two) sound.fresh);
+  closed = subst (λ (v : Views). HasNoneElse v.tree gesture) (sym one) (subst (HasNoneElse inside.tree.tree) (sym two) sound.closed);
   room = subst (λ (v : Views). 3 * count_of v.tree ≤ room_of log) (sym one) room;
   down = sound.down;
   narrow = subst (λ (v : Views). FitAll (geometry_of v)) (sym one) sound.narrow;
@@ -103,7 +103,7 @@ pub addable_root : (views : Views) (parent : Option ℕ) → IsAddable views par
 addable_root views None h e = h.0
 addable_root views (Some parent) h e = absurd (cc)
 
-addable_live : (views : Views) (parent : Option ℕ) → IsAddable views parent → IfSome parent (λ parent. 0 < count_of_key parent views.tree)
+pub addable_live : (views : Views) (parent : Option ℕ) → IsAddable views parent → IfSome parent (λ parent. 0 < count_of_key parent views.tree)
 addable_live views None h = tt
 addable_live views (Some parent) h = h.0
 
@@ -136,10 +136,15 @@ sound_grown inside new gesture log parent class width height sound is addable co
   consistent = consistent;
   caught = gesture_grown inside.tree new (option_map (number_of inside.tree) parent) (new_view inside.tree.next class width height) inside.gesture gesture is
       (placed_root inside.tree parent (addable_root inside.tree parent addable)) refl grew same opened sound.caught;
-  fresh = λ number later.
-      let next = keeps.next in
-      let apart : number ≢ inside.tree.next = λ e. absurd (omega (arith, e, later, next)) in
-      opened number ∙ rw (sound.fresh number (omega (arith, later, next)), ne_eqb number inside.tree.next apart) refl;
+  closed = λ number none.
+      let view = new_view inside.tree.next class width height in
+      let count : count_of_number number new.tree ≡ count_of_number number inside.tree.tree + count_of_number number (leaf keeps.fresh view) =
+      ap (count_of_number number) keeps.tree
+      ∙ sum-with_child (λ (row : Row). if row.view.number == number then 1 else 0) parent (leaf keeps.fresh view) inside.tree.tree (addable_live inside.tree parent addable) (addable_root inside.tree parent addable) is.keys in
+      let apart : number ≢ inside.tree.next = λ e. absurd (
+      let one : count_of_number number (leaf keeps.fresh view) ≡ 1 = ap (λ (n : ℕ). count_of_number n (leaf keeps.fresh view)) e ∙ number-leaf_own keeps.fresh view in omega (arith, one, count, none)
+      ) in
+      opened number ∙ rw (sound.closed number (omega (arith, count, none)), ne_eqb number inside.tree.next apart) refl;
   room =
       let view = new_view inside.tree.next class width height in
       let count : count_of new.tree ≡ count_of inside.tree.tree + 1 =
@@ -152,12 +157,12 @@ sound_grown inside new gesture log parent class width height sound is addable co
 }
 
 -- the place of a view that has not come is taken back
-pub place_back : (views : Views) (before opened closed : Kept) (number : ℕ) → IsTree views → IsGestureIn views.tree before → HasNoneFrom views.next before → number ≡ views.next
+pub place_back : (views : Views) (before opened closed : Kept) (number : ℕ) → IsTree views → IsGestureIn views.tree before → HasNoneElse views.tree before → number ≡ views.next
     → (is_open before number ≡ false → opened ≡ with_place number before)
     → ((other : ℕ) → is_open before other ≡ false → IsUnknown before other)
     → ((old : Kept) → opened ≡ with_place number old → IsUnknown old number → ((group : ℕ) → is_target number ((gesture_of old).targets group) ≡ false) → closed ≡ old)
     → closed ≡ before
-place_back views before opened closed number is caught fresh next added unknown last =
+place_back views before opened closed number is caught only next added unknown last =
     let later : views.next ≤ number = omega arith in
-    let none : is_open before number ≡ false = fresh number later in
+    let none : is_open before number ≡ false = none_from views before is only number later in
     last before (added none) (unknown number none) (free_next views before is caught number later)

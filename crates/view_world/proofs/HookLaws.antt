@@ -17,7 +17,7 @@ use Rattle.view_model.specs.Refusals.{refusal_numbered}
 use Rattle.view_model.specs.declared.changes.NumEdit.{NumEdit}
 use Rattle.view_model.specs.declared.limits.TheConstants.{MAX_HOOKS}
 use Rattle.view_model.specs.declared.refusals.TheConstants.{TOO_MANY_HOOKS}
-use Rattle.view_world.specs.KeyedWorld.{KeyedWorld, geometry_in, world_of}
+use Rattle.view_world.specs.KeyedScreen.{KeyedScreen, geometry_in, world_of}
 use Rattle.view_world.specs.Step.{Done, Refused, hook_asked, hooked, is_full, may_change, size_in}
 use Rattle.view_world.specs.World.{World}
 
@@ -44,7 +44,7 @@ not_full hooks number room = elim (cases_eq (length hooks) MAX_HOOKS) [
     some (Some hook) is = refl
 
 -- the hook of a view is armed, or as many are armed as may be
-pub armed_world : (now : KeyedWorld) (new : List Hook) (number : ℕ) (reported : Size) (edits : List NumEdit) → reported ≡ size_in (geometry_in now.stage now.views) number
+pub armed_world : (now : KeyedScreen) (new : List Hook) (number : ℕ) (reported : Size) (edits : List NumEdit) → reported ≡ size_in (geometry_in now.stage now.views) number
     → new ≡ armed (record { view = number; reported = reported; edits = edits }) now.hooks → ((length now.hooks ≡ MAX_HOOKS) × (hook_of now.hooks number ≡ None) → ⊥)
     → hooked (world_of now) number edits ≡ Done (world_of (record now { hooks = new })) []
 armed_world now new number reported edits size is room =
@@ -52,7 +52,7 @@ armed_world now new number reported edits size is room =
     (ap (λ (size : Size). Done (world_of (record now { hooks = armed (record { view = number; reported = size; edits = edits }) now.hooks })) []) (sym size)
     ∙ ap (λ (l : List Hook). Done (world_of (record now { hooks = l })) []) (sym is))
 
-pub full_world : (now : KeyedWorld) (number : ℕ) (edits : List NumEdit) → (length now.hooks ≡ MAX_HOOKS) × (hook_of now.hooks number ≡ None)
+pub full_world : (now : KeyedScreen) (number : ℕ) (edits : List NumEdit) → (length now.hooks ≡ MAX_HOOKS) × (hook_of now.hooks number ≡ None)
     → hooked (world_of now) number edits ≡ Refused (refusal_numbered TOO_MANY_HOOKS)
 full_world now number edits full = rw (eq-eqb (length now.hooks) MAX_HOOKS full.0, full.1) refl
 

@@ -6,7 +6,7 @@ use Rattle.std.specs.Option.{option_map}
 use Rattle.inflater.specs.Inflating.{Plan}
 use Rattle.script_lines.specs.declared.naming.Name.{Name}
 use Rattle.tool_io.specs.Fetched.{Files, file_of}
-use Rattle.view_model.specs.Forest.{Forest, Nothing}
+use Rattle.view_model.specs.Forest.{Forest}
 use Rattle.view_model.specs.Geometry.{Laid}
 use Rattle.view_model.specs.Growth.{grown_at}
 use Rattle.view_model.specs.Sprouts.{numbered}
@@ -14,14 +14,13 @@ use Rattle.view_model.specs.PlainTree.{PlainView}
 use Rattle.view_model.specs.Refusals.{PlainRefusal}
 use Rattle.view_model.specs.Resources.{Entries}
 use Rattle.view_world.specs.World.{World}
-use Rattle.view_tree.specs.Grafted.{Grafted}
 use Rattle.view_tree.specs.Views.{Views, number_of, plain_of}
-use Rattle.view_tree.proofs.values.GeometryLaws.{geometry-gained}
 use Rattle.tool_io.specs.SinkState.{SinkState}
 use Rattle.view_world.specs.Carried.{AreAtHand, CountsShelf, IsDone, WritesReply}
 use Rattle.view_world.specs.Changed.{CarriesOut, Inflates, IsPlace}
 use Rattle.view_world.specs.Inflating.{asked_for, bytes_in, place_in, views_in, views_of}
-use Rattle.view_world.specs.KeyedWorld.{KeyedWorld, world_of}
+use Rattle.view_world.specs.KeyedScreen.{KeyedScreen, world_of}
+use Rattle.view_world.specs.Places.{HasGained}
 use Rattle.view_world.specs.Replies.{inflated_text}
 use Rattle.view_world.specs.Step.{Reply, Done, graft_reason, grafted, inflation, reply_with}
 use Rattle.view_world.specs.declared.fault.StepFault.{StepFault}
@@ -34,10 +33,6 @@ use Rattle.view_world.proofs.WorldLaws.{geometry_in-same}
 pub place_number : (views : Views) (number place : Option ℕ) → IsPlace views number place → number ≡ option_map (number_of views) place
 place_number views number None p = p.0
 place_number views number (Some key) p = p.1
-
-pub place_root : (views : Views) (number place : Option ℕ) → IsPlace views number place → place ≡ None → views.tree ≡ Nothing
-place_root views number None p e = p.1
-place_root views number (Some key) p e = absurd cc
 
 -- a tree that has a place asks for its file, and then the shelf tells the files at hand
 pub told_where_asked : (files : Files) (told : Option Files) (tree : Forest PlainView) (name : List ℕ) (into : Option Name) (place : Option ℕ) → place_in tree into ≡ Ok place
@@ -54,10 +49,10 @@ pub views_of-bytes : (files : Files) (name : List ℕ) (resources : Entries) (dp
 views_of-bytes files name resources dpi bytes e = rw e refl
 
 -- the world once the views of a file have come
-pub grafted_world : (old : KeyedWorld) (new : Views) (number parent : Option ℕ) (plan : Plan) (key ignored : ℕ) → IsPlace old.views number parent → Grafted old.views parent plan.seeds key new
+pub grafted_world : (old : KeyedScreen) (new : Views) (number parent : Option ℕ) (plan : Plan) (ignored : ℕ) → IsPlace old.views number parent → HasGained old.views parent plan.seeds new
     → ignored ≡ plan.ignored → CarriesOut (grafted (world_of old) number plan None) (record old { views = new }) (Ok (response.Inflated old.views.next (new.next - 1) ignored))
-grafted_world old new number parent plan key ignored place came same_count =
-    let laid = geometry_in-same old.stage old.views new (geometry-gained old.views new parent came.added (place_root old.views number parent place) came.gained) in
+grafted_world old new number parent plan ignored place came same_count =
+    let laid = geometry_in-same old.stage old.views new came.geometry in
     let grown = ap (λ place. grown_at place (numbered old.views.next plan.seeds) (plain_of old.views)) (place_number old.views number parent place) ∙ sym came.plain in
     (replies (world_of old) old.views.next grown (sym came.next) (sym laid) (sym same_count), tt)
   where
@@ -68,7 +63,7 @@ grafted_world old new number parent plan key ignored place came same_count =
     replies world first e f g h = rw (e, f, g, h) refl
 
 -- what a command has done that asked no shelf, as one that might have
-pub inflates_as : (reply : Reply) (new : KeyedWorld) (result : Result Response StepFault) → CarriesOut reply new result → Inflates reply new result
+pub inflates_as : (reply : Reply) (new : KeyedScreen) (result : Result Response StepFault) → CarriesOut reply new result → Inflates reply new result
 inflates_as reply new (Ok response) changed = changed
 inflates_as reply new (Err (fault.Refused refusal)) changed = changed
 inflates_as reply new (Err fault.NoMemory) changed = tt
@@ -76,7 +71,7 @@ inflates_as reply new (Err fault.Sink) changed = changed
 inflates_as reply new (Err fault.Shelf) changed = tt
 
 -- a line that was not carried out
-pub writes_fault : (reply : Reply) (new : KeyedWorld) (before after : SinkState) (line_fault : StepFault) (result : Result (Unit {0}) StepFault) → result ≡ Err line_fault → Inflates reply new (Err line_fault)
+pub writes_fault : (reply : Reply) (new : KeyedScreen) (before after : SinkState) (line_fault : StepFault) (result : Result (Unit {0}) StepFault) → result ≡ Err line_fault → Inflates reply new (Err line_fault)
     → WritesReply reply (world_of new) before after result
 writes_fault reply new before after (fault.Refused refusal) result e changed = rw e changed
 writes_fault reply new before after fault.NoMemory result e changed = rw e tt

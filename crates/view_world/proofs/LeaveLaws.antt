@@ -36,26 +36,26 @@ use Rattle.view_world.proofs.RemovalLaws.{part_numbers}
 use Rattle.view_world.proofs.WorldLaws.{Changed-edit}
 use Rattle.view_world.specs.Changed.{CarriesOut}
 use Rattle.view_world.specs.Deliveries.{entries_text}
-use Rattle.view_world.specs.KeyedWorld.{KeyedWorld, world_of}
+use Rattle.view_world.specs.KeyedScreen.{KeyedScreen, world_of}
 use Rattle.view_world.specs.Responses.{IsTellable, deliveries_only, response_text}
 use Rattle.view_world.specs.Step.{Reply, Done, acted, after_edit, all_disarmed, removed, told_behind, without_hooks}
 use Rattle.view_world.specs.Touching.{after_progress, all_closed, is_told, leaving, parent_of, scene_in, told_away, unscrolled_tree, without_part}
 use Rattle.view_world.specs.World.{World}
 
 -- no view was handed anything yet
-abbrev start_of : KeyedWorld → List Entry → Progress
+abbrev start_of : KeyedScreen → List Entry → Progress
 start_of world before = progress_by (offsets_kept world.views) (gesture_of world.gesture) before
 
 -- the cancel of a view, by its key
-abbrev cancel_of : KeyedWorld → ℕ → ℤ → List Entry → Progress
+abbrev cancel_of : KeyedScreen → ℕ → ℤ → List Entry → Progress
 cancel_of world key slop before =
     cancelled (scene_of world.views slop) (parent_number world.views key) (number_of world.views key) (part_at world.views key) (start_of world before)
 
 -- whether a view is told, by its key
-abbrev is_told_of : KeyedWorld → ℕ → Bool
+abbrev is_told_of : KeyedScreen → ℕ → Bool
 is_told_of world key = is_told (parent_number world.views key) (facts_of world.views key) world.pointers
 
-leaving_plain : (world : KeyedWorld) (key : ℕ) (slop : ℤ) (before : List Entry) → IsTree world.views → IsLive world.views key → before ≡ []
+leaving_plain : (world : KeyedScreen) (key : ℕ) (slop : ℤ) (before : List Entry) → IsTree world.views → IsLive world.views key → before ≡ []
     → leaving (world_of world) (number_of world.views key) ≡ (if is_told_of world key then cancel_of world key slop before else start_of world before)
 leaving_plain world key slop before is live none =
     let number = number_of world.views key in
@@ -69,14 +69,14 @@ leaving_plain world key slop before is live none =
     (sym (part_plain world.views key is live))
 
 -- whether a view is told, by its number
-abbrev is_told_in : KeyedWorld → ℕ → Bool
+abbrev is_told_in : KeyedScreen → ℕ → Bool
 is_told_in world key = is_told (parent_of (number_of world.views key) (plain_of world.views)) (facts_of world.views key) world.pointers
 
-told_same : (world : KeyedWorld) (key : ℕ) (told : Bool) → IsTree world.views → IsLive world.views key → is_told_in world key ≡ told → is_told_of world key ≡ told
+told_same : (world : KeyedScreen) (key : ℕ) (told : Bool) → IsTree world.views → IsLive world.views key → is_told_in world key ≡ told → is_told_of world key ≡ told
 told_same world key told is live same = ap (λ (p : Option ℕ). is_told p (facts_of world.views key) world.pointers) (sym (parent_named world.views key is live)) ∙ same
 
 -- a view that is told, and one that is not
-pub leaving_told : (world : KeyedWorld) (key : ℕ) (slop : ℤ) (new : Views) (kept : Kept) (before after : Log) → IsTree world.views → IsLive world.views key
+pub leaving_told : (world : KeyedScreen) (key : ℕ) (slop : ℤ) (new : Views) (kept : Kept) (before after : Log) → IsTree world.views → IsLive world.views key
     → before.entries.items ≡ [] → is_told_in world key ≡ true
     → progress_of new kept after
     ≡ cancelled (scene_of world.views slop) (parent_number world.views key) (number_of world.views key) (part_at world.views key) (progress_of world.views world.gesture before)
@@ -84,7 +84,7 @@ pub leaving_told : (world : KeyedWorld) (key : ℕ) (slop : ℤ) (new : Views) (
 leaving_told world key slop new kept before after is live none told same =
     same ∙ sym (leaving_plain world key slop before.entries.items is live none ∙ rw (told_same world key true is live told) refl)
 
-pub leaving_silent : (world : KeyedWorld) (key : ℕ) (before : Log) → IsTree world.views → IsLive world.views key → before.entries.items ≡ [] → is_told_in world key ≡ false
+pub leaving_silent : (world : KeyedScreen) (key : ℕ) (before : Log) → IsTree world.views → IsLive world.views key → before.entries.items ≡ [] → is_told_in world key ≡ false
     → progress_of world.views world.gesture before ≡ leaving (world_of world) (number_of world.views key)
 leaving_silent world key before is live none silent =
     sym (leaving_plain world key (pos 0) before.entries.items is live none ∙ rw (told_same world key false is live silent) refl)
@@ -110,12 +110,12 @@ nil-length [] = refl
 nil-length (p ∷ points) = ne_eqb (length (p ∷ points)) 0 (λ e. absurd (omega arith))
 
 pub scrolls_none : (views : Views) → OnlyScrolls views views
-scrolls_none views = record { same = record { tree = refl; orders = refl; next = refl }; held = λ key. refl; fits = λ key side. side }
+scrolls_none views = record { same = record { tree = refl; orders = refl; next = refl }; counts = refl; consistent = λ consistent. consistent; held = λ key. refl; fits = λ key side. side }
 
 -- the world once a view was told, by what was made of the gesture and of the offsets
-pub world_told : (old : KeyedWorld) (new : Views) (kept : Kept) (after : Log) (number : ℕ) → IsTree old.views → OnlyScrolls old.views new
+pub world_told : (old : KeyedScreen) (new : Views) (kept : Kept) (after : Log) (number : ℕ) → IsTree old.views → OnlyScrolls old.views new
     → progress_of new kept after ≡ leaving (world_of old) number
-    → (let now : KeyedWorld = record old { views = new; gesture = kept; told = after.entries.items } in world_of now ≡ after_progress (world_of old) (leaving (world_of old) number))
+    → (let now : KeyedScreen = record old { views = new; gesture = kept; told = after.entries.items } in world_of now ≡ after_progress (world_of old) (leaving (world_of old) number))
 world_told old new kept after number is scrolls same =
     world_scrolled old new kept after.entries.items after.entries.items is scrolls ∙ ap (after_progress (world_of old)) same
 
@@ -189,13 +189,13 @@ same_number : (old mid : Views) (key : ℕ) → SameTree old mid → number_of m
 same_number old mid key same = ap (λ tree. number_of (record mid { tree = tree }) key) same.tree
 
 -- it was hidden
-pub Changed-hide : (old mid : KeyedWorld) (new : Views) (key : ℕ) (doing : Act) (result : Result (Option ℕ) EditFault) → hides doing ≡ true → SameTree old.views mid.views
+pub Changed-hide : (old mid : KeyedScreen) (new : Views) (key : ℕ) (doing : Act) (result : Result (Option ℕ) EditFault) → hides doing ≡ true → SameTree old.views mid.views
     → world_of mid ≡ after_progress (world_of old) (leaving (world_of old) (number_of old.views key)) → mid.told ≡ (leaving (world_of old) (number_of old.views key)).entries
     → result ≡ Ok None → AppliesEdit (outcome_of_edit (edited_of mid.views) (ActOn (number_of mid.views key) doing)) (edited_of new) result
-    → (let now : KeyedWorld = record mid { views = new } in CarriesOut (acted (world_of old) (number_of old.views key) doing) now (Ok (deliveries_only mid.told)))
+    → (let now : KeyedScreen = record mid { views = new } in CarriesOut (acted (world_of old) (number_of old.views key) doing) now (Ok (deliveries_only mid.told)))
 Changed-hide old mid new key doing result hiding same world told done applied =
     let number = number_of old.views key in
-    let now : KeyedWorld = record mid { views = new } in
+    let now : KeyedScreen = record mid { views = new } in
     let progress = leaving (world_of old) number in
     let made = subst (AppliesEdit (outcome_of_edit (edited_of mid.views) (ActOn (number_of mid.views key) doing)) (edited_of new)) done applied in
     let changed = Changed-edit mid mid.stage mid.views new (ActOn (number_of mid.views key) doing) (Ok None) made in
@@ -208,15 +208,15 @@ Changed-hide old mid new key doing result hiding same world told done applied =
     (reply ∙ all.0, all.1)
 
 -- it was removed, with all that was kept of it
-pub Changed-remove : (old mid : KeyedWorld) (new : Views) (kept : Kept) (hooks : List Hook) (key : ℕ) (result : Result (Option ℕ) EditFault) → IsTree mid.views → IsLive mid.views key → SameTree old.views mid.views
+pub Changed-remove : (old mid : KeyedScreen) (new : Views) (kept : Kept) (hooks : List Hook) (key : ℕ) (result : Result (Option ℕ) EditFault) → IsTree mid.views → IsLive mid.views key → SameTree old.views mid.views
     → world_of mid ≡ after_progress (world_of old) (leaving (world_of old) (number_of old.views key)) → mid.told ≡ (leaving (world_of old) (number_of old.views key)).entries
     → gesture_of kept ≡ all_closed (numbers_of (part_at mid.views key)) (gesture_of mid.gesture) → hooks ≡ all_disarmed (numbers_of (part_at mid.views key)) mid.hooks
     → result ≡ Ok None → AppliesEdit (outcome_of_edit (edited_of mid.views) (Remove (number_of mid.views key))) (edited_of new) result
-    → (let now : KeyedWorld = record mid { views = new; gesture = kept; hooks = hooks } in CarriesOut (removed (world_of old) (number_of old.views key)) now (Ok (deliveries_only mid.told)))
+    → (let now : KeyedScreen = record mid { views = new; gesture = kept; hooks = hooks } in CarriesOut (removed (world_of old) (number_of old.views key)) now (Ok (deliveries_only mid.told)))
 Changed-remove old mid new kept hooks key result is live same world told cleared taken done applied =
     let number = number_of old.views key in
-    let emptied : KeyedWorld = record mid { gesture = kept; hooks = hooks } in
-    let now : KeyedWorld = record mid { views = new; gesture = kept; hooks = hooks } in
+    let emptied : KeyedScreen = record mid { gesture = kept; hooks = hooks } in
+    let now : KeyedScreen = record mid { views = new; gesture = kept; hooks = hooks } in
     let progress = leaving (world_of old) number in
     let made = subst (AppliesEdit (outcome_of_edit (edited_of mid.views) (Remove (number_of mid.views key))) (edited_of new)) done applied in
     let changed = Changed-edit emptied mid.stage mid.views new (Remove (number_of mid.views key)) (Ok None) made in

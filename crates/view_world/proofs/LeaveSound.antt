@@ -1,5 +1,6 @@
 -- What a world keeps, where a view goes with all that is kept of it.
-use Rattle.std.proofs.Common.{◌≡◌, ℕ, Bool, List, ap, ◌∙◌, arith}
+use Rattle.std.proofs.Common.{◌≡◌, ℕ, ◌≤◌, Bool, true, false, List, refl, ap, sym, ◌∙◌, arith, inl, inr}
+use Rattle.std.proofs.lemmas.Bool.{cases_Bool}
 use Rattle.std.specs.Prelude.{◌&&◌, not}
 use Rattle.saved_state.specs.Saving.{OffsetsFit}
 use Rattle.size_hooks.specs.Hook.{Hook}
@@ -9,15 +10,22 @@ use Rattle.traversal.specs.Changing.{FitAll}
 use Rattle.tree_edits.specs.Keeping.{KeepsViews}
 use Rattle.tree_edits.specs.declared.edits.Edit.TheVariants as edit
 use Rattle.view_model.specs.Forest.{count_of}
-use Rattle.view_model.specs.PlainTree.{numbers_of, pruned}
+use Rattle.view_model.specs.PlainTree.{numbers_of, part_of, pruned}
 use Rattle.view_tree.proofs.forest.NumberLaws.{sum-pruned_at_key}
-use Rattle.view_tree.specs.Hidden.{IsConsistent}
+use Rattle.kept_views.specs.Kept.{IsConsistent}
 use Rattle.view_tree.specs.Rows.{Row}
-use Rattle.view_tree.specs.Views.{IsLive, IsTree, Views, geometry_of, number_of, plain_of}
-use Rattle.view_world.proofs.RemovalLaws.{gesture_removed}
+use Rattle.view_tree.specs.Views.{IsLive, IsTree, Views, geometry_of, held_of, number_of, plain_of}
+use Rattle.view_world.proofs.CaughtLaws.{times-plain}
+use Rattle.view_world.proofs.PartCounts.{none_numbered, times-pruned}
+use Rattle.view_world.proofs.RemovalLaws.{gesture_removed, part_numbers}
+use Rattle.view_world.proofs.ShapeLaws.{times_in}
 use Rattle.view_world.specs.Sound.{IsSound}
 use Rattle.view_world.specs.Touching.{all_closed, is_among}
-use Rattle.view_world.specs.declared.world.World.TheInside.{Inside}
+use Rattle.view_world.specs.declared.screen.Screen.TheInside.{Inside}
+
+never : (b : Bool) → (b && not true) ≡ false
+never true = refl
+never false = refl
 
 pub sound_removed : (inside : Inside) (new : Views) (kept : Kept) (hooks : List Hook) (key : ℕ) → IsTree inside.tree → IsLive inside.tree key → KeepsViews inside.tree new (edit.Remove key)
     → plain_of new ≡ pruned (number_of inside.tree key) (plain_of inside.tree)
@@ -32,8 +40,18 @@ sound_removed inside new kept hooks key is live keeps plain cleared opened consi
     record {
       consistent = consistent;
       caught = gesture_removed inside.tree new key inside.gesture kept is live plain cleared opened sound.caught;
-      fresh = λ number above.
-          opened number ∙ ap (λ (b : Bool). b && not (is_among number (numbers_of (part_at inside.tree key)))) (sound.fresh number (omega arith));
+      closed = λ number none. opened number ∙ elim (cases_Bool (is_among number (numbers_of (part_at inside.tree key)))) [
+        | inl e ↦ rw e (never (is_open inside.gesture number))
+        | inr e ↦
+            let tree = plain_of inside.tree in
+            let own = number_of inside.tree key in
+            let once : times_in own tree ≤ 1 = let same = times-plain (held_of inside.tree) own inside.tree.tree in let few = is.numbers own in omega (arith, same, few) in
+            let apart = none_numbered number (part_of own tree) (ap (is_among number) (sym (part_numbers inside.tree key is live)) ∙ e) in
+            let pieces = times-pruned number own tree once in
+            let left : times_in number (pruned own tree) ≡ 0 = ap (times_in number) (sym plain) ∙ times-plain (held_of new) number new.tree ∙ none in
+            let whole = times-plain (held_of inside.tree) number inside.tree.tree in
+            ap (λ (b : Bool). b && not (is_among number (numbers_of (part_at inside.tree key)))) (sound.closed number (omega (arith, apart, pieces, left, whole)))
+      ];
       room = omega arith;
       down = sound.down;
       narrow = narrow;

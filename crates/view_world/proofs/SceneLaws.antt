@@ -13,13 +13,11 @@ use Rattle.view_model.specs.Forest.{Forest, Nothing, Branch, count_of, map_rows,
 use Rattle.view_model.specs.Geometry.{Laid, rect_in}
 use Rattle.view_model.specs.Layout.{unscrolled}
 use Rattle.view_model.specs.PlainTree.{PlainView}
-use Rattle.view_tree.specs.Hidden.{IsConsistent}
 use Rattle.view_tree.specs.Rows.{Row, count_of_number, head_view, key_where, views_of}
 use Rattle.view_tree.specs.Views.{Held, IsLive, IsTree, Unscrolled, Views, geometry_of, held_of, laid_rows, number_of, plain_of, plain_rows, scrolled}
 use Rattle.view_tree.proofs.forest.KeyLaws.{Within, count_of_key-within, from_within, here, in_after, in_below, times_self}
 use Rattle.view_tree.proofs.forest.PlainLaws.{find_absent, find_number, key_where_absent, key_where_lives, number_there, view_in_rows}
 use Rattle.view_tree.proofs.values.GeometryLaws.{find-laid_absent, laid_along, rect_live}
-use Rattle.view_tree.proofs.values.HiddenLaws.{hides_along}
 use Rattle.view_tree.proofs.values.KeptLaws.{is_tree-same}
 use Rattle.view_world.specs.Touching.{offset_or, offsets_in, scrolled_to, unscrolled_tree}
 
@@ -111,11 +109,6 @@ pub scrolls_geometry : (old new : Views) → OnlyScrolls old new → geometry_of
 scrolls_geometry old new scrolls =
     ap (laid_rows (held_of new)) scrolls.same.tree
     ∙ laid_along (held_of old) (held_of new) old.tree (λ key live. scrolls_bounds old new scrolls key)
-
-pub scrolls_consistent : (old new : Views) → OnlyScrolls old new → IsConsistent old → IsConsistent new
-scrolls_consistent old new scrolls kept = record {
-  hidden = rw scrolls.same.tree (hides_along (held_of old) (held_of new) old.tree (λ key live none. scrolls_bounds old new scrolls key ∙ none) kept.hidden);
-}
 
 pub scrolls_count : (old new : Views) → OnlyScrolls old new → count_of new.tree ≡ count_of old.tree
 scrolls_count old new scrolls = ap count_of scrolls.same.tree

@@ -10,7 +10,7 @@ use Rattle.view_model.specs.PlainTree.{PlainView}
 use Rattle.view_tree.specs.Rows.{Row, first_key}
 use Rattle.view_tree.specs.Views.{Held, SameTree, Views, geometry_of, held_of, plain_of, plain_rows}
 use Rattle.view_world.specs.Changed.{CarriesOut}
-use Rattle.view_world.specs.KeyedWorld.{KeyedWorld, geometry_in, world_of}
+use Rattle.view_world.specs.KeyedScreen.{KeyedScreen, geometry_in, world_of}
 use Rattle.view_world.specs.Replies.{state_bytes, state_text}
 use Rattle.view_world.specs.Stated.{TakesUp}
 use Rattle.view_world.specs.Step.{Done, Refused, Reply, saved, taken_up, with_offsets, with_state}
@@ -36,7 +36,7 @@ ok_states : {A : Type 0} (read : Result A ℕ) (one other : A) → read ≡ Ok o
 ok_states read one other first second = (cc)
 
 -- the bytes of a state were read back
-pub state_kept : (old : KeyedWorld) (bytes : List ℕ) (states : List (ℕ × ℕ)) → old.views.tree ≢ Nothing → bytes ≡ encoded (saved_of (plain_of old.views))
+pub state_kept : (old : KeyedScreen) (bytes : List ℕ) (states : List (ℕ × ℕ)) → old.views.tree ≢ Nothing → bytes ≡ encoded (saved_of (plain_of old.views))
     → decoded bytes ≡ Ok (saved_of (plain_of old.views)) → decoded bytes ≡ Ok states
     → CarriesOut (saved (world_of old) (plain_of old.views)) (record old { kept = states; saved = bytes }) (Ok response.State)
 state_kept old bytes states some is back read = (
@@ -56,7 +56,7 @@ taken_some world held Nothing text some = absurd (some refl)
 taken_some world held (Branch row kids siblings) text some = refl
 
 -- the world with another tree that lies as the old one
-world_restored : (old : KeyedWorld) (new : Views) (tree : Forest PlainView) → plain_of new ≡ tree → SameTree old.views new → geometry_of new ≡ geometry_of old.views
+world_restored : (old : KeyedScreen) (new : Views) (tree : Forest PlainView) → plain_of new ≡ tree → SameTree old.views new → geometry_of new ≡ geometry_of old.views
     → record (world_of old) { tree = tree } ≡ world_of (record old { views = new })
 world_restored old new tree plain same geometry =
     let with : Forest PlainView → ℕ → List Laid → World = λ trees next laid. record (world_of old) { tree = trees; next = next; geometry = laid } in
@@ -64,7 +64,7 @@ world_restored old new tree plain same geometry =
     ∙ ap (λ (next : ℕ). with (plain_of new) next (geometry_in old.stage old.views)) (sym same.next)
     ∙ ap (with (plain_of new) new.next) (sym (geometry_in-same old.stage old.views new geometry))
 
-pub offsets_taken : (old : KeyedWorld) (new : Views) (states : List (ℕ × ℕ)) (result : Result Response StepFault) → TakesUp (is_for_other_class states (rows (plain_of old.views))) result
+pub offsets_taken : (old : KeyedScreen) (new : Views) (states : List (ℕ × ℕ)) (result : Result Response StepFault) → TakesUp (is_for_other_class states (rows (plain_of old.views))) result
     → OnOk result (plain_of new ≡ restored states (plain_of old.views)) → OnErr result (new ≡ old.views) → SameTree old.views new → geometry_of new ≡ geometry_of old.views
     → CarriesOut (with_offsets (world_of old) states) (record old { views = new }) result
 offsets_taken old new states (Ok told) taken plain unchanged same geometry =
@@ -76,11 +76,11 @@ offsets_taken old new states (Err fault.NoMemory) taken plain unchanged same geo
 offsets_taken old new states (Err fault.Sink) taken plain unchanged same geometry = absurd taken
 offsets_taken old new states (Err fault.Shelf) taken plain unchanged same geometry = absurd taken
 
-pub kept_taken : (old : KeyedWorld) (new : KeyedWorld) (result : Result Response StepFault) → old.views.tree ≢ Nothing
+pub kept_taken : (old : KeyedScreen) (new : KeyedScreen) (result : Result Response StepFault) → old.views.tree ≢ Nothing
     → CarriesOut (with_offsets (world_of old) old.kept) new result → CarriesOut (taken_up (world_of old) (plain_of old.views) None) new result
 kept_taken old new result some carried = rw (taken_none (world_of old) (held_of old.views) old.views.tree some) carried
 
-pub text_taken : (old : KeyedWorld) (new : KeyedWorld) (text bytes : List ℕ) (states : List (ℕ × ℕ)) (result : Result Response StepFault) → old.views.tree ≢ Nothing
+pub text_taken : (old : KeyedScreen) (new : KeyedScreen) (text bytes : List ℕ) (states : List (ℕ × ℕ)) (result : Result Response StepFault) → old.views.tree ≢ Nothing
     → bytes ≡ state_bytes text → decoded bytes ≡ Ok states
     → CarriesOut (with_offsets (world_of old) states) new result → CarriesOut (taken_up (world_of old) (plain_of old.views) (Some text)) new result
 text_taken old new text bytes states result some is read carried =

@@ -17,9 +17,9 @@ use Rattle.view_tree.specs.Rows.{Row}
 use Rattle.view_tree.specs.Views.{plain_of}
 use Rattle.view_world.specs.World.{World}
 use Rattle.view_world.specs.Changed.{CarriesOut}
-use Rattle.view_world.specs.KeyedWorld.{KeyedWorld, world_of}
+use Rattle.view_world.specs.KeyedScreen.{KeyedScreen, world_of}
 use Rattle.view_world.specs.Pointers.{event_of, is_pressed, with_point}
-use Rattle.view_world.specs.Sound.{HasNoneFrom}
+use Rattle.view_world.specs.Sound.{HasNoneElse}
 use Rattle.view_world.specs.Step.{Reply, Done, Refused, after_event, disallow_told, moved, touched}
 use Rattle.view_world.specs.Touching.{all_disallowed, ancestors_of}
 use Rattle.view_world.specs.declared.response.Response.{Response}
@@ -27,11 +27,11 @@ use Rattle.view_world.specs.declared.response.Response.TheVariants as response
 use Rattle.view_world.proofs.WorldLaws.{Changed-as}
 
 -- whatever is done with a touch is the reply
-abbrev pub Touchable : KeyedWorld → Type 0
+abbrev pub Touchable : KeyedScreen → Type 0
 Touchable now = (next : Reply) → touched (world_of now) next ≡ next
 
 -- a pointer that is down moves
-pub Changed-move : (now new : KeyedWorld) (point : Point) (pointers : List Point) (event : Event) (response : Response)
+pub Changed-move : (now new : KeyedScreen) (point : Point) (pointers : List Point) (event : Event) (response : Response)
     → Touchable now → is_pressed point.id now.pointers ≡ true
     → pointers ≡ with_point point now.pointers → event ≡ event_of Moved point.id pointers
     → CarriesOut (after_event (world_of now) event pointers) new (Ok response)
@@ -41,13 +41,13 @@ Changed-move now new point pointers event response touchable pressed are is chan
     Changed-as _ _ new (Ok response) (touchable (moved (world_of now) point) ∙ made) changed
 
 -- a group may not take events away from its children, nor may its ancestors, or they may again
-pub Changed-disallow : (now : KeyedWorld) (kept : Kept) (number : ℕ) (on : Bool) (view : PlainView) → view_in (plain_of now.views) number ≡ Some view → is_group view.class ≡ true
+pub Changed-disallow : (now : KeyedScreen) (kept : Kept) (number : ℕ) (on : Bool) (view : PlainView) → view_in (plain_of now.views) number ≡ Some view → is_group view.class ≡ true
     → gesture_of kept ≡ all_disallowed on (number ∷ ancestors_of number (plain_of now.views)) (gesture_of now.gesture)
     → CarriesOut (disallow_told (world_of now) number on (view_in (plain_of now.views) number)) (record now { gesture = kept }) (Ok response.Nothing)
 Changed-disallow now kept number on view there group is =
     (rw (there, group) (ap (λ (gesture : PlainGesture). let w : World = record (world_of now) { gesture = gesture } in Done w []) (sym is)), tt)
 
-pub Refused-disallow : (now : KeyedWorld) (number : ℕ) (on : Bool) (view : PlainView) → view_in (plain_of now.views) number ≡ Some view → is_group view.class ≡ false
+pub Refused-disallow : (now : KeyedScreen) (number : ℕ) (on : Bool) (view : PlainView) → view_in (plain_of now.views) number ≡ Some view → is_group view.class ≡ false
     → disallow_told (world_of now) number on (view_in (plain_of now.views) number) ≡ Refused (refusal_numbered WRONG_CLASS)
 Refused-disallow now number on view there no_group = rw (there, no_group) refl
 
@@ -64,5 +64,5 @@ gesture_along tree old new places same caught = record {
   children = λ group child is. caught.children group child (subst (λ (targets : ℕ → List Target). is_target child (targets group) ≡ true) same is);
 }
 
-pub fresh_along : (first : ℕ) (old new : Kept) → ((other : ℕ) → is_open new other ≡ is_open old other) → HasNoneFrom first old → HasNoneFrom first new
-fresh_along first old new places fresh = λ number later. places number ∙ fresh number later
+pub closed_along : (tree : Forest Row) (old new : Kept) → ((other : ℕ) → is_open new other ≡ is_open old other) → HasNoneElse tree old → HasNoneElse tree new
+closed_along tree old new places closed = λ number none. places number ∙ closed number none

@@ -1,18 +1,19 @@
--- What a world keeps between lines.
+-- What a screen keeps between lines.
 use Rattle.std.specs.Prelude.{◌≡◌, ◌≤◌, ◌*◌, ℕ, false}
 use Rattle.touch_dispatch.specs.Kept.{Kept, is_open}
 use Rattle.touch_dispatch.specs.TreeEvents.{IsGestureIn, room_of}
-use Rattle.view_model.specs.Forest.{count_of}
+use Rattle.view_model.specs.Forest.{Forest, count_of}
+use Rattle.kept_views.specs.Kept.{IsConsistent}
 use Rattle.saved_state.specs.Saving.{OffsetsFit}
 use Rattle.traversal.specs.Changing.{FitAll}
-use Rattle.view_tree.specs.Hidden.{IsConsistent}
+use Rattle.view_tree.specs.Rows.{Row, count_of_number}
 use Rattle.view_tree.specs.Views.{geometry_of, plain_of}
-use Rattle.view_world.specs.KeyedWorld.{KeyedWorld}
+use Rattle.view_world.specs.KeyedScreen.{KeyedScreen}
 use Rattle.view_world.specs.Pointers.{AreDown}
-use Rattle.view_world.specs.declared.world.World.TheInside.{Inside}
+use Rattle.view_world.specs.declared.screen.Screen.TheInside.{Inside}
 
--- what contracts see of a world
-abbrev pub keyed : Inside → KeyedWorld
+-- what contracts see of a screen
+abbrev pub keyed : Inside → KeyedScreen
 keyed inside = record {
   views = inside.tree;
   stage = inside.stage;
@@ -27,15 +28,15 @@ keyed inside = record {
   saved = inside.saved.items;
 }
 
--- no view of this number or a greater one has a place
-abbrev pub HasNoneFrom : ℕ → Kept → Type 0
-HasNoneFrom first kept = (number : ℕ) → first ≤ number → is_open kept number ≡ false
+-- a number that no view of a tree has has no place
+abbrev pub HasNoneElse : Forest Row → Kept → Type 0
+HasNoneElse tree kept = (number : ℕ) → count_of_number number tree ≡ 0 → is_open kept number ≡ false
 
 pub record IsSound (inside : Inside) : Type 0 where
   pub consistent : IsConsistent inside.tree
-  -- each view has a place in the gesture, and no view that is to come has one
+  -- each view has a place in the gesture, and no other number has one
   pub caught : IsGestureIn inside.tree.tree inside.gesture
-  pub fresh : HasNoneFrom inside.tree.next inside.gesture
+  pub closed : HasNoneElse inside.tree.tree inside.gesture
   -- there is room for all that an event can tell
   pub room : 3 * count_of inside.tree.tree ≤ room_of inside.log
   pub down : AreDown inside.pointers.items

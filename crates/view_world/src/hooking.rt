@@ -8,7 +8,7 @@ ghost use Rattle.view_model.specs.PlainTree.{view_in};
 ghost use Rattle.view_model.specs.declared.changes.NumEdit.{NumEdit as PlainEdit};
 ghost use Rattle.view_model.specs.declared.limits.TheConstants.{MAX_EDITS};
 ghost use Rattle.view_tree.specs.Views.{IsLive, geometry_of, number_of, plain_of};
-ghost use Rattle.view_world.specs.KeyedWorld.{geometry_in};
+ghost use Rattle.view_world.specs.KeyedScreen.{geometry_in};
 ghost use Rattle.view_world.specs.Step.{may_change, numbered_edits, size_in};
 
 use crate::naming::find;

@@ -1,13 +1,14 @@
 //! States as they are told, and as they are read.
-ghost use Rattle.std.specs.Prelude.{◌≡◌, ◌∷◌, [], Err, IfOk, OnErr, OnOk};
+ghost use Rattle.std.specs.Prelude.{◌≡◌, ℕ, false, ◌∷◌, [], Err, IfOk, OnErr, OnOk};
 ghost use Rattle.hex.specs.Hex.{encode_lower};
+ghost use Rattle.saved_state.specs.Restored.{on_paths, set_by};
 ghost use Rattle.saved_state.specs.Restoring.{is_for_other_class, restored};
 ghost use Rattle.saved_state.specs.Saving.{OffsetsFit};
 ghost use Rattle.saved_state.specs.State.{decoded};
 ghost use Rattle.text_lines.specs.BufferedText.{Sends};
 ghost use Rattle.view_model.specs.Forest.{rows};
-ghost use Rattle.view_tree.specs.Hidden.{IsConsistent};
-ghost use Rattle.view_tree.specs.Views.{SameTree, geometry_of, plain_of};
+ghost use Rattle.kept_views.specs.Kept.{IsConsistent};
+ghost use Rattle.view_tree.specs.Views.{SameTree, geometry_of, held_of, plain_of};
 ghost use Rattle.view_world.specs.Replies.{state_bytes, state_text};
 ghost use Rattle.view_world.specs.Stated.{ReadsState, TakesUp, fault_of_state};
 
@@ -84,6 +85,8 @@ pub fn take_up(tree: &mut ViewTree, states: &States) -> Result<Response, StepFau
     ensures plain { OnOk result (plain_of tree.new ≡ restored states.now (plain_of tree.old)) }
     ensures unchanged { OnErr result (tree.new ≡ tree.old) }
     ensures same { SameTree tree.old tree.new }
+    ensures counts { tree.new.counts ≡ tree.old.counts }
+    ensures asked { (key : ℕ) → on_paths key (set_by states.now tree.old.tree) tree.old.tree ≡ false → held_of tree.new key ≡ held_of tree.old key }
     ensures geometry { geometry_of tree.new ≡ geometry_of tree.old }
     ensures consistent { IsConsistent tree.old → IsConsistent tree.new }
     ensures fits { OffsetsFit (plain_of tree.old) → OffsetsFit (plain_of tree.new) }

@@ -2,14 +2,14 @@
 ghost use Rattle.std.specs.Prelude.{◌≡◌, ◌<◌, [], ◌∷◌, ◌++◌, List, length};
 ghost use Rattle.geom_core.specs.Limits.{IsSide};
 ghost use Rattle.view_model.specs.declared.limits.TheConstants.{MAX_VIEWS};
-ghost use Rattle.view_model.specs.Facts.{unscrolled_facts};
+ghost use Rattle.view_model.specs.Facts.{layout_facts};
 ghost use Rattle.view_model.specs.Layout.{Spot, place_in};
 ghost use Rattle.view_model.specs.Measuring.{Measured};
 ghost use Rattle.view_model.specs.RelativeCourse.{relative_place};
 ghost use Rattle.view_model.specs.RelativeLayout.{sides_of};
 ghost use Rattle.view_tree.specs.Rows.{part_from};
 ghost use Rattle.view_tree.specs.Views.{IsLive, held_of};
-ghost use Rattle.traversal.specs.Laying.{spot_of};
+ghost use Rattle.kept_views.specs.Laying.{spot_of};
 ghost use Rattle.traversal.specs.Narrow.{AreSidesNarrow, IsNarrow, IsNarrowFor};
 ghost use Rattle.traversal.specs.Placing.{PlacesAs};
 
@@ -24,7 +24,7 @@ use view_tree::{Key, ViewTree};
 pub enum Placer {
     /// Over one another.
     Over { own: Facts, room: Size },
-    /// One behind the other.
+    /// One after the other.
     InLine(Cursor),
     /// Each between the sides that measuring has found for it.
     Between,
@@ -56,11 +56,11 @@ impl Placer {
         ensures narrow { IsNarrow result }
         ensures place { (spot : Spot) (before : List Measured)
             → PlacesAs self.old spot before
-            → result ≡ place_in spot before (record { facts = unscrolled_facts kid.now; size = size }) (sides_of edges) }
+            → result ≡ place_in spot before (record { facts = layout_facts kid.now; size = size }) (sides_of edges) }
         ensures next { (spot : Spot) (before : List Measured)
             → PlacesAs self.old spot before
             → length before < MAX_VIEWS
-            → PlacesAs self.new spot (before ++ record { facts = unscrolled_facts kid.now; size = size } ∷ []) }
+            → PlacesAs self.new spot (before ++ record { facts = layout_facts kid.now; size = size } ∷ []) }
     {
         match self {
             Placer::Over { own, room } => place(own, *room, kid, size),

@@ -1,70 +1,51 @@
 //! The layout of a whole tree.
-ghost use Rattle.std.specs.Prelude.{◌≡◌, ◌+◌, ◌-◌, ◌^◌, min, Some};
+ghost use Rattle.std.specs.Prelude.{◌≡◌, ◌≤◌, ◌+◌, ℕ, pos, Some, [], true};
 ghost use Rattle.geom_core.specs.declared.measuring.Mode.TheVariants.{Exactly};
+ghost use Rattle.kept_views.specs.Kept.{IsConsistent};
+ghost use Rattle.kept_views.specs.Laying.{differ};
+ghost use Rattle.kept_views.specs.Passes.{InPass};
+ghost use Rattle.measure_pass.specs.Caches.{Grown};
+ghost use Rattle.measure_pass.specs.Measured.{current};
+ghost use Rattle.view_model.specs.Facts.{is_shown};
+ghost use Rattle.view_model.specs.Geometry.{rect_at};
 ghost use Rattle.view_model.specs.Layout.{full_layout, root_calls, root_specs};
 ghost use Rattle.view_model.specs.Measuring.{pair_of};
 ghost use Rattle.view_model.specs.Offsets.{ranged};
-ghost use Rattle.view_tree.specs.Hidden.{IsConsistent};
-ghost use Rattle.view_tree.specs.Rows.{first_key};
-ghost use Rattle.view_tree.specs.Views.{SameTree, geometry_of, plain_of};
+ghost use Rattle.view_tree.specs.Rows.{first_key, head_view};
+ghost use Rattle.view_tree.specs.Views.{IsTree, SameTree, geometry_of, held_of, plain_of, specs_of, state_of};
+ghost use Rattle.traversal.specs.Counting.{IsCounted};
+ghost use Rattle.traversal.specs.Resting.{IsRootAtRest};
 
-use super::lay::lay;
+use super::lay::lay_open;
 use geom_core::{Mode, Size, Spec, child_spec};
 use measure_pass::measure;
-use scroll_offsets::bring_into_range;
 use view_model::{Facts, Work, rect_at};
 use view_tree::{Key, ViewTree};
 
-/// Measures the whole tree and lays it out in a window of this size, and then brings the offset of each scroll view that
-/// was laid out into its range. Of a root that is gone nothing is laid out.
-pub fn lay_out(tree: &mut ViewTree, window: Size, work: &mut Work)
-    requires { IsConsistent tree.old }
+/// Measures the root, which is not gone, and lays it out in a window of this size, and all below it, as far as they
+/// need that; the offset of each scroll view that lies somewhere is then in its range. The root has not settled when
+/// this ends.
+pub fn lay_root(tree: &mut ViewTree, root: Key, window: Size, work: &mut Work)
+    requires root { first_key tree.old.tree ≡ Some root }
+    requires shown { is_shown (head_view tree.old.tree).facts ≡ true }
+    requires consistent { IsConsistent tree.old }
     ensures geometry { geometry_of tree.new ≡ full_layout (plain_of tree.old) window }
     ensures plain { plain_of tree.new ≡ ranged (full_layout (plain_of tree.old) window) (plain_of tree.old) }
     ensures same { SameTree tree.old tree.new }
-    ensures consistent { IsConsistent tree.new }
-    ensures painted { work.new.painted ≡ work.old.painted }
-    ensures counted { work.new.measured ≡ min (work.old.measured + root_calls (plain_of tree.old) window) (2 ^ 64 - 1) }
+    ensures is_tree { IsTree tree.old }
+    ensures in_pass { InPass [] root (held_of tree.new) tree.old.tree }
+    ensures last { specs_of (state_of tree.new root) ≡ root_specs window (head_view tree.old.tree).facts }
+    ensures lies { (state_of tree.new root).bounds ≡ Some (rect_at (pos 0) (pos 0) (state_of tree.new root).measured) }
+    ensures still { IsRootAtRest (state_of tree.old root) (head_view tree.old.tree).facts window → (tree.new ≡ tree.old) × (work.new ≡ work.old) }
+    ensures idle { current (state_of tree.old root) (root_specs window (head_view tree.old.tree).facts) ≡ true → work.new.measured ≤ work.old.measured }
+    ensures measured { work.new.measured ≤ work.old.measured + root_calls (plain_of tree.old) window }
+    ensures laid { tree.new.counts.laid ≤ tree.old.counts.laid + differ (held_of tree.old) (held_of tree.new) tree.old.tree }
+    ensures counted { IsCounted tree.old tree.new work.old work.new }
+    ensures caches { Grown (λ place other. other ≡ root_specs window (head_view tree.old.tree).facts) (held_of tree.old) (held_of tree.new) tree.old.tree }
 {
-    lay_whole(tree, window, work);
-    bring_into_range(tree);
-}
-
-/// Lays the whole tree out, and leaves all offsets.
-fn lay_whole(tree: &mut ViewTree, window: Size, work: &mut Work)
-    requires { IsConsistent tree.old }
-    ensures geometry { geometry_of tree.new ≡ full_layout (plain_of tree.old) window }
-    ensures plain { plain_of tree.new ≡ plain_of tree.old }
-    ensures same { SameTree tree.old tree.new }
-    ensures consistent { IsConsistent tree.new }
-    ensures painted { work.new.painted ≡ work.old.painted }
-    ensures counted { work.new.measured ≡ min (work.old.measured + root_calls (plain_of tree.old) window) (2 ^ 64 - 1) }
-{
-    let _in_range = work.measured;
-    if let Some(root) = tree.root() {
-        lay_root(tree, root, window, work);
-    }
-}
-
-/// Lays the root out, and all below it.
-fn lay_root(tree: &mut ViewTree, root: Key, window: Size, work: &mut Work)
-    requires root { first_key tree.old.tree ≡ Some root }
-    requires consistent { IsConsistent tree.old }
-    ensures geometry { geometry_of tree.new ≡ full_layout (plain_of tree.old) window }
-    ensures plain { plain_of tree.new ≡ plain_of tree.old }
-    ensures same { SameTree tree.old tree.new }
-    ensures consistent { IsConsistent tree.new }
-    ensures painted { work.new.painted ≡ work.old.painted }
-    ensures counted { work.new.measured ≡ min (work.old.measured + root_calls (plain_of tree.old) window) (2 ^ 64 - 1) }
-{
-    let _in_range = work.measured;
-    let facts = tree.facts(root);
-    if !facts.is_shown() {
-        return;
-    }
-    let (ws, hs) = specs_in(window, facts);
+    let (ws, hs) = specs_in(window, tree.facts(root));
     let size = measure(tree, root, ws, hs, work);
-    lay(tree, root, rect_at(0, 0, size));
+    lay_open(tree, root, rect_at(0, 0, size), work);
 }
 
 /// The specs of the root in a window of this size.
@@ -77,6 +58,7 @@ fn specs_in(window: Size, root: &Facts) -> (Spec, Spec)
     )
 }
 
+/// The spec of exactly this size.
 fn exactly(size: i32) -> Spec
     ensures { result ≡ record { mode = Exactly; size = size } }
 {

@@ -44,19 +44,19 @@ module _ (t : Forest Row) (once : (x : ℕ) → count_of_key x t ≤ 1) (view k 
   abbrev pub g : Located k t
   g = located k t livek
 
-  kids : f.kids ≡ Branch g.row g.kids g.siblings
+  pub kids : f.kids ≡ Branch g.row g.kids g.siblings
   kids = ap children_of_first (sym f.is) ∙ sym first ∙ g.is
 
   k_in : 0 < count_of_key k f.kids
   k_in = rw kids (subst (λ k. 0 < count_of_key k (Branch g.row g.kids g.siblings)) g.key_is (times_self g.row g.kids g.siblings))
 
-  gone : pruned_at_key k t ≡ edit_kids view (pruned_at_key k) t
+  pub gone : pruned_at_key k t ≡ edit_kids view (pruned_at_key k) t
   gone = cut_edit k view f.row f.kids f.siblings f.key_is k_in f.within once
 
   left : pruned_at_key k f.kids ≡ g.siblings
   left = ap (pruned_at_key k) kids ∙ cut_here k g.row g.kids g.siblings g.key_is
 
-  from_is : part_from view (pruned_at_key k t) ≡ Branch f.row g.siblings f.siblings
+  pub from_is : part_from view (pruned_at_key k t) ≡ Branch f.row g.siblings f.siblings
   from_is = ap (part_from view) gone ∙ part_from-edit view (pruned_at_key k) f.row f.kids f.siblings f.key_is f.within (once view) ∙ ap (λ kids. Branch f.row kids f.siblings) left
 
   pub step : Step t (pruned_at_key k t) view

@@ -4,7 +4,7 @@ use Rattle.std.proofs.lemmas.Bool.{eq-eqb, ne_eqb, cases_eq}
 use Rattle.std.specs.Prelude.{◌==◌, if◌then◌else◌, MatchOption}
 use Rattle.view_model.specs.Forest.{Forest, Nothing, Branch}
 use Rattle.view_tree.specs.Rows.{Row, count_of_key, around, ancestors}
-use Rattle.view_tree.specs.Nodes.{Links, RepresentsPart, RepresentsTree}
+use Rattle.view_tree.specs.Nodes.{PlainNode, RepresentsPart, RepresentsTree}
 use Rattle.view_tree.proofs.forest.KeyLaws.{times_self}
 use Rattle.view_tree.proofs.nodes.PrunedPart.{own_more}
 use Rattle.view_tree.proofs.forest.Forests.{some_is}
@@ -29,11 +29,11 @@ pub left : (k : ℕ) (row : Row) (kids siblings : Forest Row) → (row.key ≡ k
 left k row kids siblings ne h = let h' : 0 < (if row.key == k then 1 else 0) + (count_of_key k kids + count_of_key k siblings) = h in let g = rw (ne_eqb row.key k ne) at h' in omega arith
 
 -- a node's parent is the nearest view around it
-pub parent_is : (at : ℕ → Option Links) (k : ℕ) (n : Links) → at k ≡ Some n → (t : Forest Row) (acc : List ℕ) (q : Option ℕ) → RepresentsPart at (head acc) q t
+pub parent_is : (at : ℕ → Option PlainNode) (k : ℕ) (n : PlainNode) → at k ≡ Some n → (t : Forest Row) (acc : List ℕ) (q : Option ℕ) → RepresentsPart at (head acc) q t
     → 0 < count_of_key k t → n.parent ≡ head (around acc k t)
 parent_is at k n says Nothing acc q s h = absurd (omega arith)
 parent_is at k n says (Branch row kids siblings) acc q s h = elim (cases_eq row.key k) [
-  | inl e ↦ rw (around_here acc k row kids siblings e) (ap (λ (n : Links). n.parent) (some_is (sym says ∙ ap at (sym e) ∙ s.0)))
+  | inl e ↦ rw (around_here acc k row kids siblings e) (ap (λ (n : PlainNode). n.parent) (some_is (sym says ∙ ap at (sym e) ∙ s.0)))
   | inr ne ↦ elim (cases_eq (count_of_key k kids) 0) [
     | inl z ↦ let p = left k row kids siblings ne h in rw (around_after acc k row kids siblings ne z) (parent_is at k n says siblings acc (Some row.key) s.2 (omega arith))
     | inr nz ↦ rw (around_below acc k row kids siblings ne nz) (parent_is at k n says kids (row.key ∷ acc) None s.1 (omega arith))
@@ -75,7 +75,7 @@ pub record Up (o : Option ℕ) (k : ℕ) (t : Forest Row) : Type 0 where
   pub path : MatchOption o (ancestors k t ≡ []) (λ p. ancestors k t ≡ p ∷ ancestors p t)
   pub live : MatchOption o (Unit {0}) (λ p. 0 < count_of_key p t)
 
-pub up_is : (at : ℕ → Option Links) (root : Option ℕ) (next : ℕ) (t : Forest Row) (k : ℕ) (n : Links) → RepresentsTree at root next t → 0 < count_of_key k t → at k ≡ Some n
+pub up_is : (at : ℕ → Option PlainNode) (root : Option ℕ) (next : ℕ) (t : Forest Row) (k : ℕ) (n : PlainNode) → RepresentsTree at root next t → 0 < count_of_key k t → at k ≡ Some n
     → Up n.parent k t
 up_is at root next t k n stands live says =
     let e : n.parent ≡ head (ancestors k t) = parent_is at k n says t [] None stands.stand live in

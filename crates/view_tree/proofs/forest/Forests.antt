@@ -3,14 +3,14 @@ use Rattle.std.proofs.Common.{◌≡◌, ℕ, zero, suc, ◌<◌, ◌≤◌, Opt
 use Rattle.std.specs.Prelude.{IfSome}
 use Rattle.view_model.specs.Forest.{Forest, Nothing, Branch, count_of}
 use Rattle.view_tree.specs.Rows.{Row, count_of_key, part_from, children_of_first, later_siblings, first_tree, first_key, rest_from}
-use Rattle.view_tree.specs.Nodes.{Links, RepresentsPart, forest, branch_at, RepresentsTree, links_for}
+use Rattle.view_tree.specs.Nodes.{PlainNode, RepresentsPart, forest, branch_at, RepresentsTree, links_for}
 use Rattle.view_tree.proofs.forest.KeyLaws.{Within, here, in_below, in_after, Located, located, from_within, count_of_key-within, times_self}
 
 pub some_is : {A : Type 0} {x y : A} → Some x ≡ Some y → x ≡ y
 some_is e = cc
 
 -- enough fuel gives the forest that the nodes stand for
-pub forest_is : (n : ℕ) (at : ℕ → Option Links) (p q : Option ℕ) (t : Forest Row) → RepresentsPart at p q t → count_of t < n → forest n at (first_key t) ≡ t
+pub forest_is : (n : ℕ) (at : ℕ → Option PlainNode) (p q : Option ℕ) (t : Forest Row) → RepresentsPart at p q t → count_of t < n → forest n at (first_key t) ≡ t
 unfolding forest
 forest_is zero at p q t s few = absurd (omega arith)
 forest_is (suc n) at p q Nothing s few = refl
@@ -20,12 +20,12 @@ forest_is (suc n) at p q (Branch row kids siblings) s few =
     ∙ ap (λ t. Branch row kids t) (forest_is n at p (Some row.key) siblings s.2 (omega arith))
 
 -- a part stands too
-pub record Stood (at : ℕ → Option Links) (u : Forest Row) : Type 0 where
+pub record Stood (at : ℕ → Option PlainNode) (u : Forest Row) : Type 0 where
   pub parent : Option ℕ
   pub before : Option ℕ
   pub stand : RepresentsPart at parent before u
 
-pub RepresentsPart-within : {u t : Forest Row} (at : ℕ → Option Links) (p q : Option ℕ) → Within u t → RepresentsPart at p q t → Stood at u
+pub RepresentsPart-within : {u t : Forest Row} (at : ℕ → Option PlainNode) (p q : Option ℕ) → Within u t → RepresentsPart at p q t → Stood at u
 RepresentsPart-within at p q here s = record { parent = p; before = q; stand = s }
 RepresentsPart-within at p q (in_below {row} w) s = RepresentsPart-within at (Some row.key) None w s.1
 RepresentsPart-within at p q (in_after {row} w) s = RepresentsPart-within at p (Some row.key) w s.2
@@ -46,17 +46,17 @@ Within-later_siblings (in_below w) = in_below (Within-later_siblings w)
 Within-later_siblings (in_after w) = in_after (Within-later_siblings w)
 
 -- the forest that the nodes give is the one that they stand for
-pub tree_is : (at : ℕ → Option Links) (root : Option ℕ) (next : ℕ) (t : Forest Row) → RepresentsTree at root next t → forest next at root ≡ t
+pub tree_is : (at : ℕ → Option PlainNode) (root : Option ℕ) (next : ℕ) (t : Forest Row) → RepresentsTree at root next t → forest next at root ≡ t
 tree_is at root next t s = ap (forest next at) (sym s.outer) ∙ forest_is next at None None t s.stand s.few
 
 -- what a node says, at a view
-pub record Seen (at : ℕ → Option Links) (k : ℕ) (t : Forest Row) : Type 0 where
+pub record Seen (at : ℕ → Option PlainNode) (k : ℕ) (t : Forest Row) : Type 0 where
   pub found : Located k t
   pub parent : Option ℕ
   pub before : Option ℕ
   pub is : at k ≡ Some (links_for found.row parent before found.kids found.siblings)
 
-pub seen : (at : ℕ → Option Links) (k : ℕ) (p q : Option ℕ) (t : Forest Row) → RepresentsPart at p q t → 0 < count_of_key k t → Seen at k t
+pub seen : (at : ℕ → Option PlainNode) (k : ℕ) (p q : Option ℕ) (t : Forest Row) → RepresentsPart at p q t → 0 < count_of_key k t → Seen at k t
 seen at k p q t s h =
     let f = located k t h in
     let w = RepresentsPart-within at p q f.within s in

@@ -19,6 +19,7 @@ gained_nothing start outermost = record {
   unused = λ key there. absurd (omega arith);
   tree = sym (grown_where-nothing (λ (row : Row). row.key == outermost) start.tree);
   made = λ key there. absurd (omega arith);
+  bare = λ key there. absurd (omega arith);
   others = λ key none. refl;
 }
 
@@ -50,6 +51,10 @@ module _ (start now new : Views) (outermost parent key : ℕ) (view : PlainView)
       made = λ other there. elim (cases_eq other key) [
         | inl e ↦ rw e (ap (λ (held : Held). held.state) came.held)
         | inr ne ↦ ap (λ (held : Held). held.state) (came.others other ne) ∙ gained.made other (let s = same other ne in omega arith)
+      ];
+      bare = λ other there. elim (cases_eq other key) [
+        | inl e ↦ rw e (ap (λ (held : Held). held.cache) came.held)
+        | inr ne ↦ ap (λ (held : Held). held.cache) (came.others other ne) ∙ gained.bare other (let s = same other ne in omega arith)
       ];
       others = λ other none.
           let ne : other ≢ key = λ e. let none : count_of_key key more ≡ 0 = rw e at none in absurd (omega arith) in
@@ -103,6 +108,10 @@ gained_whole old mid new parent key view added empty came live gained =
       made = λ other there. elim (cases_eq other key) [
         | inl e ↦ rw e (ap (λ (held : Held). held.state) (gained.others key own ∙ came.held))
         | inr ne ↦ gained.made other (let s = other_is other ne in omega arith)
+      ];
+      bare = λ other there. elim (cases_eq other key) [
+        | inl e ↦ rw e (ap (λ (held : Held). held.cache) (gained.others key own ∙ came.held))
+        | inr ne ↦ gained.bare other (let s = other_is other ne in omega arith)
       ];
       others = λ other none.
           let ne : other ≢ key = λ e. let none = subst (λ k. count_of_key k whole ≡ 0) e none in let l = count_of_key-leaf_own key view in absurd (omega arith) in

@@ -191,6 +191,7 @@ module _ (old mid : Views) (parent : Option ℕ) (key : ℕ) (sprout : Sprout) (
       record {
         added = Branch (record { key = key; view = unscrolled view }) below.added Nothing;
         first = refl;
+        alone = refl;
         gained = gained_whole old mid new parent key view below.added empty came own.live below.gained;
         plain = plain shape.kids rest
             ∙ ap (λ n. grown n (numbered mid.next shape.kids) (plain_of mid)) own.number_is

@@ -127,7 +127,7 @@ grouped-grafted at now old new (Some parent) (sprout ∷ more) entries tree live
     subst (IsGrouped now) (sym plain) (grouped_parent at now old sprout more own all.added entries all.is all.made pre has parent tree live mine grouped)
 
 -- what is kept under other numbers of views that were there is the same
-own_apart : (relative : Bool) (number k : ℕ) (links : List Link) (numbers : List ℕ) (entries : List (ℕ × Group)) (before : Option PlainGroup) → IsOwnFor relative number links numbers entries
+pub own_apart : (relative : Bool) (number k : ℕ) (links : List Link) (numbers : List ℕ) (entries : List (ℕ × Group)) (before : Option PlainGroup) → IsOwnFor relative number links numbers entries
     → (if relative then Some number else None) ≢ Some k → noted entries k before ≡ before
 own_apart false number k links numbers entries before mine apart = rw mine refl
 own_apart true number k links numbers entries before mine apart = own_past true number k links numbers entries before mine (λ same. apart (ap (λ n. Some n) (sym same)))

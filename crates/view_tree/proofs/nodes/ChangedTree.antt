@@ -4,7 +4,7 @@ use Rattle.std.proofs.lemmas.Bool.{eq-eqb, ne_eqb, cases_eq}
 use Rattle.view_model.specs.PlainTree.{PlainView}
 use Rattle.view_model.specs.Forest.{Forest, Nothing, Branch}
 use Rattle.view_tree.specs.Rows.{Row, count_of_key, first_key, last_key_or, changed_at_key}
-use Rattle.view_tree.specs.Nodes.{Links, RepresentsPart, RepresentsTree, links_for}
+use Rattle.view_tree.specs.Nodes.{PlainNode, RepresentsPart, RepresentsTree, links_for}
 use Rattle.view_tree.proofs.values.KeptLaws.{later_siblings-put}
 use Rattle.view_tree.proofs.forest.NumberLaws.{count_of_key-put, count-put}
 use Rattle.view_tree.proofs.nodes.ChildEdits.{RepresentsPart-along}
@@ -30,7 +30,7 @@ module _ (k : ℕ) (f : PlainView → PlainView) where
     | inr ne ↦ rw (put_there row kids siblings ne) (last_key-put (Some row.key) siblings)
   ]
 
-  module _ (at new : ℕ → Option Links) (own : (s : Links) → at k ≡ Some s → new k ≡ Some (record s { view = f s.view })) (others : (x : ℕ) → x ≢ k → new x ≡ at x) where
+  module _ (at new : ℕ → Option PlainNode) (own : (s : PlainNode) → at k ≡ Some s → new k ≡ Some (record s { view = f s.view })) (others : (x : ℕ) → x ≢ k → new x ≡ at x) where
     pub RepresentsPart-put : (t : Forest Row) (p q : Option ℕ) → ((x : ℕ) → count_of_key x t ≤ 1) → RepresentsPart at p q t → RepresentsPart new p q (changed_at_key k f t)
     RepresentsPart-put Nothing p q once s = tt
     RepresentsPart-put (Branch row kids siblings) p q once s = elim (cases_eq row.key k) [

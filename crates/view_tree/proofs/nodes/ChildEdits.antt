@@ -4,7 +4,7 @@ use Rattle.std.proofs.lemmas.Bool.{eq-eqb, ne_eqb}
 use Rattle.std.specs.Prelude.{◌==◌, if◌then◌else◌}
 use Rattle.view_model.specs.Forest.{Forest, Nothing, Branch, edited_where, joined}
 use Rattle.view_tree.specs.Rows.{Row, count_of_key, first_key, last_key_or, grown_at_key, later_siblings}
-use Rattle.view_tree.specs.Nodes.{Links, RepresentsPart, links_for}
+use Rattle.view_tree.specs.Nodes.{PlainNode, RepresentsPart, links_for}
 use Rattle.view_tree.proofs.values.KeptLaws.{later_siblings-edited}
 use Rattle.view_tree.proofs.forest.KeyLaws.{Within, here, in_below, in_after, count_of_key-within, times_self}
 use Rattle.view_tree.proofs.forest.NumberLaws.{edited_absent}
@@ -14,7 +14,7 @@ abbrev pub edit_kids : ℕ → (Forest Row → Forest Row) → Forest Row → Fo
 edit_kids k g tree = edited_where (λ (row : Row). row.key == k) (λ row kids siblings. Branch row (g kids) siblings) tree
 
 -- what nodes say matters at the keys of the views alone
-pub RepresentsPart-along : (at new : ℕ → Option Links) (p q : Option ℕ) (t : Forest Row) → ((x : ℕ) → 0 < count_of_key x t → new x ≡ at x) → RepresentsPart at p q t → RepresentsPart new p q t
+pub RepresentsPart-along : (at new : ℕ → Option PlainNode) (p q : Option ℕ) (t : Forest Row) → ((x : ℕ) → 0 < count_of_key x t → new x ≡ at x) → RepresentsPart at p q t → RepresentsPart new p q t
 RepresentsPart-along at new p q Nothing same s = tt
 RepresentsPart-along at new p q (Branch row kids siblings) same s = (
   same row.key (times_self row kids siblings) ∙ s.0,
@@ -61,7 +61,7 @@ node-later_siblings : (k : ℕ) (g : Forest Row → Forest Row) (row : Row) (p q
     → links_for row p q kids siblings ≡ links_for row p q kids (edit_kids k g siblings)
 node-later_siblings k g row p q kids siblings = rw (first_key-edit k g siblings)
 
-module _ (at new : ℕ → Option Links) (k : ℕ) (g : Forest Row → Forest Row) (row : Row) (kids siblings : Forest Row) (is : row.key ≡ k)
+module _ (at new : ℕ → Option PlainNode) (k : ℕ) (g : Forest Row → Forest Row) (row : Row) (kids siblings : Forest Row) (is : row.key ≡ k)
     (own : (p q : Option ℕ) → at k ≡ Some (links_for row p q kids siblings) → new k ≡ Some (links_for row p q (g kids) siblings))
     (inner : RepresentsPart at (Some k) None kids → RepresentsPart new (Some k) None (g kids)) where
   here-count_of_key : 0 < count_of_key k (Branch row kids siblings)

@@ -6,7 +6,7 @@ use Rattle.view_model.specs.Forest.{Forest, Nothing, Branch, joined}
 use Rattle.view_model.specs.Layout.{unscrolled}
 use Rattle.view_model.specs.PlainTree.{PlainView}
 use Rattle.view_tree.specs.Rows.{Row, count_of_key, first_key, last_key_or, last_key, grown_at_key, leaf, later_siblings}
-use Rattle.view_tree.specs.Nodes.{Links, RepresentsPart, RepresentsTree, links_for, linked, key_or, last_child, last_named, changed_at, with_node}
+use Rattle.view_tree.specs.Nodes.{PlainNode, RepresentsPart, RepresentsTree, links_for, linked, key_or, last_child, last_named, changed_at, with_node}
 use Rattle.view_tree.proofs.forest.KeyLaws.{count_of_key-within, times_self, zero_or_more}
 use Rattle.view_tree.proofs.forest.NumberLaws.{count_of_key-grown, count-grown}
 use Rattle.view_tree.proofs.forest.Forests.{Seen, seen, some_is}
@@ -24,9 +24,9 @@ last-join q Nothing key view = refl
 last-join q (Branch row kids siblings) key view = last-join (Some row.key) siblings key view
 
 -- a list of siblings with one more at its end
-RepresentsPart-join : (at new : ℕ → Option Links) (above key : ℕ) (view : PlainView) (q : Option ℕ) (kids : Forest Row)
+RepresentsPart-join : (at new : ℕ → Option PlainNode) (above key : ℕ) (view : PlainView) (q : Option ℕ) (kids : Forest Row)
     → new key ≡ Some (record { view = unscrolled view; parent = Some above; first = None; last = None; previous = last_key_or q kids; next = None })
-    → ((l : ℕ) (m : Links) → last_key_or q kids ≡ Some l → at l ≡ Some m → new l ≡ Some (record m { next = Some key }))
+    → ((l : ℕ) (m : PlainNode) → last_key_or q kids ≡ Some l → at l ≡ Some m → new l ≡ Some (record m { next = Some key }))
     → ((x : ℕ) → 0 < count_of_key x kids → last_key_or q kids ≢ Some x → new x ≡ at x)
     → ((x : ℕ) → count_of_key x kids ≤ 1)
     → RepresentsPart at (Some above) q kids → RepresentsPart new (Some above) q (joined kids (leaf key view))
@@ -52,13 +52,13 @@ last_out row Nothing x e z = cc
 last_out row (Branch row' kids' siblings') x e z = let p = last_in None row' kids' siblings' x e in omega arith
 
 -- a key without a node is that of no view
-pub vacant_unused : (at : ℕ → Option Links) (key : ℕ) (t : Forest Row) (p q : Option ℕ) → RepresentsPart at p q t → at key ≡ None → count_of_key key t ≡ 0
+pub vacant_unused : (at : ℕ → Option PlainNode) (key : ℕ) (t : Forest Row) (p q : Option ℕ) → RepresentsPart at p q t → at key ≡ None → count_of_key key t ≡ 0
 vacant_unused at key t p q stand vacant = elim (zero_or_more (count_of_key key t)) [
   | inl z ↦ z
   | inr live ↦ let s = seen at key p q t stand live in absurd (let e = s.is in cc)
 ]
 
-module _ (at new : ℕ → Option Links) (root : Option ℕ) (next : ℕ) (t : Forest Row) (above key : ℕ) (view : PlainView)
+module _ (at new : ℕ → Option PlainNode) (root : Option ℕ) (next : ℕ) (t : Forest Row) (above key : ℕ) (view : PlainView)
     (stands : RepresentsTree at root next t) (live : 0 < count_of_key above t) (vacant : at key ≡ None)
     (becomes : (x : ℕ) → new x ≡ linked at (Some above) key view (last_child at (Some above)) x) where
   there : Seen at above t
@@ -67,7 +67,7 @@ module _ (at new : ℕ → Option Links) (root : Option ℕ) (next : ℕ) (t : F
   abbrev kids : Forest Row
   kids = there.found.kids
 
-  abbrev node : Links
+  abbrev node : PlainNode
   node = links_for there.found.row there.parent there.before there.found.kids there.found.siblings
 
   -- no view has the new key
@@ -92,19 +92,19 @@ module _ (at new : ℕ → Option Links) (root : Option ℕ) (next : ℕ) (t : F
   becomes_hung x = becomes x ∙ ap (λ o. linked at (Some above) key view o x) (ap last_named there.is)
 
   -- the new node, what comes behind the last child, and what the parent becomes
-  abbrev own_node : Links
+  abbrev own_node : PlainNode
   own_node = record { view = unscrolled view; parent = Some above; first = None; last = None; previous = last_key kids; next = None }
 
-  abbrev behind : Links → Links
+  abbrev behind : PlainNode → PlainNode
   behind n = record n { next = Some key }
 
-  abbrev ended : Links → Links
+  abbrev ended : PlainNode → PlainNode
   ended n = record n { first = key_or n.first key; last = Some key }
 
-  abbrev one : ℕ → Option Links
+  abbrev one : ℕ → Option PlainNode
   one = with_node at key own_node
 
-  abbrev two : ℕ → Option Links
+  abbrev two : ℕ → Option PlainNode
   two = changed_at one (last_key kids) behind
 
   made : new key ≡ Some own_node
@@ -120,7 +120,7 @@ module _ (at new : ℕ → Option Links) (root : Option ℕ) (next : ℕ) (t : F
       ∙ changed_is two (Some above) ended above node refl
       (changed_not one (last_key kids) behind above last_not_above ∙ with_node_not at key own_node above above_not_key ∙ there.is)
 
-  last : (l : ℕ) (m : Links) → last_key kids ≡ Some l → at l ≡ Some m → new l ≡ Some (behind m)
+  last : (l : ℕ) (m : PlainNode) → last_key kids ≡ Some l → at l ≡ Some m → new l ≡ Some (behind m)
   last l m e at_l =
       becomes_hung l
       ∙ changed_not two (Some above) ended l (λ i. last_not_above (e ∙ sym i))
@@ -137,7 +137,7 @@ module _ (at new : ℕ → Option Links) (root : Option ℕ) (next : ℕ) (t : F
       → new above ≡ Some (links_for there.found.row p q (joined kids (leaf key view)) there.found.siblings)
   own p q e =
       let same = some_is (sym there.is ∙ e) in
-      parent ∙ rw (first-join kids key view, last-join None kids key view) (ap (λ (n : Links). Some (record n { first = first_key (joined kids (leaf key view)); last = Some key })) same)
+      parent ∙ rw (first-join kids key view, last-join None kids key view) (ap (λ (n : PlainNode). Some (record n { first = first_key (joined kids (leaf key view)); last = Some key })) same)
 
   inner : RepresentsPart at (Some above) None kids → RepresentsPart new (Some above) None (joined kids (leaf key view))
   inner s =
@@ -177,7 +177,7 @@ module _ (at new : ℕ → Option Links) (root : Option ℕ) (next : ℕ) (t : F
       }
 
 -- the tree after its root has come
-pub root_stands : (at new : ℕ → Option Links) (next key : ℕ) (view : PlainView) → 0 < next → ((x : ℕ) → new x ≡ linked at None key view None x)
+pub root_stands : (at new : ℕ → Option PlainNode) (next key : ℕ) (view : PlainView) → 0 < next → ((x : ℕ) → new x ≡ linked at None key view None x)
     → RepresentsTree new (Some key) (next + 1) (leaf key view)
 root_stands at new next key view some becomes = record {
   outer = refl;

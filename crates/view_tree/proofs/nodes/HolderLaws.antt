@@ -71,10 +71,6 @@ noted_is new id key n sum more total count keys none small = elim (cases_eq new 
       ])
 ]
 
--- no id makes nothing of it
-pub noted_nothing : (held : Option Holders) (new key id : ℕ) → new ≡ 0 → held ≡ noted held new key id
-noted_nothing held new key id none = rw (eq-eqb new 0 none)
-
 pub dropped_is : (old id key n sum fewer rest : ℕ) → n ≡ fewer + own old id 1 → sum ≡ rest + own old id key → key < 2 ^ 64
     → held_for id fewer rest ≡ dropped (held_for id n sum) old key id
 dropped_is old id key n sum fewer rest count keys small = elim (cases_eq old id) [

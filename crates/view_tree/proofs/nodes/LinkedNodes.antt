@@ -3,7 +3,7 @@ use Rattle.std.proofs.Common.{◌≡◌, ℕ, Option, Some, refl, ◌∙◌, ap,
 use Rattle.std.proofs.lemmas.Bool.{cases_eq, eq-eqb, ne_eqb}
 use mathlib.Core.Path.{fun_ext}
 use Rattle.slab.specs.Slab.{Slab, Updates}
-use Rattle.view_tree.specs.Nodes.{Links, links_in, links_of, links_at, changed_at, key_or, with_node}
+use Rattle.view_tree.specs.Nodes.{PlainNode, links_in, links_of, links_at, changed_at, key_or, with_node}
 use Rattle.view_tree.specs.declared.node.Node.{Node}
 
 pub said-insert : (s t : Slab Node) (key : ℕ) (node : Node) → Updates s t key (Some node) → links_at t ≡ with_node (links_at s) key (links_of node)
@@ -20,5 +20,5 @@ pub hung_is : (s0 s1 s2 s3 : Slab Node) (parent before : Option ℕ) (key : ℕ)
     parent (λ m. record m { first = key_or m.first key; last = Some key }) x
 hung_is s0 s1 s2 s3 parent before key node u two three x =
     three x
-    ∙ ap (λ (at : ℕ → Option Links). changed_at at parent (λ m. record m { first = key_or m.first key; last = Some key }) x)
-    (fun_ext two ∙ ap (λ (at : ℕ → Option Links). changed_at at before (λ m. record m { next = Some key })) (said-insert s0 s1 key node u))
+    ∙ ap (λ (at : ℕ → Option PlainNode). changed_at at parent (λ m. record m { first = key_or m.first key; last = Some key }) x)
+    (fun_ext two ∙ ap (λ (at : ℕ → Option PlainNode). changed_at at before (λ m. record m { next = Some key })) (said-insert s0 s1 key node u))

@@ -12,7 +12,7 @@ use Rattle.view_tree.specs.Attached.{Attached}
 use Rattle.view_tree.specs.Holders.{noted}
 use Rattle.view_tree.specs.Ordering.{orders_in}
 use Rattle.view_tree.specs.Rows.{Row, key_where, leaf, count_of_key, with_child}
-use Rattle.view_tree.specs.Nodes.{Links, links_in, links_at, held_in, linked, replaced_if_none, forest, last_child, last_named, RepresentsTree, tree_of, value_of, IsPlanted, holders_of}
+use Rattle.view_tree.specs.Nodes.{PlainNode, links_in, links_at, held_in, linked, replaced_if_none, forest, last_child, last_named, RepresentsTree, tree_of, value_of, IsPlanted, holders_of}
 use Rattle.view_tree.specs.Views.{Views, Held, IsLive, IsTree, fresh_held, held_of, held_or, number_of, plain_of, plain_rows}
 use Rattle.view_tree.specs.declared.node.Node.{Node}
 use Rattle.view_tree.specs.declared.tree.ViewTree.TheInside.{Inside}
@@ -35,7 +35,7 @@ if_some_at : (o : Option ℕ) (P : ℕ → Type 0) (k : ℕ) → o ≡ Some k �
 if_some_at None P k is h = absurd (cc)
 if_some_at (Some x) P k is h = subst P (some_is is) h
 
-last_there_at : (a : Inside) (v : Views) (k l : ℕ) (o : Option Links) → IsPlanted a → value_of a ≡ v → IsLive v k → links_at a.nodes k ≡ o → last_named o ≡ Some l
+last_there_at : (a : Inside) (v : Views) (k l : ℕ) (o : Option PlainNode) → IsPlanted a → value_of a ≡ v → IsLive v k → links_at a.nodes k ≡ o → last_named o ≡ Some l
     → IsLive v l
 last_there_at a v k l None sound e live says is = absurd (cc)
 last_there_at a v k l (Some n) sound e live says is =
@@ -47,7 +47,7 @@ last_child_there a v None sound e live l is = absurd (cc)
 last_child_there a v (Some parent) sound e live l is = contains_live a v l sound e (last_there_at a v parent l _ sound e live refl is)
 
 -- the nodes stand for the tree with the view
-pub stands-with_child : (at new : ℕ → Option Links) (root : Option ℕ) (next : ℕ) (t : Forest Row) (parent : Option ℕ) (key : ℕ) (view : PlainView)
+pub stands-with_child : (at new : ℕ → Option PlainNode) (root : Option ℕ) (next : ℕ) (t : Forest Row) (parent : Option ℕ) (key : ℕ) (view : PlainView)
     → RepresentsTree at root next t → IfSome parent (λ parent. 0 < count_of_key parent t) → (parent ≡ None → t ≡ Nothing) → at key ≡ None
     → ((x : ℕ) → new x ≡ linked at parent key view (last_child at parent) x)
     → RepresentsTree new (replaced_if_none parent (Some key) root) (next + 1) (with_child parent (leaf key view) t)
@@ -56,12 +56,12 @@ stands-with_child at new root next t None key view stands live empty vacant beco
 stands-with_child at new root next t (Some parent) key view stands live empty vacant becomes = grown_stands at new root next t parent key view stands live vacant becomes
 
 -- no view has the new key
-pub unused : (at : ℕ → Option Links) (root : Option ℕ) (next : ℕ) (t : Forest Row) (key : ℕ) → RepresentsTree at root next t → at key ≡ None → count_of_key key t ≡ 0
+pub unused : (at : ℕ → Option PlainNode) (root : Option ℕ) (next : ℕ) (t : Forest Row) (key : ℕ) → RepresentsTree at root next t → at key ≡ None → count_of_key key t ≡ 0
 unused at root next t key stands vacant = vacant_unused at key t None None stands.stand vacant
 
 -- the fields after room was made
 module _ (a b : Inside) (nodes : b.nodes ≡ record a.nodes { capacity = b.nodes.capacity }) (keys : b.keys.entries ≡ a.keys.entries) (ids : b.ids.entries ≡ a.ids.entries)
-    (groups : orders_in b.groups.entries ≡ orders_in a.groups.entries) (root : b.root ≡ a.root) (next : b.next ≡ a.next) where
+    (groups : orders_in b.groups.entries ≡ orders_in a.groups.entries) (root : b.root ≡ a.root) (next : b.next ≡ a.next) (counts : b.counts ≡ a.counts) where
   said-room : links_at b.nodes ≡ links_at a.nodes
   said-room = ap links_at nodes
 
@@ -70,14 +70,15 @@ module _ (a b : Inside) (nodes : b.nodes ≡ record a.nodes { capacity = b.nodes
 
   pub value-room : value_of b ≡ value_of a
   value-room =
-      ap (λ (t : Forest Row). record { tree = t; held = map held_in b.nodes.slots; orders = orders_in b.groups.entries; next = b.next }) tree-room
-      ∙ ap (λ (s : Slab Node). record { tree = tree_of a; held = map held_in s.slots; orders = orders_in b.groups.entries; next = b.next }) nodes
-      ∙ ap (λ orders. record { tree = tree_of a; held = map held_in a.nodes.slots; orders = orders; next = b.next }) groups
-      ∙ ap (λ n. record { tree = tree_of a; held = map held_in a.nodes.slots; orders = orders_in a.groups.entries; next = n }) next
+      ap (λ (t : Forest Row). record { tree = t; held = map held_in b.nodes.slots; orders = orders_in b.groups.entries; next = b.next; counts = b.counts }) tree-room
+      ∙ ap (λ (s : Slab Node). record { tree = tree_of a; held = map held_in s.slots; orders = orders_in b.groups.entries; next = b.next; counts = b.counts }) nodes
+      ∙ ap (λ orders. record { tree = tree_of a; held = map held_in a.nodes.slots; orders = orders; next = b.next; counts = b.counts }) groups
+      ∙ ap (λ n. record { tree = tree_of a; held = map held_in a.nodes.slots; orders = orders_in a.groups.entries; next = n; counts = b.counts }) next
+      ∙ ap (λ counts. record { tree = tree_of a; held = map held_in a.nodes.slots; orders = orders_in a.groups.entries; next = a.next; counts = counts }) counts
 
   pub sound-room : IsPlanted a → IsPlanted b
   sound-room sound = record {
-    stands = rw (root, next) (subst (λ (at : ℕ → Option Links). RepresentsTree at a.root a.next (forest a.next at a.root)) (sym said-room) sound.stands);
+    stands = rw (root, next) (subst (λ (at : ℕ → Option PlainNode). RepresentsTree at a.root a.next (forest a.next at a.root)) (sym said-room) sound.stands);
     kept = subst IsTree (sym value-room) sound.kept;
     full = ap slab_len nodes ∙ sound.full ∙ ap count_of (sym tree-room);
     found = λ n. rw keys (sound.found n) ∙ ap (key_where (λ (w : PlainView). w.number == n)) (sym tree-room);

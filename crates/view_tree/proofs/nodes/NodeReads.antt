@@ -6,7 +6,7 @@ use Rattle.slab.specs.Slab.{get, ContainsKey}
 use Rattle.view_model.specs.Forest.{Forest}
 use Rattle.view_model.specs.PlainTree.{PlainView}
 use Rattle.view_tree.specs.Rows.{Row, head_view, part_from, children_of_first, later_siblings, first_key, last_key, previous_key}
-use Rattle.view_tree.specs.Nodes.{Links, links_in, links_of, links_at, held_by, held_in, view_of_node, RepresentsTree, links_for, value_of, IsPlanted, holders_of}
+use Rattle.view_tree.specs.Nodes.{PlainNode, links_in, links_of, links_at, held_by, held_in, view_of_node, RepresentsTree, links_for, value_of, IsPlanted, holders_of}
 use Rattle.view_tree.specs.Views.{Views, Held, IsLive, IsTree, held_of, held_or, facts_of, offset_of}
 use Rattle.view_tree.specs.declared.node.Node.{Node}
 use Rattle.view_tree.specs.declared.tree.ViewTree.TheInside.{Inside}
@@ -16,12 +16,12 @@ use Rattle.view_tree.proofs.forest.AncestorLaws.{Up, up_is}
 use Rattle.view_tree.proofs.forest.SiblingLaws.{previous_is, previous_live, last_live}
 
 -- a node that says this
-pub record Says (o : Option Node) (x : Links) : Type 0 where
+pub record Says (o : Option Node) (x : PlainNode) : Type 0 where
   pub node : Node
   pub at : o ≡ Some node
   pub all : links_of node ≡ x
 
-says : (o : Option Node) (x : Links) → links_in o ≡ Some x → Says o x
+says : (o : Option Node) (x : PlainNode) → links_in o ≡ Some x → Says o x
 says None x h = absurd (cc)
 says (Some n) x h = record { node = n; at = refl; all = some_is h }
 
@@ -86,7 +86,7 @@ pub view_is : (a : Inside) (v : Views) (k : ℕ) → IsPlanted a → value_of a 
     → view_of_node n ≡ head_view (part_from k v.tree)
 view_is a v k sound e live n at =
     let o = node_says a v k sound e live n at in
-    rw o.found.is (ap (λ (s : Links). s.view) o.all)
+    rw o.found.is (ap (λ (s : PlainNode). s.view) o.all)
 
 pub facts_is : (a : Inside) (v : Views) (k : ℕ) → IsPlanted a → value_of a ≡ v → IsLive v k → (n : Node) → get a.nodes k ≡ Some n → n.facts ≡ facts_of v k
 facts_is a v k sound e live n at =
@@ -97,28 +97,28 @@ facts_is a v k sound e live n at =
 
 -- the children of a view
 pub first_is : (a : Inside) (v : Views) (k : ℕ) → IsPlanted a → value_of a ≡ v → IsLive v k → (n : Node) → get a.nodes k ≡ Some n
-    → (n.first ≡ first_key (children_of_first (part_from k v.tree))) × Part n.first v.tree (children_of_first (part_from k v.tree))
+    → (n.links.first ≡ first_key (children_of_first (part_from k v.tree))) × Part n.links.first v.tree (children_of_first (part_from k v.tree))
 first_is a v k sound e live n at =
     let o = node_says a v k sound e live n at in
-    let h : n.first ≡ first_key o.found.kids = ap (λ (s : Links). s.first) o.all in
+    let h : n.links.first ≡ first_key o.found.kids = ap (λ (s : PlainNode). s.first) o.all in
     rw o.found.is (h, subst (λ x. Part x v.tree o.found.kids) (sym h) (part v.tree (is_tree a v sound e).keys o.found.kids (Within-children_of_first o.found.within)))
 
 pub last_is : (a : Inside) (v : Views) (k : ℕ) → IsPlanted a → value_of a ≡ v → IsLive v k → (n : Node) → get a.nodes k ≡ Some n
-    → n.last ≡ last_key (children_of_first (part_from k v.tree))
+    → n.links.last ≡ last_key (children_of_first (part_from k v.tree))
 last_is a v k sound e live n at =
     let o = node_says a v k sound e live n at in
-    rw o.found.is (ap (λ (s : Links). s.last) o.all)
+    rw o.found.is (ap (λ (s : PlainNode). s.last) o.all)
 
 -- its later siblings
 pub next_is : (a : Inside) (v : Views) (k : ℕ) → IsPlanted a → value_of a ≡ v → IsLive v k → (n : Node) → get a.nodes k ≡ Some n
-    → (n.next ≡ first_key (later_siblings (part_from k v.tree))) × Part n.next v.tree (later_siblings (part_from k v.tree))
+    → (n.links.next ≡ first_key (later_siblings (part_from k v.tree))) × Part n.links.next v.tree (later_siblings (part_from k v.tree))
 next_is a v k sound e live n at =
     let o = node_says a v k sound e live n at in
-    let h : n.next ≡ first_key o.found.siblings = ap (λ (s : Links). s.next) o.all in
+    let h : n.links.next ≡ first_key o.found.siblings = ap (λ (s : PlainNode). s.next) o.all in
     rw o.found.is (h, subst (λ x. Part x v.tree o.found.siblings) (sym h) (part v.tree (is_tree a v sound e).keys o.found.siblings (Within-later_siblings o.found.within)))
 
 -- the parent of a view
-pub parent_of : (a : Inside) (v : Views) (k : ℕ) → IsPlanted a → value_of a ≡ v → IsLive v k → (n : Node) → get a.nodes k ≡ Some n → Up n.parent k v.tree
+pub parent_of : (a : Inside) (v : Views) (k : ℕ) → IsPlanted a → value_of a ≡ v → IsLive v k → (n : Node) → get a.nodes k ≡ Some n → Up n.links.parent k v.tree
 parent_of a v k sound e live n at = up_is (links_at a.nodes) a.root a.next v.tree k _ (stands_for a v sound e) live (ap links_in at)
 
 -- the root
@@ -129,10 +129,10 @@ root_is a v sound e =
 
 -- the sibling before a view
 pub previous_of : (a : Inside) (v : Views) (k : ℕ) → IsPlanted a → value_of a ≡ v → IsLive v k → (n : Node) → get a.nodes k ≡ Some n
-    → (n.previous ≡ previous_key None k v.tree) × IfSome n.previous (λ x. IsLive v x)
+    → (n.links.previous ≡ previous_key None k v.tree) × IfSome n.links.previous (λ x. IsLive v x)
 previous_of a v k sound e live n at =
     let s = stands_for a v sound e in
     (previous_is (links_at a.nodes) k _ (ap links_in at) v.tree None None s.stand live, previous_live (links_at a.nodes) a.root a.next v.tree k _ s live (ap links_in at))
 
-pub last_of : (a : Inside) (v : Views) (k : ℕ) → IsPlanted a → value_of a ≡ v → IsLive v k → (n : Node) → get a.nodes k ≡ Some n → IfSome n.last (λ x. IsLive v x)
+pub last_of : (a : Inside) (v : Views) (k : ℕ) → IsPlanted a → value_of a ≡ v → IsLive v k → (n : Node) → get a.nodes k ≡ Some n → IfSome n.links.last (λ x. IsLive v x)
 last_of a v k sound e live n at = last_live (links_at a.nodes) a.root a.next v.tree k _ (stands_for a v sound e) live (ap links_in at)

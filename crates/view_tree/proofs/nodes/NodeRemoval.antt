@@ -7,7 +7,7 @@ use Rattle.view_model.specs.Forest.{Nothing, count_of}
 use Rattle.view_model.specs.PlainTree.{PlainView}
 use Rattle.view_tree.specs.Holders.{dropped}
 use Rattle.view_tree.specs.Rows.{children_of_first, pruned_at_key, part_from, key_where, count_of_key}
-use Rattle.view_tree.specs.Nodes.{Links, links_in, links_at, held_in, replaced_if_none, unlinked, IsAround, RepresentsTree, tree_of, value_of, IsPlanted, holders_of}
+use Rattle.view_tree.specs.Nodes.{PlainNode, links_in, links_at, held_in, replaced_if_none, unlinked, IsAround, RepresentsTree, tree_of, value_of, IsPlanted, holders_of}
 use Rattle.view_tree.specs.Views.{Views, IsLive, KeepsOthers, held_of, held_or, number_of}
 use Rattle.view_tree.specs.declared.node.Node.{Node}
 use Rattle.view_tree.specs.declared.tree.ViewTree.TheInside.{Inside}
@@ -23,14 +23,14 @@ use Rattle.view_tree.proofs.forest.SearchLaws.{search-pruned_at_key}
 
 -- the neighbours of a view are there, and are others
 pub around_there : (a : Inside) (v : Views) (k : ℕ) → IsPlanted a → value_of a ≡ v → IsLive v k
-    → (n : Links) (x : ℕ) → links_at a.nodes k ≡ Some n → IsAround n x → ContainsKey a.nodes x × (x ≢ k)
+    → (n : PlainNode) (x : ℕ) → links_at a.nodes k ≡ Some n → IsAround n x → ContainsKey a.nodes x × (x ≢ k)
 around_there a v k sound e live n x says i =
     let h = gone_around (links_at a.nodes) a.root a.next v.tree k n (stands_for a v sound e) live says in
     (contains_live a v x sound e (h.live x i), h.apart.not_k x i)
 
 module _ (a b : Inside) (v : Views) (k : ℕ) (n : Node) (sound : IsPlanted a) (e : value_of a ≡ v) (live : IsLive v k) (leaf : children_of_first (part_from k v.tree) ≡ Nothing)
-    (node : get a.nodes k ≡ Some n) (gone : (m : Links) → links_at a.nodes k ≡ Some m → (x : ℕ) → links_at b.nodes x ≡ unlinked (links_at a.nodes) k m x)
-    (root : b.root ≡ replaced_if_none n.parent None a.root) (next : b.next ≡ a.next) (len : slab_len b.nodes + 1 ≡ slab_len a.nodes)
+    (node : get a.nodes k ≡ Some n) (gone : (m : PlainNode) → links_at a.nodes k ≡ Some m → (x : ℕ) → links_at b.nodes x ≡ unlinked (links_at a.nodes) k m x)
+    (root : b.root ≡ replaced_if_none n.links.parent None a.root) (next : b.next ≡ a.next) (len : slab_len b.nodes + 1 ≡ slab_len a.nodes)
     (unlisted : (x : ℕ) → get_key nat_eq b.keys x ≡ (if nat_eq n.number x then None else get_key nat_eq a.keys x))
     (ids : (id : ℕ) → get_key nat_eq b.ids id ≡ dropped (get_key nat_eq a.ids id) n.facts.id k id) where
   stands-removal : RepresentsTree (links_at b.nodes) b.root b.next (pruned_at_key k v.tree)

@@ -11,10 +11,12 @@ use Rattle.view_model.specs.Forest.{Forest, count_of}
 use Rattle.view_model.specs.PlainTree.{PlainView}
 use Rattle.view_tree.specs.Holders.{renamed}
 use Rattle.view_tree.specs.Rows.{Row, part_from, head_view, key_where, changed_at_key, count_of_key}
-use Rattle.view_tree.specs.Nodes.{Links, links_in, links_of, links_at, held_by, held_in, RepresentsTree, forest, tree_of, value_of, view_of_node, IsPlanted, IsSound, holders_of}
+use Rattle.view_tree.specs.Nodes.{PlainNode, links_in, links_of, links_at, held_by, held_in, RepresentsTree, forest, tree_of, value_of, view_of_node, IsPlanted, IsSound, holders_of}
 use Rattle.view_tree.specs.Ordering.{group_at}
+use Rattle.view_tree.proofs.orders.OnlyLayouts.{only-same}
 use Rattle.view_tree.proofs.orders.RowLaws.{grouped_kept}
 use Rattle.view_tree.specs.Views.{Views, IsLive, IsTree, SameTree, KeepsOthers, held_of, held_or}
+use Rattle.view_tree.specs.declared.counts.Counts.{Counts}
 use Rattle.view_tree.specs.declared.node.Node.{Node}
 use Rattle.view_tree.specs.declared.tree.ViewTree.TheInside.{Inside}
 use Rattle.view_tree.proofs.forest.Forests.{tree_is, some_is}
@@ -64,16 +66,16 @@ module _ (a : Inside) (k : ℕ) (n m : Node) (at : get a.nodes k ≡ Some n) (sa
   all_same =
       let u = Updates-with_value a.nodes k m (rw at) in
       fun_ext (λ q. elim (cases_eq q k) [
-        | inl e ↦ rw e (ap links_in u.changed ∙ ap (λ (s : Links). Some s) same ∙ ap links_in (sym at))
+        | inl e ↦ rw e (ap links_in u.changed ∙ ap (λ (s : PlainNode). Some s) same ∙ ap links_in (sym at))
         | inr other ↦ ap links_in (u.others q other)
       ])
 
   tree-write : tree_of (written a k m) ≡ tree_of a
-  tree-write = ap (λ (at : ℕ → Option Links). forest a.next at a.root) all_same
+  tree-write = ap (λ (at : ℕ → Option PlainNode). forest a.next at a.root) all_same
 
   pub sound-write : IsPlanted a → IsPlanted (written a k m)
   sound-write sound = record {
-    stands = subst (λ (at : ℕ → Option Links). RepresentsTree at a.root a.next (forest a.next at a.root)) (sym all_same) sound.stands;
+    stands = subst (λ (at : ℕ → Option PlainNode). RepresentsTree at a.root a.next (forest a.next at a.root)) (sym all_same) sound.stands;
     kept = is_tree-same (value_of a) (value_of (written a k m)) sound.kept tree-write refl;
     full = len_write a.nodes.slots k m (rw at) ∙ sound.full ∙ ap count_of (sym tree-write);
     found = λ number. sound.found number ∙ ap (key_where (λ (view : PlainView). view.number == number)) (sym tree-write);
@@ -86,10 +88,26 @@ module _ (a : Inside) (k : ℕ) (n m : Node) (at : get a.nodes k ≡ Some n) (sa
   whole-write sound = record {
     planted = sound-write sound.planted;
     grouped = grouped_kept (group_at a.groups) (value_of a) (value_of (written a k m)) tree-write sound.grouped;
+    only = only-same (group_at a.groups) (group_at a.groups) (tree_of a) (tree_of (written a k m)) tree-write (λ number. refl) sound.only;
   }
 
   pub same-write : (v : Views) → value_of a ≡ v → SameTree v (value_of (written a k m))
   same-write v e = record { tree = tree-write ∙ ap (λ (v : Views). v.tree) e; orders = ap (λ (v : Views). v.orders) e; next = ap (λ (v : Views). v.next) e }
+
+-- counts that change
+pub sound-counts : (a : Inside) (counts : Counts) → IsSound a → IsSound (record a { counts = counts })
+sound-counts a counts sound = record {
+  planted = record {
+    stands = sound.planted.stands;
+    kept = is_tree-same (value_of a) (value_of (record a { counts = counts })) sound.planted.kept refl refl;
+    full = sound.planted.full;
+    found = sound.planted.found;
+    named = sound.planted.named;
+    small = sound.planted.small;
+  };
+  grouped = sound.grouped;
+  only = sound.only;
+}
 
 -- the same with the ids of others
 abbrev pub rewritten : Inside → Inside → ℕ → Node → Inside
@@ -115,8 +133,8 @@ module _ (a : Inside) (v : Views) (k : ℕ) (n m : Node) (f : PlainView → Plai
       put_stands k f (links_at a.nodes) (links_at (with_value a.nodes k m))
       (λ s says.
       ap links_in u.changed
-      ∙ ap (λ (s : Links). Some s) changes
-      ∙ ap (λ (s : Links). Some (record s { view = f s.view })) (some_is (ap links_in (sym at) ∙ says)))
+      ∙ ap (λ (s : PlainNode). Some s) changes
+      ∙ ap (λ (s : PlainNode). Some (record s { view = f s.view })) (some_is (ap links_in (sym at) ∙ says)))
       (λ x ne. ap links_in (u.others x ne))
       a.root a.next v.tree (stands_for a v sound e)
 
@@ -141,7 +159,7 @@ module _ (a : Inside) (v : Views) (k : ℕ) (n m : Node) (f : PlainView → Plai
         noted id
         ∙ ap (λ held. renamed held n.facts.id m.facts.id k id) (named_for a v sound e id)
         ∙ ap (λ old. renamed (holders_of id v.tree) old m.facts.id k id) (ap (λ (w : PlainView). w.facts.id) head)
-        ∙ ap (λ new. renamed (holders_of id v.tree) (head_view (part_from k v.tree)).facts.id new k id) (ap (λ (s : Links). s.view.facts.id) changes ∙ ap (λ (w : PlainView). (f w).facts.id) head)
+        ∙ ap (λ new. renamed (holders_of id v.tree) (head_view (part_from k v.tree)).facts.id new k id) (ap (λ (s : PlainNode). s.view.facts.id) changes ∙ ap (λ (w : PlainView). (f w).facts.id) head)
         ∙ sym (holders_of-put id k f v.tree live ((is_tree a v sound e).keys k) (small_for a v sound e k live))
         ∙ ap (holders_of id) (sym tree-put);
     small = λ key there.

@@ -4,7 +4,7 @@ use Rattle.std.proofs.lemmas.Bool.{eq-eqb, ne_eqb, cases_eq}
 use Rattle.std.specs.Prelude.{◌==◌, if◌then◌else◌}
 use Rattle.view_model.specs.Forest.{Forest, Nothing, Branch, count_of, or_else}
 use Rattle.view_tree.specs.Rows.{Row, count_of_key, first_key, last_key_or, pruned_at_key, part_from, children_of_first}
-use Rattle.view_tree.specs.Nodes.{Links, RepresentsPart, links_for, replaced_if_none}
+use Rattle.view_tree.specs.Nodes.{PlainNode, RepresentsPart, links_for, replaced_if_none}
 use Rattle.view_tree.proofs.forest.KeyLaws.{Within, here, in_below, in_after, count_of_key-within, times_self, located, absent}
 use Rattle.view_tree.proofs.nodes.ChildEdits.{edit_kids, RepresentsPart-along, edit_absent, edit_here, edit_there}
 use Rattle.view_tree.proofs.forest.Forests.{some_is}
@@ -41,11 +41,11 @@ pub count_of_key-later : {u t : Forest Row} (x : ℕ) → Later u t → count_of
 count_of_key-later x at_first = omega arith
 count_of_key-later x (later l) = let h = count_of_key-later x l in omega arith
 
-pub record Beside (at : ℕ → Option Links) (p : Option ℕ) (u : Forest Row) : Type 0 where
+pub record Beside (at : ℕ → Option PlainNode) (p : Option ℕ) (u : Forest Row) : Type 0 where
   pub before : Option ℕ
   pub stand : RepresentsPart at p before u
 
-pub RepresentsPart-later : {u t : Forest Row} (at : ℕ → Option Links) (p q : Option ℕ) → Later u t → RepresentsPart at p q t → Beside at p u
+pub RepresentsPart-later : {u t : Forest Row} (at : ℕ → Option PlainNode) (p q : Option ℕ) → Later u t → RepresentsPart at p q t → Beside at p u
 RepresentsPart-later at p q at_first s = record { before = q; stand = s }
 RepresentsPart-later at p q (later {row = row} l) s = RepresentsPart-later at p (Some row.key) l s.2
 
@@ -60,8 +60,8 @@ first_in Nothing x e = absurd (cc)
 first_in (Branch row kids siblings) x e = let h : row.key ≡ x = some_is e in subst (λ x. 0 < count_of_key x (Branch row kids siblings)) h (times_self row kids siblings)
 
 -- the siblings after it, which now come after what was before it
-tail_ok : (at new : ℕ → Option Links) (p q q0 : Option ℕ) (n : Links) (siblings : Forest Row) → n.next ≡ first_key siblings → n.previous ≡ q
-    → ((x : ℕ) (m : Links) → n.next ≡ Some x → at x ≡ Some m → new x ≡ Some (record m { previous = n.previous }))
+tail_ok : (at new : ℕ → Option PlainNode) (p q q0 : Option ℕ) (n : PlainNode) (siblings : Forest Row) → n.next ≡ first_key siblings → n.previous ≡ q
+    → ((x : ℕ) (m : PlainNode) → n.next ≡ Some x → at x ≡ Some m → new x ≡ Some (record m { previous = n.previous }))
     → ((x : ℕ) → 0 < count_of_key x siblings → n.next ≢ Some x → new x ≡ at x)
     → ((x : ℕ) → count_of_key x siblings ≤ 1) → RepresentsPart at p q0 siblings → RepresentsPart new p q siblings
 tail_ok at new p q q0 n Nothing next before behind_new others_same once s = tt
@@ -77,7 +77,7 @@ last_instead : (q o : Option ℕ) (siblings : Forest Row) → last_key_or q sibl
 last_instead q o Nothing = refl
 last_instead q o (Branch row kids siblings) = refl
 
-module _ (at : ℕ → Option Links) (p : Option ℕ) (k : ℕ) (row : Row) (c siblings : Forest Row) (n : Links) (is : row.key ≡ k) (says : at k ≡ Some n) where
+module _ (at : ℕ → Option PlainNode) (p : Option ℕ) (k : ℕ) (row : Row) (c siblings : Forest Row) (n : PlainNode) (is : row.key ≡ k) (says : at k ≡ Some n) where
   abbrev u : Forest Row
   u = Branch row c siblings
 
@@ -91,14 +91,14 @@ module _ (at : ℕ → Option Links) (p : Option ℕ) (k : ℕ) (row : Row) (c s
   before_in : (q : Option ℕ) (row1 : Row) (kids1 siblings1 : Forest Row) (x : ℕ) → Later u siblings1 → RepresentsPart at p q (Branch row1 kids1 siblings1)
       → n.previous ≡ Some x → 0 < count_of_key x (Branch row1 Nothing siblings1)
   before_in q row1 kids1 _ x at_first s e =
-      let h : row1.key ≡ x = some_is (ap (λ (n : Links). n.previous) (sym (node_is (Some row1.key) s.2)) ∙ e) in
+      let h : row1.key ≡ x = some_is (ap (λ (n : PlainNode). n.previous) (sym (node_is (Some row1.key) s.2)) ∙ e) in
       subst (λ x. 0 < count_of_key x (Branch row1 Nothing u)) h (times_self row1 Nothing u)
   before_in q row1 kids1 _ x (later {row = row2} {kids = kids2} {siblings = siblings2} l) s e = let h = before_in (Some row1.key) row2 kids2 siblings2 x l s.2 e in omega arith
 
   next_in : (q : Option ℕ) (kids : Forest Row) (x : ℕ) → Later u kids → RepresentsPart at p q kids → n.next ≡ Some x → 0 < count_of_key x siblings
   next_in q kids x l s e =
       let t = RepresentsPart-later at p q l s in
-      first_in siblings x (ap (λ (n : Links). n.next) (sym (node_is t.before t.stand)) ∙ e)
+      first_in siblings x (ap (λ (n : PlainNode). n.next) (sym (node_is t.before t.stand)) ∙ e)
 
   pub a_in : (x : ℕ) (kids : Forest Row) → Later u kids → count_of_key x siblings ≤ count_of_key x kids
   a_in x kids l = let h = count_of_key-later x l in omega arith
@@ -106,13 +106,13 @@ module _ (at : ℕ → Option Links) (p : Option ℕ) (k : ℕ) (row : Row) (c s
   -- what was before it is not among these
   pub before_out : (kids : Forest Row) (q : Option ℕ) (x : ℕ) → Later u kids → ((x : ℕ) → count_of_key x kids ≤ 1) → ((x : ℕ) → q ≡ Some x → count_of_key x kids ≡ 0)
       → RepresentsPart at p q kids → n.previous ≡ Some x → count_of_key x u ≡ 0
-  before_out _ q x at_first once apart s e = apart x (ap (λ (n : Links). n.previous) (sym (node_is q s)) ∙ e)
+  before_out _ q x at_first once apart s e = apart x (ap (λ (n : PlainNode). n.previous) (sym (node_is q s)) ∙ e)
   before_out _ q x (later {row = row1} {kids = kids1} {siblings = siblings1} l) once apart s e =
       before_out siblings1 (Some row1.key) x l (λ x. let o = once x in omega arith) (λ x i. let o = once x in
       let w = own_more row1 kids1 siblings1 x (some_is i) in omega arith) s.2 e
 
   pub before_there : (kids : Forest Row) (x : ℕ) → Later u kids → RepresentsPart at p None kids → n.previous ≡ Some x → 0 < count_of_key x kids
-  before_there _ x at_first s e = let f : None ≡ Some x = ap (λ (n : Links). n.previous) (sym (node_is None s)) ∙ e in absurd (cc)
+  before_there _ x at_first s e = let f : None ≡ Some x = ap (λ (n : PlainNode). n.previous) (sym (node_is None s)) ∙ e in absurd (cc)
   before_there _ x (later {row = row1} {kids = kids1} {siblings = siblings1} l) s e = let h = before_in None row1 kids1 siblings1 x l s e in omega arith
 
   pub next_there : (kids : Forest Row) (q : Option ℕ) (x : ℕ) → Later u kids → RepresentsPart at p q kids → n.next ≡ Some x → 0 < count_of_key x siblings
@@ -120,14 +120,14 @@ module _ (at : ℕ → Option Links) (p : Option ℕ) (k : ℕ) (row : Row) (c s
 
   kept_first : (q : Option ℕ) (row1 : Row) (kids1 siblings1 : Forest Row) (f : Option ℕ) → Later u siblings1 → RepresentsPart at p q (Branch row1 kids1 siblings1)
       → f ≡ replaced_if_none n.previous n.next f
-  kept_first q row1 kids1 _ f at_first s = let e : n.previous ≡ Some row1.key = ap (λ (n : Links). n.previous) (node_is (Some row1.key) s.2) in rw e
+  kept_first q row1 kids1 _ f at_first s = let e : n.previous ≡ Some row1.key = ap (λ (n : PlainNode). n.previous) (node_is (Some row1.key) s.2) in rw e
   kept_first q row1 kids1 _ f (later {row = row2} {kids = kids2} {siblings = siblings2} l) s = kept_first (Some row1.key) row2 kids2 siblings2 f l s.2
 
   pub cut_first : (kids : Forest Row) → Later u kids → ((x : ℕ) → count_of_key x kids ≤ 1) → RepresentsPart at p None kids
       → first_key (pruned_at_key k kids) ≡ replaced_if_none n.previous n.next (first_key kids)
   cut_first _ at_first once s =
       let e = node_is None s in
-      rw (cut_here k row c siblings is, ap (λ (n : Links). n.previous) e, ap (λ (n : Links). n.next) e)
+      rw (cut_here k row c siblings is, ap (λ (n : PlainNode). n.previous) e, ap (λ (n : PlainNode). n.next) e)
   cut_first _ (later {row = row1} {kids = kids1} {siblings = siblings1} l) once s =
       let kl = count_of_key-later k l in
       let ne : row1.key ≡ k → ⊥ = λ i. let o = once k in let w = own_more row1 kids1 siblings1 k i in let h = k_in in absurd (omega arith) in
@@ -137,25 +137,25 @@ module _ (at : ℕ → Option Links) (p : Option ℕ) (k : ℕ) (row : Row) (c s
       → last_key_or q (pruned_at_key k kids) ≡ replaced_if_none n.next n.previous (last_key_or q kids)
   cut_last _ q at_first once s =
       let e = node_is q s in
-      rw (cut_here k row c siblings is, ap (λ (n : Links). n.previous) e, ap (λ (n : Links). n.next) e) (last_instead q (Some row.key) siblings)
+      rw (cut_here k row c siblings is, ap (λ (n : PlainNode). n.previous) e, ap (λ (n : PlainNode). n.next) e) (last_instead q (Some row.key) siblings)
   cut_last _ q (later {row = row1} {kids = kids1} {siblings = siblings1} l) once s =
       let kl = count_of_key-later k l in
       let ne : row1.key ≡ k → ⊥ = λ i. let o = once k in let w = own_more row1 kids1 siblings1 k i in let h = k_in in absurd (omega arith) in
       rw (cut_there k row1 kids1 siblings1 ne) (cut_last siblings1 (Some row1.key) l (λ x. let o = once x in omega arith) s.2)
 
-  module _ (new : ℕ → Option Links)
-      (before_new : (x : ℕ) (m : Links) → n.previous ≡ Some x → at x ≡ Some m → new x ≡ Some (record m { next = n.next }))
-      (behind_new : (x : ℕ) (m : Links) → n.next ≡ Some x → at x ≡ Some m → new x ≡ Some (record m { previous = n.previous })) where
+  module _ (new : ℕ → Option PlainNode)
+      (before_new : (x : ℕ) (m : PlainNode) → n.previous ≡ Some x → at x ≡ Some m → new x ≡ Some (record m { next = n.next }))
+      (behind_new : (x : ℕ) (m : PlainNode) → n.next ≡ Some x → at x ≡ Some m → new x ≡ Some (record m { previous = n.previous })) where
     pub RepresentsPart-pruned_at_key : (kids : Forest Row) (q : Option ℕ) → Later u kids → ((x : ℕ) → count_of_key x kids ≤ 1) → ((x : ℕ) → q ≡ Some x → count_of_key x kids ≡ 0)
         → ((x : ℕ) → 0 < count_of_key x kids → x ≢ k → n.previous ≢ Some x → n.next ≢ Some x → new x ≡ at x)
         → RepresentsPart at p q kids → RepresentsPart new p q (pruned_at_key k kids)
     RepresentsPart-pruned_at_key _ q at_first once apart others_same s =
         let e = node_is q s in
         rw (cut_here k row c siblings is) (
-        tail_ok at new p q (Some row.key) n siblings (ap (λ (n : Links). n.next) e) (ap (λ (n : Links). n.previous) e) behind_new
+        tail_ok at new p q (Some row.key) n siblings (ap (λ (n : PlainNode). n.next) e) (ap (λ (n : PlainNode). n.previous) e) behind_new
         (λ x h ne. others_same x (omega arith)
         (λ i. let o = once x in let w = own_more row c siblings x (is ∙ sym i) in absurd (omega arith))
-        (λ i. let z = apart x (ap (λ (n : Links). n.previous) (sym e) ∙ i) in absurd (omega arith))
+        (λ i. let z = apart x (ap (λ (n : PlainNode). n.previous) (sym e) ∙ i) in absurd (omega arith))
         ne)
         (λ x. let o = once x in omega arith)
         s.2
@@ -164,8 +164,8 @@ module _ (at : ℕ → Option Links) (p : Option ℕ) (k : ℕ) (row : Row) (c s
         let e = node_is (Some row1.key) s.2 in
         let ne : row1.key ≡ k → ⊥ = λ i. let o = once k in let w = own_more row1 kids1 u k i in let h = k_in in absurd (omega arith) in
         let z : count_of_key k kids1 ≡ 0 = let o = once k in let h = k_in in omega arith in
-        let before : n.previous ≡ Some row1.key = ap (λ (n : Links). n.previous) e in
-        let next : n.next ≡ first_key siblings = ap (λ (n : Links). n.next) e in
+        let before : n.previous ≡ Some row1.key = ap (λ (n : PlainNode). n.previous) e in
+        let next : n.next ≡ first_key siblings = ap (λ (n : PlainNode). n.next) e in
         rw (cut_there k row1 kids1 u ne, cut_absent k kids1 z, cut_here k row c siblings is) (
           before_new row1.key (links_for row1 p q kids1 u) before s.0 ∙ ap (λ (o : Option ℕ). Some (record (links_for row1 p q kids1 u) { next = o })) next,
           RepresentsPart-along at new (Some row1.key) None kids1

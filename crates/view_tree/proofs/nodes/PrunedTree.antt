@@ -3,7 +3,7 @@ use Rattle.std.proofs.Common.{◌≡◌, ◌≢◌, ℕ, ◌<◌, ◌≤◌, Opt
 use Rattle.view_model.specs.Forest.{Forest, Nothing, Branch}
 use Rattle.view_tree.specs.Rows.{Row, count_of_key, first_key, pruned_at_key, later_siblings}
 use Rattle.view_tree.proofs.nodes.ChangedNodes.{changed_not, changed_is, without_not}
-use Rattle.view_tree.specs.Nodes.{Links, RepresentsPart, RepresentsTree, links_for, replaced_if_none, unlinked, IsAround}
+use Rattle.view_tree.specs.Nodes.{PlainNode, RepresentsPart, RepresentsTree, links_for, replaced_if_none, unlinked, IsAround}
 use Rattle.view_tree.proofs.forest.KeyLaws.{count_of_key-within, times_self, located, Located}
 use Rattle.view_tree.proofs.forest.Forests.{RepresentsPart-within, some_is}
 use Rattle.view_tree.proofs.nodes.ChildEdits.{edit_kids, RepresentsPart-edit, later_siblings-edit, first_key-edit}
@@ -11,27 +11,27 @@ use Rattle.view_tree.proofs.nodes.PrunedPart.{own_more, Later, at_first, later, 
 use Rattle.view_tree.proofs.forest.NumberLaws.{count_of_key-cut_le, count-cut_le}
 
 -- where the parent and the siblings beside it are apart, what each node says
-pub record Apart (k : ℕ) (n : Links) : Type 0 where
+pub record Apart (k : ℕ) (n : PlainNode) : Type 0 where
   pub not_k : (x : ℕ) → IsAround n x → x ≢ k
   pub siblings : (x : ℕ) → n.previous ≡ Some x → n.next ≢ Some x
   pub before_parent : (x : ℕ) → n.previous ≡ Some x → n.parent ≢ Some x
   pub next_parent : (x : ℕ) → n.next ≡ Some x → n.parent ≢ Some x
 
-module _ (at new : ℕ → Option Links) (k : ℕ) (n : Links) (eq : (x : ℕ) → new x ≡ unlinked at k n x) (apart : Apart k n) where
-  pub before_new : (x : ℕ) (m : Links) → n.previous ≡ Some x → at x ≡ Some m → new x ≡ Some (record m { next = n.next })
+module _ (at new : ℕ → Option PlainNode) (k : ℕ) (n : PlainNode) (eq : (x : ℕ) → new x ≡ unlinked at k n x) (apart : Apart k n) where
+  pub before_new : (x : ℕ) (m : PlainNode) → n.previous ≡ Some x → at x ≡ Some m → new x ≡ Some (record m { next = n.next })
   before_new x m e at_x =
       eq x
       ∙ changed_not _ n.parent _ x (apart.before_parent x e)
       ∙ changed_not _ n.next _ x (apart.siblings x e)
       ∙ changed_is _ n.previous _ x m e (without_not at k x (apart.not_k x (inr (inl e))) ∙ at_x)
 
-  pub behind_new : (x : ℕ) (m : Links) → n.next ≡ Some x → at x ≡ Some m → new x ≡ Some (record m { previous = n.previous })
+  pub behind_new : (x : ℕ) (m : PlainNode) → n.next ≡ Some x → at x ≡ Some m → new x ≡ Some (record m { previous = n.previous })
   behind_new x m e at_x =
       eq x
       ∙ changed_not _ n.parent _ x (apart.next_parent x e)
       ∙ changed_is _ n.next _ x m e (changed_not _ n.previous _ x (λ i. apart.siblings x i e) ∙ without_not at k x (apart.not_k x (inr (inr e))) ∙ at_x)
 
-  pub parent_new : (x : ℕ) (m : Links) → n.parent ≡ Some x → at x ≡ Some m
+  pub parent_new : (x : ℕ) (m : PlainNode) → n.parent ≡ Some x → at x ≡ Some m
       → new x ≡ Some (record m { first = replaced_if_none n.previous n.next m.first; last = replaced_if_none n.next n.previous m.last })
   parent_new x m e at_x =
       eq x
@@ -47,7 +47,7 @@ module _ (at new : ℕ → Option Links) (k : ℕ) (n : Links) (eq : (x : ℕ) �
       ∙ without_not at k x ne
 
 -- what is around a view
-pub record Around (k : ℕ) (n : Links) (t : Forest Row) : Type 0 where
+pub record Around (k : ℕ) (n : PlainNode) (t : Forest Row) : Type 0 where
   pub apart : Apart k n
   pub live : (x : ℕ) → IsAround n x → 0 < count_of_key x t
 
@@ -58,7 +58,7 @@ top_only row kids siblings _ (later {row = row'} {kids = kids'} {siblings = sibl
     let z : count_of_key row.key siblings' ≡ 0 = ap (count_of_key row.key) e in
     absurd (omega arith)
 
-module _ (at : ℕ → Option Links) (root : Option ℕ) (next : ℕ) (t : Forest Row) (k : ℕ) (n : Links)
+module _ (at : ℕ → Option PlainNode) (root : Option ℕ) (next : ℕ) (t : Forest Row) (k : ℕ) (n : PlainNode)
     (stands : RepresentsTree at root next t) (live : 0 < count_of_key k t) (says : at k ≡ Some n) where
   abbrev pub f : Located k t
   f = located k t live
@@ -80,7 +80,7 @@ module _ (at : ℕ → Option Links) (root : Option ℕ) (next : ℕ) (t : Fores
     is_node = some_is (sym says ∙ ap at (sym f.key_is) ∙ beside.stand.0)
 
     parent_is : n.parent ≡ Some h.row.key
-    parent_is = ap (λ (n : Links). n.parent) is_node
+    parent_is = ap (λ (n : PlainNode). n.parent) is_node
 
     row_out : (x : ℕ) → h.row.key ≡ x → count_of_key x h.kids ≡ 0
     row_out x e = let w = own_more h.row h.kids h.siblings x e in let i = count_of_key-within x h.within in let o = stands.distinct x in omega arith
@@ -130,7 +130,7 @@ module _ (at : ℕ → Option Links) (root : Option ℕ) (next : ℕ) (t : Fores
           ];
     }
 
-    module _ (new : ℕ → Option Links) (eq : (x : ℕ) → new x ≡ unlinked at k n x) where
+    module _ (new : ℕ → Option PlainNode) (eq : (x : ℕ) → new x ≡ unlinked at k n x) where
       inner : RepresentsPart at (Some h.row.key) None h.kids → RepresentsPart new (Some h.row.key) None (pruned_at_key k h.kids)
       inner s =
           RepresentsPart-pruned_at_key at (Some h.row.key) k f.row f.kids f.siblings n f.key_is says new (before_new at new k n eq around.apart) (behind_new at new k n eq around.apart) h.kids None h.later once_b no_before
@@ -180,10 +180,10 @@ module _ (at : ℕ → Option Links) (root : Option ℕ) (next : ℕ) (t : Fores
     around_top =
         let none_around : (x : ℕ) → IsAround n x → ⊥ = λ x i.
         elim i [
-          | inl e ↦ let z : None ≡ Some x = ap (λ (n : Links). n.parent) (sym is_root) ∙ e in cc
+          | inl e ↦ let z : None ≡ Some x = ap (λ (n : PlainNode). n.parent) (sym is_root) ∙ e in cc
           | inr i ↦ elim i [
-            | inl e ↦ let z : None ≡ Some x = ap (λ (n : Links). n.previous) (sym is_root) ∙ e in cc
-            | inr e ↦ let z : None ≡ Some x = ap (λ (n : Links). n.next) (sym is_root) ∙ e in cc
+            | inl e ↦ let z : None ≡ Some x = ap (λ (n : PlainNode). n.previous) (sym is_root) ∙ e in cc
+            | inr e ↦ let z : None ≡ Some x = ap (λ (n : PlainNode). n.next) (sym is_root) ∙ e in cc
           ]
         ]
         in
@@ -197,9 +197,9 @@ module _ (at : ℕ → Option Links) (root : Option ℕ) (next : ℕ) (t : Fores
           live = λ x i. absurd (none_around x i);
         }
 
-    pub top_stands : (new : ℕ → Option Links) → RepresentsTree new (replaced_if_none n.parent None root) next (pruned_at_key k t)
+    pub top_stands : (new : ℕ → Option PlainNode) → RepresentsTree new (replaced_if_none n.parent None root) next (pruned_at_key k t)
     top_stands new =
-        let parent : n.parent ≡ None = ap (λ (n : Links). n.parent) is_root in
+        let parent : n.parent ≡ None = ap (λ (n : PlainNode). n.parent) is_root in
         let gone : pruned_at_key k t ≡ Nothing = ap (pruned_at_key k) whole ∙ cut_here k f.row f.kids f.siblings f.key_is ∙ no_more in
         let few = stands.few in
         rw (parent, gone) (record { outer = refl; single = refl; stand = tt; distinct = λ x. omega arith; few = omega arith })
@@ -207,5 +207,5 @@ module _ (at : ℕ → Option Links) (root : Option ℕ) (next : ℕ) (t : Fores
   pub gone_around : Around k n t
   gone_around = elim (up f.within) [ inl l ↦ around_top l | inr h ↦ around h ]
 
-  pub gone_stands : (new : ℕ → Option Links) → ((x : ℕ) → new x ≡ unlinked at k n x) → RepresentsTree new (replaced_if_none n.parent None root) next (pruned_at_key k t)
+  pub gone_stands : (new : ℕ → Option PlainNode) → ((x : ℕ) → new x ≡ unlinked at k n x) → RepresentsTree new (replaced_if_none n.parent None root) next (pruned_at_key k t)
   gone_stands new eq = elim (up f.within) [ inl l ↦ top_stands l new | inr h ↦ home_stands h new eq ]

@@ -4,7 +4,7 @@ use Rattle.std.proofs.lemmas.Bool.{cases_eq, eq-eqb, ne_eqb}
 use Rattle.std.specs.Prelude.{option_map, ◌==◌, if◌then◌else◌}
 use mathlib.Core.Path.{fun_ext}
 use Rattle.slab.specs.Slab.{Slab, get, ContainsKey, Updates}
-use Rattle.view_tree.specs.Nodes.{Links, links_in, links_of, links_at, changed_at, without, unlinked, replaced_if_none}
+use Rattle.view_tree.specs.Nodes.{PlainNode, links_in, links_of, links_at, changed_at, without, unlinked, replaced_if_none}
 use Rattle.view_tree.specs.declared.node.Node.{Node}
 use Rattle.view_tree.proofs.forest.Forests.{some_is}
 
@@ -16,16 +16,16 @@ said_some : (o : Option Node) → IsSome o → IsSome (links_in o)
 said_some None h = h
 said_some (Some n) h = refl
 
-map_some : (o : Option Links) (f : Links → Links) → IsSome o → IsSome (option_map f o)
+map_some : (o : Option PlainNode) (f : PlainNode → PlainNode) → IsSome o → IsSome (option_map f o)
 map_some None f h = h
 map_some (Some n) f h = refl
 
-changed_some : (at : ℕ → Option Links) (o : Option ℕ) (f : Links → Links) (x : ℕ) → IsSome (at x) → IsSome (changed_at at o f x)
+changed_some : (at : ℕ → Option PlainNode) (o : Option ℕ) (f : PlainNode → PlainNode) (x : ℕ) → IsSome (at x) → IsSome (changed_at at o f x)
 changed_some at None f x h = h
 changed_some at (Some k) f x h = elim (x == k) as (λ v. IsSome (if v then option_map f (at x) else at x)) [ true ↦ map_some (at x) f h | false ↦ h ]
 
 -- a change takes no node away
-pub still : (s t : Slab Node) (o : Option ℕ) (f : Links → Links) (x : ℕ) → links_at t x ≡ changed_at (links_at s) o f x → ContainsKey s x → ContainsKey t x
+pub still : (s t : Slab Node) (o : Option ℕ) (f : PlainNode → PlainNode) (x : ℕ) → links_at t x ≡ changed_at (links_at s) o f x → ContainsKey s x → ContainsKey t x
 still s t o f x e h = some_said (get t x) (rw e (changed_some (links_at s) o f x (said_some (get s x) h)))
 
 pub removed : (s t : Slab Node) (key : ℕ) → Updates s t key None → links_at t ≡ without (links_at s) key
@@ -35,16 +35,16 @@ removed s t key u = fun_ext (λ x. elim (cases_eq x key) [
 ])
 
 pub unhung_is : (s0 s1 s2 s3 s4 : Slab Node) (key : ℕ) (node : Node) → get s0 key ≡ Some node → Updates s0 s1 key None
-    → ((x : ℕ) → links_at s2 x ≡ changed_at (links_at s1) node.previous (λ m. record m { next = node.next }) x)
-    → ((x : ℕ) → links_at s3 x ≡ changed_at (links_at s2) node.next (λ m. record m { previous = node.previous }) x)
-    → ((x : ℕ) → links_at s4 x ≡ changed_at (links_at s3) node.parent (λ m. record m { first = replaced_if_none node.previous node.next m.first; last = replaced_if_none node.next node.previous m.last }) x)
-    → (n : Links) → links_at s0 key ≡ Some n → (x : ℕ) → links_at s4 x ≡ unlinked (links_at s0) key n x
+    → ((x : ℕ) → links_at s2 x ≡ changed_at (links_at s1) node.links.previous (λ m. record m { next = node.links.next }) x)
+    → ((x : ℕ) → links_at s3 x ≡ changed_at (links_at s2) node.links.next (λ m. record m { previous = node.links.previous }) x)
+    → ((x : ℕ) → links_at s4 x ≡ changed_at (links_at s3) node.links.parent (λ m. record m { first = replaced_if_none node.links.previous node.links.next m.first; last = replaced_if_none node.links.next node.links.previous m.last }) x)
+    → (n : PlainNode) → links_at s0 key ≡ Some n → (x : ℕ) → links_at s4 x ≡ unlinked (links_at s0) key n x
 unhung_is s0 s1 s2 s3 s4 key node at u two three four n is x =
     let says : Some (links_of node) ≡ Some n = ap links_in (sym at) ∙ is in
     let same = some_is says in
     let all : links_at s4 x ≡ unlinked (links_at s0) key (links_of node) x =
-    four x ∙ ap (λ (at : ℕ → Option Links). changed_at at node.parent (λ m. record m { first = replaced_if_none node.previous node.next m.first; last = replaced_if_none node.next node.previous m.last }) x)
-    (fun_ext three ∙ ap (λ (at : ℕ → Option Links). changed_at at node.next (λ m. record m { previous = node.previous }))
-    (fun_ext two ∙ ap (λ (at : ℕ → Option Links). changed_at at node.previous (λ m. record m { next = node.next })) (removed s0 s1 key u)))
+    four x ∙ ap (λ (at : ℕ → Option PlainNode). changed_at at node.links.parent (λ m. record m { first = replaced_if_none node.links.previous node.links.next m.first; last = replaced_if_none node.links.next node.links.previous m.last }) x)
+    (fun_ext three ∙ ap (λ (at : ℕ → Option PlainNode). changed_at at node.links.next (λ m. record m { previous = node.links.previous }))
+    (fun_ext two ∙ ap (λ (at : ℕ → Option PlainNode). changed_at at node.links.previous (λ m. record m { next = node.links.next })) (removed s0 s1 key u)))
     in
-    all ∙ ap (λ (n : Links). unlinked (links_at s0) key n x) same
+    all ∙ ap (λ (n : PlainNode). unlinked (links_at s0) key n x) same

@@ -4,12 +4,14 @@ use mathlib.Core.Path.{fun_ext}
 use Rattle.std.specs.Prelude.{[], ◌∷◌}
 use Rattle.view_model.specs.PlainTree.{PlainView}
 use Rattle.view_tree.specs.Attached.{Attached}
-use Rattle.view_tree.specs.Nodes.{IsPlanted, IsSound, fields, value_of}
+use Rattle.view_tree.specs.Nodes.{IsPlanted, IsSound, fields, tree_of, value_of}
 use Rattle.view_tree.specs.Ordering.{IsGrouped, PlainGroup, PlainOrders, group_at, orders_in}
 use Rattle.view_tree.specs.Sowing.{GainedBelow}
 use Rattle.view_tree.specs.Views.{Views, plain_of}
+use Rattle.view_tree.specs.declared.counts.Counts.{Counts}
 use Rattle.view_tree.specs.declared.tree.ViewTree.TheInside.{Inside}
 use Rattle.view_tree.proofs.nodes.NodeGrowth.{sound-room, tree-room}
+use Rattle.view_tree.proofs.orders.OnlyLayouts.{only-same}
 use Rattle.view_tree.proofs.orders.RowLaws.{grouped_kept}
 use Rattle.view_tree.proofs.values.KeptLaws.{is_tree-same}
 
@@ -36,16 +38,16 @@ planted-whole a is = record {
 pub planted-groups : (a b : Inside) → b.nodes ≡ a.nodes → b.keys ≡ a.keys → b.ids ≡ a.ids → b.root ≡ a.root → b.next ≡ a.next → IsPlanted a → IsPlanted b
 planted-groups a b nodes keys ids root next is = planted-whole b (rw (nodes, keys, ids, root, next) (planted-fields a is))
 
--- orders are no part of what comes
-pub attached-orders : (old new : Views) (parent : Option ℕ) (view : PlainView) (key : ℕ) (before after : List (ℕ × PlainOrders)) → Attached old parent view key new
-    → Attached (record old { orders = before }) parent view key (record new { orders = after })
-attached-orders old new parent view key before after came =
+-- orders and counts are no part of what comes
+pub attached-orders : (old new : Views) (parent : Option ℕ) (view : PlainView) (key : ℕ) (before after : List (ℕ × PlainOrders)) (count counts : Counts) → Attached old parent view key new
+    → Attached (record old { orders = before; counts = count }) parent view key (record new { orders = after; counts = counts })
+attached-orders old new parent view key before after count counts came =
     record { unused = came.unused; tree = came.tree; plain = came.plain; next = came.next; held = came.held; others = came.others }
 
-pub gained-orders : (old new : Views) (key : ℕ) (after : List (ℕ × PlainOrders)) → GainedBelow old key new → GainedBelow old key (record new { orders = after })
-gained-orders old new key after came = record {
+pub gained-orders : (old new : Views) (key : ℕ) (after : List (ℕ × PlainOrders)) (counts : Counts) → GainedBelow old key new → GainedBelow old key (record new { orders = after; counts = counts })
+gained-orders old new key after counts came = record {
   added = came.added;
-  gained = record { unused = came.gained.unused; tree = came.gained.tree; made = came.gained.made; others = came.gained.others };
+  gained = record { unused = came.gained.unused; tree = came.gained.tree; made = came.gained.made; bare = came.gained.bare; others = came.gained.others };
 }
 
 pub groups_along : (at now : ℕ → Option PlainGroup) (views : Views) → ((k : ℕ) → now k ≡ at k) → IsGrouped at (plain_of views) → IsGrouped now (plain_of views)
@@ -61,9 +63,10 @@ same_parent (Some one) (Some other) path above first second = let e : one ∷ ab
 
 -- the fields after room was made, for nodes and for groups
 pub whole-room : (a b : Inside) → b.nodes ≡ record a.nodes { capacity = b.nodes.capacity } → b.keys.entries ≡ a.keys.entries → b.ids.entries ≡ a.ids.entries
-    → orders_in b.groups.entries ≡ orders_in a.groups.entries → ((k : ℕ) → group_at b.groups k ≡ group_at a.groups k) → b.root ≡ a.root → b.next ≡ a.next → IsSound a → IsSound b
-whole-room a b nodes keys ids orders groups root next is = record {
-  planted = sound-room a b nodes keys ids orders root next is.planted;
+    → orders_in b.groups.entries ≡ orders_in a.groups.entries → ((k : ℕ) → group_at b.groups k ≡ group_at a.groups k) → b.root ≡ a.root → b.next ≡ a.next → b.counts ≡ a.counts → IsSound a → IsSound b
+whole-room a b nodes keys ids orders groups root next counts is = record {
+  planted = sound-room a b nodes keys ids orders root next counts is.planted;
   grouped = groups_along (group_at a.groups) (group_at b.groups) (value_of b) groups
-      (grouped_kept (group_at a.groups) (value_of a) (value_of b) (tree-room a b nodes keys ids orders root next) is.grouped);
+      (grouped_kept (group_at a.groups) (value_of a) (value_of b) (tree-room a b nodes keys ids orders root next counts) is.grouped);
+  only = only-same (group_at a.groups) (group_at b.groups) (tree_of a) (tree_of b) (tree-room a b nodes keys ids orders root next counts) groups is.only;
 }

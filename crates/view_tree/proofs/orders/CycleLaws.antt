@@ -20,7 +20,7 @@ use Rattle.view_model.specs.PlainTree.{PlainView}
 use Rattle.view_model.specs.Refusals.{PlainRefusal, plain_refusal}
 use Rattle.view_tree.specs.Cycles.{AreNewOrders, HasNoCycle, IsCycleTold, IsFree, links_below, view_member}
 use Rattle.view_tree.specs.Faults.{IsRefusedOrCyclic}
-use Rattle.view_tree.specs.Nodes.{Links, RepresentsPart, RepresentsTree}
+use Rattle.view_tree.specs.Nodes.{PlainNode, RepresentsPart, RepresentsTree}
 use Rattle.view_model.specs.Cycles.{cycle_below, first_cycle, is_relative, link_of, links_in, numbers_in}
 use Rattle.view_tree.specs.Ordering.{AreOrders, IsGrouped, IsGroupedAt, IsKeptOf, PlainGroup, PlainOrders, link_or, linked_in, plain_orders, with_orders}
 use Rattle.view_tree.specs.Rows.{Row, children_of_first, count_of_key, count_of_number, head_view, later_siblings, part_from, views_of}
@@ -97,12 +97,12 @@ pub record FoundChild (held : ℕ → Held) (tree : Forest Row) (number : ℕ) (
 number_at : (key number : ℕ) (row : Row) → (row.view.number == number) ≡ (row.key == key) → row.key ≡ key → row.view.number ≡ number
 number_at key number row same is = eqb-true row.view.number number (same ∙ eq-eqb row.key key is)
 
-find_child : (at : ℕ → Option Links) (held : ℕ → Held) (key number : ℕ) (node : Links) (parent before : Option ℕ) (list : Forest Row) → at key ≡ Some node → RepresentsPart at parent before list
+find_child : (at : ℕ → Option PlainNode) (held : ℕ → Held) (key number : ℕ) (node : PlainNode) (parent before : Option ℕ) (list : Forest Row) → at key ≡ Some node → RepresentsPart at parent before list
     → Agree key number list → 0 < count_of_key key list → (IsAmong number (plain_rows held list) × (node.parent ≡ parent)) ⊎ FoundChild held list number node.parent
 find_child at held key number node parent before Nothing says stand agree live = absurd (omega arith)
 find_child at held key number node parent before (Branch row kids siblings) says stand agree live =
     elim (cases_eq row.key key) [
-      | inl is ↦ inl (inl (number_at key number row agree.0 is), ap (λ (n : Links). n.parent) (some_is (sym says ∙ ap at (sym is) ∙ stand.0)))
+      | inl is ↦ inl (inl (number_at key number row agree.0 is), ap (λ (n : PlainNode). n.parent) (some_is (sym says ∙ ap at (sym is) ∙ stand.0)))
       | inr isnt ↦
           let live : 0 < 0 + (count_of_key key kids + count_of_key key siblings) = rw (ne_eqb row.key key isnt) at live in
           elim (zero_or_more (count_of_key key kids)) [
@@ -117,7 +117,7 @@ find_child at held key number node parent before (Branch row kids siblings) says
           ]
     ]
 
-pub found_child : (at : ℕ → Option Links) (root : Option ℕ) (next : ℕ) (views : Views) (key parent : ℕ) (node : Links) → IsTree views → RepresentsTree at root next views.tree → IsLive views key
+pub found_child : (at : ℕ → Option PlainNode) (root : Option ℕ) (next : ℕ) (views : Views) (key parent : ℕ) (node : PlainNode) → IsTree views → RepresentsTree at root next views.tree → IsLive views key
     → at key ≡ Some node → node.parent ≡ Some parent → FoundChild (held_of views) views.tree (number_of views key) (Some parent)
 found_child at root next views key parent node is stands live says above =
     elim (find_child at (held_of views) key (number_of views key) node None None views.tree says stands.stand (agree_live views key is live) live) [

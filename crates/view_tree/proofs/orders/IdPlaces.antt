@@ -24,7 +24,8 @@ use Rattle.view_tree.proofs.orders.ListLaws.{IsAmong, length-each}
 use Rattle.view_tree.proofs.orders.RowLaws.{ChildAt, agree_within, child_there, link_there, numbered_key, parent_among, within_children}
 use Rattle.view_tree.proofs.orders.ToldParents.{said, told_child}
 
-count_there : (passes : PlainView → Bool) (row : Row) (kids siblings : Forest Row) {tree : Forest Row} → Within (Branch row kids siblings) tree → passes row.view ≡ true → 0 < count_where passes tree
+-- a view that passes a test is counted
+pub count_there : (passes : PlainView → Bool) (row : Row) (kids siblings : Forest Row) {tree : Forest Row} → Within (Branch row kids siblings) tree → passes row.view ≡ true → 0 < count_where passes tree
 count_there passes row kids siblings here is = rw is (omega arith)
 count_there passes row kids siblings (in_below w) is = let more = count_there passes row kids siblings w is in omega arith
 count_there passes row kids siblings (in_after w) is = let more = count_there passes row kids siblings w is in omega arith
@@ -167,7 +168,7 @@ module _ (a : Inside) (views : Views) (view only id : ℕ) (told : Option ℕ) (
         let o = node_of a views only planted e holder.live in
         let stood = (RepresentsPart-within (links_at a.nodes) None None f.within (stands_for a views planted e).stand).stand in
         let agree = agree_within only (number_of views only) f.row f.kids f.siblings f.within (agree_live views only is holder.live) in
-        let above : o.says.node.parent ≡ Some f.row.key = parent_among (links_at a.nodes) (held_of views) only (number_of views only) (links_of o.says.node) (Some f.row.key) None f.kids
+        let above : o.says.node.links.parent ≡ Some f.row.key = parent_among (links_at a.nodes) (held_of views) only (number_of views only) (links_of o.says.node) (Some f.row.key) None f.kids
         (ap links_in o.says.at) stood.1 agree.1 (subst (λ part. IsAmong (number_of views only) (plain_rows (held_of views) (children_of_first part))) f.is among) in
         away (said a views only told planted e holder.live path ∙ above ∙ ap (λ k. Some k) f.key_is))
   ]

@@ -11,9 +11,9 @@ use Rattle.view_model.specs.Orders.{IsOrder}
 use Rattle.view_model.specs.SiblingRules.{last_below, nobody}
 use Rattle.view_model.specs.PlainTree.{PlainView, pruned, single}
 use Rattle.view_tree.specs.declared.groups.Group.{Group}
-use Rattle.view_tree.specs.Nodes.{Links, RepresentsPart, RepresentsTree}
+use Rattle.view_tree.specs.Nodes.{PlainNode, RepresentsPart, RepresentsTree}
 use Rattle.view_model.specs.Cycles.{each, is_relative, link_of, links_in, numbers_in}
-use Rattle.view_tree.specs.Ordering.{IsGrouped, IsGroupedAt, IsKeptOf, IsTakenAt, PlainGroup, no_group, no_orders, orders_in, plain_group, with_kid}
+use Rattle.view_tree.specs.Ordering.{IsGrouped, IsGroupedAt, IsKeptOf, IsTakenAt, PlainGroup, PlainOrders, no_group, no_orders, orders_in, plain_group, with_kid}
 use Rattle.view_tree.specs.Rows.{Row, children_of_first, count_of_number, first_key, head_view, part_from, siblings_from, views_of}
 use Rattle.view_tree.specs.Views.{Held, IsLive, IsTree, Views, class_of, group_number, held_of, number_of, offset_of, plain_of, plain_rows, scrolled, view_at}
 use Rattle.view_tree.proofs.forest.Forests.{RepresentsPart-within, Within-children_of_first, Within-later_siblings, some_is}
@@ -215,16 +215,16 @@ grouped-attached old new (Some parent) view at now is live number id rules own t
     grouped-child old new view at now is number id rules own parent live told others grouped plain
 
 -- a view is gone: the node of a child names its parent
-pub parent_among : (at : ℕ → Option Links) (held : ℕ → Held) (key number : ℕ) (node : Links) (parent before : Option ℕ) (kids : Forest Row) → at key ≡ Some node → RepresentsPart at parent before kids
+pub parent_among : (at : ℕ → Option PlainNode) (held : ℕ → Held) (key number : ℕ) (node : PlainNode) (parent before : Option ℕ) (kids : Forest Row) → at key ≡ Some node → RepresentsPart at parent before kids
     → Agree key number kids → IsAmong number (plain_rows held kids) → node.parent ≡ parent
 parent_among at held key number node parent before Nothing says stand agree none = absurd none
 parent_among at held key number node parent before (Branch row kids siblings) says stand agree (inl is) =
     let own = own_key key number row agree.0 is in
-    ap (λ (n : Links). n.parent) (some_is (sym says ∙ ap at (sym own) ∙ stand.0))
+    ap (λ (n : PlainNode). n.parent) (some_is (sym says ∙ ap at (sym own) ∙ stand.0))
 parent_among at held key number node parent before (Branch row kids siblings) says stand agree (inr more) =
     parent_among at held key number node parent (Some row.key) siblings says stand.2 agree.2 more
 
-pub has_parent : (at : ℕ → Option Links) (root : Option ℕ) (next : ℕ) (views : Views) (key : ℕ) (node : Links) → IsTree views → RepresentsTree at root next views.tree → IsLive views key
+pub has_parent : (at : ℕ → Option PlainNode) (root : Option ℕ) (next : ℕ) (views : Views) (key : ℕ) (node : PlainNode) → IsTree views → RepresentsTree at root next views.tree → IsLive views key
     → at key ≡ Some node → EveryBranch (HasParent (number_of views key) (group_number views node.parent)) (plain_of views)
 has_parent at root next views key node is stands live says =
     every_within (HasParent (number_of views key) (group_number views node.parent)) (held_of views) views.tree (λ row kids siblings within relative among.
@@ -252,11 +252,22 @@ lookup-orders test (entry ∷ groups) = elim (cases_Bool (test entry.0)) [
 ]
 
 -- what a table has under a number tells the orders there
+pub orders_same : (old new : List (ℕ × Group)) (k : ℕ) → option_map plain_group (lookup (nat_eq k) new) ≡ option_map plain_group (lookup (nat_eq k) old)
+    → lookup (nat_eq k) (orders_in new) ≡ lookup (nat_eq k) (orders_in old)
+orders_same old new k same = lookup-orders (nat_eq k) new ∙ ap (option_map (λ (g : PlainGroup). g.orders)) same ∙ sym (lookup-orders (nat_eq k) old)
+
 pub orders_kept : (old new : List (ℕ × Group)) (k : ℕ) → option_map plain_group (lookup (nat_eq k) new) ≡ option_map plain_group (lookup (nat_eq k) old)
     → unwrap_or (lookup (nat_eq k) (orders_in new)) no_orders ≡ unwrap_or (lookup (nat_eq k) (orders_in old)) no_orders
-orders_kept old new k same =
-    ap (λ found. unwrap_or found no_orders)
-    (lookup-orders (nat_eq k) new ∙ ap (option_map (λ (g : PlainGroup). g.orders)) same ∙ sym (lookup-orders (nat_eq k) old))
+orders_kept old new k same = ap (λ found. unwrap_or found no_orders) (orders_same old new k same)
+
+pub orders_none : (groups : List (ℕ × Group)) (k : ℕ) → option_map plain_group (lookup (nat_eq k) groups) ≡ None → lookup (nat_eq k) (orders_in groups) ≡ None
+orders_none groups k none = lookup-orders (nat_eq k) groups ∙ ap (option_map (λ (g : PlainGroup). g.orders)) none
+
+abbrev pub orders_or : Option PlainGroup → PlainOrders
+orders_or group = unwrap_or (option_map (λ (g : PlainGroup). g.orders) group) no_orders
+
+pub orders_under-is : (groups : List (ℕ × Group)) (k : ℕ) → unwrap_or (lookup (nat_eq k) (orders_in groups)) no_orders ≡ orders_or (option_map plain_group (lookup (nat_eq k) groups))
+orders_under-is groups k = ap (λ found. unwrap_or found no_orders) (lookup-orders (nat_eq k) groups)
 
 -- the parent that is told of a view is the first of its ancestors
 pub nearest_told : (told : Option ℕ) (path : List ℕ) (above : ℕ → List ℕ) → MatchOption told (path ≡ []) (λ parent. path ≡ parent ∷ above parent) → slice_get path 0 ≡ told

@@ -14,10 +14,10 @@ use Rattle.view_tree.proofs.orders.TreeLaws.{HasParent}
 
 module _ (a : Inside) (v : Views) (key : ℕ) (told : Option ℕ) (planted : IsPlanted a) (e : value_of a ≡ v) (live : IsLive v key)
     (path : MatchOption told (ancestors key v.tree ≡ []) (λ parent. ancestors key v.tree ≡ parent ∷ ancestors parent v.tree)) where
-  pub said : told ≡ (node_of a v key planted e live).says.node.parent
+  pub said : told ≡ (node_of a v key planted e live).says.node.links.parent
   said =
       let o = node_of a v key planted e live in
-      same_parent told o.says.node.parent (ancestors key v.tree) (λ p. ancestors p v.tree) path (parent_of a v key planted e live o.says.node o.says.at).path
+      same_parent told o.says.node.links.parent (ancestors key v.tree) (λ p. ancestors p v.tree) path (parent_of a v key planted e live o.says.node o.says.at).path
 
   pub told_child : (parent : ℕ) → told ≡ Some parent → FoundChild (held_of v) v.tree (number_of v key) (Some parent)
   told_child parent is =

@@ -125,7 +125,7 @@ ancestors-put other key change tree = around-put [] other key change tree
 -- a tree with the same views is one too
 pub is_tree-same : (old new : Views) → IsTree old → new.tree ≡ old.tree → new.next ≡ old.next → IsTree new
 is_tree-same old new is tree next =
-    let held : IsTree (record { tree = old.tree; held = new.held; orders = new.orders; next = old.next }) = record {
+    let held : IsTree (record { tree = old.tree; held = new.held; orders = new.orders; next = old.next; counts = new.counts }) = record {
       root = is.root;
       keys = is.keys;
       numbers = is.numbers;
@@ -135,8 +135,8 @@ is_tree-same old new is tree next =
       unscrolled = is.unscrolled;
       groups = is.groups;
     } in
-    subst (λ (t : Forest Row). IsTree (record { tree = t; held = new.held; orders = new.orders; next = new.next })) (sym tree)
-    (subst (λ (n : ℕ). IsTree (record { tree = old.tree; held = new.held; orders = new.orders; next = n })) (sym next) held)
+    subst (λ (t : Forest Row). IsTree (record { tree = t; held = new.held; orders = new.orders; next = new.next; counts = new.counts })) (sym tree)
+    (subst (λ (n : ℕ). IsTree (record { tree = old.tree; held = new.held; orders = new.orders; next = n; counts = new.counts })) (sym next) held)
 
 -- a cut
 pub is_tree-pruned_at_key : (old new : Views) (key : ℕ) → IsTree old → new.tree ≡ pruned_at_key key old.tree → new.next ≡ old.next → IsTree new

@@ -1,5 +1,5 @@
 -- What stays of a tree when offsets alone are set.
-use Rattle.std.proofs.Common.{◌≡◌, ℕ, ◌+◌, ◌<◌, ◌≤◌, ℤ, pos, refl, sym, ◌∙◌, ap, subst, arith, inl, inr}
+use Rattle.std.proofs.Common.{◌≡◌, ℕ, ◌+◌, ◌<◌, ◌≤◌, ℤ, pos, refl, sym, ◌∙◌, ap, arith, inl, inr}
 use Rattle.std.proofs.lemmas.Bool.{cases_Bool}
 use Rattle.std.specs.Prelude.{◌==◌}
 use Rattle.view_model.specs.declared.facts.Facts.{Facts}
@@ -7,13 +7,11 @@ use Rattle.view_model.specs.Facts.{unscrolled_facts}
 use Rattle.view_model.specs.Forest.{Forest, Nothing, Branch}
 use Rattle.view_model.specs.PlainTree.{PlainView}
 use Rattle.view_tree.specs.declared.state.State.{State}
-use Rattle.view_tree.specs.Hidden.{HidesGone, IsConsistent}
 use Rattle.view_tree.specs.Rows.{Row, changed_at_key, count_of_key, head_view, part_from}
 use Rattle.view_tree.specs.Views.{IsLive, IsTree, Unscrolled, Views, facts_of, geometry_of, held_of, laid_rows}
 use Rattle.view_tree.proofs.forest.KeyLaws.{Within, absent, here, in_after, in_below, located, or_else_live, zero_or_more}
 use Rattle.view_tree.proofs.forest.NumberLaws.{put_absent}
 use Rattle.view_tree.proofs.values.GeometryLaws.{laid_along}
-use Rattle.view_tree.proofs.values.HiddenLaws.{hides_along}
 
 -- facts that a view has already change nothing
 same_put : (key : ℕ) (facts : Facts) (tree : Forest Row) → 0 < count_of_key key tree → count_of_key key tree ≤ 1 → facts ≡ (head_view (part_from key tree)).facts
@@ -58,9 +56,3 @@ offset_put views key facts offset is live set =
 pub same_geometry : (old new : Views) → new.tree ≡ old.tree → ((key : ℕ) → (held_of new key).state ≡ (held_of old key).state) → geometry_of new ≡ geometry_of old
 same_geometry old new tree same =
     ap (laid_rows (held_of new)) tree ∙ laid_along (held_of old) (held_of new) old.tree (λ key live. ap (λ (state : State). state.bounds) (same key))
-
-pub same_hidden : (old new : Views) → new.tree ≡ old.tree → ((key : ℕ) → (held_of new key).state ≡ (held_of old key).state) → IsConsistent old → IsConsistent new
-same_hidden old new tree same is =
-    let hidden : HidesGone (held_of new) old.tree =
-    hides_along (held_of old) (held_of new) old.tree (λ key live none. ap (λ (state : State). state.bounds) (same key) ∙ none) is.hidden in
-    record { hidden = subst (HidesGone (held_of new)) (sym tree) hidden }

@@ -38,6 +38,7 @@ impl ViewTree {
         ensures orders { OnOk result ((k : ℕ) → group_number self.old parent ≢ Some k → k ≢ self.old.next → orders_under self.new k ≡ orders_under self.old k) }
         ensures refused { IsRefusedExactlyFor (refusal_at (plain_of self.old) (option_map (number_of self.old) parent)) result }
         ensures unchanged { OnErr result (self.new ≡ self.old) }
+        ensures counts { self.new.counts ≡ self.old.counts }
     {
         self.may_grow(parent)?;
         let group = self.group_number(parent);

@@ -10,7 +10,6 @@ ghost use Rattle.view_model.specs.Sprouts.{IsPreorder, Seed, follows, preorder, 
 ghost use Rattle.view_tree.specs.Faults.{IsRefusedOrCyclic, RefusesExactlyFor};
 ghost use Rattle.view_tree.specs.Grafted.{Grafted};
 ghost use Rattle.view_tree.specs.Grafting.{AreGrafted, IsGroupOrCycle, IsMadeUnless, IsParentEntry, entries_cycle, links_then, numbers_then, parent_cycle};
-ghost use Rattle.view_tree.specs.Hidden.{IsConsistent};
 ghost use Rattle.view_tree.specs.Views.{IsLive, group_number, number_of, orders_under, plain_of};
 
 use super::attach::growth;
@@ -27,8 +26,8 @@ use view_model::{Class, Detail, Link, Refusal, Sapling, Sprout};
 
 impl ViewTree {
     /// Makes the views of a sapling, its outermost one the last child of a parent, or the root where there is none, and
-    /// answers the key of that. They have the next numbers in preorder, and no bounds. It takes time for them alone, and
-    /// for the children of a parent that is a relative layout.
+    /// answers the key of that. They have the next numbers in preorder, and no bounds. It takes time for them alone,
+    /// and for the children of a parent that is a relative layout.
     pub fn graft(&mut self, parent: Option<Key>, sapling: Sapling) -> Result<Key, AttachFault>
         requires live { IfSome parent (λ parent. IsLive self.old parent) }
         requires root { parent ≡ None → self.old.tree ≡ Nothing }
@@ -38,8 +37,8 @@ impl ViewTree {
         ensures refused { IsRefusedOrCyclic (graft_refusal (plain_of self.old) (option_map (number_of self.old) parent) (seeds_of sapling.sprouts.items))
             (graft_cycle (plain_of self.old) (option_map (number_of self.old) parent) self.old.next (seeds_of sapling.sprouts.items)) result }
         ensures few { self.new.next ≤ self.old.next + MAX_VIEWS }
-        ensures consistent { IsConsistent self.old → IsConsistent self.new }
         ensures unchanged { OnErr result (self.new ≡ self.old) }
+        ensures counts { self.new.counts ≡ self.old.counts }
     {
         self.may_take(parent, &sapling.sprouts)?;
         let entries = match self.entries(parent, &sapling.sprouts) {
@@ -75,8 +74,8 @@ impl ViewTree {
         Ok(key)
     }
 
-    /// What is kept of the parent of a sapling and of the relative layouts of the sapling once it comes, by their numbers:
-    /// of the parent first, if it is one, and then in preorder.
+    /// What is kept of the parent of a sapling and of the relative layouts of the sapling once it comes, by their
+    /// numbers: of the parent first, if it is one, and then in preorder.
     fn entries(
         &self,
         parent: Option<Key>,

@@ -15,7 +15,7 @@ ghost use Rattle.view_tree.specs.Views.{IsLive, number_of, plain_of};
 
 use super::Key;
 use crate::ids::{Holders, note_id};
-use crate::links::link_last;
+use crate::linking::link_last;
 use crate::node::Node;
 use crate::table::note_key;
 use indexmap::IndexMap;
@@ -79,8 +79,8 @@ fn root_with(root: Option<Key>, parent: Option<Key>, key: Key) -> Option<Key>
     }
 }
 
-/// Makes the views of a sapling that stand below its outermost one, which has come: each the last child of the view that
-/// came last of those one less deep.
+/// Makes the views of a sapling that stand below its outermost one, which has come: each the last child of the view
+/// that came last of those one less deep.
 pub fn sow(
     nodes: &mut Slab<Node>,
     keys: &mut IndexMap<u64, usize>,

@@ -18,9 +18,9 @@ use view_model::refusals::CYCLE;
 use view_model::{Detail, Link, Member, Refusal, Rules};
 
 impl ViewTree {
-    /// Sets the id and the rules of a view, unless its parent is a relative layout whose children then name one another in
-    /// a circle. It takes time for these children alone. It may want memory, for an id that no view had and for the orders
-    /// of the children.
+    /// Sets the id and the rules of a view, unless its parent is a relative layout whose children then name one another
+    /// in a circle. It takes time for these children alone. It may want memory, for an id that no view had and for the
+    /// orders of the children.
     pub fn set_rules(&mut self, view: Key, id: u32, rules: Rules) -> Result<(), AttachFault>
         requires { IsLive self.old view }
         ensures tree { OnOk result (self.new.tree ≡ changed_at_key view (λ v. record v { facts = record v.facts { id = id; rules = rules } }) self.old.tree) }
@@ -30,6 +30,7 @@ impl ViewTree {
         ensures held { (key : ℕ) → held_of self.new key ≡ held_of self.old key }
         ensures refused { IsRefusedOrCyclic None (first_cycle Member.View (with_facts (number_of self.old view) (λ facts. record facts { id = id; rules = rules }) (plain_of self.old))) result }
         ensures unchanged { OnErr result (self.new ≡ self.old) }
+        ensures counts { self.new.counts ≡ self.old.counts }
     {
         let above = self.parent(view);
         let group = self.group_number(above);

@@ -1,7 +1,16 @@
-use Rattle.measure_pass.proofs.AnchorKeys.{anchor_none, anchor_some}
+use Rattle.std.proofs.Common.{ap, ◌∙◌}
+use Rattle.measure_pass.proofs.AnchorKeys.{anchor_none, anchor_some, unnamed}
+use Rattle.view_model.specs.declared.facts.Facts.{Facts}
+use Rattle.view_model.specs.SiblingRules.{anchor_id}
 use Rattle.view_tree.specs.Rows.{children_of_first, part_from}
 use Rattle.view_tree.specs.Views.{held_of}
 use Rattle.measure_pass.proofs.anchors.anchor_of.Goals as goal
+
+pub returns-then-id-eq0 : goal.returns-then-id-eq0
+returns-then-id-eq0 c = λ place part.
+    let tree = c.args.tree.now.tree in
+    unnamed tree (children_of_first (part_from c.args.view tree)) c.args.kid place c.args.axis (held_of c.args.tree.now) c.args.tie c.anchor_id-id.result c.requires.kid part
+    (c.anchor_id-id.ensures ∙ ap (λ (facts : Facts). anchor_id c.args.axis c.args.tie facts.rules) c.facts.ensures.value) c.if-id-eq0.true
 
 pub returns-in-None : goal.returns-in-None
 returns-in-None c = λ place part.

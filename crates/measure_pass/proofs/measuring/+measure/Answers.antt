@@ -1,76 +1,233 @@
-use Rattle.std.proofs.Common.{◌≡◌, ◌≤◌, ◌<◌, ◌+◌, ℕ, [], ◌∷◌, List, length, get_or, subst, ap, sym, ◌∙◌, refl, arith}
+use Rattle.std.proofs.Common.{◌≡◌, ◌≢◌, ◌≤◌, ◌<◌, ◌+◌, ℕ, [], ◌∷◌, List, length, get_or, false, Some, subst, ap, sym, ◌∙◌, refl, arith, inl, inr}
 use Rattle.std.specs.Prelude.{pos, slice_index, take}
 use Rattle.measure_pass.specs.Courses.{AfterPhase, CanTurn, InCourse}
-use Rattle.measure_pass.specs.Measured.{Sized}
-use Rattle.measure_pass.specs.Plans.{Stands, group_by, rule_in}
+use Rattle.measure_cache.specs.Entries.{found, put_in}
+use Rattle.kept_views.specs.Kept.{Ready, Sized}
+use Rattle.measure_pass.specs.Measured.{current, entry_for}
+use Rattle.measure_pass.specs.Plans.{HasPlan, IsLeaf, Stands, rule_in}
 use Rattle.measure_pass.specs.Siblings.{AfterTurns, FirstHasSize, FirstIsKnown, IsSettled, TurnIsOver, kids_in, order_on, phase_of}
-use Rattle.measure_pass.proofs.Counts.{costs_by, costs_counted, costs_twice}
-use Rattle.measure_pass.proofs.MeasureKid.{measured_kid, gone_kid, skipped_kid, measured_whole, planned}
-use Rattle.measure_pass.proofs.Laws.{lawful_of}
-use Rattle.measure_pass.proofs.Own.{Own, Wrote, keeps_by, keeps_self, keeps_trans, measured_at, new_at}
+use Rattle.measure_pass.proofs.AtPlace.{Ready-at, Ready-place}
+use Rattle.measure_pass.proofs.Calm.{Ready-below}
+use Rattle.measure_pass.proofs.Counts.{costs_twice, counted_fewer, counted_none, counted_one, counted_own, counted_self, counted_then}
+use Rattle.measure_pass.proofs.Edged.{costs-edged, grown-edged, ready-edged}
+use Rattle.measure_pass.proofs.Frames.{Ready-alone}
+use Rattle.measure_pass.proofs.MeasureKid.{measured_kid, gone_kid, skipped_kid, measured_leaf, measured_planned}
+use Rattle.measure_pass.proofs.Own.{Own, Wrote, current-is, hit_at, keeps_by, keeps_self, keeps_trans, measured_at, new_at, own_absent, sides_at, skip_at}
 use Rattle.measure_pass.proofs.Parts.{facts_in}
 use Rattle.measure_pass.proofs.Places.{count_in_list, in_list, sizes_on}
-use Rattle.measure_pass.proofs.SettledLaws.{settled_at, size_as}
+use Rattle.measure_pass.proofs.SettledLaws.{caches_both, settled_at, size_as}
 use Rattle.measure_pass.proofs.SiblingTurns.{edges_known, known_then, not_in, once_below, order_length, orders_as, orders_same, size_kept, turn_fixed, turn_gone, turn_taken, turning_end, turning_on, turning_start}
 use Rattle.relative_layout.specs.RelativePlan.{spanned_in}
-use Rattle.measure_pass.proofs.Walk.{phase_end, phase_on, phase_start}
-use Rattle.measure_pass.proofs.Whole.{begun_course, ends_at_0, ends_here, phases_end, phases_more, ready_now, ready_then}
+use Rattle.measure_pass.proofs.Walk.{phase_end, phase_on, phase_start, ready_end, ready_on, ready_start}
+use Rattle.measure_pass.proofs.Whole.{ends_at_0, ends_here, phases_end, phases_more, ready_now, ready_then}
 use Rattle.view_model.specs.declared.relative.Axis.TheVariants.{Horizontal, Vertical}
+use Rattle.geom_core.specs.declared.geometry.Size.{Size}
+use Rattle.view_model.specs.declared.facts.Facts.{Facts}
+use Rattle.view_model.specs.declared.kinds.Class.{Class}
+use Rattle.view_model.specs.declared.kinds.Class.TheVariants.{View, TextView, FrameLayout, LinearLayout, ScrollView, RelativeLayout}
 use Rattle.view_model.specs.declared.work.Work.{Work}
 use Rattle.view_model.specs.declared.limits.TheConstants.{MAX_VIEWS}
-use Rattle.view_model.specs.Course.{Progress, Requested, begun, one_phase}
-use Rattle.view_model.specs.Facts.{is_shown, unscrolled_facts}
-use Rattle.view_model.specs.Forest.{Nothing, Branch, count_of}
-use Rattle.view_model.specs.Layout.{children_of, manner_of, measure_calls, unscrolled}
+use Rattle.view_model.specs.Course.{Progress, Requested, one_phase}
+use Rattle.view_model.specs.Facts.{is_shown, layout_facts}
+use Rattle.view_model.specs.Forest.{Branch, count_of}
+use Rattle.view_model.specs.Layout.{for_layout}
+use Rattle.view_model.specs.Leaf.{view_size}
+use Rattle.view_model.specs.PlainTree.{PlainView}
+use Rattle.view_model.specs.TextView.{text_size}
 use Rattle.view_model.specs.RelativeCourse.{arranged}
 use Rattle.view_model.specs.RelativeLayout.{relative_size}
 use Rattle.view_model.specs.Measuring.{Measured, Specs}
 use Rattle.view_tree.specs.declared.state.State.{State}
 use Rattle.view_tree.proofs.forest.Forests.{live_after, live_below}
-use Rattle.view_tree.specs.Rows.{later_siblings, first_tree, children_of_first, count_of_key, head_view, part_from, rest_from, siblings_from, views_of}
-use Rattle.view_tree.specs.Views.{Held, KeepsOutside, held_of, orders_of, specs_of}
+use Rattle.view_tree.specs.Rows.{later_siblings, first_tree, children_of_first, count_of_key, head_view, part_from, rest_from, siblings_from}
+use Rattle.view_tree.specs.Views.{Held, KeepsOutside, cache_of, held_of, orders_of, specs_of, state_of}
 use Rattle.view_tree.proofs.forest.KeyLaws.{located}
 use Rattle.view_tree.proofs.forest.Walks.{count_few, count_one, fewer_below, keeping_on, keeping_start, once_from}
 use Rattle.measure_pass.proofs.measuring.+measure.Goals as goal
 
-own_new : (t : ℕ) (c : goal.measure-After-result-1 t) → (let specs : Specs = record { across = c.args.ws; down = c.args.hs } in
+skipped : (t : ℕ) (c : goal.measure-After-result-1 t) → (let specs : Specs = record { across = c.args.ws; down = c.args.hs } in
+    ((state_of c.args.tree.now c.args.view).forced ≡ false) × (specs_of (state_of c.args.tree.now c.args.view) ≡ specs))
+skipped t c =
+    let specs : Specs = record { across = c.args.ws; down = c.args.hs } in
+    current-is (state_of c.args.tree.now c.args.view) specs (ap (λ (state : State). current state specs) (sym c.state-state.ensures.value) ∙ sym c.is_current.ensures ∙ c.if-is_current.true)
+
+own_skipped : (t : ℕ) (c : goal.measure-After-result-1 t) → (let specs : Specs = record { across = c.args.ws; down = c.args.hs } in
+    Own (part_from c.args.view c.args.tree.now.tree) c.args.view specs (held_of c.args.tree.now) (held_of c.args.tree.now) c.args.work.now.measured c.args.work.now.measured
+    (state_of c.args.tree.now c.args.view).measured)
+own_skipped t c =
+    let specs : Specs = record { across = c.args.ws; down = c.args.hs } in
+    let r = c.requires.ready in
+    let s = skipped t c in
+    skip_at c.args.tree.now.tree c.args.view (held_of c.args.tree.now) specs c.args.work.now.measured r.live r.shown r.ready s.0 s.1
+
+pub measure-returns-then-is_current-clause-size : goal.measure-returns-then-is_current-clause-size
+measure-returns-then-is_current-clause-size t c = ap (λ (state : State). state.measured) c.state-state.ensures.value ∙ (own_skipped t c).size
+
+pub measure-returns-then-is_current-clause-width : goal.measure-returns-then-is_current-clause-width
+measure-returns-then-is_current-clause-width t c =
+    (sides_at c.args.tree.now.tree c.args.view _ c.state-state.result.measured c.requires.ready.live (ap (λ (state : State). state.measured) c.state-state.ensures.value ∙ (own_skipped t c).size)).0
+
+pub measure-returns-then-is_current-clause-height : goal.measure-returns-then-is_current-clause-height
+measure-returns-then-is_current-clause-height t c =
+    (sides_at c.args.tree.now.tree c.args.view _ c.state-state.result.measured c.requires.ready.live (ap (λ (state : State). state.measured) c.state-state.ensures.value ∙ (own_skipped t c).size)).1
+
+pub measure-returns-then-is_current-clause-measured : goal.measure-returns-then-is_current-clause-measured
+measure-returns-then-is_current-clause-measured t c = measured_at c.args.tree.now c.args.tree.now c.args.view _ _ _ _ _ refl (own_skipped t c)
+
+pub measure-returns-then-is_current-clause-counted : goal.measure-returns-then-is_current-clause-counted
+measure-returns-then-is_current-clause-counted t c = counted_self c.args.tree.now c.args.work.now
+
+pub measure-returns-then-is_current-clause-caches : goal.measure-returns-then-is_current-clause-caches
+measure-returns-then-is_current-clause-caches t c = (own_skipped t c).caches
+
+pub measure-returns-then-is_current-clause-busy : goal.measure-returns-then-is_current-clause-busy
+measure-returns-then-is_current-clause-busy t c = λ unknown. absurd (unknown (inl (skipped t c)))
+
+own_hit : (t : ℕ) (c : goal.measure-After-hit t) → (let specs : Specs = record { across = c.args.ws; down = c.args.hs } in
+    Own (part_from c.args.view c.args.tree.now.tree) c.args.view specs (held_of c.args.tree.now) (held_of c.hit.new.tree) c.args.work.now.measured c.args.work.now.measured
+    c.in-Some.size)
+own_hit t c =
+    let specs : Specs = record { across = c.args.ws; down = c.args.hs } in
+    let r = c.requires.ready in
+    let there : found (cache_of c.args.tree.now c.args.view) specs ≡ Some c.in-Some.size =
+    ap (λ cache. found cache specs) (sym c.cache.ensures) ∙ sym c.find.ensures ∙ c.in-Some.is in
+    hit_at c.args.tree.now.tree c.args.view (held_of c.args.tree.now) (held_of c.hit.new.tree) specs c.in-Some.size c.args.work.now.measured c.state-state.ensures.is_tree.keys
+    r.live r.shown r.ready there (record { at = c.hit.ensures.held; others = c.hit.ensures.others })
+
+pub measure-returns-in-Some-clause-size : goal.measure-returns-in-Some-clause-size
+measure-returns-in-Some-clause-size t c = (own_hit t c).size
+
+pub measure-returns-in-Some-clause-width : goal.measure-returns-in-Some-clause-width
+measure-returns-in-Some-clause-width t c = (sides_at c.args.tree.now.tree c.args.view _ c.in-Some.size c.requires.ready.live (own_hit t c).size).0
+
+pub measure-returns-in-Some-clause-height : goal.measure-returns-in-Some-clause-height
+measure-returns-in-Some-clause-height t c = (sides_at c.args.tree.now.tree c.args.view _ c.in-Some.size c.requires.ready.live (own_hit t c).size).1
+
+pub measure-returns-in-Some-clause-measured : goal.measure-returns-in-Some-clause-measured
+measure-returns-in-Some-clause-measured t c = measured_at c.args.tree.now c.hit.new.tree c.args.view _ _ _ _ _ c.hit.ensures.same.tree (own_hit t c)
+
+pub measure-returns-in-Some-clause-keeps : goal.measure-returns-in-Some-clause-keeps
+measure-returns-in-Some-clause-keeps t c = (own_hit t c).keeps
+
+pub measure-returns-in-Some-clause-others : goal.measure-returns-in-Some-clause-others
+measure-returns-in-Some-clause-others t c = (own_hit t c).others
+
+pub measure-returns-in-Some-clause-counted : goal.measure-returns-in-Some-clause-counted
+measure-returns-in-Some-clause-counted t c = counted_none c.args.tree.now c.hit.new.tree c.args.work.now c.args.work.now c.hit.ensures.counts refl
+
+pub measure-returns-in-Some-clause-costs : goal.measure-returns-in-Some-clause-costs
+measure-returns-in-Some-clause-costs t c = (own_hit t c).costs
+
+pub measure-returns-in-Some-clause-caches : goal.measure-returns-in-Some-clause-caches
+measure-returns-in-Some-clause-caches t c = (own_hit t c).caches
+
+pub measure-returns-clause-width : goal.measure-returns-clause-width
+measure-returns-clause-width t c = (sides_at c.args.tree.now.tree c.args.view _ c.measure_anew.result c.requires.ready.live c.measure_anew.ensures.size).0
+
+pub measure-returns-clause-height : goal.measure-returns-clause-height
+measure-returns-clause-height t c = (sides_at c.args.tree.now.tree c.args.view _ c.measure_anew.result c.requires.ready.live c.measure_anew.ensures.size).1
+
+pub measure-returns-clause-counted : goal.measure-returns-clause-counted
+measure-returns-clause-counted t c = counted_fewer 0 1 c.args.tree.now c.measure_anew.new.tree c.args.work.now c.measure_anew.new.work (omega arith) c.measure_anew.ensures.counted
+
+pub measure_anew-measure_below-outcome-requires : goal.measure_anew-measure_below-outcome-requires
+measure_anew-measure_below-outcome-requires t c =
+    let r = c.requires.ready in
+    (omega arith, (r.live, Ready-below (held_of c.args.tree.now) (part_from c.args.view c.args.tree.now.tree) r.shown r.ready))
+
+own_new : (t : ℕ) (c : goal.measure_anew-After-result-1 t) → (let specs : Specs = record { across = c.args.ws; down = c.args.hs } in
     Own (part_from c.args.view c.args.tree.now.tree) c.args.view specs (held_of c.args.tree.now) (held_of c.finish.new.tree) c.args.work.now.measured c.finish.new.work.measured
     c.measure_below-outcome.result.size)
 own_new t c =
     let specs : Specs = record { across = c.args.ws; down = c.args.hs } in
+    let r = c.requires.ready in
     let k = c.measure_below-outcome.ensures in
     let f = c.finish.ensures in
+    let count = ap (λ (work : Work). work.measured) f.counted in
     new_at c.args.tree.now.tree c.args.view (held_of c.args.tree.now) (held_of c.measure_below-outcome.new.tree) (held_of c.finish.new.tree) specs
     c.measure_below-outcome.result.size c.measure_below-outcome.result.total c.args.work.now.measured c.measure_below-outcome.new.work.measured c.finish.new.work.measured
-    k.is_tree.keys c.requires.ready.live k.measured k.keeps k.others (record { at = f.held; others = f.others }) (ap (λ (work : Work). work.measured) f.counted)
+    k.is_tree.keys r.live r.shown r.ready k.ready k.measured k.keeps k.others (record { at = f.held; others = f.others }) c.requires.miss (omega arith)
 
-pub measure-returns-clause-measured : goal.measure-returns-clause-measured
-measure-returns-clause-measured t c =
+pub measure_anew-returns-clause-measured : goal.measure_anew-returns-clause-measured
+measure_anew-returns-clause-measured t c =
     measured_at c.args.tree.now c.finish.new.tree c.args.view _ _ _ _ _ (c.finish.ensures.same.tree ∙ c.measure_below-outcome.ensures.same.tree) (own_new t c)
 
-pub measure-returns-clause-others : goal.measure-returns-clause-others
-measure-returns-clause-others t c = (own_new t c).others
+pub measure_anew-returns-clause-others : goal.measure_anew-returns-clause-others
+measure_anew-returns-clause-others t c = (own_new t c).others
 
-pub measure-returns-clause-keeps : goal.measure-returns-clause-keeps
-measure-returns-clause-keeps t c = (own_new t c).keeps
+pub measure_anew-returns-clause-keeps : goal.measure_anew-returns-clause-keeps
+measure_anew-returns-clause-keeps t c = (own_new t c).keeps
 
-pub measure-returns-clause-counted : goal.measure-returns-clause-counted
-measure-returns-clause-counted t c =
-    costs_counted _ _ _ c.args.work.now.measured c.measure_below-outcome.new.work.measured _ c.finish.new.work.measured (ap (λ (work : Work). work.measured) c.finish.ensures.counted)
-    (own_new t c).costs
+pub measure_anew-returns-clause-counted : goal.measure_anew-returns-clause-counted
+measure_anew-returns-clause-counted t c =
+    counted_own c.args.tree.now c.measure_below-outcome.new.tree c.finish.new.tree c.args.work.now c.measure_below-outcome.new.work c.finish.new.work c.measure_below-outcome.ensures.counted
+    (counted_one c.measure_below-outcome.new.tree c.finish.new.tree c.measure_below-outcome.new.work c.finish.new.work c.finish.ensures.counts c.finish.ensures.counted)
 
-pub measure_below-returns-in-Some-clause-measured : goal.measure_below-returns-in-Some-clause-measured
-measure_below-returns-in-Some-clause-measured t c =
+pub measure_anew-returns-clause-costs : goal.measure_anew-returns-clause-costs
+measure_anew-returns-clause-costs t c = (own_new t c).costs
+
+pub measure_anew-returns-clause-caches : goal.measure_anew-returns-clause-caches
+measure_anew-returns-clause-caches t c = (own_new t c).caches
+
+pub measure_anew-returns-clause-cache : goal.measure_anew-returns-clause-cache
+measure_anew-returns-clause-cache t c =
     let specs : Specs = record { across = c.args.ws; down = c.args.hs } in
-    let part = part_from c.args.view c.args.tree.now.tree in
-    let view = unscrolled (head_view part) in
-    let kids = children_of (views_of (children_of_first part)) in
+    ap (λ (held : Held). held.cache) c.finish.ensures.held
+    ∙ ap (λ (held : Held). put_in held.cache (entry_for specs c.measure_below-outcome.result.size))
+    (c.measure_below-outcome.ensures.others c.args.view (own_absent c.args.tree.now.tree c.args.view c.measure_below-outcome.ensures.is_tree.keys c.requires.ready.live))
+
+-- a view without children
+plain_leaf : (view : PlainView) (specs : Specs) (size : Size) → view.class ≡ View → size ≡ view_size view.facts specs → IsLeaf view specs size
+plain_leaf view specs size is same = record { is = rw (is, same) refl; alone = rw is refl }
+
+text_leaf : (view : PlainView) (specs : Specs) (size : Size) → view.class ≡ TextView → size ≡ text_size view.facts view.text specs → IsLeaf view specs size
+text_leaf view specs size is same = record { is = rw (is, same) refl; alone = rw is refl }
+
+pub measure_below-returns-in-View-clause-measured : goal.measure_below-returns-in-View-clause-measured
+measure_below-returns-in-View-clause-measured t c =
+    let specs : Specs = record { across = c.args.ws; down = c.args.hs } in
+    measured_leaf c.args.tree.now c.args.view specs c.minimal_size.result (held_of c.args.tree.now) c.args.work.now.measured
+    c.facts-facts.ensures.is_tree c.requires.live
+    (plain_leaf (for_layout (head_view (part_from c.args.view c.args.tree.now.tree))) specs c.minimal_size.result
+    (sym c.class.ensures.value ∙ c.in-View.is) (c.minimal_size.ensures ∙ ap (λ (facts : Facts). view_size (layout_facts facts) specs) c.facts-facts.ensures.value))
+
+pub measure_below-returns-in-TextView-clause-measured : goal.measure_below-returns-in-TextView-clause-measured
+measure_below-returns-in-TextView-clause-measured t c =
+    let specs : Specs = record { across = c.args.ws; down = c.args.hs } in
+    measured_leaf c.args.tree.now c.args.view specs c.text_size.result (held_of c.args.tree.now) c.args.work.now.measured
+    c.facts-facts.ensures.is_tree c.requires.live
+    (text_leaf (for_layout (head_view (part_from c.args.view c.args.tree.now.tree))) specs c.text_size.result
+    (sym c.class.ensures.value ∙ c.in-TextView.is) (rw (ap layout_facts c.facts-facts.ensures.value, c.text.ensures) at c.text_size.ensures))
+
+pub measure_below-returns-in-View-clause-counted : goal.measure_below-returns-in-View-clause-counted
+measure_below-returns-in-View-clause-counted t c = counted_self c.args.tree.now c.args.work.now
+
+pub measure_below-returns-in-TextView-clause-counted : goal.measure_below-returns-in-TextView-clause-counted
+measure_below-returns-in-TextView-clause-counted t c = counted_self c.args.tree.now c.args.work.now
+
+-- every class but these has a plan
+planned_class : (kind : Class) → kind ≢ View → kind ≢ TextView → kind ≢ RelativeLayout → HasPlan kind
+planned_class View view text relative = absurd (view refl)
+planned_class TextView view text relative = absurd (text refl)
+planned_class FrameLayout view text relative = inl refl
+planned_class LinearLayout view text relative = inr (inl refl)
+planned_class ScrollView view text relative = inr (inr refl)
+planned_class RelativeLayout view text relative = absurd (relative refl)
+
+pub measure_below-measure_group-requires : goal.measure_below-measure_group-requires
+measure_below-measure_group-requires t c =
+    (omega arith, (c.requires.live, (subst HasPlan c.class.ensures.value (planned_class c.class.result c.in_default.not-View c.in_default.not-TextView c.in_default.not-RelativeLayout), c.requires.ready)))
+
+pub measure_group-returns-clause-measured : goal.measure_group-returns-clause-measured
+measure_group-returns-clause-measured t c =
     let m = c.measure_phases in
-    let p = planned (manner_of view specs) c.in-Some.plan view specs (rw c.in-Some.is at c.start.ensures) in
-    let all = m.ensures.phases (group_by p.rule view specs) [] (begun kids).kids p.stands (begun_course (held_of c.args.tree.now) (children_of_first part))
-    ((lawful_of view specs p.rule p.is).ready kids) in
-    measured_whole c.args.tree.now c.args.view specs p.rule (held_of c.args.tree.now) (held_of m.new.tree) m.result.size m.result.total c.args.work.now.measured m.new.work.measured
-    m.ensures.is_tree c.requires.live p.is all
+    measured_planned c.args.tree.now c.args.view (record { across = c.args.ws; down = c.args.hs }) c.start-plan.result (held_of c.args.tree.now) (held_of m.new.tree) m.result.size m.result.total
+    c.args.work.now.measured m.new.work.measured m.ensures.is_tree c.requires.live c.start-plan.ensures m.ensures.phases
+
+pub measure_phases-returns-clause-counted : goal.measure_phases-returns-clause-counted
+measure_phases-returns-clause-counted t c =
+    counted_then 0 0 c.args.tree.now c.measure_kids.new.tree c.measure_phases.new.tree c.args.work.now c.measure_kids.new.work c.measure_phases.new.work
+    c.measure_kids.ensures.counted c.measure_phases.ensures.counted
 
 pub measure_phases-returns-then-left-eq0-clause-phases : goal.measure_phases-returns-then-left-eq0-clause-phases
 measure_phases-returns-then-left-eq0-clause-phases t c = λ group past kids stands course ready.
@@ -105,6 +262,20 @@ measure_phases-returns-clause-phases t c = λ group past kids stands course read
     c.args.work.now.measured c.measure_kids.new.work.measured c.measure_phases.new.work.measured
     c.if-left-eq0.false again phase (more phase.course (ready_then rule c.args.left before c.if-left-eq0.false again ready))
 
+pub measure_kid-returns-then-not-is_shown-clause-counted : goal.measure_kid-returns-then-not-is_shown-clause-counted
+measure_kid-returns-then-not-is_shown-clause-counted t c = counted_self c.args.tree.now c.args.work.now
+
+pub measure_kid-returns-in_default-clause-counted : goal.measure_kid-returns-in_default-clause-counted
+measure_kid-returns-in_default-clause-counted t c = counted_self c.args.tree.now c.args.work.now
+
+pub measure_kid-measure-size-requires : goal.measure_kid-measure-size-requires
+measure_kid-measure-size-requires t c =
+    let shown = sym (ap is_shown c.facts-facts.ensures.value) ∙ sym c.is_shown.ensures ∙ c.if-not-is_shown.false in
+    (omega arith, record { live = c.requires.live; shown = shown; ready = c.requires.ready })
+
+pub measure_kid-returns-clause-ready : goal.measure_kid-returns-clause-ready
+measure_kid-returns-clause-ready t c = let m = c.measure-size.ensures in rw m.same.tree at m.measured.ready
+
 pub measure_kid-returns-then-not-is_shown-clause-phase : goal.measure_kid-returns-then-not-is_shown-clause-phase
 measure_kid-returns-then-not-is_shown-clause-phase t c = λ group past taken kids stands few course can.
     gone_kid c.args.plan.now group past taken c.args.tree.now.tree c.args.kid kids (held_of c.args.tree.now) c.args.work.now.measured c.requires.live
@@ -113,7 +284,7 @@ measure_kid-returns-then-not-is_shown-clause-phase t c = λ group past taken kid
 pub measure_kid-returns-in_default-clause-phase : goal.measure_kid-returns-in_default-clause-phase
 measure_kid-returns-in_default-clause-phase t c = λ group past taken kids stands few course can.
     let one = count_one c.args.tree.now.tree c.args.kid c.requires.live in
-    let facts_is : unscrolled_facts c.facts-facts.result.now ≡ facts_in (part_from c.args.kid c.args.tree.now.tree) = ap unscrolled_facts c.facts-facts.ensures.value in
+    let facts_is : layout_facts c.facts-facts.result.now ≡ facts_in (part_from c.args.kid c.args.tree.now.tree) = ap layout_facts c.facts-facts.ensures.value in
     skipped_kid c.take.new.self group past taken c.args.tree.now.tree c.args.kid kids (held_of c.args.tree.now) c.state.result.measured
     c.args.work.now.measured c.requires.live (sym (ap is_shown c.facts-facts.ensures.value) ∙ sym c.is_shown.ensures ∙ c.if-not-is_shown.false)
     (ap (λ (state : State). state.measured) c.state.ensures.value)
@@ -123,8 +294,8 @@ pub measure_kid-returns-clause-phase : goal.measure_kid-returns-clause-phase
 measure_kid-returns-clause-phase t c = λ group past taken kids stands few course can.
     let tree = c.args.tree.now.tree in
     let m = c.measure-size.ensures in
-    let facts_is : unscrolled_facts c.facts-facts.result.now ≡ facts_in (part_from c.args.kid tree) = ap unscrolled_facts c.facts-facts.ensures.value in
-    let still : unscrolled_facts c.facts.result.now ≡ facts_in (part_from c.args.kid tree) = ap unscrolled_facts c.facts.ensures.value ∙ ap (λ tree. facts_in (part_from c.args.kid tree)) m.same.tree in
+    let facts_is : layout_facts c.facts-facts.result.now ≡ facts_in (part_from c.args.kid tree) = ap layout_facts c.facts-facts.ensures.value in
+    let still : layout_facts c.facts.result.now ≡ facts_in (part_from c.args.kid tree) = ap layout_facts c.facts.ensures.value ∙ ap (λ tree. facts_in (part_from c.args.kid tree)) m.same.tree in
     let sized : Sized (held_of c.measure-size.new.tree) (first_tree (part_from c.args.kid tree)) = rw m.same.tree at m.measured.sized in
     let one = count_one tree c.args.kid c.requires.live in
     measured_kid c.take-2.new.self group past taken tree c.args.kid kids (held_of c.args.tree.now) (held_of c.measure-size.new.tree)
@@ -132,7 +303,7 @@ measure_kid-returns-clause-phase t c = λ group past taken kids stands few cours
     c.requires.live (sym (ap is_shown c.facts-facts.ensures.value) ∙ sym c.is_shown.ensures ∙ c.if-not-is_shown.false)
     (ap (λ (state : State). state.measured) c.state.ensures.value)
     (rw facts_is at (sym c.in-Some.is ∙ c.ask.ensures group past taken stands)) m.size sized m.measured.last
-    (rw still at (c.take-2.ensures group past taken stands (omega arith))) (costs_by _ _ _ _ _ _ m.counted) course can
+    (rw still at (c.take-2.ensures group past taken stands (omega arith))) m.costs m.caches course can
 
 pub measure_kids-loop-next-init : goal.measure_kids-loop-next-init
 measure_kids-loop-next-init t c =
@@ -144,15 +315,17 @@ measure_kids-loop-next-init t c =
       same = record { tree = refl; orders = refl; next = refl };
       walked = keeping_start tree kids (held_of c.args.tree.now) c.first-next.result first.is_tree.keys first.part first.live;
       phase = λ group past asked stands course can. rw first.part (phase_start c.args.plan.now group past asked kids (held_of c.args.tree.now) c.args.work.now.measured stands few course can);
+      ready = rw first.part (ready_start kids (held_of c.args.tree.now) c.requires.ready);
       keeps = keeps_self (held_of c.args.tree.now);
-      painted = refl;
+      counted = counted_self c.args.tree.now c.args.work.now;
     }
 
 pub measure_kids-measure_kid-requires : goal.measure_kids-measure_kid-requires
 measure_kids-measure_kid-requires t c =
     let i = rw c.in-Some.is at c.loop-next.invariant.walked.walk in
     let fewer = fewer_below c.args.tree.now.tree c.args.view c.in-Some.kid c.requires.live i in
-    rw c.loop-next.invariant.same.tree (omega arith, i.live)
+    let ready : Ready (held_of c.loop-next.tree) (part_from c.in-Some.kid c.args.tree.now.tree) = (rw c.in-Some.is at c.loop-next.invariant.ready).ready in
+    rw c.loop-next.invariant.same.tree (omega arith, (i.live, Ready-alone (held_of c.loop-next.tree) (part_from c.in-Some.kid c.args.tree.now.tree) ready))
 
 pub measure_kids-loop-next-smaller : goal.measure_kids-loop-next-smaller
 measure_kids-loop-next-smaller t c =
@@ -183,9 +356,10 @@ measure_kids-loop-next-preserved t c =
           → AfterPhase c.measure_kid.new.plan group past taken first old mid (first_tree (part_from kid tree)) c.loop-next.work.measured c.measure_kid.new.work.measured =
           rw same at (m.phase group past) in
           rw part (phase_on c.loop-next.plan c.measure_kid.new.plan group past asked kids (part_from kid tree) (held_of c.args.tree.now) old mid c.args.work.now.measured c.loop-next.work.measured
-          c.measure_kid.new.work.measured keys f others turn);
+          c.measure_kid.new.work.measured keys f others walked.still turn);
+      ready = rw part (ready_on kids (part_from kid tree) old mid keys others (rw same at m.ready) (rw c.in-Some.is at i.ready));
       keeps = keeps_trans (held_of c.args.tree.now) old mid i.keeps m.keeps;
-      painted = m.painted ∙ i.painted;
+      counted = counted_then 0 0 c.args.tree.now c.loop-next.tree c.measure_kid.new.tree c.args.work.now c.loop-next.work c.measure_kid.new.work i.counted m.counted;
     }
 
 pub measure_kids-returns-clause-phase : goal.measure_kids-returns-clause-phase
@@ -193,19 +367,42 @@ measure_kids-returns-clause-phase t c = λ group past asked started course can.
     phase_end c.loop-next.plan group past asked (children_of_first (part_from c.args.view c.args.tree.now.tree)) (held_of c.args.tree.now) (held_of c.loop-next.tree) c.args.work.now.measured c.loop-next.work.measured
     (rw c.in_default.is at (c.loop-next.invariant.phase group past asked started course can))
 
+pub measure_kids-returns-clause-ready : goal.measure_kids-returns-clause-ready
+measure_kids-returns-clause-ready t c =
+    ready_end (children_of_first (part_from c.args.view c.args.tree.now.tree)) (held_of c.loop-next.tree) (rw c.in_default.is at c.loop-next.invariant.ready)
+
+pub measure_siblings-measure_turns-requires-2 : goal.measure_siblings-measure_turns-requires-2
+measure_siblings-measure_turns-requires-2 t c =
+    let one = c.measure_turns.ensures in
+    rw one.same.tree (omega arith, (c.requires.live, (c.requires.siblings, one.ready)))
+
+pub measure_siblings-returns-clause-ready : goal.measure_siblings-returns-clause-ready
+measure_siblings-returns-clause-ready t c =
+    let one = c.measure_turns.ensures in
+    let two = c.measure_turns-2.ensures in
+    let ready = rw one.same.tree at two.ready in
+    (rw (two.same.tree, one.same.tree) at c.settle.ensures.ready) ready
+
+pub measure_siblings-returns-clause-counted : goal.measure_siblings-returns-clause-counted
+measure_siblings-returns-clause-counted t c =
+    let a = c.args.tree.now in
+    counted_then 0 0 a c.measure_turns-2.new.tree c.settle.new.tree c.args.work.now c.measure_turns-2.new.work c.measure_turns-2.new.work
+    (counted_then 0 0 a c.measure_turns.new.tree c.measure_turns-2.new.tree c.args.work.now c.measure_turns.new.work c.measure_turns-2.new.work c.measure_turns.ensures.counted c.measure_turns-2.ensures.counted)
+    (counted_none c.measure_turns-2.new.tree c.settle.new.tree c.measure_turns-2.new.work c.measure_turns-2.new.work c.settle.ensures.counts refl)
+
 pub measure_siblings-returns-clause-measured : goal.measure_siblings-returns-clause-measured
 measure_siblings-returns-clause-measured t c =
     let tree = c.args.tree.now.tree in
     let specs : Specs = record { across = c.args.ws; down = c.args.hs } in
     let part = part_from c.args.view tree in
     let list = children_of_first part in
-    let own = unscrolled_facts (head_view part).facts in
+    let own = layout_facts (head_view part).facts in
     let kids = kids_in list in
     let orders = orders_of c.args.tree.now c.args.view in
     let wide = phase_of Horizontal own specs kids in
     let high = phase_of Vertical own specs kids in
     let first = spanned_in kids wide.spans orders.across in
-    let facts_is : unscrolled_facts c.facts.result.now ≡ own = ap unscrolled_facts c.facts.ensures.value in
+    let facts_is : layout_facts c.facts.result.now ≡ own = ap layout_facts c.facts.ensures.value in
     let one = c.measure_turns.ensures in
     let across = one.turns own specs [] (rw facts_is at c.start-plan.ensures) refl (λ place. tt) in
     let turned = c.turn.ensures own specs [] first across.plan_stands in
@@ -232,7 +429,9 @@ measure_siblings-returns-clause-measured t c =
     c.requires.live c.requires.siblings are (size ∙ size_as own specs list orders are) refl c.finish.ensures.width c.finish.ensures.height
     (settled (size_as own specs list orders are) down.over)
     (costs_twice list (held_of c.args.tree.now) (held_of c.measure_turns.new.tree) (held_of c.settle.new.tree) c.args.work.now.measured c.measure_turns.new.work.measured c.measure_turns-2.new.work.measured _ _ across.costs
-    (record { counted = down.costs.counted }))
+    (costs-edged list (held_of c.measure_turns.new.tree) (held_of c.measure_turns-2.new.tree) (held_of c.settle.new.tree) c.measure_turns.new.work.measured _ c.measure_turns-2.new.work.measured c.settle.ensures.edged down.costs))
+    (caches_both own specs (held_of c.args.tree.now) (held_of c.measure_turns.new.tree) (held_of c.settle.new.tree) list across.caches
+    (grown-edged _ (held_of c.measure_turns.new.tree) (held_of c.measure_turns-2.new.tree) (held_of c.settle.new.tree) list c.settle.ensures.edged down.caches))
 
 pub measure_turns-returns-clause-turns : goal.measure_turns-returns-clause-turns
 measure_turns-returns-clause-turns t c = λ own specs past stands axis known.
@@ -243,6 +442,27 @@ measure_turns-returns-clause-turns t c = λ own specs past stands axis known.
     let is = orders_as c.args.axis list orders c.turns-turn-end.ensures.ordered in
     turning_end c.loop-turn.plan c.args.axis own specs past order c.loop-turn.turn (held_of c.args.tree.now) (held_of c.loop-turn.tree) list c.args.work.now.measured c.loop-turn.work.measured
     (omega arith) (omega arith) (λ place small. is.each place (omega (arith, is.size, size))) (c.loop-turn.invariant.turning own specs past stands axis known)
+
+pub measure_in_turn-returns-then-not-is_shown-clause-counted : goal.measure_in_turn-returns-then-not-is_shown-clause-counted
+measure_in_turn-returns-then-not-is_shown-clause-counted t c = counted_self c.args.tree.now c.args.work.now
+
+pub measure_in_turn-measure-got-requires : goal.measure_in_turn-measure-got-requires
+measure_in_turn-measure-got-requires t c =
+    let shown = sym (ap is_shown c.facts.ensures.value) ∙ sym c.is_shown.ensures ∙ c.if-not-is_shown.false in
+    (omega arith, record { live = c.requires.kid; shown = shown; ready = c.requires.ready })
+
+pub measure_in_turn-returns-clause-ready : goal.measure_in_turn-returns-clause-ready
+measure_in_turn-returns-clause-ready t c =
+    let tree = c.args.tree.now.tree in
+    let m = c.measure-got.ensures in
+    let ready : Ready (held_of c.measure-got.new.tree) (first_tree (part_from c.args.kid tree)) = rw m.same.tree at m.measured.ready in
+    ready-edged tree c.args.kid (held_of c.measure-got.new.tree) (held_of c.keep_edges.new.tree) c.take-edges.result c.facts.ensures.is_tree.keys c.requires.kid
+    (record { at = c.keep_edges.ensures.held; others = c.keep_edges.ensures.others }) ready
+
+pub measure_in_turn-returns-clause-counted : goal.measure_in_turn-returns-clause-counted
+measure_in_turn-returns-clause-counted t c =
+    counted_then 0 0 c.args.tree.now c.measure-got.new.tree c.keep_edges.new.tree c.args.work.now c.measure-got.new.work c.measure-got.new.work c.measure-got.ensures.counted
+    (counted_none c.measure-got.new.tree c.keep_edges.new.tree c.measure-got.new.work c.measure-got.new.work c.keep_edges.ensures.counts refl)
 
 pub measure_in_turn-returns-then-not-is_shown-clause-turn : goal.measure_in_turn-returns-then-not-is_shown-clause-turn
 measure_in_turn-returns-then-not-is_shown-clause-turn t c = λ own specs past taken place stands is part fixed known.
@@ -261,8 +481,8 @@ measure_in_turn-returns-clause-turn t c = λ own specs past taken place stands i
     let m = c.measure-got.ensures in
     let shown = sym (ap is_shown c.facts.ensures.value) ∙ sym c.is_shown.ensures ∙ c.if-not-is_shown.false in
     let asked : Specs = record { across = c.ask.result.0; down = c.ask.result.1 } in
-    let facts_is : unscrolled_facts c.facts-2.result.now ≡ facts_in (part_from c.args.kid tree) = ap unscrolled_facts c.facts-2.ensures.value in
-    let still : unscrolled_facts c.facts-3.result.now ≡ facts_in (part_from c.args.kid tree) = ap unscrolled_facts c.facts-3.ensures.value ∙ ap (λ tree. facts_in (part_from c.args.kid tree)) m.same.tree in
+    let facts_is : layout_facts c.facts-2.result.now ≡ facts_in (part_from c.args.kid tree) = ap layout_facts c.facts-2.ensures.value in
+    let still : layout_facts c.facts-3.result.now ≡ facts_in (part_from c.args.kid tree) = ap layout_facts c.facts-3.ensures.value ∙ ap (λ tree. facts_in (part_from c.args.kid tree)) m.same.tree in
     let once : (key : ℕ) → count_of_key key (Branch x.row x.kids x.siblings) ≤ 1 = rw x.is at (once_from tree c.args.kid c.facts.ensures.is_tree.keys c.requires.kid) in
     let wrote : Wrote (held_of c.measure-got.new.tree) (held_of c.keep_edges.new.tree) x.row.key
     (record (held_of c.measure-got.new.tree x.row.key) { state = record (held_of c.measure-got.new.tree x.row.key).state { edges = c.take-edges.result } }) =
@@ -277,8 +497,7 @@ measure_in_turn-returns-clause-turn t c = λ own specs past taken place stands i
     (subst (λ key. specs_of (held_of c.measure-got.new.tree key).state ≡ asked) (sym x.key_is) m.measured.last)
     (rw still at (c.take-edges.ensures.edges own specs past taken stands)) (rw still at (c.take-edges.ensures.taken own specs past taken stands)) wrote
     (let o = once x.row.key in omega arith)
-    (costs_by (Branch x.row x.kids Nothing) (held_of c.args.tree.now) (held_of c.measure-got.new.tree) c.args.work.now.measured (measure_calls x.row.view (views_of x.kids) asked)
-    c.measure-got.new.work.measured (rw x.is at m.counted)))
+    (rw x.is at m.costs) (rw x.is at m.caches))
 
 pub measure_turns-loop-turn-init : goal.measure_turns-loop-turn-init
 measure_turns-loop-turn-init t c =
@@ -290,7 +509,8 @@ measure_turns-loop-turn-init t c =
       sizes = λ q small. absurd (omega arith);
       keeps = keeps_self (held_of c.args.tree.now);
       others = λ key none. refl;
-      painted = refl;
+      ready = c.requires.ready;
+      counted = counted_self c.args.tree.now c.args.work.now;
     }
 
 pub measure_turns-returns-clause-sizes : goal.measure_turns-returns-clause-sizes
@@ -331,13 +551,14 @@ measure_turns-loop-turn-preserved t c =
       sizes = sizes_on old new list order turn inside is.anchors.once once others i.sizes (rw part at (rw i.same.tree at m.size));
       keeps = keeps_trans (held_of c.args.tree.now) old new i.keeps m.keeps;
       others = λ key none. others key (let less = in_list key list (get_or order turn 0) in omega arith) ∙ i.others key none;
-      painted = m.painted ∙ i.painted;
+      ready = Ready-at old new (get_or order turn 0) list once others i.ready (rw part at (rw i.same.tree at m.ready));
+      counted = counted_then 0 0 c.args.tree.now c.loop-turn.tree c.measure_in_turn.new.tree c.args.work.now c.loop-turn.work c.measure_in_turn.new.work i.counted m.counted;
     }
 
 pub measure_in_turn-returns-clause-keeps : goal.measure_in_turn-returns-clause-keeps
 measure_in_turn-returns-clause-keeps t c =
     keeps_trans (held_of c.args.tree.now) (held_of c.measure-got.new.tree) (held_of c.keep_edges.new.tree) c.measure-got.ensures.keeps
-    (keeps_by (held_of c.measure-got.new.tree) (held_of c.keep_edges.new.tree) c.args.kid _ (record { at = c.keep_edges.ensures.held; others = c.keep_edges.ensures.others }) refl refl)
+    (keeps_by (held_of c.measure-got.new.tree) (held_of c.keep_edges.new.tree) c.args.kid _ (record { at = c.keep_edges.ensures.held; others = c.keep_edges.ensures.others }) refl refl refl)
 
 pub measure_in_turn-returns-clause-others : goal.measure_in_turn-returns-clause-others
 measure_in_turn-returns-clause-others t c = λ key none.
@@ -360,4 +581,5 @@ measure_turns-measure_in_turn-requires t c =
     let live = rw i.same.tree at c.kid_in_turn-kid.ensures.live in
     let fewer : count_of (first_tree (part_from c.kid_in_turn-kid.result tree)) < count_of (first_tree (part_from c.args.view tree)) =
     rw kid (let few = count_in_list list (slice_index (order_on c.args.axis (orders_of c.args.tree.now c.args.view)) c.loop-turn.turn) in let below = live_below c.args.view tree c.requires.live in omega arith) in
-    rw i.same.tree (omega arith, (c.requires.live, (c.requires.siblings, live)))
+    let ready = Ready-place (held_of c.loop-turn.tree) (slice_index (order_on c.args.axis (orders_of c.args.tree.now c.args.view)) c.loop-turn.turn) list i.ready in
+    rw i.same.tree (omega arith, (c.requires.live, (c.requires.siblings, (live, rw kid ready))))

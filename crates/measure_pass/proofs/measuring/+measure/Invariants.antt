@@ -1,11 +1,12 @@
 use Rattle.std.proofs.Common.{◌≡◌, ◌+◌, ◌*◌, ◌<◌, ℕ, [], List}
 use Rattle.std.specs.Prelude.{slice_index}
 use Rattle.measure_pass.specs.Courses.{CanTurn, InCourse}
-use Rattle.measure_pass.specs.Measured.{Keeps}
+use Rattle.kept_views.specs.Kept.{Ready}
+use Rattle.measure_pass.specs.Measured.{Counted, Keeps}
 use Rattle.measure_pass.specs.Plans.{Group, Stands, rule_in}
 use Rattle.measure_pass.specs.Siblings.{FirstHasSize, FirstIsKnown, kids_in, order_on, phase_of}
 use Rattle.measure_pass.proofs.SiblingTurns.{Turning}
-use Rattle.measure_pass.proofs.Walk.{Phasing}
+use Rattle.measure_pass.proofs.Walk.{Phasing, ReadyWalk}
 use Rattle.relative_layout.specs.RelativePlan.{StandsRelative}
 use Rattle.view_model.specs.declared.facts.Facts.{Facts}
 use Rattle.view_model.specs.Course.{Requested}
@@ -19,22 +20,28 @@ use Rattle.measure_pass.proofs.measuring.+measure.Given as goal
 
 -- one round from a view to its child goes through these functions
 abbrev pub decreases-measure_kid : goal.decreases-measure_kid
-decreases-measure_kid l = 8 * count_of (first_tree (part_from l.kid l.tree.now.tree)) + 6
+decreases-measure_kid l = 9 * count_of (first_tree (part_from l.kid l.tree.now.tree)) + 8
 
 abbrev pub decreases-measure : goal.decreases-measure
-decreases-measure l = 8 * count_of (first_tree (part_from l.view l.tree.now.tree)) + 5
+decreases-measure l = 9 * count_of (first_tree (part_from l.view l.tree.now.tree)) + 7
+
+abbrev pub decreases-measure_anew : goal.decreases-measure_anew
+decreases-measure_anew l = 9 * count_of (first_tree (part_from l.view l.tree.now.tree)) + 6
 
 abbrev pub decreases-measure_below : goal.decreases-measure_below
-decreases-measure_below l = 8 * count_of (first_tree (part_from l.view l.tree.now.tree)) + 4
+decreases-measure_below l = 9 * count_of (first_tree (part_from l.view l.tree.now.tree)) + 5
+
+abbrev pub decreases-measure_group : goal.decreases-measure_group
+decreases-measure_group l = 9 * count_of (first_tree (part_from l.view l.tree.now.tree)) + 4
 
 abbrev pub decreases-measure_siblings : goal.decreases-measure_siblings
-decreases-measure_siblings l = 8 * count_of (first_tree (part_from l.view l.tree.now.tree)) + 3
+decreases-measure_siblings l = 9 * count_of (first_tree (part_from l.view l.tree.now.tree)) + 3
 
 abbrev pub decreases-measure_turns : goal.decreases-measure_turns
-decreases-measure_turns l = 8 * count_of (first_tree (part_from l.view l.tree.now.tree))
+decreases-measure_turns l = 9 * count_of (first_tree (part_from l.view l.tree.now.tree))
 
 abbrev pub decreases-measure_in_turn : goal.decreases-measure_in_turn
-decreases-measure_in_turn l = 8 * count_of (first_tree (part_from l.kid l.tree.now.tree)) + 6
+decreases-measure_in_turn l = 9 * count_of (first_tree (part_from l.kid l.tree.now.tree)) + 8
 
 abbrev pub invariant-measure_turns-loop-turn : goal.invariant-measure_turns-loop-turn
 invariant-measure_turns-loop-turn l =
@@ -51,14 +58,15 @@ invariant-measure_turns-loop-turn l =
       sizes : (q : ℕ) → q < l.turn → FirstHasSize now (siblings_from (slice_index order q) list);
       keeps : Keeps start now;
       others : KeepsOutside start now list;
-      painted : l.work.painted ≡ l.fn.work.painted;
+      ready : Ready now list;
+      counted : Counted 0 l.fn.tree l.tree l.fn.work l.work;
     }
 
 abbrev pub decreases-measure_phases : goal.decreases-measure_phases
-decreases-measure_phases l = 8 * count_of (first_tree (part_from l.view l.tree.now.tree)) + 1 + l.left
+decreases-measure_phases l = 9 * count_of (first_tree (part_from l.view l.tree.now.tree)) + 1 + l.left
 
 abbrev pub decreases-measure_kids : goal.decreases-measure_kids
-decreases-measure_kids l = 8 * count_of (first_tree (part_from l.view l.tree.now.tree))
+decreases-measure_kids l = 9 * count_of (first_tree (part_from l.view l.tree.now.tree))
 
 abbrev pub invariant-measure_kids-loop-next : goal.invariant-measure_kids-loop-next
 invariant-measure_kids-loop-next l =
@@ -71,8 +79,9 @@ invariant-measure_kids-loop-next l =
       walked : KeepingWalk tree kids start l.next now;
       phase : (group : Group) (past : List (List Measured)) (asked : List Requested) → Stands l.fn.plan group past [] → InCourse start kids asked → CanTurn (rule_in group) past asked
           → Phasing l.plan group past asked kids (rest_from l.next tree) start now l.fn.work.measured l.work.measured;
+      ready : ReadyWalk kids (rest_from l.next tree) now;
       keeps : Keeps start now;
-      painted : l.work.painted ≡ l.fn.work.painted;
+      counted : Counted 0 l.fn.tree l.tree l.fn.work l.work;
     }
 
 abbrev pub decreases-measure_kids-loop-next : goal.decreases-measure_kids-loop-next

@@ -1,6 +1,8 @@
 use Rattle.std.proofs.Common.{◌≡◌, ◌≤◌, ℕ, refl, ◌∙◌, arith, subst, inl, inr}
 use Rattle.std.proofs.lemmas.Bool.{cases_lt}
 use Rattle.measure_pass.specs.Siblings.{FirstHasEdges, IsSettled, edges_of, kids_in, phase_of}
+use Rattle.measure_pass.proofs.AtPlace.{Ready-at, Ready-place}
+use Rattle.measure_pass.proofs.Edged.{edged-self, edged-then}
 use Rattle.measure_pass.proofs.Own.{keeps_self, keeps_trans}
 use Rattle.measure_pass.proofs.Places.{FirstHasEdges-along, FirstHasSize-along, in_list, still_there}
 use Rattle.measure_pass.proofs.SiblingTurns.{each_length, not_in, once_below, settled_here}
@@ -35,6 +37,9 @@ loop-place-init c = record {
   still = λ place ahead key here. refl;
   keeps = keeps_self (held_of c.args.tree.now);
   others = λ key none. refl;
+  edged = edged-self (held_of c.args.tree.now);
+  ready = λ ready. ready;
+  counts = refl;
 }
 
 pub loop-place-preserved : goal.loop-place-preserved
@@ -72,6 +77,9 @@ loop-place-preserved c =
       still = λ at ahead key here. still_there old new list at place once (λ same. omega arith) others key here ∙ i.still at (omega arith) key here;
       keeps = keeps_trans start old new i.keeps s.keeps;
       others = λ key none. others key (let less = in_list key list place in omega arith) ∙ i.others key none;
+      edged = edged-then start old new i.edged s.edged;
+      ready = λ ready. Ready-at old new place list once others (i.ready ready) (rw part at (rw i.same.tree at s.ready) (Ready-place old place list (i.ready ready)));
+      counts = s.counts ∙ i.counts;
     }
 
 pub returns-clause-settled : goal.returns-clause-settled

@@ -1,5 +1,6 @@
 use Rattle.std.proofs.Common.{◌≡◌, ◌≤◌, ◌<◌, ℕ, [], ◌∷◌, List, length}
-use Rattle.measure_pass.specs.Measured.{Keeps}
+use Rattle.kept_views.specs.Kept.{Ready}
+use Rattle.measure_pass.specs.Measured.{Keeps, KeepsAllButEdges}
 use Rattle.measure_pass.specs.Siblings.{IsSettled, TurnIsOver, kids_in, phase_of}
 use Rattle.relative_layout.specs.RelativePlan.{StandsRelative}
 use Rattle.view_model.specs.declared.facts.Facts.{Facts}
@@ -26,4 +27,7 @@ invariant-loop-place l =
       still : (place : ℕ) → l.place ≤ place → KeepsInside start now (first_tree (siblings_from place list));
       keeps : Keeps start now;
       others : KeepsOutside start now list;
+      edged : KeepsAllButEdges start now;
+      ready : Ready start list → Ready now list;
+      counts : l.tree.counts ≡ l.fn.tree.counts;
     }

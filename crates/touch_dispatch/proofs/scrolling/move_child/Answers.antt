@@ -2,13 +2,14 @@ use Rattle.std.proofs.Common.{◌≡◌, ℤ, sym, ◌∙◌, ap, arith, rules}
 use Rattle.std.proofs.lemmas.Int.{to_z-of_z}
 use mir.Syntax.{w32, w64}
 use mir.Val.{SFits}
-use Rattle.std.specs.Prelude.{true, false}
+use Rattle.std.specs.Prelude.{◌+ℤ◌, true, false}
 use Rattle.touch_dispatch.proofs.GrowLaws.{moved_fits}
 use Rattle.touch_dispatch.proofs.SceneLaws.{offset_live}
 use Rattle.touch_dispatch.proofs.ScrollSteps.{moved_other, moved_same}
+use Rattle.touch_dispatch.proofs.RangeLaws.{range_within}
 use Rattle.touch_dispatch.specs.Gestures.{at_number, no_gesture}
 use Rattle.touch_dispatch.specs.Handling.{is_same_offset, noted_with, offset_after}
-use Rattle.touch_dispatch.specs.TreeEvents.{offsets_in, progress_by}
+use Rattle.touch_dispatch.specs.TreeEvents.{offsets_in, own_range, progress_by}
 use Rattle.touch_dispatch.specs.declared.log.Kind.TheVariants.{Scroll}
 use Rattle.touch_event.specs.declared.event.Event.{Event}
 use Rattle.view_model.specs.declared.facts.Facts.{Facts}
@@ -27,6 +28,13 @@ returns-then-is_same_offset-clause-moved c = λ g.
     ∙ ap (λ o. is_same_offset o c.moved_facts-facts.result.offset) (ap (λ (f : Facts). f.offset) (c.facts.ensures.value ∙ sym c.facts-2.ensures.value))
     ∙ sym c.is_same_offset.ensures ∙ c.if-is_same_offset.true in
     moved_same own c.args.event.now (progress_by (offsets_in views) g c.args.log.now.entries.items) c.args.by c.in-Some.way c.in-Some.is same
+
+pub set_offset-requires-clause-within : goal.set_offset-requires-clause-within
+set_offset-requires-clause-within c =
+    let own = c.args.own.now in
+    let fits : SFits w64 c.in-Some.way = search rules in
+    range_within (own_range c.args.tree.now c.args.view) own.range c.moved_facts-facts.result.offset (c.facts.result.now.offset +ℤ c.in-Some.way) c.requires.own
+    (ap (λ (f : Facts). f.offset) c.moved_facts-facts.ensures.value ∙ ap (offset_after own.range c.facts.result.now.offset) (to_z-of_z w64 c.in-Some.way fits))
 
 pub note-requires : goal.note-requires
 note-requires c =

@@ -1,5 +1,6 @@
 use Rattle.std.proofs.Common.{◌∙◌, ap}
 use Rattle.view_tree.proofs.values.OffsetLaws.{offset_put}
+use Rattle.touch_dispatch.proofs.RangeLaws.{offset_kept}
 use Rattle.touch_dispatch.proofs.ScrollSteps.{offset_set, only_offset}
 use Rattle.view_tree.specs.Views.{Held}
 use Rattle.touch_dispatch.proofs.scrolling.set_offset.Goals as goal
@@ -12,7 +13,9 @@ returns-clause-scrolls c =
       orders = c.set_facts.ensures.orders;
       next = c.set_facts.ensures.next;
     })
-    c.set_facts.ensures.held c.set_facts.ensures.others c.requires.side
+    c.set_facts.ensures.counts c.set_facts.ensures.held c.set_facts.ensures.others c.requires.side
+    (offset_kept c.args.tree.now c.set_facts.new.self c.args.view c.args.facts.offset c.requires.tree c.set_facts.ensures.held c.set_facts.ensures.others c.requires.within
+    (c.set_facts.ensures.tree ∙ offset_put c.args.tree.now c.args.view c.args.facts c.args.facts.offset c.requires.tree c.requires.live c.requires.facts))
 
 pub returns-clause-offsets : goal.returns-clause-offsets
 returns-clause-offsets c =

@@ -1,5 +1,5 @@
-use Rattle.std.proofs.Common.{refl, arith}
-use Rattle.tree_edits.specs.Hiding.{unplaced}
+use Rattle.std.proofs.Common.{refl, arith, ◌∙◌}
+use Rattle.tree_edits.specs.Hiding.{gone_one}
 use Rattle.view_tree.specs.Rows.{children_of_first, part_from}
 use Rattle.view_tree.specs.Views.{held_of}
 use Rattle.view_tree.proofs.forest.ChangingWalks.{changing_end, changing_on}
@@ -24,8 +24,9 @@ loop-next-preserved t c =
     let same = c.loop-next.invariant.same.tree in
     record {
       same = same_then c.loop-next.invariant.same c.hide.ensures.same;
+      measures = c.hide.ensures.measures ∙ c.loop-next.invariant.measures;
       walked =
-          changing_on (λ key. unplaced) (λ key held. refl) c.args.tree.now.tree (children_of_first (part_from c.args.view c.args.tree.now.tree)) (held_of c.set_bounds.new.self) c.in-Some.kid
+          changing_on (λ key. gone_one) (λ key held. refl) c.args.tree.now.tree (children_of_first (part_from c.args.view c.args.tree.now.tree)) (held_of c.hide_one.new.tree) c.in-Some.kid
           (held_of c.loop-next.tree) (held_of c.hide.new.tree) c.next-next.result
           (rw c.in-Some.is at c.loop-next.invariant.walked)
           (rw same at c.hide.ensures.held)
@@ -35,5 +36,5 @@ loop-next-preserved t c =
 
 pub returns-clause-held : goal.returns-clause-held
 returns-clause-held t c =
-    changing_end (λ key. unplaced) (λ key held. refl) c.args.tree.now.tree c.args.view (held_of c.args.tree.now) (held_of c.set_bounds.new.self) (held_of c.loop-next.tree) c.requires
-    (rw c.in_default.is at c.loop-next.invariant.walked) c.set_bounds.ensures.held c.set_bounds.ensures.others
+    changing_end (λ key. gone_one) (λ key held. refl) c.args.tree.now.tree c.args.view (held_of c.args.tree.now) (held_of c.hide_one.new.tree) (held_of c.loop-next.tree) c.requires
+    (rw c.in_default.is at c.loop-next.invariant.walked) c.hide_one.ensures.held c.hide_one.ensures.others

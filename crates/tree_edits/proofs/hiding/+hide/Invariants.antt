@@ -1,4 +1,5 @@
-use Rattle.tree_edits.specs.Hiding.{unplaced}
+use Rattle.std.proofs.Common.{◌≡◌}
+use Rattle.tree_edits.specs.Hiding.{gone_one}
 use Rattle.view_model.specs.Forest.{count_of}
 use Rattle.view_tree.specs.Rows.{first_tree, children_of_first, part_from, rest_from}
 use Rattle.view_tree.specs.Views.{SameTree, held_of}
@@ -18,5 +19,6 @@ invariant-loop-next l =
     let tree = l.fn.tree.tree in
     record {
       same : SameTree l.fn.tree l.tree;
-      walked : ChangingWalk (λ key. unplaced) tree (children_of_first (part_from l.view tree)) (held_of l.initial.tree) l.next (held_of l.tree);
+      measures : l.tree.counts.measures ≡ l.fn.tree.counts.measures;
+      walked : ChangingWalk (λ key. gone_one) tree (children_of_first (part_from l.view tree)) (held_of l.initial.tree) l.next (held_of l.tree);
     }

@@ -11,7 +11,8 @@ use Rattle.view_tool.proofs.run.carry_out.Goals as goal
 
 pub returns-in-Ok-clause-measured : goal.returns-in-Ok-clause-measured
 returns-in-Ok-clause-measured g c =
-    measured_later (plain_command c.in-Ok.command) c.line-in-Ok.result c.args.work.now c.line-in-Ok.new.work _ c.line-in-Ok.ensures.work c.line-in-Ok.ensures.idle c.line-in-Ok.ensures.counted
+    measured_later (plain_command c.in-Ok.command) c.line-in-Ok.result c.args.work.now c.line-in-Ok.new.work c.line-in-Ok.ensures.work c.line-in-Ok.ensures.idle
+    (λ frame done. let count = c.line-in-Ok.ensures.counted frame done in (count.by, count.work))
 
 pub returns-in-Err-Range-clause-carried : goal.returns-in-Err-Range-clause-carried
 returns-in-Err-Range-clause-carried g c files told =

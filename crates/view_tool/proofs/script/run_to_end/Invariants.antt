@@ -8,7 +8,7 @@ use Rattle.view_tool.proofs.script.run_to_end.Given as goal
 abbrev pub invariant-loop-n : goal.invariant-loop-n
 invariant-loop-n g l = record {
   bound : l.left ≤ max_script;
-  numbers : l.run.runner.world.views.next + MAX_VIEWS * l.left ≤ MAX_VIEWS * max_script + 1;
+  numbers : l.run.runner.world.screen.views.next + MAX_VIEWS * l.left ≤ MAX_VIEWS * max_script + 1;
   taken : HasTaken (g.F.Shelf.files l.shelf) (g.S.Source.left l.fn.source) (g.S.Source.left l.source) (g.K.Sink.state l.fn.sink).gone (g.K.Sink.state l.sink).gone l.run l.left;
   files : g.F.Shelf.files l.shelf ≡ g.F.Shelf.files l.fn.shelf;
   fetches : g.F.Shelf.faults l.shelf ≡ g.F.Shelf.faults l.fn.shelf;

@@ -1,13 +1,13 @@
 use Rattle.std.proofs.Common.{arith}
 use Rattle.std.proofs.lemmas.Int.{ints, to_z-of_z}
 use Rattle.std.proofs.lemmas.Grind.{common_steps}
-use Rattle.view_model.specs.Facts.{unscrolled_facts}
+use Rattle.view_model.specs.Facts.{layout_facts}
 use Rattle.frame_layout.proofs.PlanLaws.{take-first}
 use Rattle.frame_layout.proofs.plan.FramePlan.take.Goals as goal
 
 pub returns : goal.returns
 returns c = λ own specs past taken.
-    take-first c.args.self.now c.take.new.self c.take-2.new.self c.count_to_two-self.result own specs past taken (unscrolled_facts c.args.kid.now) c.args.size
+    take-first c.args.self.now c.take.new.self c.take-2.new.self c.count_to_two-self.result own specs past taken (layout_facts c.args.kid.now) c.args.size
     (grind (arith, common_steps))
     (record {
       of_spec = c.take.ensures.spec;

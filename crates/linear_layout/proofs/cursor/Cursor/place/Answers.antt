@@ -5,14 +5,14 @@ use Rattle.linear_layout.specs.Cursor.{PlacesLinear}
 use Rattle.linear_layout.specs.Line.{kid_with}
 use Rattle.view_model.specs.declared.facts.Facts.{Facts}
 use Rattle.view_model.specs.declared.limits.TheConstants.{MAX_VIEWS}
-use Rattle.view_model.specs.Facts.{unscrolled_facts}
+use Rattle.view_model.specs.Facts.{layout_facts}
 use Rattle.view_model.specs.LinearLayout.{margins_on, size_on}
 use Rattle.linear_layout.proofs.cursor.Cursor.place.Goals as goal
 
 pub returns-clause-next : goal.returns-clause-next
 returns-clause-next c = λ own room total before s few.
     let cursor = c.args.self.now in
-    let mine = unscrolled_facts cursor.own in
+    let mine = layout_facts cursor.own in
     let kid = kid_with c.args.kid.now c.args.size in
     let count = s.count in
     let short : cursor.mark.count < MAX_VIEWS = omega arith in

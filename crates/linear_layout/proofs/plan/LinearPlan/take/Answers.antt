@@ -4,7 +4,7 @@ use Rattle.linear_layout.specs.Line.{own_in, specs_in}
 use Rattle.linear_layout.specs.LinearPlan.{StandsLinear}
 use Rattle.linear_layout.specs.declared.plan.Phase.TheVariants.{Weight}
 use Rattle.view_model.specs.declared.facts.Facts.{Facts}
-use Rattle.view_model.specs.Facts.{unscrolled_facts}
+use Rattle.view_model.specs.Facts.{layout_facts}
 use Rattle.view_model.specs.LinearLayout.{linear_rule}
 use Rattle.view_model.specs.Measuring.{Specs, taken_as}
 use Rattle.linear_layout.proofs.plan.LinearPlan.take.Goals as goal
@@ -12,7 +12,7 @@ use Rattle.linear_layout.proofs.plan.LinearPlan.take.Goals as goal
 pub returns-in-Weight : goal.returns-in-Weight
 returns-in-Weight c = λ own specs past taken s few.
     let plan = c.args.self.now in
-    let facts = unscrolled_facts c.args.kid.now in
+    let facts = layout_facts c.args.kid.now in
     of_group (λ (own : Facts) (specs : Specs). StandsLinear plan own specs past taken
     → StandsLinear (record plan { phase = Weight c.with.result }) own specs past (taken ++ taken_as (linear_rule own specs) past taken facts c.args.size ∷ []))
     plan own specs (plan_of plan own specs past taken s)

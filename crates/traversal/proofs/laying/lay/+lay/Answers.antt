@@ -1,61 +1,53 @@
-use Rattle.std.proofs.Common.{◌≡◌, ◌+◌, ◌≤◌, length, refl, sym, ◌∙◌, ap, arith}
-use Rattle.view_model.specs.declared.limits.TheConstants.{MAX_VIEWS}
-use Rattle.view_model.specs.Facts.{is_shown, unscrolled_facts}
-use Rattle.view_model.specs.Forest.{count_of}
+use Rattle.std.proofs.Common.{◌≡◌, ◌≢◌, ◌+◌, ◌≤◌, ℕ, true, false, length, refl, sym, ◌∙◌, ap, subst, arith}
+use Rattle.std.specs.Prelude.{if◌then◌else◌}
+use Rattle.std.proofs.lemmas.Bool.{cases_eq}
+use Rattle.std.proofs.Common.{inl, inr}
 use Rattle.geom_core.specs.declared.geometry.Size.{Size}
+use Rattle.kept_views.specs.Kept.{owed}
+use Rattle.kept_views.specs.Laying.{differ, moved_to, same_place, spot_of}
+use Rattle.kept_views.specs.Passes.{settled_at}
+use Rattle.kept_views.proofs.LaidFrames.{Fit-along, Fit-first, differ-along}
+use Rattle.kept_views.proofs.LaidRows.{moved_is}
+use Rattle.view_model.specs.declared.limits.TheConstants.{MAX_VIEWS}
+use Rattle.view_model.specs.Facts.{is_shown, layout_facts}
+use Rattle.view_model.specs.Forest.{count_of}
 use Rattle.view_model.specs.Layout.{place_in}
-use Rattle.view_model.specs.Measuring.{Measured}
+use Rattle.view_model.specs.Measuring.{Measured, Specs}
 use Rattle.view_model.specs.RelativeLayout.{sides_of}
 use Rattle.view_tree.specs.declared.state.State.{State}
 use Rattle.view_tree.specs.Rows.{first_tree, children_of_first, part_from, head_view}
-use Rattle.view_tree.specs.Views.{held_of}
+use Rattle.view_tree.specs.Views.{Held, Views, held_of, specs_of, state_of}
+use Rattle.view_tree.specs.declared.counts.Counts.{Counts}
 use Rattle.view_tree.proofs.forest.Walks.{count_few, count_one, fewer_below}
 use Rattle.view_tree.proofs.forest.Forests.{count_alone, live_after}
-use Rattle.traversal.specs.Laying.{spot_of}
 use Rattle.traversal.specs.Placing.{LaidKids}
-use Rattle.traversal.proofs.LaidOwn.{below_narrow, below_ready, group_at, kid_at, kid_gone, outside_at, sides_at}
-use Rattle.traversal.proofs.LaidParts.{CanBeLaid-first_tree, CanBeLaid-along, kept_on}
+use Rattle.measure_pass.specs.Caches.{Grown}
+use Rattle.measure_pass.proofs.Grows.{Grown-refl, Grown-trans}
+use Rattle.traversal.specs.Growing.{LastAt}
+use Rattle.traversal.proofs.CountedLaws.{counted_still, counted_then}
+use Rattle.traversal.proofs.GrownLaid.{grown_caches, grown_kid, grown_view}
+use Rattle.traversal.proofs.LastAsked.{kids_asked}
+use Rattle.traversal.proofs.LaidAt.{alone_outside, below_at, calm_at, differ_at, kid_at, kid_gone, outside_at, put_at, put_same, settled_bounds, settled_cache, settled_is, sides_at}
 use Rattle.traversal.proofs.LaidWalk.{laid_on, laid_start, next_narrow}
+use Rattle.traversal.proofs.RestLaws.{calm_is, calm_of, unmoved}
 use Rattle.traversal.proofs.laying.lay.+lay.Goals as goal
 
-pub lay-lay_kids-requires : goal.lay-lay_kids-requires
-lay-lay_kids-requires t c =
-    let set = c.set_bounds.ensures in
-    let ready = below_ready c.args.tree.now.tree c.args.view c.args.rect (held_of c.args.tree.now) (held_of c.set_bounds.new.self) c.requires.live
-    c.requires.is_tree.keys c.requires.shown c.requires.ready (record { at = set.held; others = set.others }) in
-    let narrow = below_narrow c.args.tree.now.tree c.args.view c.args.rect (held_of c.args.tree.now) (held_of c.set_bounds.new.self) c.requires.live
-    c.requires.is_tree.keys c.requires.shown c.requires.ready.sized (record { at = set.held; others = set.others }) in
-    rw set.same.tree (omega arith, (c.requires.live, (ready, narrow)))
+-- lay_kid
 
-pub lay-returns-clause-laid : goal.lay-returns-clause-laid
-lay-returns-clause-laid t c =
-    let set = c.set_bounds.ensures in
-    let kids = c.lay_kids.ensures in
-    group_at c.args.tree.now.tree c.args.view c.args.rect (held_of c.args.tree.now) (held_of c.set_bounds.new.self) (held_of c.lay_kids.new.tree)
-    c.requires.live c.requires.is_tree.keys c.requires.shown c.requires.ready
-    (record { at = set.held; others = set.others }) (rw c.extent.ensures at (rw set.same.tree at kids.laid)) (rw set.same.tree at kids.others)
-
-pub lay-returns-clause-others : goal.lay-returns-clause-others
-lay-returns-clause-others t c =
-    let set = c.set_bounds.ensures in
-    let kids = c.lay_kids.ensures in
-    outside_at c.args.tree.now.tree c.args.view c.args.rect (held_of c.args.tree.now) (held_of c.set_bounds.new.self) (held_of c.lay_kids.new.tree) c.requires.live
-    (record { at = set.held; others = set.others }) (rw set.same.tree at kids.others)
-
-pub lay_kid-returns-then-not-is_shown-clause-laid : goal.lay_kid-returns-then-not-is_shown-clause-laid
-lay_kid-returns-then-not-is_shown-clause-laid t c = λ spot before places few.
+pub lay_kid-returns-then-not-is_shown-clause-quiet : goal.lay_kid-returns-then-not-is_shown-clause-quiet
+lay_kid-returns-then-not-is_shown-clause-quiet t c = λ spot before places few.
     kid_gone c.args.tree.now.tree c.args.kid c.args.placer.now spot before (held_of c.args.tree.now) c.requires.live
-    (sym (ap is_shown c.facts-facts.ensures.value) ∙ sym c.is_shown.ensures ∙ c.if-not-is_shown.true) c.requires.ready.hidden places
+    (sym (ap is_shown c.facts-facts.ensures.value) ∙ sym c.is_shown.ensures ∙ c.if-not-is_shown.true) c.requires.fit places
 
 pub lay_kid-place-rect-requires-clause-width : goal.lay_kid-place-rect-requires-clause-width
 lay_kid-place-rect-requires-clause-width t c =
     rw c.state-state.ensures.value (sides_at c.args.tree.now.tree c.args.kid (held_of c.args.tree.now) c.requires.live
-    (sym (ap is_shown c.facts-facts.ensures.value) ∙ sym c.is_shown.ensures ∙ c.if-not-is_shown.false) c.requires.ready.sized).width
+    (sym (ap is_shown c.facts-facts.ensures.value) ∙ sym c.is_shown.ensures ∙ c.if-not-is_shown.false) c.requires.fit.sized).width
 
 pub lay_kid-place-rect-requires-clause-height : goal.lay_kid-place-rect-requires-clause-height
 lay_kid-place-rect-requires-clause-height t c =
     rw c.state-state.ensures.value (sides_at c.args.tree.now.tree c.args.kid (held_of c.args.tree.now) c.requires.live
-    (sym (ap is_shown c.facts-facts.ensures.value) ∙ sym c.is_shown.ensures ∙ c.if-not-is_shown.false) c.requires.ready.sized).height
+    (sym (ap is_shown c.facts-facts.ensures.value) ∙ sym c.is_shown.ensures ∙ c.if-not-is_shown.false) c.requires.fit.sized).height
 
 pub lay_kid-place-rect-requires-clause-sides : goal.lay_kid-place-rect-requires-clause-sides
 lay_kid-place-rect-requires-clause-sides t c =
@@ -64,20 +56,32 @@ lay_kid-place-rect-requires-clause-sides t c =
 pub lay_kid-lay-requires : goal.lay_kid-lay-requires
 lay_kid-lay-requires t c =
     let shown = sym (ap is_shown c.facts-facts.ensures.value) ∙ sym c.is_shown.ensures ∙ c.if-not-is_shown.false in
-    (omega arith, (c.facts-facts.ensures.is_tree, (c.requires.live, (shown, (c.requires.ready, c.place-rect.ensures.narrow)))))
+    (omega arith, (record { live = c.requires.live; shown = shown; ready = c.requires.fit.ready; sized = c.requires.fit.sized }, c.place-rect.ensures.narrow))
 
-pub lay_kid-returns-clause-laid : goal.lay_kid-returns-clause-laid
-lay_kid-returns-clause-laid t c = λ spot before places few.
+pub lay_kid-returns-clause-quiet : goal.lay_kid-returns-clause-quiet
+lay_kid-returns-clause-quiet t c = λ spot before places few.
     let one = count_one c.args.tree.now.tree c.args.kid c.requires.live in
     let shown = sym (ap is_shown c.facts-facts.ensures.value) ∙ sym c.is_shown.ensures ∙ c.if-not-is_shown.false in
-    let facts_is : unscrolled_facts c.facts-facts.result.now ≡ unscrolled_facts (head_view (part_from c.args.kid c.args.tree.now.tree)).facts =
-    ap unscrolled_facts c.facts-facts.ensures.value in
-    let kid_of : Size → Measured = λ size. record { facts = unscrolled_facts (head_view (part_from c.args.kid c.args.tree.now.tree)).facts; size = size } in
+    let facts_is : layout_facts c.facts-facts.result.now ≡ layout_facts (head_view (part_from c.args.kid c.args.tree.now.tree)).facts =
+    ap layout_facts c.facts-facts.ensures.value in
+    let kid_of : Size → Measured = λ size. record { facts = layout_facts (head_view (part_from c.args.kid c.args.tree.now.tree)).facts; size = size } in
     kid_at c.args.tree.now.tree c.args.kid c.place-rect.new.self spot before c.state-state.result.measured c.place-rect.result
-    (held_of c.args.tree.now) (held_of c.lay.new.tree) c.requires.live shown c.requires.ready.sized
+    (held_of c.args.tree.now) (held_of c.lay.new.tree) c.requires.live shown c.requires.fit.sized
     (ap (λ (state : State). state.measured) c.state-state.ensures.value)
     (rw facts_is at (c.place-rect.ensures.place spot before places)
-    ∙ ap (λ (state : State). place_in spot before (kid_of c.state-state.result.measured) (sides_of state.edges)) c.state-state.ensures.value) (rw facts_is at (c.place-rect.ensures.next spot before places (omega arith))) c.lay.ensures.laid
+    ∙ ap (λ (state : State). place_in spot before (kid_of c.state-state.result.measured) (sides_of state.edges)) c.state-state.ensures.value) (rw facts_is at (c.place-rect.ensures.next spot before places (omega arith))) c.lay.ensures.put
+
+pub lay_kid-returns-then-not-is_shown-clause-caches : goal.lay_kid-returns-then-not-is_shown-clause-caches
+lay_kid-returns-then-not-is_shown-clause-caches t c =
+    let list = first_tree (part_from c.args.kid c.args.tree.now.tree) in
+    Grown-refl (LastAt (held_of c.args.tree.now) list) (held_of c.args.tree.now) list
+
+pub lay_kid-returns-clause-caches : goal.lay_kid-returns-clause-caches
+lay_kid-returns-clause-caches t c =
+    let shown = sym (ap is_shown c.facts-facts.ensures.value) ∙ sym c.is_shown.ensures ∙ c.if-not-is_shown.false in
+    grown_kid c.args.tree.now.tree c.args.kid (held_of c.args.tree.now) (held_of c.lay.new.tree) c.requires.live shown c.lay.ensures.caches
+
+-- lay_kids
 
 pub lay_kids-lay_kid-requires : goal.lay_kids-lay_kid-requires
 lay_kids-lay_kid-requires t c =
@@ -89,11 +93,11 @@ lay_kids-lay_kid-requires t c =
       (
         walk.walked.walk.live,
         (
-          CanBeLaid-first_tree (held_of c.loop-next.tree) (part_from c.in-Some.kid tree)
-              (CanBeLaid-along (held_of c.args.tree.now) (held_of c.loop-next.tree) (part_from c.in-Some.kid tree) walk.walked.still walk.ready),
+          Fit-first (held_of c.loop-next.tree) (part_from c.in-Some.kid tree)
+              (Fit-along (held_of c.args.tree.now) (held_of c.loop-next.tree) (part_from c.in-Some.kid tree) walk.walked.still walk.fit),
           λ shown.
               next_narrow tree (children_of_first (part_from c.args.view tree)) c.loop-next.placer (spot_of (part_from c.args.view tree) (held_of c.args.tree.now c.args.view) c.args.size)
-              (held_of c.args.tree.now) c.in-Some.kid (held_of c.loop-next.tree) walk shown,
+              (held_of c.args.tree.now) c.args.work.now.measured c.args.tree.now.counts.laid c.in-Some.kid (held_of c.loop-next.tree) c.loop-next.work.measured c.loop-next.tree.counts.laid walk shown,
         ),
       ),
     )
@@ -110,10 +114,10 @@ lay_kids-loop-next-init t c =
     let spot = spot_of (part_from c.args.view tree) (held_of c.args.tree.now c.args.view) c.args.size in
     record {
       same = record { tree = refl; orders = refl; next = refl };
-      kept = λ key. refl;
+      counted = record { by = 0; work = omega arith; tree = omega arith; painted = refl };
       walked =
-          laid_start tree (children_of_first (part_from c.args.view tree)) c.start-placer.result spot (held_of c.args.tree.now) c.first-next.result c.start-placer.ensures
-          (count_few c.args.view tree c.requires.live first.is_tree.few) first.is_tree.keys first.part first.live c.requires.ready c.requires.narrow;
+          laid_start tree (children_of_first (part_from c.args.view tree)) c.start-placer.result spot (held_of c.args.tree.now) c.args.work.now.measured c.args.tree.now.counts.laid c.first-next.result c.start-placer.ensures
+          (count_few c.args.view tree c.requires.live first.is_tree.few) first.is_tree.keys first.part first.live c.requires.fit c.requires.narrow;
     }
 
 pub lay_kids-loop-next-preserved : goal.lay_kids-loop-next-preserved
@@ -127,17 +131,238 @@ lay_kids-loop-next-preserved t c =
     let short = walk.short in
     let few : length walk.before + count_of (first_tree (part_from c.in-Some.kid tree)) ≤ MAX_VIEWS = omega arith in
     let laid : LaidKids c.lay_kid.new.placer spot walk.before (held_of c.loop-next.tree) (held_of c.lay_kid.new.tree) (first_tree (part_from c.in-Some.kid tree)) =
-    (rw before.same.tree at (kid.laid spot walk.before walk.places)) few in
+    (rw before.same.tree at (kid.quiet spot walk.before walk.places)) few in
     record {
       same = record { tree = kid.same.tree ∙ before.same.tree; orders = kid.same.orders ∙ before.same.orders; next = kid.same.next ∙ before.same.next };
-      kept = kept_on c.args.tree.now c.loop-next.tree c.lay_kid.new.tree before.kept kid.kept;
+      counted = counted_then before.counted kid.counted;
       walked =
-          laid_on tree (children_of_first (part_from c.args.view tree)) c.loop-next.placer c.lay_kid.new.placer spot (held_of c.args.tree.now) c.in-Some.kid
-          (held_of c.loop-next.tree) (held_of c.lay_kid.new.tree) walk laid (rw before.same.tree at kid.others) c.next-next.result
+          laid_on tree (children_of_first (part_from c.args.view tree)) c.loop-next.placer c.lay_kid.new.placer spot (held_of c.args.tree.now) c.args.work.now.measured c.args.tree.now.counts.laid c.in-Some.kid
+          (held_of c.loop-next.tree) (held_of c.lay_kid.new.tree) c.loop-next.work.measured c.loop-next.tree.counts.laid c.lay_kid.new.work.measured c.lay_kid.new.tree.counts.laid
+          walk laid (rw before.same.tree at kid.others) (rw before.same.tree at kid.measured) (rw before.same.tree at kid.laid) (rw before.same.tree at kid.caches) c.next-next.result
           (rw (kid.same.tree, before.same.tree) at c.next-next.ensures.part) (rw (kid.same.tree, before.same.tree) at c.next-next.ensures.live);
     }
+
+pub lay_kids-returns-clause-quiet : goal.lay_kids-returns-clause-quiet
+lay_kids-returns-clause-quiet t c =
+    let walk = rw c.in_default.is at c.loop-next.invariant.walked in
+    walk.quiet (held_of c.loop-next.tree) (λ key none. refl) (record { kept = tt; reached = tt; specs = refl; edges = refl; lies = refl; places = refl; offsets = tt })
+
+pub lay_kids-returns-clause-measured : goal.lay_kids-returns-clause-measured
+lay_kids-returns-clause-measured t c =
+    let walk = rw c.in_default.is at c.loop-next.invariant.walked in
+    let m = walk.measures in
+    omega arith
 
 pub lay_kids-returns-clause-laid : goal.lay_kids-returns-clause-laid
 lay_kids-returns-clause-laid t c =
     let walk = rw c.in_default.is at c.loop-next.invariant.walked in
-    (walk.laid (held_of c.loop-next.tree) (λ key none. refl) (record { lies = refl; hidden = tt }))
+    let m = walk.moves (held_of c.loop-next.tree) (λ key none. refl) in
+    omega arith
+
+pub lay_kids-returns-clause-caches : goal.lay_kids-returns-clause-caches
+lay_kids-returns-clause-caches t c =
+    let walk = rw c.in_default.is at c.loop-next.invariant.walked in
+    walk.caches (held_of c.loop-next.tree) (λ key none. refl) tt
+
+-- lay_open
+
+same_all : (old new : ℕ → Held) (view : ℕ) → new view ≡ old view → ((other : ℕ) → other ≢ view → new other ≡ old other) → (key : ℕ) → new key ≡ old key
+same_all old new view own others key = elim (cases_eq key view) [ inl e ↦ rw e own | inr ne ↦ others key ne ]
+
+pub lay_open-returns-then-is_calm-clause-put : goal.lay_open-returns-then-is_calm-clause-put
+lay_open-returns-then-is_calm-clause-put t c =
+    let tree = c.args.tree.now.tree in
+    let view = c.args.view in
+    let r = c.requires.fit in
+    let a = held_of c.make_fit.new.tree in
+    let b = held_of c.move_to-moved.new.tree in
+    let calm = calm_of c.move_to-moved.result c.state-state.result.forced c.state-state.result.layout_needed (sym c.is_calm.ensures ∙ c.if-is_calm.true) in
+    let f = c.move_to-moved.ensures in
+    let g = c.make_fit.ensures in
+    let own : b view ≡ a view = f.held ∙ ap (λ moved. if moved then moved_to (a view) c.args.rect else a view) calm.0 in
+    let there = moved_is (a view) (b view) c.args.rect c.move_to-moved.result f.moved f.held in
+    let fit = Fit-along a b (first_tree (part_from view tree)) (λ key live. same_all a b view own f.others key) g.fit in
+    let state = c.state-state.ensures.value in
+    calm_at tree view (held_of c.args.tree.now) b c.args.rect r.live r.shown fit
+    (record {
+      forced = ap (λ (state : State). state.forced) (sym state) ∙ calm.1;
+      needed = ap (λ (state : State). state.layout_needed) (sym state) ∙ calm.2;
+      bounds = ap (λ (h : Held). h.state.bounds) there;
+      specs = ap (λ (h : Held). specs_of h.state) own ∙ g.unmarked.specs;
+      edges = ap (λ (h : Held). h.state.edges) own ∙ g.unmarked.edges;
+    })
+    (λ key. ap (λ (h : Held). h.offset) (same_all a b view own f.others key) ∙ g.keeps.offsets key)
+
+pub lay_open-lay_kids-requires : goal.lay_open-lay_kids-requires
+lay_open-lay_kids-requires t c =
+    let tree = c.args.tree.now.tree in
+    let view = c.args.view in
+    let r = c.requires.fit in
+    let a = held_of c.make_fit.new.tree in
+    let b = held_of c.move_to-moved.new.tree in
+    let f = c.move_to-moved.ensures in
+    let same : c.move_to-moved.new.tree.tree ≡ tree = f.same.tree ∙ c.make_fit.ensures.same.tree in
+    let there = moved_is (a view) (b view) c.args.rect c.move_to-moved.result f.moved f.held in
+    let under = below_at tree view a b (moved_to (a view) c.args.rect) c.make_fit.ensures.is_tree.keys r.live r.shown c.make_fit.ensures.fit c.make_fit.ensures.unmarked.first
+    (record { at = there; others = f.others }) in
+    rw same (omega arith, (r.live, (under.fit, under.narrow)))
+
+pub lay_open-returns-clause-put : goal.lay_open-returns-clause-put
+lay_open-returns-clause-put t c =
+    let tree = c.args.tree.now.tree in
+    let view = c.args.view in
+    let r = c.requires.fit in
+    let a = held_of c.make_fit.new.tree in
+    let b = held_of c.move_to-moved.new.tree in
+    let f = c.move_to-moved.ensures in
+    let g = c.make_fit.ensures in
+    let same : c.move_to-moved.new.tree.tree ≡ tree = f.same.tree ∙ g.same.tree in
+    let all : c.lay_kids.new.tree.tree ≡ tree = c.lay_kids.ensures.same.tree ∙ same in
+    let there = moved_is (a view) (b view) c.args.rect c.move_to-moved.result f.moved f.held in
+    put_at tree view (held_of c.args.tree.now) a b (held_of c.lay_kids.new.tree) (held_of c.bring_one.new.tree) c.args.rect g.is_tree.keys r.live r.shown g.fit
+    (record { first = g.unmarked.first; specs = g.unmarked.specs; edges = g.unmarked.edges }) g.keeps.offsets (record { at = there; others = f.others })
+    (rw c.extent.ensures at (rw same at c.lay_kids.ensures.quiet)) (rw same at c.lay_kids.ensures.others)
+    (record { at = rw all at c.bring_one.ensures.held; others = c.bring_one.ensures.others })
+
+pub lay_open-returns-clause-others : goal.lay_open-returns-clause-others
+lay_open-returns-clause-others t c = λ key none.
+    let tree = c.args.tree.now.tree in
+    let view = c.args.view in
+    let a = held_of c.make_fit.new.tree in
+    let b = held_of c.move_to-moved.new.tree in
+    let f = c.move_to-moved.ensures in
+    let same : c.move_to-moved.new.tree.tree ≡ tree = f.same.tree ∙ c.make_fit.ensures.same.tree in
+    let there = moved_is (a view) (b view) c.args.rect c.move_to-moved.result f.moved f.held in
+    outside_at tree view a b (held_of c.lay_kids.new.tree) (held_of c.bring_one.new.tree) _ _ c.requires.fit.live (record { at = there; others = f.others })
+    (rw same at c.lay_kids.ensures.others) (record { at = c.bring_one.ensures.held; others = c.bring_one.ensures.others }) key none
+    ∙ c.make_fit.ensures.others key none
+
+pub lay_open-returns-clause-measured : goal.lay_open-returns-clause-measured
+lay_open-returns-clause-measured t c =
+    let tree = c.args.tree.now.tree in
+    let view = c.args.view in
+    let r = c.requires.fit in
+    let a = held_of c.make_fit.new.tree in
+    let b = held_of c.move_to-moved.new.tree in
+    let f = c.move_to-moved.ensures in
+    let same : c.move_to-moved.new.tree.tree ≡ tree = f.same.tree ∙ c.make_fit.ensures.same.tree in
+    let there = moved_is (a view) (b view) c.args.rect c.move_to-moved.result f.moved f.held in
+    let under = below_at tree view a b (moved_to (a view) c.args.rect) c.make_fit.ensures.is_tree.keys r.live r.shown c.make_fit.ensures.fit c.make_fit.ensures.unmarked.first
+    (record { at = there; others = f.others }) in
+    let owes = under.owed in
+    let kids : c.lay_kids.new.work.measured ≤ c.make_fit.new.work.measured + owed b (children_of_first (part_from view tree)) = rw same at c.lay_kids.ensures.measured in
+    let fit = c.make_fit.ensures.measured in
+    omega arith
+
+pub lay_open-returns-clause-laid : goal.lay_open-returns-clause-laid
+lay_open-returns-clause-laid t c =
+    let tree = c.args.tree.now.tree in
+    let view = c.args.view in
+    let old = held_of c.args.tree.now in
+    let b = held_of c.move_to-moved.new.tree in
+    let l = held_of c.lay_kids.new.tree in
+    let n = held_of c.bring_one.new.tree in
+    let f = c.move_to-moved.ensures in
+    let g = c.make_fit.ensures in
+    let same : c.move_to-moved.new.tree.tree ≡ tree = f.same.tree ∙ g.same.tree in
+    let bounds = sym (settled_bounds view n view) ∙ (lay_open-returns-clause-put t c).bounds in
+    let d = differ_at tree view old b l n c.args.rect c.move_to-moved.result g.is_tree.keys c.requires.fit.live
+    (ap (λ bounds. same_place bounds c.args.rect) (sym (g.keeps.bounds view)) ∙ f.moved)
+    (λ key ne. ap (λ (h : Held). h.state.bounds) (f.others key ne) ∙ g.keeps.bounds key) bounds
+    (λ key ne. ap (λ (h : Held). h.state.bounds) (c.bring_one.ensures.others key ne)) in
+    let kids : c.lay_kids.new.tree.counts.laid ≤ c.move_to-moved.new.tree.counts.laid + differ b l (children_of_first (part_from view tree)) = rw same at c.lay_kids.ensures.laid in
+    let set = f.laid in
+    let fit = g.laid in
+    let last : c.bring_one.new.tree.counts.laid ≡ c.lay_kids.new.tree.counts.laid = ap (λ (counts : Counts). counts.laid) c.bring_one.ensures.counts in
+    sums c.bring_one.new.tree.counts.laid c.lay_kids.new.tree.counts.laid c.move_to-moved.new.tree.counts.laid c.make_fit.new.tree.counts.laid c.args.tree.now.counts.laid
+    (if c.move_to-moved.result then 1 else 0) (differ b l (children_of_first (part_from view tree))) (differ old n (first_tree (part_from view tree))) last kids set fit d
+  where
+    sums : (e d c b a m k w : ℕ) → e ≡ d → d ≤ c + k → c ≤ b + m → b ≡ a → m + k ≤ w → e ≤ a + w
+    sums e d c b a m k w p q r s t = omega arith
+
+pub lay_open-returns-clause-counted : goal.lay_open-returns-clause-counted
+lay_open-returns-clause-counted t c =
+    counted_then c.make_fit.ensures.counted
+    (counted_then (counted_still c.make_fit.new.tree c.move_to-moved.new.tree c.make_fit.new.work c.move_to-moved.ensures.measures)
+    (counted_then c.lay_kids.ensures.counted
+    (counted_still c.lay_kids.new.tree c.bring_one.new.tree c.lay_kids.new.work (ap (λ (counts : Counts). counts.measures) c.bring_one.ensures.counts))))
+
+pub lay_open-returns-then-is_calm-clause-still : goal.lay_open-returns-then-is_calm-clause-still
+lay_open-returns-then-is_calm-clause-still t c = λ place.
+    let fit = c.make_fit.ensures.still place.marked in
+    let calm = calm_of c.move_to-moved.result c.state-state.result.forced c.state-state.result.layout_needed (sym c.is_calm.ensures ∙ c.if-is_calm.true) in
+    (c.move_to-moved.ensures.still calm.0 ∙ fit.0, fit.1)
+
+pub lay_open-returns-clause-still : goal.lay_open-returns-clause-still
+lay_open-returns-clause-still t c = λ place.
+    let fit = c.make_fit.ensures.still place.marked in
+    let own : state_of c.make_fit.new.tree c.args.view ≡ state_of c.args.tree.now c.args.view = ap (λ (views : Views). state_of views c.args.view) fit.0 in
+    let stays = unmoved (state_of c.make_fit.new.tree c.args.view).bounds c.args.rect c.move_to-moved.result (ap (λ (s : State). s.bounds) own ∙ place.bounds) c.move_to-moved.ensures.moved in
+    let state = c.state-state.ensures.value ∙ ap (λ (views : Views). state_of views c.args.view) (c.move_to-moved.ensures.still stays) ∙ own in
+    let calm = calm_is c.move_to-moved.result c.state-state.result.forced c.state-state.result.layout_needed stays (ap (λ (s : State). s.forced) state ∙ place.forced) (ap (λ (s : State). s.layout_needed) state ∙ place.needed) in
+    absurd (let no : true ≡ false = sym calm ∙ sym c.is_calm.ensures ∙ c.if-is_calm.false in cc)
+
+pub lay_open-returns-then-is_calm-clause-caches : goal.lay_open-returns-then-is_calm-clause-caches
+lay_open-returns-then-is_calm-clause-caches t c =
+    let view = c.args.view in
+    let old = c.args.tree.now in
+    let calm = calm_of c.move_to-moved.result c.state-state.result.forced c.state-state.result.layout_needed (sym c.is_calm.ensures ∙ c.if-is_calm.true) in
+    subst (λ (views : Views). Grown (λ place other. other ≡ specs_of (state_of old view)) (held_of old) (held_of views) (first_tree (part_from view old.tree)))
+    (sym (c.move_to-moved.ensures.still calm.0)) c.make_fit.ensures.caches
+
+pub lay_open-returns-clause-caches : goal.lay_open-returns-clause-caches
+lay_open-returns-clause-caches t c =
+    let tree = c.args.tree.now.tree in
+    let view = c.args.view in
+    let r = c.requires.fit in
+    let old = held_of c.args.tree.now in
+    let a = held_of c.make_fit.new.tree in
+    let b = held_of c.move_to-moved.new.tree in
+    let l = held_of c.lay_kids.new.tree in
+    let n = held_of c.bring_one.new.tree in
+    let f = c.move_to-moved.ensures in
+    let g = c.make_fit.ensures in
+    let same : c.move_to-moved.new.tree.tree ≡ tree = f.same.tree ∙ g.same.tree in
+    let there = moved_is (a view) (b view) c.args.rect c.move_to-moved.result f.moved f.held in
+    let asks = kids_asked c.args.tree.now view a g.is_tree r.live r.shown g.fit.sized g.unmarked.first in
+    let laid = grown_view tree view (specs_of (a view).state) a b l n (moved_to (a view) c.args.rect) (n view) g.is_tree.keys r.live (record { at = there; others = f.others }) refl
+    (record { at = refl; others = c.bring_one.ensures.others }) (ap (λ (h : Held). h.cache) c.bring_one.ensures.held)
+    (rw same at c.lay_kids.ensures.others) asks (rw same at c.lay_kids.ensures.caches) in
+    let ok : Specs → ℕ → Specs → Type 0 = λ specs place other. other ≡ specs in
+    Grown-trans (ok (specs_of (old view).state)) old a n (first_tree (part_from view tree)) g.caches
+    (subst (λ (specs : Specs). Grown (ok specs) a n (first_tree (part_from view tree))) g.unmarked.specs laid)
+
+-- lay
+
+pub lay-returns-clause-caches : goal.lay-returns-clause-caches
+lay-returns-clause-caches t c =
+    let old = held_of c.args.tree.now in
+    let mid = held_of c.lay_open.new.tree in
+    let new = held_of c.settle.new.tree in
+    grown_caches (λ place other. other ≡ specs_of (old c.args.view).state) old old mid new (first_tree (part_from c.args.view c.args.tree.now.tree)) (λ key. refl)
+    (λ key. ap (λ (h : Held). h.cache) (settled_is c.args.view mid new c.settle.ensures.held c.settle.ensures.others key) ∙ settled_cache c.args.view mid key) c.lay_open.ensures.caches
+
+pub lay-returns-clause-put : goal.lay-returns-clause-put
+lay-returns-clause-put t c =
+    let mid = held_of c.lay_open.new.tree in
+    let new = held_of c.settle.new.tree in
+    put_same (held_of c.args.tree.now) (settled_at c.args.view mid) new c.args.view (part_from c.args.view c.args.tree.now.tree) c.args.rect
+    (settled_is c.args.view mid new c.settle.ensures.held c.settle.ensures.others) c.lay_open.ensures.put
+
+pub lay-returns-clause-others : goal.lay-returns-clause-others
+lay-returns-clause-others t c = λ key none.
+    alone_outside c.args.tree.now.tree c.args.view (held_of c.lay_open.new.tree) (held_of c.settle.new.tree) _ c.requires.fit.live
+    (record { at = c.settle.ensures.held; others = c.settle.ensures.others }) key none
+    ∙ c.lay_open.ensures.others key none
+
+pub lay-returns-clause-laid : goal.lay-returns-clause-laid
+lay-returns-clause-laid t c =
+    let mid = held_of c.lay_open.new.tree in
+    let new = held_of c.settle.new.tree in
+    let old = held_of c.args.tree.now in
+    let list = first_tree (part_from c.args.view c.args.tree.now.tree) in
+    let d : differ old new list ≡ differ old mid list = differ-along old old mid new list (λ key here. refl)
+    (λ key here. ap (λ (h : Held). h.state.bounds) (settled_is c.args.view mid new c.settle.ensures.held c.settle.ensures.others key) ∙ settled_bounds c.args.view mid key) in
+    let counts = ap (λ (counts : Counts). counts.laid) c.settle.ensures.counts in
+    let had = c.lay_open.ensures.laid in
+    omega arith

@@ -1,25 +1,30 @@
 use Rattle.std.proofs.Common.{◌+◌, ◌*◌}
+use Rattle.kept_views.specs.Laying.{spot_of}
 use Rattle.view_model.specs.Forest.{count_of}
 use Rattle.view_tree.specs.Rows.{first_tree, children_of_first, part_from, rest_from}
 use Rattle.view_tree.specs.Views.{SameTree, held_of}
-use Rattle.traversal.specs.Laying.{KeepsAllButBounds, spot_of}
+use Rattle.traversal.specs.Counting.{IsCounted}
 use Rattle.traversal.proofs.LaidWalk.{LaidWalk}
 use Rattle.traversal.proofs.laying.lay.+lay.Given as goal
 
 abbrev pub decreases-lay : goal.decreases-lay
-decreases-lay l = 3 * count_of (first_tree (part_from l.view l.tree.now.tree)) + 1
+decreases-lay l = 4 * count_of (first_tree (part_from l.view l.tree.now.tree)) + 2
+
+abbrev pub decreases-lay_open : goal.decreases-lay_open
+decreases-lay_open l = 4 * count_of (first_tree (part_from l.view l.tree.now.tree)) + 1
 
 abbrev pub decreases-lay_kid : goal.decreases-lay_kid
-decreases-lay_kid l = 3 * count_of (first_tree (part_from l.kid l.tree.now.tree)) + 2
+decreases-lay_kid l = 4 * count_of (first_tree (part_from l.kid l.tree.now.tree)) + 3
 
 abbrev pub decreases-lay_kids : goal.decreases-lay_kids
-decreases-lay_kids l = 3 * count_of (first_tree (part_from l.view l.tree.now.tree))
+decreases-lay_kids l = 4 * count_of (first_tree (part_from l.view l.tree.now.tree))
 
 abbrev pub invariant-lay_kids-loop-next : goal.invariant-lay_kids-loop-next
 invariant-lay_kids-loop-next l = let tree = l.fn.tree.tree in record {
   same : SameTree l.fn.tree l.tree;
-  kept : KeepsAllButBounds l.fn.tree l.tree;
-  walked : LaidWalk tree (children_of_first (part_from l.view tree)) l.placer (spot_of (part_from l.view tree) (held_of l.fn.tree l.view) l.fn.size) (held_of l.fn.tree) l.next (held_of l.tree);
+  counted : IsCounted l.fn.tree l.tree l.fn.work l.work;
+  walked : LaidWalk tree (children_of_first (part_from l.view tree)) l.placer (spot_of (part_from l.view tree) (held_of l.fn.tree l.view) l.fn.size) (held_of l.fn.tree)
+      l.fn.work.measured l.fn.tree.counts.laid l.next (held_of l.tree) l.work.measured l.tree.counts.laid;
 }
 
 abbrev pub decreases-lay_kids-loop-next : goal.decreases-lay_kids-loop-next

@@ -9,7 +9,7 @@ invariant-loop-at g l = record {
   within : l.at ≤ length l.piece;
   behind : (first : Option (List ℕ)) (before : List ℕ) → length (before ++ l.piece) < 2 ^ 63 → HasReadUpTo (g.F.Shelf.files l.fn.shelf) first (g.K.Sink.state l.fn.sink).gone l.fn.self before
       → HasReadUpTo (g.F.Shelf.files l.fn.shelf) first (g.K.Sink.state l.sink).gone l.self (before ++ take l.at l.piece);
-  numbers : l.self.runner.world.views.next ≤ l.fn.self.runner.world.views.next + MAX_VIEWS * l.at;
+  numbers : l.self.runner.world.screen.views.next ≤ l.fn.self.runner.world.screen.views.next + MAX_VIEWS * l.at;
   files : g.F.Shelf.files l.shelf ≡ g.F.Shelf.files l.fn.shelf;
   fetches : g.F.Shelf.faults l.shelf ≡ g.F.Shelf.faults l.fn.shelf;
   painted : l.fn.work.painted ≤ l.work.painted;

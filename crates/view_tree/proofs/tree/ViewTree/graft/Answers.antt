@@ -13,21 +13,21 @@ use Rattle.view_model.specs.Sprouts.{seed_of, seeds_of, view_of}
 use Rattle.view_tree.specs.Attached.{Attached}
 use Rattle.view_tree.specs.Grafted.{Grafted}
 use Rattle.view_tree.specs.Grafting.{AreGrafted, IsMadeUnless, entries_cycle}
-use Rattle.view_tree.specs.Hidden.{IsConsistent}
 use Rattle.view_tree.specs.Nodes.{value_of, views_in}
-use Rattle.view_tree.specs.Ordering.{IsGrouped, group_at, orders_in}
-use Rattle.view_tree.specs.Views.{IsLive, Views, number_of, orders_under, plain_of}
+use Rattle.view_tree.specs.Ordering.{HasNoOther, IsGrouped, group_at, orders_in}
+use Rattle.view_tree.specs.Views.{IsLive, Views, no_counts, number_of, orders_under, plain_of}
 use Rattle.view_tree.specs.declared.groups.Group.{Group}
 use Rattle.view_tree.specs.declared.tree.ViewTree.TheInside.{Inside}
 use Rattle.view_tree.proofs.grafts.EntryLaws.{refused_or}
 use Rattle.view_tree.proofs.grafts.Grafts.{OutermostCame, outermost_came, room_for, taken}
 use Rattle.view_tree.proofs.grafts.GrownGroups.{cycle-grafted, grouped-grafted, kept-grafted}
+use Rattle.view_tree.proofs.grafts.OnlyGrafted.{only-grafted}
 use Rattle.view_tree.proofs.grafts.Saplings.{shaped}
 use Rattle.view_tree.proofs.nodes.NodeGrowth.{sound-room, value-room}
 use Rattle.view_tree.proofs.nodes.NodeReads.{is_tree}
 use Rattle.view_tree.proofs.nodes.WholeTree.{attached-orders, gained-orders, groups_along, planted-fields, planted-whole, whole-room}
+use Rattle.view_tree.proofs.orders.OnlyLayouts.{only-same}
 use Rattle.view_tree.proofs.orders.RowLaws.{orders_kept}
-use Rattle.view_tree.proofs.values.HiddenLaws.{consistent-grafted}
 use Rattle.view_tree.proofs.tree.ViewTree.graft.Goals as goal
 use Rattle.view_tree.proofs.tree.ViewTree.graft.Goals.{After-branch-make_group_room, After-plant-key, After-sow, After-note_groups}
 
@@ -36,7 +36,7 @@ roomy c = record c.self.inside { nodes = c.make_room.new.nodes; keys = c.make_ro
 
 same : (c : After-branch-make_group_room) → value_of (roomy c) ≡ c.args.self.now
 same c =
-    value-room c.self.inside (roomy c) c.make_room.ensures.nodes c.make_room.ensures.keys c.make_room.ensures.ids c.make_group_room.ensures.same refl refl
+    value-room c.self.inside (roomy c) c.make_room.ensures.nodes c.make_room.ensures.keys c.make_room.ensures.ids c.make_group_room.ensures.same refl refl refl
     ∙ c.self.view_is
 
 free : (c : After-branch-make_group_room) → graft_refusal (plain_of c.args.self.now) (option_map (number_of c.args.self.now) c.args.parent) (seeds_of c.args.sapling.sprouts.items) ≡ None
@@ -64,7 +64,7 @@ came c same free =
     (λ (v : Views). Attached v c.args.parent (view_of v.next (seed_of c.in-Some.outermost)) c.plant-key.result (views_in c.plant-key.new.nodes c.plant-key.new.root c.plant-key.new.next))
     same
     (attached-orders (views_in c.make_room.new.nodes c.self.inside.root c.self.inside.next) (views_in c.plant-key.new.nodes c.plant-key.new.root c.plant-key.new.next) c.args.parent
-    (view_of c.self.inside.next (seed_of c.in-Some.outermost)) c.plant-key.result (orders_in c.make_group_room.new.groups.entries) [] c.plant-key.ensures.attached))
+    (view_of c.self.inside.next (seed_of c.in-Some.outermost)) c.plant-key.result (orders_in c.make_group_room.new.groups.entries) [] c.self.inside.counts no_counts c.plant-key.ensures.attached))
     (sym c.into_iter-sprouts.ensures.rest ∙ c.in-Some.ensures.items) c.args.sapling.preorder free
 
 abbrev end : After-note_groups → Inside
@@ -74,7 +74,7 @@ grafted : (c : After-note_groups)
     → OutermostCame c.args.self.now (views_in c.plant-key.new.nodes c.plant-key.new.root c.plant-key.new.next) c.args.parent c.plant-key.result
     (into_iter_items c.next.new.self) c.args.sapling.sprouts.items
     → Grafted c.args.self.now c.args.parent (seeds_of c.args.sapling.sprouts.items) c.plant-key.result (value_of (end c))
-grafted c whole = whole.grafted (value_of (end c)) (gained-orders _ _ c.plant-key.result (orders_in c.note_groups.new.groups.entries) c.sow.ensures.gained) c.sow.ensures.plain c.sow.ensures.next
+grafted c whole = whole.grafted (value_of (end c)) (gained-orders _ _ c.plant-key.result (orders_in c.note_groups.new.groups.entries) c.self.inside.counts c.sow.ensures.gained) c.sow.ensures.plain c.sow.ensures.next
 
 pub entries-requires-clause-few : goal.entries-requires-clause-few
 entries-requires-clause-few c =
@@ -97,30 +97,18 @@ returns-in-Err-clause-refused c =
 pub invariant_of-self : goal.invariant_of-self
 invariant_of-self c =
     whole-room c.self.inside (record c.self.inside { nodes = c.make_room.new.nodes; keys = c.make_room.new.keys; ids = c.make_room.new.ids })
-    c.make_room.ensures.nodes c.make_room.ensures.keys c.make_room.ensures.ids refl (λ k. refl) refl refl c.self.invariant
+    c.make_room.ensures.nodes c.make_room.ensures.keys c.make_room.ensures.ids refl (λ k. refl) refl refl refl c.self.invariant
 
 pub invariant_of-self-in_err-make_group_room : goal.invariant_of-self-in_err-make_group_room
 invariant_of-self-in_err-make_group_room c =
     whole-room c.self.inside
     (record c.self.inside { nodes = c.make_room.new.nodes; keys = c.make_room.new.keys; ids = c.make_room.new.ids; groups = c.make_group_room.new.groups })
-    c.make_room.ensures.nodes c.make_room.ensures.keys c.make_room.ensures.ids c.make_group_room.ensures.same c.make_group_room.ensures.groups refl refl c.self.invariant
-
-pub returns-in_err-make_room-clause-consistent : goal.returns-in_err-make_room-clause-consistent
-returns-in_err-make_room-clause-consistent c =
-    subst IsConsistent
-    (sym (value-room c.self.inside (record c.self.inside { nodes = c.make_room.new.nodes; keys = c.make_room.new.keys; ids = c.make_room.new.ids })
-    c.make_room.ensures.nodes c.make_room.ensures.keys c.make_room.ensures.ids refl refl refl ∙ c.self.view_is))
-
-pub returns-in_err-make_group_room-clause-consistent : goal.returns-in_err-make_group_room-clause-consistent
-returns-in_err-make_group_room-clause-consistent c =
-    subst IsConsistent
-    (sym (value-room c.self.inside (record c.self.inside { nodes = c.make_room.new.nodes; keys = c.make_room.new.keys; ids = c.make_room.new.ids; groups = c.make_group_room.new.groups })
-    c.make_room.ensures.nodes c.make_room.ensures.keys c.make_room.ensures.ids c.make_group_room.ensures.same refl refl ∙ c.self.view_is))
+    c.make_room.ensures.nodes c.make_room.ensures.keys c.make_room.ensures.ids c.make_group_room.ensures.same c.make_group_room.ensures.groups refl refl refl c.self.invariant
 
 pub plant-key-requires-clause-sound : goal.plant-key-requires-clause-sound
 plant-key-requires-clause-sound c =
     let a : Inside = record c.self.inside { nodes = c.make_room.new.nodes; keys = c.make_room.new.keys; ids = c.make_room.new.ids } in
-    planted-fields a (sound-room c.self.inside a c.make_room.ensures.nodes c.make_room.ensures.keys c.make_room.ensures.ids refl refl refl c.self.invariant.planted)
+    planted-fields a (sound-room c.self.inside a c.make_room.ensures.nodes c.make_room.ensures.keys c.make_room.ensures.ids refl refl refl refl c.self.invariant.planted)
 
 pub plant-key-requires-clause-live : goal.plant-key-requires-clause-live
 plant-key-requires-clause-live c =
@@ -147,6 +135,10 @@ invariant_of-self-2 c =
       planted = planted-whole (end at.After-note_groups) c.sow.ensures.sound;
       grouped = grouped-grafted (group_at c.make_group_room.new.groups) (group_at c.note_groups.new.groups) v (value_of (end at.After-note_groups)) c.args.parent c.args.sapling.sprouts.items c.in-Ok.entries.items
           (is_tree c.self.inside v c.self.invariant.planted c.self.view_is) c.requires.live c.args.sapling.preorder (made room) c.note_groups.ensures (grafted at.After-note_groups whole).plain (grouped room);
+      only = only-grafted (group_at c.make_group_room.new.groups) (group_at c.note_groups.new.groups) v (value_of (end at.After-note_groups)) c.args.parent c.args.sapling.sprouts.items c.in-Ok.entries.items
+          c.requires.live c.requires.root c.args.sapling.preorder (made room) c.note_groups.ensures (grafted at.After-note_groups whole).plain
+          (only-same (group_at c.self.inside.groups) (group_at c.make_group_room.new.groups) v.tree v.tree refl c.make_group_room.ensures.groups
+          (subst (λ (v : Views). HasNoOther (group_at c.self.inside.groups) v.tree) c.self.view_is c.self.invariant.only));
     }
 
 pub sow-requires-clause-live : goal.sow-requires-clause-live
@@ -185,9 +177,3 @@ returns-clause-few c =
     let first = c.plant-key.ensures.attached.next in
     let start = ap (λ (v : Views). v.next) c.self.view_is in
     omega arith
-
-pub returns-clause-consistent : goal.returns-clause-consistent
-returns-clause-consistent c =
-    let at = goal.at.returns-clause-consistent c in
-    consistent-grafted c.args.self.now (value_of (end at.After-note_groups)) c.args.parent (seeds_of c.args.sapling.sprouts.items) c.plant-key.result
-    (grafted at.After-note_groups (came at.After-plant-key (same at.After-branch-make_group_room) (free at.After-branch-make_group_room)))

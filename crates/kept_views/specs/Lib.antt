@@ -1,0 +1,4 @@
+pub mod Kept
+pub mod Laying
+pub mod Passes
+pub mod Pressing

@@ -1,0 +1,43 @@
+-- Views that are pressed: forced from now on, with their caches emptied.
+use Rattle.std.specs.Prelude.{◌≡◌, ◌⊎◌, ℕ, true, false, if◌then◌else◌, List, [], ◌∷◌}
+use Rattle.view_model.specs.Forest.{Forest, Nothing, Branch}
+use Rattle.view_tree.specs.Requests.{among, forced_one}
+use Rattle.view_tree.specs.Rows.{Row, ancestors}
+use Rattle.view_tree.specs.Views.{Held, specs_of}
+use Rattle.kept_views.specs.Kept.{Around, HiddenView, asked, hidden_in, inside}
+
+-- the view and all above it
+abbrev pub path_of : ℕ → Forest Row → List ℕ
+path_of view tree = view ∷ ancestors view tree
+
+-- some views are forced
+abbrev pub pressed : (ℕ → Held) → List ℕ → ℕ → Held
+pressed held keys key = if among key keys then forced_one (held key) else held key
+
+-- one view after the other, each with all above it
+abbrev pub all_pressed : (ℕ → Held) → List ℕ → Forest Row → ℕ → Held
+all_pressed held [] tree = held
+all_pressed held (view ∷ views) tree = all_pressed (pressed held (path_of view tree)) views tree
+
+-- what a view keeps that is pressed: where it lies, and for what it was measured
+pub record Touched (old new : Held) : Type 0 where
+  pub specs : specs_of new.state ≡ specs_of old.state
+  pub bounds : new.state.bounds ≡ old.state.bounds
+  pub edges : new.state.edges ≡ old.state.edges
+  pub forced : old.state.forced ≡ true → new.state.forced ≡ true
+  pub hidden : HiddenView old → HiddenView new
+
+-- it is forced below a forced view, with an empty cache
+pub record IsPressed (up : Around) (own : Held) : Type 0 where
+  pub forced : own.state.forced ≡ true
+  pub cache : own.cache ≡ []
+  pub above : up.forced ≡ true
+
+-- some views were pressed: those that are exempt no more, and beside these only such as are exempt still
+abbrev pub Pressed : List ℕ → List ℕ → (ℕ → Held) → (ℕ → Held) → Around → Forest Row → Type 0
+Pressed keys more old new up Nothing = Unit {0}
+Pressed keys more old new up (Branch row kids siblings) =
+    (((new row.key ≡ old row.key) × (asked more (Branch row kids Nothing) ≡ 0 → asked keys (Branch row kids Nothing) ≡ 0))
+    ⊎ (Touched (old row.key) (new row.key) × (hidden_in up row ≡ false → asked more (Branch row kids Nothing) ≡ 0 → IsPressed up (new row.key))))
+    × Pressed keys more old new (inside up row (new row.key)) kids
+    × Pressed keys more old new up siblings

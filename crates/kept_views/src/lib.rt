@@ -1,0 +1,13 @@
+//! What is kept with the views of a tree while a frame skips those of which nothing changed: definitions and laws, and
+//! no code. `measure_pass`, `traversal`, `tree_edits`, `saved_state`, `touch_dispatch` and `view_world` promise it.
+//!
+//! - `specs/Kept`: what is kept of each view, and of every tree between lines: its flags, its cache, its size and the
+//!   place of its children. `specs/Pressing`: views that are forced by a request. `specs/Passes`: what is kept in a
+//!   pass. `specs/Laying`: what laying out a part wants and leaves.
+//! - `proofs/Lines`: each kind of edit keeps it with its request, and so does the end of a pass. `proofs/GraftedKept`:
+//!   a sapling that comes; `proofs/Fresh`: a tree of new views; `proofs/Dragged`: offsets; `proofs/QuietEdits`: edits
+//!   that ask for nothing; `proofs/HiddenKept`: views that are gone lie nowhere.
+//! - `proofs/Replaced`, `Edits`, `EditParts`, `Pruned`, `Grown`, `AroundEdits`, `SameCourse`: edits before their
+//!   request. `proofs/Paths`, `Requested`, `PressedKept`, `Emptied`: requests. `proofs/InPass`: edits of a hook.
+//! - `proofs/LaidRows`, `LaidFrames`, `LaidCalm`, `PlacedKids`, `Quiet`, `Brought`: laying out.
+#![tactic(auto)]

@@ -1,0 +1,98 @@
+-- At which views an edit requests layout, and what it leaves of all others.
+use Rattle.std.specs.Prelude.{◌≡◌, ℕ, ◌==◌, Bool, true, false, if◌then◌else◌, not, List, [], ◌∷◌, Option, Some, None}
+use Rattle.kept_views.specs.Pressing.{path_of, pressed}
+use Rattle.view_model.specs.declared.changes.Act.{Act}
+use Rattle.view_model.specs.declared.changes.Act.TheVariants as act
+use Rattle.view_model.specs.declared.changes.Change.{Change}
+use Rattle.view_model.specs.declared.changes.Change.TheVariants as change
+use Rattle.view_model.specs.declared.changes.Flag.{Flag}
+use Rattle.view_model.specs.declared.changes.Flag.TheVariants as flag
+use Rattle.view_model.specs.Forest.{Forest}
+use Rattle.view_tree.specs.Requests.{among, asking}
+use Rattle.view_tree.specs.Rows.{Row, ancestors, count_of_key, first_tree, part_from}
+use Rattle.view_tree.specs.Views.{Held, IsLive, Views, cache_of, state_of}
+use Rattle.tree_edits.specs.declared.edits.Edit.{Edit}
+use Rattle.tree_edits.specs.declared.edits.Edit.TheVariants as edit
+use Rattle.tree_edits.specs.Editing.{hides}
+
+-- whether layout reads what a change sets
+abbrev pub change_requests : Change → Bool
+change_requests (change.Size width height) = true
+change_requests (change.Min size) = true
+change_requests (change.Margins sides) = true
+change_requests (change.Padding sides) = true
+change_requests (change.Weight weight) = true
+change_requests (change.Gravity kids gravity) = true
+change_requests (change.Background color) = false
+
+-- whether layout reads a flag
+abbrev pub flag_requests : Flag → Bool
+flag_requests flag.Clip = false
+flag_requests flag.Fill = true
+flag_requests flag.Split = false
+
+-- whether layout may be another one after an act
+abbrev pub requests_layout : Act → Bool
+requests_layout (act.Change change) = change_requests change
+requests_layout (act.WeightSum sum) = true
+requests_layout (act.Orient vertical) = true
+requests_layout (act.Flag flag on) = flag_requests flag
+requests_layout (act.Visible visibility) = true
+requests_layout (act.Ink color) = false
+requests_layout (act.Id id) = true
+requests_layout (act.Rule verb value) = true
+requests_layout (act.Answer answer) = false
+requests_layout (act.Intercept actions) = false
+requests_layout (act.Scroll offset) = true
+
+-- a view, if there is one
+abbrev pub listed : Option ℕ → List ℕ
+listed None = []
+listed (Some view) = view ∷ []
+
+-- the first of these, if there is one
+abbrev pub nearest : List ℕ → List ℕ
+nearest [] = []
+nearest (first ∷ more) = first ∷ []
+
+-- the view of an act, if layout may be another one
+abbrev pub asked_by_act : ℕ → Act → List ℕ
+asked_by_act view act = if requests_layout act then view ∷ [] else []
+
+-- the views at which an edit requests layout
+abbrev pub asked_by : Views → Edit → List ℕ
+asked_by views (edit.Add parent class width height) = listed parent
+asked_by views (edit.Remove view) = nearest (ancestors view views.tree)
+asked_by views (edit.Act view act) = asked_by_act view act
+asked_by views (edit.Text view text) = view ∷ []
+
+-- what is kept once layout was requested at these views, one after the other
+abbrev pub requested : (ℕ → Held) → List ℕ → Forest Row → ℕ → Held
+requested held [] tree = held
+requested held (view ∷ views) tree = requested (pressed held (asking held view tree)) views tree
+
+-- whether a view is one of these, or around one of them
+abbrev pub is_on_paths : List ℕ → Forest Row → ℕ → Bool
+is_on_paths [] tree key = false
+is_on_paths (view ∷ views) tree key = if among key (path_of view tree) then true else is_on_paths views tree key
+
+-- whether a view is this one, or below it
+abbrev pub is_in_part : ℕ → Forest Row → ℕ → Bool
+is_in_part view tree key = not (count_of_key key (first_tree (part_from view tree)) == 0)
+
+-- whether an edit takes a view out of layout
+abbrev pub goes_out : Views → Edit → ℕ → Bool
+goes_out views (edit.Add parent class width height) key = false
+goes_out views (edit.Remove view) key = false
+goes_out views (edit.Act view act) key = if hides act then is_in_part view views.tree key else false
+goes_out views (edit.Text view text) key = false
+
+-- whether an edit may change what layout keeps of a view: it requests layout there or below, or takes the view out of
+-- layout
+abbrev pub excused : Views → Edit → ℕ → Bool
+excused views edit key = if is_on_paths (asked_by views edit) views.tree key then true else goes_out views edit key
+
+-- all other views that stay keep what layout left with them, and their sizes
+abbrev pub LeavesUnasked : Views → Views → Edit → Type 0
+LeavesUnasked old new edit =
+    (key : ℕ) → IsLive old key → IsLive new key → excused old edit key ≡ false → (state_of new key ≡ state_of old key) × (cache_of new key ≡ cache_of old key)

@@ -1,0 +1,73 @@
+//! Requests for layout that go with edits.
+ghost use Rattle.std.specs.Prelude.{◌≡◌, ℕ, IfSome};
+ghost use Rattle.tree_edits.specs.Asking.{asked_by_act, change_requests, flag_requests, listed, requested, requests_layout};
+ghost use Rattle.view_tree.specs.Views.{IsLive, SameTree, held_of};
+
+use view_model::{Act, Change, Flag};
+use view_tree::{Key, ViewTree};
+
+/// Whether layout may be another one after an act.
+pub fn requests_layout(act: Act) -> bool
+    ensures { result ≡ requests_layout act }
+{
+    match act {
+        Act::Change(change) => change_requests(change),
+        Act::Flag { flag, on: _ } => flag_requests(flag),
+        Act::WeightSum(_)
+        | Act::Orient { .. }
+        | Act::Visible(_)
+        | Act::Id(_)
+        | Act::Rule { .. }
+        | Act::Scroll(_) => true,
+        Act::Ink(_) | Act::Answer(_) | Act::Intercept(_) => false,
+    }
+}
+
+/// Whether layout reads what a change sets.
+fn change_requests(change: Change) -> bool
+    ensures { result ≡ change_requests change }
+{
+    match change {
+        Change::Background(_) => false,
+        Change::Size { .. }
+        | Change::Min(_)
+        | Change::Margins(_)
+        | Change::Padding(_)
+        | Change::Weight(_)
+        | Change::Gravity { .. } => true,
+    }
+}
+
+/// Whether layout reads a flag.
+fn flag_requests(flag: Flag) -> bool
+    ensures { result ≡ flag_requests flag }
+{
+    match flag {
+        Flag::Fill => true,
+        Flag::Clip | Flag::Split => false,
+    }
+}
+
+/// Requests layout at a view after an act, where layout may be another one.
+pub fn request_by(tree: &mut ViewTree, view: Key, act: Act)
+    requires { IsLive tree.old view }
+    ensures same { SameTree tree.old tree.new }
+    ensures held { (key : ℕ) → held_of tree.new key ≡ requested (held_of tree.old) (asked_by_act view act) tree.old.tree key }
+    ensures counts { tree.new.counts ≡ tree.old.counts }
+{
+    if requests_layout(act) {
+        tree.request(view);
+    }
+}
+
+/// Requests layout at a view, where there is one.
+pub fn request_at(tree: &mut ViewTree, view: Option<Key>)
+    requires { IfSome view (λ view. IsLive tree.old view) }
+    ensures same { SameTree tree.old tree.new }
+    ensures held { (key : ℕ) → held_of tree.new key ≡ requested (held_of tree.old) (listed view) tree.old.tree key }
+    ensures counts { tree.new.counts ≡ tree.old.counts }
+{
+    if let Some(view) = view {
+        tree.request(view);
+    }
+}

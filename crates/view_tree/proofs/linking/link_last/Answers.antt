@@ -1,0 +1,11 @@
+use Rattle.std.proofs.Common.{◌∙◌, ap}
+use Rattle.view_tree.specs.Nodes.{linked, links_at}
+use Rattle.view_tree.proofs.nodes.LinkedNodes.{hung_is}
+use Rattle.view_tree.proofs.linking.link_last.Goals as goal
+
+pub returns-clause-links : goal.returns-clause-links
+returns-clause-links c = λ x.
+    hung_is c.args.nodes.now c.insert_reserved-key.new.self c.set_next.new.nodes c.set_last.new.nodes c.args.parent c.last_of-last.result c.insert_reserved-key.result _
+    c.insert_reserved-key.ensures.updates c.set_next.ensures.links c.set_last.ensures.links x
+    ∙ ap (λ before. linked (links_at c.args.nodes.now) c.args.parent c.insert_reserved-key.result
+    (record { number = c.args.number; class = c.args.class; facts = c.args.facts; text = c.args.text }) before x) c.last_of-last.ensures

@@ -1,0 +1,57 @@
+use Rattle.std.proofs.Common.{◌≡◌, [], List, ℕ, ap, sym, subst, ◌∙◌}
+use Rattle.std.specs.Prelude.{Ok, Some}
+use Rattle.view_tree.specs.Views.{plain_of}
+use Rattle.view_world.specs.Carried.{AreAtHand}
+use Rattle.view_world.specs.Changed.{IsPlace}
+use Rattle.view_world.specs.Inflating.{asked_for, views_in, views_of}
+use Rattle.view_world.specs.KeyedScreen.{KeyedScreen, world_of}
+use Rattle.view_world.specs.Step.{graft_reason, grafted, inflation}
+use Rattle.view_world.specs.Sound.{keyed}
+use Rattle.view_world.proofs.FileLaws.{counts_nothing}
+use Rattle.view_world.proofs.InflatingLaws.{inflated_as, inflates_as, told_where_asked, views_of-bytes}
+use Rattle.view_world.proofs.SeedOffsets.{grown_unscrolled}
+use Rattle.view_world.proofs.InflatingLaws.{place_number}
+use Rattle.view_world.proofs.NamedLaws.{place_asked}
+use Rattle.std.specs.Prelude.{OnOk}
+use Rattle.view_tree.specs.Views.{number_of}
+use Rattle.std.specs.Option.{option_map}
+use Rattle.view_world.specs.Asked.{asked_views, listed}
+use Rattle.script_lines.specs.PlainCommands.{Inflate}
+use Rattle.view_world.specs.Resting.{KeepsBut}
+use Rattle.view_world.specs.declared.marks.Effect.TheVariants.{Asks}
+use Rattle.view_world.proofs.screen.Screen.inflate.Goals as goal
+
+pub graft-requires-clause-unscrolled : goal.graft-requires-clause-unscrolled
+graft-requires-clause-unscrolled g c =
+    let views = c.in_ok-grown.ensures.views in
+    grown_unscrolled c.as_slice.result.now c.self.inside.resources c.self.inside.dpi views.0 c.in_ok-grown.grown views.1 views.2
+
+pub returns-clause-changed : goal.returns-clause-changed
+returns-clause-changed g c files at =
+    let old : KeyedScreen = keyed c.self.inside in
+    let name = c.args.name.now in
+    let place = c.in_ok-place.ensures.place in
+    let asked = subst (λ (w : KeyedScreen). AreAtHand files (g.F.Shelf.files c.args.shelf.now) (asked_for (plain_of w.views) (Some (name, c.args.into)))) (sym c.self.view_is) at in
+    let told = told_where_asked files (g.F.Shelf.files c.args.shelf.now) (plain_of old.views) name c.args.into place.0 place.1 asked in
+    let bytes = c.in_ok-bytes.ensures.bytes files told in
+    let views = c.in_ok-grown.ensures.views in
+    let same = ap (λ (b : List ℕ). views_in b old.resources old.dpi) (sym bytes.2 ∙ sym c.as_slice.ensures.value) in
+    let plan : views_of files name old.resources old.dpi ≡ Ok views.0 = views_of-bytes files name old.resources old.dpi bytes.0 bytes.1 ∙ same ∙ views.1 in
+    let reply = inflated_as files (world_of old) name c.args.into place.0 views.0 place.1 plan in
+    let changed = c.graft.ensures.changed place.0 views.0 (subst (λ (w : KeyedScreen). IsPlace w.views place.0 c.in_ok-place.place) c.self.view_is place.2) views.2 in
+    let replies = λ (w : KeyedScreen). inflation files (world_of w) name c.args.into in
+    let grown = λ (w : KeyedScreen). grafted (world_of w) place.0 views.0 (graft_reason (plain_of w.views) place.0 w.views.next views.0.seeds) in
+    inflates_as (replies c.args.self.now) c.graft.new.self c.graft.result (rw (subst (λ (w : KeyedScreen). replies w ≡ grown w) c.self.view_is reply) changed)
+
+pub returns-clause-shelf_failed : goal.returns-clause-shelf_failed
+returns-clause-shelf_failed g c = rw c.in_ok-bytes.ensures.shelf_failed (counts_nothing _ c.graft.result c.graft.ensures.no_shelf)
+
+pub returns-clause-keeps : goal.returns-clause-keeps
+returns-clause-keeps g c =
+    let old : KeyedScreen = keyed c.self.inside in
+    let name = c.args.name.now in
+    let place = c.in_ok-place.ensures.place in
+    let asked : asked_views (world_of old) (Inflate name c.args.into) ≡ listed (option_map (number_of old.views) c.in_ok-place.place) =
+    place_asked (world_of old) name c.args.into place.0 place.1 ∙ ap listed (place_number old.views place.0 c.in_ok-place.place place.2) in
+    let now = subst (λ (w : KeyedScreen). asked_views (world_of w) (Inflate name c.args.into) ≡ listed (option_map (number_of w.views) c.in_ok-place.place)) c.self.view_is asked in
+    subst (λ (numbers : List ℕ). OnOk c.graft.result (KeepsBut Asks numbers [] c.args.self.now c.graft.new.self)) (sym now) c.graft.ensures.keeps

@@ -1,0 +1,20 @@
+use Rattle.std.specs.Prelude.{Err}
+use Rattle.std.proofs.Common.{◌≡◌}
+use Rattle.std.proofs.lemmas.Result.{err_from_is_err_and}
+use Rattle.view_world.proofs.InflatingLaws.{told_counts, writes_fault}
+use Rattle.view_world.proofs.screen.Screen.inflate_line.Goals as goal
+
+pub returns-in_err-response-clause-carried : goal.returns-in_err-response-clause-carried
+returns-in_err-response-clause-carried g c files at =
+    let p = err_from_is_err_and c.from_residual.result c.from_residual.ensures.1 in
+    let e : c.from_residual.result ≡ Err c.in_err-response.field-0.0 = cc (p.1, p.2) in
+    writes_fault _ c.inflate.new.self (g.K.Sink.state c.args.sink.now) (g.K.Sink.state c.args.sink.now) c.in_err-response.field-0.0 c.from_residual.result e (c.in_err-response.ensures.changed files at)
+
+pub returns-clause-carried : goal.returns-clause-carried
+returns-clause-carried g c files at = let changed = c.in_ok-response.ensures.changed files at in rw changed.0 c.tell.ensures.carried
+
+pub returns-clause-shelf_failed : goal.returns-clause-shelf_failed
+returns-clause-shelf_failed g c = told_counts _ _ c.tell.result c.tell.ensures.done c.in_ok-response.ensures.shelf_failed
+
+pub returns-clause-asked : goal.returns-clause-asked
+returns-clause-asked g c failed = absurd (rw failed at c.tell.ensures.done)

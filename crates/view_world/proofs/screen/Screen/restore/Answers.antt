@@ -1,0 +1,56 @@
+use Rattle.std.proofs.Common.{ap, sym, subst, ◌∙◌, ℕ, List, Bor, Option}
+use Rattle.std.specs.Option.{option_map}
+use Rattle.saved_state.specs.State.{decoded}
+use Rattle.view_tree.specs.Views.{plain_of}
+use Rattle.view_world.proofs.StateLaws.{kept_taken, offsets_taken, rooted, text_taken}
+use Rattle.view_world.specs.Changed.{CarriesOut}
+use Rattle.view_world.specs.KeyedScreen.{KeyedScreen, world_of}
+use Rattle.view_world.specs.Sound.{keyed}
+use Rattle.view_world.specs.Step.{taken_up}
+use Rattle.view_world.proofs.RestLaws.{ok_any}
+use Rattle.view_world.proofs.RestoredAsked.{kept_keeps, text_keeps}
+use Rattle.script_lines.specs.PlainCommands.{Restore}
+use Rattle.std.specs.Prelude.{OnOk}
+use Rattle.view_world.specs.Resting.{KeepsLine}
+use Rattle.view_world.proofs.screen.Screen.restore.Goals as goal
+
+pub returns-in_default-clause-changed : goal.returns-in_default-clause-changed
+returns-in_default-clause-changed c =
+    let old = keyed c.self.inside in
+    let new : KeyedScreen = record old { views = c.take_up.new.tree } in
+    let ens = c.take_up.ensures in
+    let some = rooted c.self.inside.tree.tree c.root.result c.root.ensures.key c.if-is_none.ensures in
+    let told = kept_taken old new c.take_up.result some (offsets_taken old c.take_up.new.tree old.kept c.take_up.result ens.taken ens.plain ens.unchanged ens.same ens.geometry) in
+    subst (λ (w : KeyedScreen). CarriesOut (taken_up (world_of w) (plain_of w.views) (option_map (λ (text : Bor (List ℕ)). text.now) c.args.text)) new c.take_up.result) c.self.view_is
+    (subst (λ (text : Option (Bor (List ℕ))). CarriesOut (taken_up (world_of old) (plain_of old.views) (option_map (λ (text : Bor (List ℕ)). text.now) text)) new c.take_up.result) (sym c.in_default.is) told)
+
+pub returns-clause-changed : goal.returns-clause-changed
+returns-clause-changed c =
+    let old = keyed c.self.inside in
+    let new : KeyedScreen = record old { views = c.take_up-2.new.tree } in
+    let ens = c.take_up-2.ensures in
+    let some = rooted c.self.inside.tree.tree c.root.result c.root.ensures.key c.if-is_none.ensures in
+    let told =
+    text_taken old new c.in-Some.digits.now c.in_ok-bytes.bytes.items c.in_ok-states.states c.take_up-2.result some c.in_ok-bytes.ensures.bytes
+    (ap decoded (sym c.as_slice.ensures.value) ∙ c.in_ok-states.ensures)
+    (offsets_taken old c.take_up-2.new.tree c.in_ok-states.states c.take_up-2.result ens.taken ens.plain ens.unchanged ens.same ens.geometry) in
+    subst (λ (w : KeyedScreen). CarriesOut (taken_up (world_of w) (plain_of w.views) (option_map (λ (text : Bor (List ℕ)). text.now) c.args.text)) new c.take_up-2.result) c.self.view_is
+    (subst (λ (text : Option (Bor (List ℕ))). CarriesOut (taken_up (world_of old) (plain_of old.views) (option_map (λ (text : Bor (List ℕ)). text.now) text)) new c.take_up-2.result) (sym c.in-Some.is) told)
+
+pub returns-in_default-clause-keeps : goal.returns-in_default-clause-keeps
+returns-in_default-clause-keeps c =
+    let old = keyed c.self.inside in
+    let new : KeyedScreen = record old { views = c.take_up.new.tree } in
+    let told = ok_any c.take_up.result (kept_keeps old c.take_up.new.tree c.tell_tree.ensures c.take_up.ensures.counts c.take_up.ensures.asked) in
+    subst (λ (w : KeyedScreen). OnOk c.take_up.result (KeepsLine (Restore (option_map (λ (text : Bor (List ℕ)). text.now) c.args.text)) w new)) c.self.view_is
+    (subst (λ (text : Option (Bor (List ℕ))). OnOk c.take_up.result (KeepsLine (Restore (option_map (λ (text : Bor (List ℕ)). text.now) text)) old new)) (sym c.in_default.is) told)
+
+pub returns-clause-keeps : goal.returns-clause-keeps
+returns-clause-keeps c =
+    let old = keyed c.self.inside in
+    let new : KeyedScreen = record old { views = c.take_up-2.new.tree } in
+    let entries = c.in_ok-states.states in
+    let read = ap decoded (sym c.in_ok-bytes.ensures.bytes ∙ sym c.as_slice.ensures.value) ∙ c.in_ok-states.ensures in
+    let told = ok_any c.take_up-2.result (text_keeps old c.take_up-2.new.tree entries c.in-Some.digits.now read c.tell_tree.ensures c.take_up-2.ensures.counts c.take_up-2.ensures.asked) in
+    subst (λ (w : KeyedScreen). OnOk c.take_up-2.result (KeepsLine (Restore (option_map (λ (text : Bor (List ℕ)). text.now) c.args.text)) w new)) c.self.view_is
+    (subst (λ (text : Option (Bor (List ℕ))). OnOk c.take_up-2.result (KeepsLine (Restore (option_map (λ (text : Bor (List ℕ)). text.now) text)) old new)) (sym c.in-Some.is) told)

@@ -1,0 +1,30 @@
+use Rattle.std.proofs.Common.{◌≡◌, ℕ, List, Result, ap, ◌∙◌}
+use Rattle.std.specs.Str.{chars}
+use Rattle.script_lines.specs.declared.naming.Name.{Name}
+use Rattle.tree_edits.specs.Editing.{SetText}
+use Rattle.view_tree.specs.Views.{Views, number_of, plain_of}
+use Rattle.view_world.specs.declared.fault.StepFault.{StepFault}
+use Rattle.view_world.specs.declared.response.Response.{Response}
+use Rattle.view_world.specs.Changed.{CarriesOut}
+use Rattle.view_world.specs.KeyedScreen.{KeyedScreen, world_of}
+use Rattle.view_world.specs.Step.{Reply, after_edit, on_view}
+use Rattle.view_world.proofs.WorldLaws.{Changed-on}
+use Rattle.view_world.proofs.NamedLaws.{named_on}
+use Rattle.view_world.proofs.screen.Screen.set_text.Goals as goal
+
+-- the bytes that were made are those of the text that the line means
+text_on : (tree : Views) (now new : KeyedScreen) (name : Name) (view : ℕ) (bytes text : List ℕ) (result : Result Response StepFault) → tree ≡ now.views
+    → ((next : ℕ → Reply) → on_view (plain_of tree) name next ≡ next (number_of tree view)) → chars bytes ≡ text
+    → CarriesOut (after_edit (world_of now) (SetText (number_of now.views view) (chars bytes))) new result
+    → CarriesOut (on_view (plain_of now.views) name (λ number. after_edit (world_of now) (SetText number text))) new result
+text_on tree now new name view bytes text result same found is changed =
+    Changed-on tree now new name view (λ number. after_edit (world_of now) (SetText number text)) result same found (rw is at changed)
+
+pub returns-clause-changed : goal.returns-clause-changed
+returns-clause-changed c =
+    text_on c.self.inside.tree c.args.self.now c.edit.new.self c.args.view c.in_ok-view.view c.as_str.result.now _ c.edit.result
+    (ap (λ (w : KeyedScreen). w.views) c.self.view_is) c.in_ok-view.ensures.1 (ap chars c.as_str.ensures.value ∙ c.in_ok-text.ensures.value) c.edit.ensures.changed
+
+pub returns-clause-keeps : goal.returns-clause-keeps
+returns-clause-keeps c =
+    rw (named_on c.self.inside.tree c.args.self.now c.args.view c.in_ok-view.view (ap (λ (w : KeyedScreen). w.views) c.self.view_is) c.in_ok-view.ensures.1) c.edit.ensures.keeps

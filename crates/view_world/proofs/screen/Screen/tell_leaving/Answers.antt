@@ -1,0 +1,59 @@
+use Rattle.std.proofs.Common.{◌≡◌, sym, ◌∙◌, ap, subst}
+use Rattle.touch_dispatch.specs.Handling.{Progress}
+use Rattle.view_tree.specs.Views.{IsLive, number_of}
+use Rattle.view_world.specs.KeyedScreen.{KeyedScreen, world_of}
+use Rattle.view_world.specs.Sound.{keyed}
+use Rattle.view_world.specs.Touching.{after_progress, leaving}
+use Rattle.view_world.proofs.EventLaws.{sound_scrolled}
+use Rattle.view_world.proofs.LeaveLaws.{leaving_silent, leaving_told, scrolls_none, world_told}
+use Rattle.view_world.proofs.OffsetLaws.{offsets_scrolled}
+use Rattle.touch_dispatch.specs.TreeEvents.{OnlyScrolls}
+use Rattle.view_world.proofs.screen.Screen.tell_leaving.Goals as goal
+
+pub invariant_of-self-then-is_told : goal.invariant_of-self-then-is_told
+invariant_of-self-then-is_told c =
+    sound_scrolled c.self.inside (record c.self.inside { tree = c.cancel_view.new.tree; gesture = c.cancel_view.new.gesture; log = c.cancel_view.new.log }) c.self.invariant
+    c.cancel_view.ensures.scrolls c.cancel_view.ensures.caught c.cancel_view.ensures.opened (c.cancel_view.ensures.room ∙ c.clear.ensures.room) c.self.invariant.down
+    (offsets_scrolled c.self.inside.tree c.cancel_view.new.tree c.cancel_view.ensures.scrolls c.self.invariant.offsets)
+
+pub returns-then-is_told-clause-world : goal.returns-then-is_told-clause-world
+returns-then-is_told-clause-world c =
+    let old = keyed c.self.inside in
+    let live : IsLive old.views c.args.view = subst (λ (w : KeyedScreen). IsLive w.views c.args.view) (sym c.self.view_is) c.requires in
+    let new : KeyedScreen = record old { views = c.cancel_view.new.tree; gesture = c.cancel_view.new.gesture; told = c.cancel_view.new.log.entries.items } in
+    let same = leaving_told old c.args.view _ c.cancel_view.new.tree c.cancel_view.new.gesture c.clear.new.self c.cancel_view.new.log c.is_told.ensures.is_tree live
+    c.clear.ensures.entries (sym c.is_told.ensures.told ∙ c.if-is_told.true) c.cancel_view.ensures.cancelled in
+    subst (λ (w : KeyedScreen). world_of new ≡ after_progress (world_of w) (leaving (world_of w) (number_of w.views c.args.view))) c.self.view_is
+    (world_told old c.cancel_view.new.tree c.cancel_view.new.gesture c.cancel_view.new.log (number_of old.views c.args.view) c.is_told.ensures.is_tree c.cancel_view.ensures.scrolls same)
+
+pub returns-then-is_told-clause-told : goal.returns-then-is_told-clause-told
+returns-then-is_told-clause-told c =
+    let old = keyed c.self.inside in
+    let live : IsLive old.views c.args.view = subst (λ (w : KeyedScreen). IsLive w.views c.args.view) (sym c.self.view_is) c.requires in
+    let same = leaving_told old c.args.view _ c.cancel_view.new.tree c.cancel_view.new.gesture c.clear.new.self c.cancel_view.new.log c.is_told.ensures.is_tree live
+    c.clear.ensures.entries (sym c.is_told.ensures.told ∙ c.if-is_told.true) c.cancel_view.ensures.cancelled in
+    subst (λ (w : KeyedScreen). c.cancel_view.new.log.entries.items ≡ (leaving (world_of w) (number_of w.views c.args.view)).entries) c.self.view_is
+    (ap (λ (p : Progress). p.entries) same)
+
+pub returns-else-is_told-clause-world : goal.returns-else-is_told-clause-world
+returns-else-is_told-clause-world c =
+    let old = keyed c.self.inside in
+    let live : IsLive old.views c.args.view = subst (λ (w : KeyedScreen). IsLive w.views c.args.view) (sym c.self.view_is) c.requires in
+    let new : KeyedScreen = record old { told = c.clear.new.self.entries.items } in
+    let same = leaving_silent old c.args.view c.clear.new.self c.is_told.ensures.is_tree live c.clear.ensures.entries (sym c.is_told.ensures.told ∙ c.if-is_told.false) in
+    subst (λ (w : KeyedScreen). world_of new ≡ after_progress (world_of w) (leaving (world_of w) (number_of w.views c.args.view))) c.self.view_is
+    (world_told old old.views old.gesture c.clear.new.self (number_of old.views c.args.view) c.is_told.ensures.is_tree (scrolls_none old.views) same)
+
+pub returns-else-is_told-clause-told : goal.returns-else-is_told-clause-told
+returns-else-is_told-clause-told c =
+    let old = keyed c.self.inside in
+    let live : IsLive old.views c.args.view = subst (λ (w : KeyedScreen). IsLive w.views c.args.view) (sym c.self.view_is) c.requires in
+    let same = leaving_silent old c.args.view c.clear.new.self c.is_told.ensures.is_tree live c.clear.ensures.entries (sym c.is_told.ensures.told ∙ c.if-is_told.false) in
+    subst (λ (w : KeyedScreen). c.clear.new.self.entries.items ≡ (leaving (world_of w) (number_of w.views c.args.view)).entries) c.self.view_is
+    (ap (λ (p : Progress). p.entries) same)
+
+pub returns-then-is_told-clause-scrolls : goal.returns-then-is_told-clause-scrolls
+returns-then-is_told-clause-scrolls c = subst (λ (w : KeyedScreen). OnlyScrolls w.views c.cancel_view.new.tree) c.self.view_is c.cancel_view.ensures.scrolls
+
+pub returns-else-is_told-clause-scrolls : goal.returns-else-is_told-clause-scrolls
+returns-else-is_told-clause-scrolls c = subst (λ (w : KeyedScreen). OnlyScrolls w.views c.self.inside.tree) c.self.view_is (scrolls_none c.self.inside.tree)

@@ -1,0 +1,14 @@
+-- What a world keeps of its marks between lines.
+use Rattle.std.specs.Prelude.{◌≡◌, true}
+use Rattle.view_world.specs.KeyedWorld.{KeyedWorld}
+use Rattle.view_world.specs.Resting.{IsResting, IsShown}
+use Rattle.view_world.specs.declared.world.World.TheInside.{Inside}
+
+-- what contracts see of a world
+abbrev pub keyed : Inside → KeyedWorld
+keyed inside = record { screen = inside.screen; marks = inside.marks }
+
+-- where the next frame is quiet, it finds nothing to lay out, and where the picture is shown, nothing to paint
+pub record IsMarked (inside : Inside) : Type 0 where
+  pub rest : inside.marks.quiet ≡ true → IsResting inside.screen
+  pub shown : inside.marks.shown ≡ true → IsShown inside.screen

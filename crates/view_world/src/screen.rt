@@ -1,0 +1,607 @@
+//! The screen of a script: what its lines so far have made, and what each line does to it.
+ghost use Rattle.std.specs.Prelude.{pos, ◌≡◌, ◌≢◌, ◌⊎◌, true, ℕ, ◌+◌, ◌-◌, ◌≤◌, ◌<◌, ◌^◌, min, [], length, Option, None, Some, Err, OnErr, OnOk, IfOk, IfSome};
+ghost use Rattle.inflater.specs.Answers.{IsGrown};
+ghost use Rattle.inflater.specs.Inflating.{Plan};
+ghost use Rattle.script_lines.specs.PlainCommands.{Frame, Inflate, Add, Remove, Act, SetText, Bounds, Pixels, Digest, given_text_length, plain_command, plain_given, text_length};
+ghost use Rattle.script_lines.specs.Changes.{IsActInBounds};
+ghost use Rattle.script_lines.specs.Commands.{IsInBounds};
+ghost use Rattle.script_lines.specs.Numbers.{IsWithin};
+ghost use Rattle.script_lines.specs.Pixels.{IsPart};
+ghost use Rattle.script_lines.specs.declared.commands.TheConstants.{MAX_WINDOW};
+ghost use Rattle.tool_io.specs.Fetched.{Files};
+ghost use Rattle.tree_edits.specs.Applied.{IsEdit, MayWantMemory as EditMayWantMemory, numbered};
+ghost use Rattle.tree_edits.specs.Editing.{names_views};
+ghost use Rattle.view_model.specs.declared.limits.TheConstants.{MAX_VIEWS, NUMBERS_END};
+ghost use Rattle.view_model.specs.Forest.{Nothing};
+ghost use Rattle.view_model.specs.Resources.{definition_refusal_of};
+ghost use Rattle.view_world.specs.World.{World as PlainWorld};
+ghost use Rattle.view_tree.specs.Views.{IsLive, plain_of};
+ghost use Rattle.view_world.specs.Carried.{AreAtHand, CountsShelf, IsDone, MayWantMemory, WritesReply, faults_after_line};
+ghost use Rattle.view_world.specs.Changed.{CarriesOut, Inflates, IsPlace, LeavesViews, Pictured};
+ghost use Rattle.view_world.specs.Counting.{RisesWithin, paint_bound};
+ghost use Rattle.view_world.specs.Inflating.{asked_file, asked_for, inflation_of};
+ghost use Rattle.view_world.specs.Offsets.{EditsWithin};
+ghost use Rattle.view_world.specs.Responses.{IsTellable, response_text};
+ghost use Rattle.view_world.specs.Step.{Done, after_edit, defined, dpi_told, graft_reason, grafted, inflation, resource_given, step, with_window};
+ghost use Rattle.view_world.specs.KeyedScreen.{new_screen, window_of, world_of};
+ghost use Rattle.view_world.specs.Marks.{has_settled};
+ghost use Rattle.view_world.specs.Resting.{IsFrameDone, IsIdle, IsShown, KeepsEdit, KeepsLine};
+
+mod grow;
+mod hook;
+mod leave;
+mod state;
+mod touch;
+
+use crate::fault::StepFault;
+use crate::inflating::{fetch, inflation_of, views_of};
+use crate::naming::{find, place_of, resolve, tell_tree};
+use crate::painting::paint_window;
+use crate::pixels::part_in;
+use crate::resources::value_of;
+use crate::response::{Response, respond, write_response};
+use crate::stage::{Stage, stage_after};
+use crate::texts::resolved;
+use crate::touching::hides;
+use arrayvec::ArrayVec;
+use geom_core::Size;
+use inflater::Grown;
+use pixel_raster::Surface;
+use res_values::{ResFault, Resources};
+use saved_state::States;
+use script_lines::{Command, Given, Name};
+use size_hooks::Hooks;
+use std::alloc::Global;
+use std::marker::Model;
+use text_lines::TextBuffer;
+use tool_io::{Shelf, Sink};
+use touch_dispatch::{Gesture, Log};
+use touch_event::{MAX_POINTERS, Point};
+use traversal::frame;
+use tree_edits::{Edit, apply};
+use view_model::limits::NORMAL_DPI;
+use view_model::refusals::{
+    HAS_ROOT, LATE_DPI, NO_FRAME, NO_ROOT, NO_VIEW, NO_WINDOW, OUT_OF_RANGE, UNSETTLED,
+};
+use view_model::{Act as ViewAct, Class, Refusal, Work};
+use view_tree::{AttachFault, Key, ViewTree};
+
+/// The screen of a script: what its lines so far have made.
+#[derive(Drop)]
+pub struct Screen {
+    tree: ViewTree,
+    stage: Stage,
+    /// The picture of the window: black before its first frame, and of no size before there is a window.
+    surface: Surface,
+    /// How many dots the screen has an inch.
+    dpi: u32,
+    resources: Resources,
+    /// A view has a place in it as long as it is in the tree.
+    gesture: Gesture,
+    /// The pointers that are down, by rising ids, each where its last line has put it.
+    pointers: ArrayVec<Point, MAX_POINTERS>,
+    /// The deliveries of the last line that had any, with room for all that an event can tell.
+    log: Log,
+    /// The armed hooks, of views that are in the tree.
+    hooks: Hooks,
+    /// The state that was kept last.
+    states: States,
+    /// Its bytes, as they were told.
+    saved: Vec<u8>,
+    /// What gathers the text of each reply.
+    text: TextBuffer,
+}
+
+impl Model for Screen {
+    ghost use Rattle.view_world.specs.KeyedScreen.{KeyedScreen, screen_code};
+
+    ghost Value = { KeyedScreen };
+
+    ghost coded = { screen_code };
+
+    ghost use Rattle.view_world.specs.Sound.{IsSound, keyed};
+
+    ghost view = { keyed };
+
+    ghost invariant = { IsSound };
+}
+
+impl Screen {
+    /// A screen without a window and without a view.
+    pub fn new(alloc: Global) -> Screen
+        ensures { result ≡ new_screen }
+    {
+        Screen {
+            tree: ViewTree::new(alloc),
+            stage: Stage::NoWindow,
+            surface: Surface::empty(alloc),
+            dpi: NORMAL_DPI,
+            resources: Resources::new(alloc),
+            gesture: Gesture::new(alloc),
+            pointers: ArrayVec::new(),
+            log: Log::new(alloc),
+            hooks: Hooks::new(),
+            states: States::empty(alloc),
+            saved: Vec::new(alloc),
+            text: TextBuffer::new(),
+        }
+    }
+
+    /// Carries out a command, and then writes its text. Where it is refused, finds no memory, or a fetch fails, nothing has
+    /// changed. `shown`: the picture is that of the tree as it is, and nothing is left to lay out.
+    pub fn line<K: Sink, F: Shelf>(
+        &mut self,
+        alloc: Global,
+        command: Command<'_>,
+        shown: bool,
+        shelf: &mut F,
+        sink: &mut K,
+        work: &mut Work,
+    ) -> Result<(), StepFault>
+        requires numbers { self.old.views.next < NUMBERS_END }
+        requires bounds { IsInBounds (plain_command command) }
+        requires short { text_length (plain_command command) < 2 ^ 31 }
+        requires shown { shown ≡ true → IsShown self.old }
+        ensures carried { (files : Files)
+            → AreAtHand files (F.files shelf.old) (asked_file (world_of self.old) (plain_command command.entry))
+            → WritesReply (step files (world_of self.old) (plain_command command.entry)) (world_of self.new) (K.state sink.old) (K.state sink.new) result }
+        ensures unchanged { IsDone result ⊎ ((self.new ≡ self.old) × (sink.new ≡ sink.old)) }
+        ensures silent { (files : Files) (world : PlainWorld)
+            → AreAtHand files (F.files shelf.old) (asked_file (world_of self.old) (plain_command command.entry))
+            → step files (world_of self.old) (plain_command command.entry) ≡ Done world []
+            → sink.new ≡ sink.old }
+        ensures files_stay { F.files shelf.new ≡ F.files shelf.old }
+        ensures unasked { asked_file (world_of self.old) (plain_command command.entry) ≡ None → shelf.new ≡ shelf.old }
+        ensures shelf_failed { CountsShelf (F.faults shelf.old) (F.faults shelf.new) result }
+        ensures asked { result ≡ Err StepFault.Shelf → asked_file (world_of self.old) (plain_command command.entry) ≢ None }
+        ensures memory { result ≡ Err StepFault.NoMemory → MayWantMemory (plain_command command.entry) }
+        ensures numbers { self.new.views.next ≤ self.old.views.next + MAX_VIEWS }
+        ensures work { plain_command command.entry ≢ Frame → work.new ≡ work.old }
+        ensures idle { IsDone result ⊎ (work.new ≡ work.old) }
+        ensures still { plain_command command.entry ≡ Frame → shown ≡ true → work.new ≡ work.old }
+        ensures framed { plain_command command.entry ≡ Frame → IsDone result → IsFrameDone self.old self.new work.old work.new }
+        ensures keeps { plain_command command.entry ≢ Frame → IsDone result → KeepsLine (plain_command command.entry) self.old self.new }
+        ensures painted { RisesWithin (paint_bound (world_of self.old)) work.old.painted work.new.painted }
+        ensures sink_failed { (K.state sink.new).faults ≡ faults_after_line result (K.state sink.old).faults }
+    {
+        match inflation_of(&command) {
+            Some((name, into)) => self.inflate_line(alloc, name, into, shelf, sink),
+            None => self.command(alloc, command, shown, sink, work),
+        }
+    }
+
+    /// The number of the view that is made next.
+    pub fn next_number(&self) -> u64
+        ensures { result ≡ self.now.views.next }
+    {
+        self.tree.next_number()
+    }
+
+    /// Whether the last frame has settled, and no window came since.
+    pub fn has_settled(&self) -> bool
+        ensures { result ≡ has_settled (world_of self.now).stage }
+    {
+        match self.stage {
+            Stage::NoWindow | Stage::NoFrame | Stage::Unsettled => false,
+            Stage::Settled => true,
+        }
+    }
+
+    /// Carries out a command that asks for no file, and then writes its text.
+    fn command<K: Sink>(
+        &mut self,
+        alloc: Global,
+        command: Command<'_>,
+        shown: bool,
+        sink: &mut K,
+        work: &mut Work,
+    ) -> Result<(), StepFault>
+        requires alone { inflation_of (plain_command command) ≡ None }
+        requires numbers { self.old.views.next < NUMBERS_END }
+        requires bounds { IsInBounds (plain_command command) }
+        requires short { text_length (plain_command command) < 2 ^ 31 }
+        requires shown { shown ≡ true → IsShown self.old }
+        ensures carried { WritesReply (step [] (world_of self.old) (plain_command command.entry)) (world_of self.new) (K.state sink.old) (K.state sink.new) result }
+        ensures unchanged { IsDone result ⊎ ((self.new ≡ self.old) × (sink.new ≡ sink.old)) }
+        ensures silent { (world : PlainWorld) → step [] (world_of self.old) (plain_command command.entry) ≡ Done world [] → sink.new ≡ sink.old }
+        ensures memory { result ≡ Err StepFault.NoMemory → MayWantMemory (plain_command command.entry) }
+        ensures numbers { self.new.views.next ≤ self.old.views.next + 1 }
+        ensures work { plain_command command.entry ≢ Frame → work.new ≡ work.old }
+        ensures idle { IsDone result ⊎ (work.new ≡ work.old) }
+        ensures still { plain_command command.entry ≡ Frame → shown ≡ true → work.new ≡ work.old }
+        ensures framed { plain_command command.entry ≡ Frame → IsDone result → IsFrameDone self.old self.new work.old work.new }
+        ensures keeps { plain_command command.entry ≢ Frame → IsDone result → KeepsLine (plain_command command.entry) self.old self.new }
+        ensures painted { RisesWithin (paint_bound (world_of self.old)) work.old.painted work.new.painted }
+        ensures sink_failed { (K.state sink.new).faults ≡ faults_after_line result (K.state sink.old).faults }
+        ensures no_shelf { result ≢ Err StepFault.Shelf }
+    {
+        let response = self.carry_out(alloc, command, shown, work)?;
+        self.tell(response, sink)
+    }
+
+    /// Adds the views of a file, and then writes which they are.
+    fn inflate_line<K: Sink, F: Shelf>(
+        &mut self,
+        alloc: Global,
+        name: &str,
+        into: Option<Name>,
+        shelf: &mut F,
+        sink: &mut K,
+    ) -> Result<(), StepFault>
+        requires numbers { self.old.views.next < NUMBERS_END }
+        ensures carried { (files : Files)
+            → AreAtHand files (F.files shelf.old) (asked_for (plain_of self.old.views) (Some (name.now, into)))
+            → WritesReply (inflation files (world_of self.old) name.now into) (world_of self.new) (K.state sink.old) (K.state sink.new) result }
+        ensures unchanged { IsDone result ⊎ ((self.new ≡ self.old) × (sink.new ≡ sink.old)) }
+        ensures files_stay { F.files shelf.new ≡ F.files shelf.old }
+        ensures unasked { asked_for (plain_of self.old.views) (Some (name.now, into)) ≡ None → shelf.new ≡ shelf.old }
+        ensures shelf_failed { CountsShelf (F.faults shelf.old) (F.faults shelf.new) result }
+        ensures asked { result ≡ Err StepFault.Shelf → asked_for (plain_of self.old.views) (Some (name.now, into)) ≢ None }
+        ensures numbers { self.new.views.next ≤ self.old.views.next + MAX_VIEWS }
+        ensures keeps { IsDone result → KeepsLine (Inflate name.now into) self.old self.new }
+        ensures sink_failed { (K.state sink.new).faults ≡ faults_after_line result (K.state sink.old).faults }
+    {
+        let response = self.inflate(alloc, name, into, shelf)?;
+        self.tell(response, sink)
+    }
+
+    /// Writes what there is to tell of a line that was carried out.
+    fn tell<K: Sink>(&mut self, response: Response, sink: &mut K) -> Result<(), StepFault>
+        requires { IsTellable self.old.views self.old.surface self.old.told self.old.saved response }
+        ensures carried { WritesReply (Done (world_of self.old) (response_text self.old.views self.old.surface self.old.told self.old.saved response)) (world_of self.new) (K.state sink.old) (K.state sink.new) result }
+        ensures silent { response_text self.old.views self.old.surface self.old.told self.old.saved response ≡ [] → sink.new ≡ sink.old }
+        ensures done { IsDone result }
+        ensures same { self.new ≡ self.old }
+        ensures sink_failed { (K.state sink.new).faults ≡ faults_after_line result (K.state sink.old).faults }
+    {
+        match write_response(
+            &self.tree,
+            &self.surface,
+            &self.log,
+            self.saved.as_slice(),
+            response,
+            &mut self.text,
+            sink,
+        ) {
+            Ok(()) => Ok(()),
+            Err(_) => Err(StepFault::Sink),
+        }
+    }
+
+    /// Adds the views of a file below the view that is named, or as the whole tree.
+    fn inflate<F: Shelf>(
+        &mut self,
+        alloc: Global,
+        name: &str,
+        into: Option<Name>,
+        shelf: &mut F,
+    ) -> Result<Response, StepFault>
+        requires numbers { self.old.views.next < NUMBERS_END }
+        ensures changed { (files : Files)
+            → AreAtHand files (F.files shelf.old) (asked_for (plain_of self.old.views) (Some (name.now, into)))
+            → Inflates (inflation files (world_of self.old) name.now into) self.new result }
+        ensures told { IfOk result (λ response. IsTellable self.new.views self.new.surface self.new.told self.new.saved response) }
+        ensures unchanged { OnErr result (self.new ≡ self.old) }
+        ensures files_stay { F.files shelf.new ≡ F.files shelf.old }
+        ensures unasked { asked_for (plain_of self.old.views) (Some (name.now, into)) ≡ None → shelf.new ≡ shelf.old }
+        ensures shelf_failed { CountsShelf (F.faults shelf.old) (F.faults shelf.new) result }
+        ensures asked { result ≡ Err StepFault.Shelf → asked_for (plain_of self.old.views) (Some (name.now, into)) ≢ None }
+        ensures numbers { self.new.views.next ≤ self.old.views.next + MAX_VIEWS }
+        ensures keeps { OnOk result (KeepsLine (Inflate name.now into) self.old self.new) }
+        ensures no_sink { result ≢ Err StepFault.Sink }
+    {
+        let place = place_of(&self.tree, into)?;
+        let bytes = fetch(alloc, shelf, name)?;
+        let grown = views_of(alloc, bytes.as_slice(), &self.resources, self.dpi)?;
+        self.graft(place, grown)
+    }
+
+    /// Carries out a command that asks for no file, and answers what there is to tell.
+    fn carry_out(
+        &mut self,
+        alloc: Global,
+        command: Command<'_>,
+        shown: bool,
+        work: &mut Work,
+    ) -> Result<Response, StepFault>
+        requires alone { inflation_of (plain_command command) ≡ None }
+        requires numbers { self.old.views.next < NUMBERS_END }
+        requires bounds { IsInBounds (plain_command command) }
+        requires short { text_length (plain_command command) < 2 ^ 31 }
+        requires shown { shown ≡ true → IsShown self.old }
+        ensures changed { CarriesOut (step [] (world_of self.old) (plain_command command.entry)) self.new result }
+        ensures unchanged { OnErr result (self.new ≡ self.old) }
+        ensures memory { result ≡ Err StepFault.NoMemory → MayWantMemory (plain_command command.entry) }
+        ensures numbers { self.new.views.next ≤ self.old.views.next + 1 }
+        ensures work { plain_command command.entry ≢ Frame → work.new ≡ work.old }
+        ensures idle { OnErr result (work.new ≡ work.old) }
+        ensures still { plain_command command.entry ≡ Frame → shown ≡ true → work.new ≡ work.old }
+        ensures framed { plain_command command.entry ≡ Frame → OnOk result (IsFrameDone self.old self.new work.old work.new) }
+        ensures keeps { plain_command command.entry ≢ Frame → OnOk result (KeepsLine (plain_command command.entry) self.old self.new) }
+        ensures painted { RisesWithin (paint_bound (world_of self.old)) work.old.painted work.new.painted }
+    {
+        match command {
+            Command::Window { w, h } => self.open(alloc, Size { w, h }),
+            Command::Dpi(dpi) => self.set_dpi(dpi),
+            Command::Res { id, value } => self.define(alloc, id, value),
+            // An `inflate` line goes by `inflate_line`.
+            Command::Inflate { .. } => unreachable!(),
+            Command::Add {
+                parent,
+                class,
+                width,
+                height,
+            } => self.add(alloc, parent, class, width, height),
+            Command::Remove(view) => self.remove(alloc, view),
+            Command::Act { view, act } => self.act(alloc, view, act),
+            Command::Text { view, text } => self.set_text(alloc, view, text),
+            Command::Disallow { view, on } => self.disallow(view, on),
+            Command::Hook { view, edits, bad } => self.hook(view, &edits, bad),
+            Command::Down { p, x, y } => self.down(p, x, y),
+            Command::Move { p, x, y } => self.drag(p, x, y),
+            Command::Up(p) => self.up(p),
+            Command::Cancel => self.cancel(),
+            Command::Frame => self.frame(shown, work),
+            Command::Bounds(view) => self.bounds(view),
+            Command::Pixels { x, y, w, h } => self.pixels(x, y, w, h),
+            Command::Digest => self.digest(),
+            Command::Save => self.save(alloc),
+            Command::Restore(text) => self.restore(alloc, text),
+        }
+    }
+
+    /// The size of the window, where there is one.
+    fn window(&self) -> Option<Size>
+        ensures { result ≡ window_of self.now }
+    {
+        match self.stage {
+            Stage::NoWindow => None,
+            Stage::NoFrame | Stage::Unsettled | Stage::Settled => Some(self.surface.size()),
+        }
+    }
+
+    /// Opens a window of this size, in pixels. Its picture is made before the last one is given up.
+    fn open(&mut self, alloc: Global, size: Size) -> Result<Response, StepFault>
+        requires width { IsWithin (pos 1) MAX_WINDOW size.w }
+        requires height { IsWithin (pos 1) MAX_WINDOW size.h }
+        ensures changed { CarriesOut (Done (with_window (world_of self.old) size) []) self.new result }
+        ensures unchanged { OnErr result (self.new ≡ self.old) }
+        ensures numbers { self.new.views.next ≡ self.old.views.next }
+        ensures keeps { self.new.views ≡ self.old.views }
+    {
+        let Ok(surface) = Surface::new(alloc, size) else {
+            return Err(StepFault::NoMemory);
+        };
+        self.surface = surface;
+        self.stage = Stage::NoFrame;
+        Ok(Response::Nothing)
+    }
+
+    /// Sets the density of the screen, as long as there is no view.
+    fn set_dpi(&mut self, dpi: u32) -> Result<Response, StepFault>
+        ensures changed { CarriesOut (dpi_told (world_of self.old) dpi (plain_of self.old.views)) self.new result }
+        ensures unchanged { OnErr result (self.new ≡ self.old) }
+        ensures memory { result ≢ Err StepFault.NoMemory }
+        ensures numbers { self.new.views.next ≡ self.old.views.next }
+        ensures keeps { OnOk result (IsIdle self.old self.new) }
+    {
+        if self.tree.root().is_some() {
+            return Err(StepFault::Refused(Refusal::plain(LATE_DPI)));
+        }
+        self.dpi = dpi;
+        Ok(Response::Nothing)
+    }
+
+    /// Defines a resource, or gives one that is there another value.
+    fn define(&mut self, alloc: Global, id: u32, given: Given<'_>) -> Result<Response, StepFault>
+        requires short { given_text_length (plain_given given) < 2 ^ 31 }
+        ensures changed { CarriesOut (defined (world_of self.old) id (resource_given (plain_given given.entry)) (definition_refusal_of self.old.resources id)) self.new result }
+        ensures unchanged { OnErr result (self.new ≡ self.old) }
+        ensures numbers { self.new.views.next ≡ self.old.views.next }
+        ensures keeps { OnOk result (IsIdle self.old self.new) }
+    {
+        let value = value_of(alloc, given)?;
+        match self.resources.define(id, value) {
+            Ok(()) => Ok(Response::Nothing),
+            Err(ResFault::Refused(refusal)) => Err(StepFault::Refused(refusal)),
+            Err(ResFault::NoMemory) => Err(StepFault::NoMemory),
+        }
+    }
+
+    /// Makes an edit by which no view comes or goes.
+    fn edit(&mut self, alloc: Global, edit: Edit<'_>) -> Result<Response, StepFault>
+        requires edit { IsEdit self.old.views edit }
+        requires leaves { LeavesViews edit }
+        requires scrolls { EditsWithin edit }
+        ensures changed { CarriesOut (after_edit (world_of self.old) (numbered self.old.views edit.entry)) self.new result }
+        ensures unchanged { OnErr result (self.new ≡ self.old) }
+        ensures memory { result ≡ Err StepFault.NoMemory → EditMayWantMemory edit.entry }
+        ensures numbers { self.new.views.next ≤ self.old.views.next + 1 }
+        ensures keeps { OnOk result (KeepsEdit edit.entry self.old self.new) }
+    {
+        tell_tree(&self.tree);
+        respond(apply(alloc, &mut self.tree, edit))
+    }
+
+    /// Makes a root.
+    fn add_root(
+        &mut self,
+        alloc: Global,
+        class: Class,
+        width: i32,
+        height: i32,
+    ) -> Result<Response, StepFault>
+        requires { self.old.views.next < NUMBERS_END }
+        ensures changed { CarriesOut (step [] (world_of self.old) (Add None class width height)) self.new result }
+        ensures unchanged { OnErr result (self.new ≡ self.old) }
+        ensures numbers { self.new.views.next ≤ self.old.views.next + 1 }
+        ensures keeps { OnOk result (KeepsLine (Add None class width height) self.old self.new) }
+    {
+        if self.tree.root().is_some() {
+            return Err(StepFault::Refused(Refusal::plain(HAS_ROOT)));
+        }
+        self.grow(alloc, None, class, width, height)
+    }
+
+    /// Makes a view, the last child of its parent, or the root where there is none.
+    fn add(
+        &mut self,
+        alloc: Global,
+        parent: Option<Name>,
+        class: Class,
+        width: i32,
+        height: i32,
+    ) -> Result<Response, StepFault>
+        requires { self.old.views.next < NUMBERS_END }
+        ensures changed { CarriesOut (step [] (world_of self.old) (Add parent class width height)) self.new result }
+        ensures unchanged { OnErr result (self.new ≡ self.old) }
+        ensures numbers { self.new.views.next ≤ self.old.views.next + 1 }
+        ensures keeps { OnOk result (KeepsLine (Add parent class width height) self.old self.new) }
+    {
+        let Some(parent) = parent else {
+            return self.add_root(alloc, class, width, height);
+        };
+        let parent = resolve(&self.tree, parent)?;
+        self.grow(alloc, Some(parent), class, width, height)
+    }
+
+    /// Takes a view and all below it away.
+    fn remove(&mut self, alloc: Global, view: Name) -> Result<Response, StepFault>
+        ensures changed { CarriesOut (step [] (world_of self.old) (Remove view)) self.new result }
+        ensures unchanged { OnErr result (self.new ≡ self.old) }
+        ensures memory { result ≢ Err StepFault.NoMemory }
+        ensures numbers { self.new.views.next ≤ self.old.views.next + 1 }
+        ensures keeps { OnOk result (KeepsLine (Remove view) self.old self.new) }
+    {
+        let view = resolve(&self.tree, view)?;
+        self.take_away(alloc, view)
+    }
+
+    /// Does to a view what an act says.
+    fn act(&mut self, alloc: Global, view: Name, act: ViewAct) -> Result<Response, StepFault>
+        requires { IsActInBounds act }
+        ensures changed { CarriesOut (step [] (world_of self.old) (Act view act)) self.new result }
+        ensures unchanged { OnErr result (self.new ≡ self.old) }
+        ensures memory { result ≡ Err StepFault.NoMemory → names_views act ≡ true }
+        ensures numbers { self.new.views.next ≤ self.old.views.next + 1 }
+        ensures keeps { OnOk result (KeepsLine (Act view act) self.old self.new) }
+    {
+        let view = resolve(&self.tree, view)?;
+        if hides(act) {
+            self.hide(alloc, view, act)
+        } else {
+            self.edit(alloc, Edit::Act { view, act })
+        }
+    }
+
+    /// Sets the text of a view. The escapes of the text are as written.
+    fn set_text(&mut self, alloc: Global, view: Name, text: &str) -> Result<Response, StepFault>
+        requires { length text.now < 2 ^ 31 }
+        ensures changed { CarriesOut (step [] (world_of self.old) (SetText view text.now)) self.new result }
+        ensures unchanged { OnErr result (self.new ≡ self.old) }
+        ensures numbers { self.new.views.next ≤ self.old.views.next + 1 }
+        ensures keeps { OnOk result (KeepsLine (SetText view text.now) self.old self.new) }
+    {
+        let view = resolve(&self.tree, view)?;
+        let text = resolved(alloc, text)?;
+        self.edit(
+            alloc,
+            Edit::Text {
+                view,
+                text: text.as_str(),
+            },
+        )
+    }
+
+    /// Lays the whole tree out, and paints it where the frame has settled, unless it is shown as it is.
+    fn frame(&mut self, shown: bool, work: &mut Work) -> Result<Response, StepFault>
+        requires shown { shown ≡ true → IsShown self.old }
+        ensures changed { CarriesOut (step [] (world_of self.old) Frame) self.new result }
+        ensures unchanged { OnErr result (self.new ≡ self.old) }
+        ensures memory { result ≢ Err StepFault.NoMemory }
+        ensures numbers { self.new.views.next ≡ self.old.views.next }
+        ensures idle { OnErr result (work.new ≡ work.old) }
+        ensures still { shown ≡ true → work.new ≡ work.old }
+        ensures framed { OnOk result (IsFrameDone self.old self.new work.old work.new) }
+        ensures painted { RisesWithin (paint_bound (world_of self.old)) work.old.painted work.new.painted }
+    {
+        let Some(window) = self.window() else {
+            return Err(StepFault::Refused(Refusal::plain(NO_WINDOW)));
+        };
+        if self.tree.root().is_none() {
+            return Err(StepFault::Refused(Refusal::plain(NO_ROOT)));
+        }
+        let outcome = frame(&mut self.tree, &mut self.hooks, window, work);
+        let response = Response::Framed {
+            settled: outcome.settled,
+            fired: outcome.fired,
+        };
+        if !outcome.settled {
+            self.stage = Stage::Unsettled;
+            return Ok(response);
+        }
+        paint_window(&self.tree, &mut self.surface, shown, work);
+        self.stage = Stage::Settled;
+        Ok(response)
+    }
+
+    /// Finds what there is to tell of the bounds of a view, or of each view.
+    fn bounds(&self, view: Option<Name>) -> Result<Response, StepFault>
+        ensures changed { CarriesOut (step [] (world_of self.now) (Bounds view)) self.now result }
+        ensures memory { result ≢ Err StepFault.NoMemory }
+    {
+        if self.window().is_none() {
+            return Err(StepFault::Refused(Refusal::plain(NO_WINDOW)));
+        }
+        if self.tree.root().is_none() {
+            return Err(StepFault::Refused(Refusal::plain(NO_ROOT)));
+        }
+        if let Stage::Unsettled = self.stage {
+            return Err(StepFault::Refused(Refusal::plain(UNSETTLED)));
+        }
+        let Stage::Settled = self.stage else {
+            return Err(StepFault::Refused(Refusal::plain(NO_FRAME)));
+        };
+        let Some(name) = view else {
+            return Ok(Response::Bounds(None));
+        };
+        match find(&self.tree, name) {
+            Some(view) => Ok(Response::Bounds(Some(view))),
+            None => Err(StepFault::Refused(Refusal::plain(NO_VIEW))),
+        }
+    }
+
+    /// The size of the window, once a frame has settled in it.
+    fn pictured(&self) -> Result<Size, StepFault>
+        ensures { Pictured self.now result }
+    {
+        match self.stage {
+            Stage::NoWindow => Err(StepFault::Refused(Refusal::plain(NO_WINDOW))),
+            Stage::NoFrame => Err(StepFault::Refused(Refusal::plain(NO_FRAME))),
+            Stage::Unsettled => Err(StepFault::Refused(Refusal::plain(UNSETTLED))),
+            Stage::Settled => Ok(self.surface.size()),
+        }
+    }
+
+    /// Finds the colours of a part of the picture, in window coordinates.
+    fn pixels(&self, x: i32, y: i32, w: i32, h: i32) -> Result<Response, StepFault>
+        requires { IsPart x y w h }
+        ensures changed { CarriesOut (step [] (world_of self.now) (Pixels x y w h)) self.now result }
+        ensures memory { result ≢ Err StepFault.NoMemory }
+    {
+        let window = self.pictured()?;
+        match part_in(window, x, y, w, h) {
+            Some(part) => Ok(Response::Pixels(part)),
+            None => Err(StepFault::Refused(Refusal::plain(OUT_OF_RANGE))),
+        }
+    }
+
+    /// Finds the digest of the picture.
+    fn digest(&self) -> Result<Response, StepFault>
+        ensures changed { CarriesOut (step [] (world_of self.now) Digest) self.now result }
+        ensures memory { result ≢ Err StepFault.NoMemory }
+    {
+        self.pictured()?;
+        Ok(Response::Digest)
+    }
+}

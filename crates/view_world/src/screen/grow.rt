@@ -1,0 +1,118 @@
+//! Views that are made.
+ghost use Rattle.std.specs.Prelude.{◌≡◌, ◌≢◌, ◌<◌, ◌≤◌, ◌+◌, ℕ, [], OnErr, OnOk, Option, None, Some, IfOk, IfSome};
+ghost use Rattle.std.specs.Option.{option_map};
+ghost use Rattle.inflater.specs.Answers.{IsGrown};
+ghost use Rattle.inflater.specs.Inflating.{Plan};
+ghost use Rattle.tree_edits.specs.Applied.{IsAddable};
+ghost use Rattle.tree_edits.specs.Editing.{Add};
+ghost use Rattle.view_model.specs.Forest.{Nothing};
+ghost use Rattle.view_model.specs.declared.limits.TheConstants.{MAX_VIEWS, NUMBERS_END};
+ghost use Rattle.view_tree.specs.Views.{IsLive, number_of, plain_of};
+ghost use Rattle.view_world.specs.Changed.{CarriesOut, IsPlace, fault_of_graft};
+ghost use Rattle.view_world.specs.KeyedScreen.{world_of};
+ghost use Rattle.view_model.specs.Sprouts.{seeds_of};
+ghost use Rattle.view_world.specs.Offsets.{AreUnscrolled};
+ghost use Rattle.view_world.specs.Asked.{listed};
+ghost use Rattle.view_world.specs.Responses.{IsTellable};
+ghost use Rattle.view_world.specs.Resting.{KeepsBut, KeepsEdit};
+ghost use Rattle.view_world.specs.declared.marks.Effect.TheVariants.{Asks};
+ghost use Rattle.view_world.specs.Step.{after_edit, graft_reason, grafted};
+
+use super::Screen;
+use crate::fault::StepFault;
+use crate::grafting::graft;
+use crate::naming::tell_tree;
+use crate::opening::{close_all, open_all};
+use crate::response::{Response, respond};
+use inflater::Grown;
+use std::alloc::Global;
+use tree_edits::{Edit, apply};
+use view_model::Class;
+use view_tree::{AttachFault, Key};
+
+impl Screen {
+    /// Makes a view, with room for its touches before anything changes.
+    pub(super) fn grow(
+        &mut self,
+        alloc: Global,
+        parent: Option<Key>,
+        class: Class,
+        width: i32,
+        height: i32,
+    ) -> Result<Response, StepFault>
+        requires { IsAddable self.old.views parent }
+        ensures changed { CarriesOut (after_edit (world_of self.old) (Add (option_map (number_of self.old.views) parent) class width height)) self.new result }
+        ensures unchanged { OnErr result (self.new ≡ self.old) }
+        ensures numbers { self.new.views.next ≤ self.old.views.next + 1 }
+        ensures keeps { OnOk result (KeepsEdit (Edit.Add parent class width height) self.old self.new) }
+    {
+        tell_tree(&self.tree);
+        self.log.reserve(3 * (self.tree.len() + 1))?;
+        let number = self.tree.next_number();
+        self.gesture.open(number)?;
+        let made = apply(
+            alloc,
+            &mut self.tree,
+            Edit::Add {
+                parent,
+                class,
+                width,
+                height,
+            },
+        );
+        if made.is_err() {
+            self.gesture.close(number);
+        }
+        respond(made)
+    }
+
+    /// Adds views under the next numbers.
+    pub(super) fn graft(&mut self, place: Option<Key>, grown: Grown) -> Result<Response, StepFault>
+        requires numbers { self.old.views.next < NUMBERS_END }
+        requires live { IfSome place (λ view. IsLive self.old.views view) }
+        requires root { place ≡ None → self.old.views.tree ≡ Nothing }
+        requires unscrolled { AreUnscrolled (seeds_of grown.sapling.sprouts.items) }
+        ensures changed { (number : Option ℕ) (plan : Plan)
+            → IsPlace self.old.views number place
+            → IsGrown plan grown
+            → CarriesOut (grafted (world_of self.old) number plan (graft_reason (plain_of self.old.views) number self.old.views.next plan.seeds)) self.new result }
+        ensures told { IfOk result (λ response. IsTellable self.new.views self.new.surface self.new.told self.new.saved response) }
+        ensures unchanged { OnErr result (self.new ≡ self.old) }
+        ensures numbers { self.new.views.next ≤ self.old.views.next + MAX_VIEWS }
+        ensures keeps { OnOk result (KeepsBut Asks (listed (option_map (number_of self.old.views) place)) [] self.old self.new) }
+        ensures no_sink { result ≢ Err StepFault.Sink }
+        ensures no_shelf { result ≢ Err StepFault.Shelf }
+    {
+        tell_tree(&self.tree);
+        let first = self.tree.next_number();
+        let ignored = grown.ignored;
+        let count = grown.sapling.sprouts.len();
+        self.log
+            .reserve(self.tree.len().saturating_add(count).saturating_mul(3))?;
+        open_all(&mut self.gesture, first, count)?;
+        match graft(&mut self.tree, place, grown.sapling) {
+            Ok(_) => {
+                tell_tree(&self.tree);
+                Ok(Response::Inflated {
+                    first,
+                    last: self.tree.next_number().saturating_sub(1),
+                    ignored,
+                })
+            }
+            Err(fault) => {
+                close_all(&mut self.gesture, first, count);
+                Err(fault_of(fault))
+            }
+        }
+    }
+}
+
+/// The fault of a line by which the tree did not take views.
+fn fault_of(fault: AttachFault) -> StepFault
+    ensures { result ≡ fault_of_graft fault }
+{
+    match fault {
+        AttachFault::Refused(refusal) => StepFault::Refused(refusal),
+        AttachFault::NoMemory => StepFault::NoMemory,
+    }
+}

@@ -1,0 +1,70 @@
+//! Lines that arm hooks.
+ghost use Rattle.std.specs.Prelude.{◌≡◌, ◌≢◌, [], Err, OnErr, OnOk};
+ghost use Rattle.script_lines.specs.PlainCommands.{Hook};
+ghost use Rattle.view_tree.specs.Views.{IsLive, number_of};
+ghost use Rattle.view_world.specs.Changed.{CarriesOut};
+ghost use Rattle.view_world.specs.KeyedScreen.{world_of};
+ghost use Rattle.view_world.specs.Resting.{KeepsBut, KeepsLine};
+ghost use Rattle.view_world.specs.Step.{hooked, step};
+ghost use Rattle.view_world.specs.declared.marks.Effect.TheVariants.{Leaves};
+
+use super::Screen;
+use crate::fault::StepFault;
+use crate::hooking::{may_change_all, numbered_edits, size_at};
+use crate::naming::{resolve, tell_tree};
+use crate::response::Response;
+use arrayvec::ArrayVec;
+use script_lines::{Asked, Name};
+use view_model::limits::MAX_EDITS;
+use view_model::refusals::{HOOK_EDIT, NO_VIEW, TOO_MANY_HOOKS, WRONG_CLASS};
+use view_model::{NumEdit, Refusal};
+use view_tree::Key;
+
+impl Screen {
+    /// Arms the hook of a view. Where `bad`, more is asked of it than a hook may do.
+    pub(super) fn hook(
+        &mut self,
+        view: Name,
+        asked: &ArrayVec<Asked, MAX_EDITS>,
+        bad: bool,
+    ) -> Result<Response, StepFault>
+        ensures changed { CarriesOut (step [] (world_of self.old) (Hook view asked.now.items bad)) self.new result }
+        ensures unchanged { OnErr result (self.new ≡ self.old) }
+        ensures memory { result ≢ Err StepFault.NoMemory }
+        ensures numbers { self.new.views.next ≡ self.old.views.next }
+        ensures keeps { OnOk result (KeepsLine (Hook view asked.now.items bad) self.old self.new) }
+    {
+        let view = resolve(&self.tree, view)?;
+        let Some(edits) = numbered_edits(&self.tree, asked.as_slice()) else {
+            return Err(StepFault::Refused(Refusal::plain(NO_VIEW)));
+        };
+        if !may_change_all(&self.tree, edits.as_slice()) {
+            return Err(StepFault::Refused(Refusal::plain(WRONG_CLASS)));
+        }
+        if bad {
+            return Err(StepFault::Refused(Refusal::plain(HOOK_EDIT)));
+        }
+        self.arm(view, &edits)
+    }
+
+    /// Arms the hook of a view, in the place of one that it has.
+    fn arm(
+        &mut self,
+        view: Key,
+        edits: &ArrayVec<NumEdit, MAX_EDITS>,
+    ) -> Result<Response, StepFault>
+        requires { IsLive self.old.views view }
+        ensures changed { CarriesOut (hooked (world_of self.old) (number_of self.old.views view) edits.now.items) self.new result }
+        ensures unchanged { OnErr result (self.new ≡ self.old) }
+        ensures memory { result ≢ Err StepFault.NoMemory }
+        ensures numbers { self.new.views.next ≡ self.old.views.next }
+        ensures keeps { OnOk result (KeepsBut Leaves [] [] self.old self.new) }
+    {
+        tell_tree(&self.tree);
+        let reported = size_at(&self.tree, self.stage, view);
+        match self.hooks.arm(self.tree.number(view), reported, edits) {
+            Ok(()) => Ok(Response::Nothing),
+            Err(_) => Err(StepFault::Refused(Refusal::plain(TOO_MANY_HOOKS))),
+        }
+    }
+}

@@ -1,0 +1,105 @@
+//! Views that go away, from the tree or out of sight.
+ghost use Rattle.std.specs.Prelude.{◌≡◌, ◌≢◌, OnErr, OnOk, true};
+ghost use Rattle.touch_dispatch.specs.TreeEvents.{OnlyScrolls};
+ghost use Rattle.tree_edits.specs.Applied.{IsVerb};
+ghost use Rattle.tree_edits.specs.Editing.{hides};
+ghost use Rattle.view_tree.specs.Views.{IsLive, IsTree, SameTree, facts_of, number_of};
+ghost use Rattle.view_world.specs.Changed.{CarriesOut};
+ghost use Rattle.view_world.specs.KeyedScreen.{world_of};
+ghost use Rattle.view_world.specs.Responses.{deliveries_only};
+ghost use Rattle.view_world.specs.Resting.{KeepsEdit};
+ghost use Rattle.view_world.specs.Step.{acted, removed};
+ghost use Rattle.view_world.specs.Touching.{after_progress, leaving, is_told, parent_of};
+
+use super::Screen;
+use crate::fault::StepFault;
+use crate::forgetting::forget;
+use crate::response::Response;
+use crate::touching::slop_at;
+use std::alloc::Global;
+use touch_dispatch::cancel_view;
+use tree_edits::{Edit, apply};
+use view_model::Act;
+use view_tree::Key;
+
+impl Screen {
+    /// Takes a view and all below it away. It is told so first.
+    pub(super) fn take_away(&mut self, alloc: Global, view: Key) -> Result<Response, StepFault>
+        requires live { IsLive self.old.views view }
+        ensures changed { CarriesOut (removed (world_of self.old) (number_of self.old.views view)) self.new result }
+        ensures unchanged { OnErr result (self.new ≡ self.old) }
+        ensures memory { result ≢ Err StepFault.NoMemory }
+        ensures numbers { self.new.views.next ≡ self.old.views.next }
+        ensures keeps { OnOk result (KeepsEdit (Edit.Remove view) self.old self.new) }
+    {
+        self.tell_leaving(view);
+        forget(&self.tree, &mut self.hooks, &mut self.gesture, view);
+        match apply(alloc, &mut self.tree, Edit::Remove(view)) {
+            Ok(_) => Ok(self.deliveries()),
+            Err(_) => unreachable!(),
+        }
+    }
+
+    /// Hides a view by an act. It is told so first.
+    pub(super) fn hide(&mut self, alloc: Global, view: Key, act: Act) -> Result<Response, StepFault>
+        requires live { IsLive self.old.views view }
+        requires verb { IsVerb act }
+        requires hides { hides act ≡ true }
+        ensures changed { CarriesOut (acted (world_of self.old) (number_of self.old.views view) act) self.new result }
+        ensures unchanged { OnErr result (self.new ≡ self.old) }
+        ensures memory { result ≢ Err StepFault.NoMemory }
+        ensures numbers { self.new.views.next ≡ self.old.views.next }
+        ensures keeps { OnOk result (KeepsEdit (Edit.Act view act) self.old self.new) }
+    {
+        self.tell_leaving(view);
+        match apply(alloc, &mut self.tree, Edit::Act { view, act }) {
+            Ok(_) => Ok(self.deliveries()),
+            Err(_) => unreachable!(),
+        }
+    }
+
+    /// Tells a view that it goes away.
+    fn tell_leaving(&mut self, view: Key)
+        requires { IsLive self.old.views view }
+        ensures world { world_of self.new ≡ after_progress (world_of self.old) (leaving (world_of self.old) (number_of self.old.views view)) }
+        ensures told { self.new.told ≡ (leaving (world_of self.old) (number_of self.old.views view)).entries }
+        ensures same { SameTree self.old.views self.new.views }
+        ensures is_tree { IsTree self.new.views }
+        ensures live { IsLive self.new.views view }
+        ensures scrolls { OnlyScrolls self.old.views self.new.views }
+        ensures rest { self.new ≡ record self.old { views = self.new.views; gesture = self.new.gesture; told = self.new.told } }
+    {
+        self.log.clear();
+        if self.is_told(view) {
+            cancel_view(
+                &mut self.tree,
+                &mut self.gesture,
+                view,
+                slop_at(self.dpi),
+                &mut self.log,
+            );
+        }
+    }
+
+    /// Whether a view is told that it goes away: a root is where it is not gone and a pointer is down, and of another view
+    /// its parent decides.
+    fn is_told(&self, view: Key) -> bool
+        requires { IsLive self.now.views view }
+        ensures told { result ≡ is_told (parent_of (number_of self.now.views view) (world_of self.now).tree) (facts_of self.now.views view) self.now.pointers }
+        ensures is_tree { IsTree self.now.views }
+    {
+        let facts = self.tree.facts(view);
+        self.tree.parent(view).is_some() || (facts.is_shown() && !self.pointers.is_empty())
+    }
+
+    /// What there is to tell of a view that goes away.
+    fn deliveries(&self) -> Response
+        ensures { result ≡ deliveries_only self.now.told }
+    {
+        if self.log.entries().is_empty() {
+            Response::Nothing
+        } else {
+            Response::Deliveries(None)
+        }
+    }
+}

@@ -1,0 +1,61 @@
+//! Lines that keep the state of a tree, or take one up.
+ghost use Rattle.std.specs.Prelude.{◌≡◌, ◌≢◌, [], Err, None, OnErr, OnOk};
+ghost use Rattle.std.specs.Option.{option_map};
+ghost use Rattle.script_lines.specs.PlainCommands.{Restore, Save};
+ghost use Rattle.view_world.specs.Changed.{CarriesOut};
+ghost use Rattle.view_world.specs.KeyedScreen.{world_of};
+ghost use Rattle.view_world.specs.Resting.{IsIdle, KeepsLine};
+ghost use Rattle.view_world.specs.Step.{step};
+
+use super::Screen;
+use crate::fault::StepFault;
+use crate::naming::tell_tree;
+use crate::response::Response;
+use crate::stating::{bytes_of, state_of, take_up};
+use saved_state::save;
+use std::alloc::Global;
+use view_model::Refusal;
+use view_model::refusals::NO_ROOT;
+
+impl Screen {
+    /// Keeps the state of the tree.
+    pub(super) fn save(&mut self, alloc: Global) -> Result<Response, StepFault>
+        ensures changed { CarriesOut (step [] (world_of self.old) Save) self.new result }
+        ensures unchanged { OnErr result (self.new ≡ self.old) }
+        ensures numbers { self.new.views.next ≡ self.old.views.next }
+        ensures keeps { OnOk result (IsIdle self.old self.new) }
+    {
+        if self.tree.root().is_none() {
+            return Err(StepFault::Refused(Refusal::plain(NO_ROOT)));
+        }
+        let bytes = save(alloc, &self.tree)?;
+        let states = state_of(alloc, bytes.as_slice())?;
+        self.states = states;
+        self.saved = bytes;
+        Ok(Response::State)
+    }
+
+    /// Takes up the state of a text, or the one that is kept.
+    pub(super) fn restore(
+        &mut self,
+        alloc: Global,
+        text: Option<&str>,
+    ) -> Result<Response, StepFault>
+        ensures changed { CarriesOut (step [] (world_of self.old) (Restore (option_map (λ text. text.now) text.entry))) self.new result }
+        ensures unchanged { OnErr result (self.new ≡ self.old) }
+        ensures memory { result ≡ Err StepFault.NoMemory → text.entry ≢ None }
+        ensures numbers { self.new.views.next ≡ self.old.views.next }
+        ensures keeps { OnOk result (KeepsLine (Restore (option_map (λ text. text.now) text.entry)) self.old self.new) }
+    {
+        if self.tree.root().is_none() {
+            return Err(StepFault::Refused(Refusal::plain(NO_ROOT)));
+        }
+        tell_tree(&self.tree);
+        let Some(digits) = text else {
+            return take_up(&mut self.tree, &self.states);
+        };
+        let bytes = bytes_of(alloc, digits)?;
+        let states = state_of(alloc, bytes.as_slice())?;
+        take_up(&mut self.tree, &states)
+    }
+}

@@ -1,0 +1,156 @@
+//! Lines that touch views.
+ghost use Rattle.std.specs.Prelude.{◌≡◌, ◌≢◌, ◌<◌, [], Err, Ok, OnErr, OnOk};
+ghost use Rattle.script_lines.specs.PlainCommands.{Cancel, Disallow, Down, Move, Up};
+ghost use Rattle.touch_event.specs.declared.event.TheConstants.{MAX_POINTERS};
+ghost use Rattle.view_tree.specs.Views.{plain_of};
+ghost use Rattle.view_world.specs.Changed.{CarriesOut, IsTouchable};
+ghost use Rattle.view_world.specs.KeyedScreen.{world_of};
+ghost use Rattle.view_world.specs.Pointers.{AreDown};
+ghost use Rattle.view_world.specs.Resting.{IsIdle, KeepsBut, KeepsLine};
+ghost use Rattle.view_world.specs.Step.{after_event, step};
+ghost use Rattle.view_world.specs.declared.marks.Effect.TheVariants.{Repaints};
+ghost use Rattle.view_world.specs.declared.stage.Stage.TheVariants.{Settled};
+
+use super::Screen;
+use crate::fault::StepFault;
+use crate::naming::resolve;
+use crate::pointers::{down_action, event_of, is_pressed, up_action, with_point, without_point};
+use crate::response::Response;
+use crate::stage::Stage;
+use crate::touching::{disallow_from, slop_at};
+use arrayvec::ArrayVec;
+use script_lines::Name;
+use touch_dispatch::dispatch;
+use touch_event::{Action, Event, MAX_POINTERS, Point};
+use view_model::Refusal;
+use view_model::refusals::{NO_FRAME, NO_ROOT, NO_WINDOW, UNSETTLED, WRONG_CLASS, WRONG_POINTER};
+
+impl Screen {
+    /// A pointer goes down.
+    pub(super) fn down(&mut self, id: u8, x: i32, y: i32) -> Result<Response, StepFault>
+        requires id { id < MAX_POINTERS }
+        ensures changed { CarriesOut (step [] (world_of self.old) (Down id x y)) self.new result }
+        ensures unchanged { OnErr result (self.new ≡ self.old) }
+        ensures memory { result ≢ Err StepFault.NoMemory }
+        ensures numbers { self.new.views.next ≡ self.old.views.next }
+        ensures keeps { OnOk result (KeepsLine (Down id x y) self.old self.new) }
+    {
+        self.touchable()?;
+        if is_pressed(self.pointers.as_slice(), id) {
+            return Err(StepFault::Refused(Refusal::plain(WRONG_POINTER)));
+        }
+        let action = down_action(self.pointers.as_slice());
+        let pointers = with_point(self.pointers.as_slice(), Point { id, x, y });
+        let event = event_of(action, id, pointers.as_slice());
+        Ok(self.hand(&event, pointers))
+    }
+
+    /// A pointer moves.
+    pub(super) fn drag(&mut self, id: u8, x: i32, y: i32) -> Result<Response, StepFault>
+        requires id { id < MAX_POINTERS }
+        ensures changed { CarriesOut (step [] (world_of self.old) (Move id x y)) self.new result }
+        ensures unchanged { OnErr result (self.new ≡ self.old) }
+        ensures memory { result ≢ Err StepFault.NoMemory }
+        ensures numbers { self.new.views.next ≡ self.old.views.next }
+        ensures keeps { OnOk result (KeepsLine (Move id x y) self.old self.new) }
+    {
+        self.touchable()?;
+        if !is_pressed(self.pointers.as_slice(), id) {
+            return Err(StepFault::Refused(Refusal::plain(WRONG_POINTER)));
+        }
+        let pointers = with_point(self.pointers.as_slice(), Point { id, x, y });
+        let event = event_of(Action::Move, id, pointers.as_slice());
+        Ok(self.hand(&event, pointers))
+    }
+
+    /// A pointer goes up. The event still has it.
+    pub(super) fn up(&mut self, id: u8) -> Result<Response, StepFault>
+        requires id { id < MAX_POINTERS }
+        ensures changed { CarriesOut (step [] (world_of self.old) (Up id)) self.new result }
+        ensures unchanged { OnErr result (self.new ≡ self.old) }
+        ensures memory { result ≢ Err StepFault.NoMemory }
+        ensures numbers { self.new.views.next ≡ self.old.views.next }
+        ensures keeps { OnOk result (KeepsLine (Up id) self.old self.new) }
+    {
+        self.touchable()?;
+        if !is_pressed(self.pointers.as_slice(), id) {
+            return Err(StepFault::Refused(Refusal::plain(WRONG_POINTER)));
+        }
+        let others = without_point(self.pointers.as_slice(), id);
+        let action = up_action(others.as_slice());
+        let event = event_of(action, id, self.pointers.as_slice());
+        Ok(self.hand(&event, others))
+    }
+
+    /// All pointers that are down are taken away.
+    pub(super) fn cancel(&mut self) -> Result<Response, StepFault>
+        ensures changed { CarriesOut (step [] (world_of self.old) Cancel) self.new result }
+        ensures unchanged { OnErr result (self.new ≡ self.old) }
+        ensures memory { result ≢ Err StepFault.NoMemory }
+        ensures numbers { self.new.views.next ≡ self.old.views.next }
+        ensures keeps { OnOk result (KeepsLine Cancel self.old self.new) }
+    {
+        self.touchable()?;
+        if self.pointers.is_empty() {
+            return Err(StepFault::Refused(Refusal::plain(WRONG_POINTER)));
+        }
+        let event = event_of(Action::Cancel, 0, &[]);
+        Ok(self.hand(&event, ArrayVec::new()))
+    }
+
+    /// Whether views can be touched: the last frame has settled, and its tree is there.
+    fn touchable(&self) -> Result<(), StepFault>
+        ensures { IsTouchable self.now result }
+    {
+        if self.window().is_none() {
+            return Err(StepFault::Refused(Refusal::plain(NO_WINDOW)));
+        }
+        if self.tree.root().is_none() {
+            return Err(StepFault::Refused(Refusal::plain(NO_ROOT)));
+        }
+        match self.stage {
+            Stage::NoWindow | Stage::NoFrame => {
+                Err(StepFault::Refused(Refusal::plain(NO_FRAME)))
+            }
+            Stage::Unsettled => Err(StepFault::Refused(Refusal::plain(UNSETTLED))),
+            Stage::Settled => Ok(()),
+        }
+    }
+
+    /// Hands an event to the root. These pointers are down then.
+    fn hand(&mut self, event: &Event, pointers: ArrayVec<Point, MAX_POINTERS>) -> Response
+        requires settled { self.old.stage ≡ Settled }
+        requires pointer { event.now.pointer < MAX_POINTERS }
+        requires down { AreDown pointers.items }
+        ensures changed { CarriesOut (after_event (world_of self.old) event.now pointers.items) self.new (Ok result) }
+        ensures numbers { self.new.views.next ≡ self.old.views.next }
+        ensures keeps { KeepsBut Repaints [] [] self.old self.new }
+    {
+        self.log.clear();
+        let yes = dispatch(
+            &mut self.tree,
+            &mut self.gesture,
+            event,
+            slop_at(self.dpi),
+            &mut self.log,
+        );
+        self.pointers = pointers;
+        Response::Deliveries(Some(yes))
+    }
+
+    /// Tells a group and its ancestors that they may not take events away from their children, or that they may again.
+    pub(super) fn disallow(&mut self, view: Name, on: bool) -> Result<Response, StepFault>
+        ensures changed { CarriesOut (step [] (world_of self.old) (Disallow view on)) self.new result }
+        ensures unchanged { OnErr result (self.new ≡ self.old) }
+        ensures memory { result ≢ Err StepFault.NoMemory }
+        ensures numbers { self.new.views.next ≡ self.old.views.next }
+        ensures keeps { OnOk result (IsIdle self.old self.new) }
+    {
+        let view = resolve(&self.tree, view)?;
+        if !self.tree.class(view).is_group() {
+            return Err(StepFault::Refused(Refusal::plain(WRONG_CLASS)));
+        }
+        disallow_from(&self.tree, &mut self.gesture, view, on);
+        Ok(Response::Nothing)
+    }
+}
