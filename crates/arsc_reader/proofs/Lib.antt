@@ -1,0 +1,4 @@
+mod Loop
+mod Latest
+mod Followed
+mod Examples

@@ -1,0 +1,7 @@
+pub mod Contents
+pub mod Order
+pub mod Entries
+pub mod Reading
+pub mod Meaning
+pub mod Table
+pub mod Answers

@@ -1,0 +1,79 @@
+-- A table from its bytes, or the first fault, and what its resources hold.
+use Rattle.std.specs.Prelude.{ℕ, zero, suc, not, ◌&&◌, List, [], ◌∷◌, length, slice_get, Option, Some, None, Result, Ok, Err, nat_lt, ◌==◌, if◌then◌else◌}
+use Rattle.axml_chunks.specs.declared.chunk.Chunk.{Chunk}
+use Rattle.axml_chunks.specs.declared.fault.Fault.{Fault}
+use Rattle.axml_chunks.specs.Chunks.{chunk_of}
+use Rattle.axml_chunks.specs.Faults.{truncated, bad_chunk}
+use Rattle.axml_chunks.specs.Numbers.{number16}
+use Rattle.axml_chunks.specs.Pool.{StringPool}
+use Rattle.axml_chunks.specs.Steps.{◌>>=◌}
+use Rattle.arsc_reader.specs.declared.fault.TableFault.{TableFault}
+use Rattle.arsc_reader.specs.declared.fault.TableFault.TheVariants as faults
+use Rattle.arsc_reader.specs.declared.held.Entry.{Entry}
+use Rattle.arsc_reader.specs.declared.held.Held.{Held}
+use Rattle.arsc_reader.specs.declared.held.Held.TheVariants as held
+use Rattle.arsc_reader.specs.Contents.{Contents}
+use Rattle.arsc_reader.specs.Reading.{start, in_table, all_chunks}
+
+-- what a reading of the inside of a table gives, as one of the table
+abbrev pub in_file : {A : Type 0} → Result A Fault → Result A TableFault
+in_file (Ok x) = Ok x
+in_file (Err f) = Err (faults.Bad f)
+
+-- the chunk that holds the table; what stands after it is not looked at
+unfoldable pub whole_of : List ℕ → Result Chunk Fault
+whole_of bytes = do
+  chunk ← chunk_of bytes 0 (length bytes)
+  if nat_lt chunk.head 12 then Err (bad_chunk 0) else Ok chunk
+
+-- what the chunks of a table hold
+unfoldable pub inside_of : List ℕ → Result Contents Fault
+inside_of bytes = do
+  whole ← whole_of bytes
+  s ← all_chunks (in_table bytes) bytes whole.size whole.head start
+  Ok (record { pool = s.pool; entries = s.entries })
+
+-- the table of a file, its entries in the order of the file, or the first fault
+unfoldable pub table_of : List ℕ → Result Contents TableFault
+table_of bytes =
+    if nat_lt (length bytes) 8 then Err (faults.Bad (truncated 0))
+    else (if not (number16 bytes 0 == 2) then Err faults.NotTable
+    else in_file (inside_of bytes))
+
+-- what an entry holds where it has an id, and otherwise what was found before it
+abbrev pub newer : Held → Entry → ℕ → Held
+newer before entry id = if entry.id == id then entry.held else before
+
+-- what the last of these entries with an id holds; without one, what was found before them
+unfoldable pub latest_after : Held → List Entry → ℕ → Held
+latest_after before [] id = before
+latest_after before (entry ∷ rest) id = latest_after (newer before entry id) rest id
+
+-- what the last entry with an id holds; nothing without one
+abbrev pub latest : List Entry → ℕ → Held
+latest entries id = latest_after held.None entries id
+
+-- the id that a value of the type 1 names; a word of 0 names none
+abbrev pub named_by : Held → Option ℕ
+named_by held.None = None
+named_by held.Complex = None
+named_by (held.Plain kind word) = if (kind == 1) && not (word == 0) then Some word else None
+
+-- what is held, or what stands for it where it names an id
+abbrev pub through : Held → Option ℕ → (ℕ → Held) → Held
+through own None next = own
+through own (Some id) next = next id
+
+-- what an id holds, through at most so many references, and nothing where one more is needed
+unfoldable pub followed : ℕ → List Entry → ℕ → Held
+followed zero entries id = through (latest entries id) (named_by (latest entries id)) (λ word. held.None)
+followed (suc n) entries id = through (latest entries id) (named_by (latest entries id)) (λ word. followed n entries word)
+
+-- what the resource with an id holds
+abbrev pub value_of : List Entry → ℕ → Held
+value_of entries id = followed 16 entries id
+
+-- a string of the table
+abbrev pub text_of : Option StringPool → ℕ → Option (List ℕ)
+text_of None word = None
+text_of (Some pool) word = slice_get pool.texts word

@@ -1,0 +1,15 @@
+//! A table while it is read.
+ghost use Rattle.std.specs.Prelude.{◌≤◌};
+
+use crate::held::Entry;
+use axml_chunks::Pool;
+
+/// What was read of a table so far: its strings, its entries in the order of the file, and how many entries the types
+/// so far say that they have.
+#[derive(Debug, Drop)]
+pub(crate) struct Reading {
+    pub(crate) pool: Option<Pool>,
+    pub(crate) entries: Vec<Entry>,
+    pub(crate) count: usize,
+    ghost few: { count ≤ 262144 },
+}
