@@ -84,6 +84,11 @@ const FILE_TEXT: &[u8] = b"pool utf8 6\ns0 \"layout_width\"\ns1 \"layout_height\
     map 010100f4\nmap 010100f5\nns s2 s3\nstart 2 - s4 3\nattr s3 s0 - 10 ffffffff\n\
     attr s3 s1 - 05 00001001\nattr - s5 - 01 7f030000\nend 2 - s4\nendns s2 s3\n";
 
+const NO_WORK: Work = Work {
+    measured: 0,
+    painted: 0,
+};
+
 /// A script, the numbers of the reads and of the writes that fail, and how its run ends. 16 bytes are read at a time.
 struct Run {
     script: &'static [u8],
@@ -208,6 +213,15 @@ const RUNS: [Run; 28] = [
     Run { script: BLUNDERING, reads: &[], writes: &[], status: 1, text: BLUNDERED },
 ];
 
+/// Runs in which a view has to be laid out again that was not edited.
+#[rattlefmt::skip]
+const REPEATED: [Run; 2] = [
+    // A hook changes a view that the pass had no reason to look at again.
+    Run { script: REACHING, reads: &[], writes: &[], status: 0, text: REACHED },
+    // A rule of a view that is gone moves a sibling.
+    Run { script: LOOSENING, reads: &[], writes: &[], status: 0, text: LOOSENED },
+];
+
 /// Words, a file that the shelf holds as `a.xml`, the numbers of the fetches that fail, and how the call ends.
 struct Dump {
     words: &'static [&'static str],
@@ -291,6 +305,21 @@ const HOOKED: &[u8] =
     b"v1\nv2\nv3\nsettled 1\nv1 0 0 100 20\nv2 0 0 40 20\nv3 40 0 60 20\nagain 2\n\
     line 12: refused 36 Unsettled\nsettled 0\nv1 0 0 100 20\nv2 0 0 50 20\nv3 50 0 80 20\n";
 
+/// A hook of one view that changes a view inside its sibling.
+const REACHING: &[u8] = b"window 100 20\nadd root LinearLayout match match\n\
+    add v1 FrameLayout wrap match\nadd v2 View 10 match\nadd v1 View 20 match\n\
+    hook v4 size v3 40 match\nframe\nbounds\n";
+
+const REACHED: &[u8] = b"v1\nv2\nv3\nv4\nsettled 1\nv1 0 0 100 20\nv2 0 0 40 20\n\
+    v3 0 0 40 20\nv4 40 0 60 20\n";
+
+/// A chain of siblings whose middle one is gone, and then tied to nobody.
+const LOOSENING: &[u8] = b"window 100 100\nadd root RelativeLayout match match\nadd v1 View 20 10\n\
+    add v1 View 30 10\nadd v1 View 10 10\nid v2 @1\nid v3 @2\nrule v3 right_of @1\n\
+    rule v4 right_of @2\nframe\nvisible v3 gone\nframe\nrule v3 right_of @0\nframe\nbounds v4\n";
+
+const LOOSENED: &[u8] = b"v1\nv2\nv3\nv4\nsettled 0\nsettled 0\nsettled 0\nv4 0 0 10 10\n";
+
 /// A screen that gets narrower: a bar with two texts at its sides, a list that scrolls, and two buttons.
 const SCREEN: &[u8] = b"window 320 480\nadd root LinearLayout match match\norient v1 vertical\n\
     add v1 RelativeLayout match 48\npadding v2 8 8 8 8\n\
@@ -312,6 +341,29 @@ const SHOWN: &[u8] = b"v1\nv2\nv3\nv4\nv5\nv6\nv7\nv8\nv9\nv10\nv11\nv12\nsettle
     v10 0 432 320 480\nv11 0 0 160 48\nv12 160 0 320 48\nsettled 0\nv4 180 20 192 28\n\
     v5 0 48 200 432 scroll 0\nv6 0 0 200 88\nv7 0 0 200 24\nv8 0 24 200 64\nv9 0 64 200 88\n\
     v11 0 0 100 48\nv12 100 0 200 48\n";
+
+/// The same as for blending, with a colour that changes, and then nothing.
+const COLORING: &[u8] =
+    b"window 4 3\nadd root FrameLayout match match\nbg v1 #ff0000ff\npadding v1 1 1 1 1\nadd v1 View 10 10\nmargins v2 -1 -1 0 0\nbg v2 #80ff0000\nframe\nbg v2 #ff00ff00\nframe\nframe\n";
+
+/// A script, and how often its run measures a view, at least and at most.
+struct Count {
+    script: &'static [u8],
+    least: u64,
+    most: u64,
+}
+
+#[rattlefmt::skip]
+const COUNTS: [Count; 4] = [
+    // Each of two views once.
+    Count { script: BLENDING, least: 2, most: 2 },
+    // A colour and no change ask for no measuring.
+    Count { script: COLORING, least: 2, most: 2 },
+    // Each of four views at least once; the definition has 6 measurings for each of the three frames.
+    Count { script: NESTING, least: 4, most: 18 },
+    // Each of four views once, and in the second pass at least the one that the hook changed; at most 4 a pass.
+    Count { script: REACHING, least: 5, most: 8 },
+];
 
 /// The sample, and what may be made of it.
 #[derive(Clone, Copy)]
@@ -365,12 +417,20 @@ fn ended(
         owned.push(String::from_str(alloc, word)?)?;
     }
     let mut sink = MemorySink::new(alloc, 4096, Vec::from_slice(alloc, writes)?);
-    let mut work = Work {
-        measured: 0,
-        painted: 0,
-    };
+    let mut work = NO_WORK;
     let status = tool(alloc, owned.as_slice(), shelf, source, &mut sink, &mut work);
     Ok((status, Vec::from_slice(alloc, sink.gone())?))
+}
+
+/// How often a script's run measures a view.
+fn measured(alloc: Global, script: &[u8]) -> Result<u64, AllocError> {
+    let words = [String::from_str(alloc, "run")?];
+    let mut source = MemorySource::new(Vec::from_slice(alloc, script)?, 4096, Vec::new(alloc));
+    let mut shelf = MemoryShelf::new(Vec::new(alloc), Vec::new(alloc));
+    let mut sink = MemorySink::new(alloc, 4096, Vec::new(alloc));
+    let mut work = NO_WORK;
+    tool(alloc, &words, &mut shelf, &mut source, &mut sink, &mut work);
+    Ok(work.measured)
 }
 
 fn run_ended(
@@ -497,6 +557,27 @@ fn scripts_are_carried_out(rt: HostRuntime) -> Result<(), Fail> {
         let script = Vec::from_slice(alloc, run.script)?;
         let (status, gone) = run_ended(alloc, script, 16, run.reads, run.writes)?;
         assert_eq!(rt; (status, gone.as_slice()), (run.status, run.text));
+    }
+    Ok(())
+}
+
+#[test]
+fn views_are_laid_out_again(rt: HostRuntime) -> Result<(), Fail> {
+    let alloc = rt.alloc();
+    for run in &REPEATED {
+        let script = Vec::from_slice(alloc, run.script)?;
+        let (status, gone) = run_ended(alloc, script, 16, run.reads, run.writes)?;
+        assert_eq!(rt; (status, gone.as_slice()), (run.status, run.text));
+    }
+    Ok(())
+}
+
+#[test]
+fn measurings_are_counted(rt: HostRuntime) -> Result<(), Fail> {
+    let alloc = rt.alloc();
+    for count in &COUNTS {
+        let measured = measured(alloc, count.script)?;
+        assert!(rt; count.least <= measured && measured <= count.most);
     }
     Ok(())
 }
