@@ -140,7 +140,7 @@ def builds():
         ended = it.call(["run"], act="echo answer")
         if (ended.status, ended.out) != (0, b"answer\n"):
             return "status %d, and it writes '%s'" % (ended.status, ended.out.decode())
-        for part in ("about 25 minutes", "proving low, 0 of 2 crates done\n", "proving view_tool, 1 of 2 crates"):
+        for part in ("about 35 minutes", "proving low, 0 of 2 crates done\n", "proving view_tool, 1 of 2 crates"):
             if part not in ended.said:
                 return "'%s' is not in '%s'" % (part, ended.said)
         it.call(["run"])

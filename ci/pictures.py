@@ -1,35 +1,20 @@
-"""The pictures of examples/: each is that of the last frame of the script of its name, by the digest that the program tells."""
+"""The pictures of examples/: each has the digest that the program writes of the last frame of its script."""
 import glob
 import hashlib
 import os
-import struct
-import zlib
 from functools import partial
 
 from running import PROGRAM, TOP, run
-
-
-def points(png):
-    """Red, green and blue of each point of a PNG file of this form, row by row."""
-    width, height = struct.unpack(">II", png[16:24])
-    at, body = 8, b""
-    while at < len(png):
-        size, kind = struct.unpack(">I4s", png[at : at + 8])
-        if kind == b"IDAT":
-            body += png[at + 8 : at + 8 + size]
-        at += 12 + size
-    rows = zlib.decompress(body)
-    return b"".join(rows[k * (3 * width + 1) + 1 : (k + 1) * (3 * width + 1)] for k in range(height))
+from vindaesk import files, png
 
 
 def picture(path):
     """Why a picture fails, or nothing."""
-    with open(path, "rb") as file:
-        digest = hashlib.sha256(points(file.read())).hexdigest()
-    with open(path[: -len("png")] + "script", "rb") as file:
-        written, _ = run([PROGRAM, "run"], file.read() + b"\ndigest\n", os.path.dirname(path))
-    told = written.split(b"\n")[-2].decode("utf-8", "backslashreplace")
-    return "" if told == digest else "its digest is %s, and the program tells %s" % (digest, told)
+    digest = hashlib.sha256(b"".join(png.read(files.read(path), path).rows)).hexdigest()
+    script = files.read(path[: -len("png")] + "script")
+    written, _ = run([PROGRAM, "run"], script + b"\ndigest\n", os.path.dirname(path))
+    wanted = written.split(b"\n")[-2].decode("utf-8", "backslashreplace")
+    return "" if wanted == digest else "its digest is %s, and the program writes %s" % (digest, wanted)
 
 
 def checks():

@@ -1,10 +1,23 @@
-"""Runs a program, and tells how what it wrote differs from what it should have."""
+"""Runs a program, and says how what it wrote differs from what it should have. Whoever imports this finds the package
+of tools/ too."""
 import os
 import subprocess
+import sys
 
 TOP = os.path.dirname(os.path.dirname(os.path.realpath(__file__)))
 PROGRAM = os.path.join(TOP, "crates", "view_tool", "out", "view_tool")
 SECONDS = 60
+
+sys.path.insert(0, os.path.join(TOP, "tools"))
+
+
+def unknown_word(words, names, command):
+    """Where a word is part of no name, ends with status 2 and the list of the names."""
+    for word in words:
+        if not any(word in name for name in names):
+            said = "%s: nothing is named by '%s'; the names are\n%s" % (command, word, "\n".join(names))
+            print(said, file=sys.stderr)
+            sys.exit(2)
 
 
 def run(command, given, folder):

@@ -1,0 +1,456 @@
+"""Tries the tools of tools/, over the examples and over scripts of its own, wrong ones too."""
+import contextlib
+import io
+import json
+import os
+import runpy
+import signal
+import struct
+import subprocess
+import sys
+import tempfile
+import time
+import xml.etree.ElementTree
+import zlib
+
+from running import SECONDS, TOP
+from vindaesk import png
+
+EXAMPLES = os.path.join(TOP, "examples")
+TOOLS = ("screenshot", "picdiff", "tree", "runall")
+RED = "window 2 2\nadd root View match match\nbg v1 #ffff0000\nframe\n"
+UNSETTLED = """window 100 20
+add root LinearLayout match match
+add v1 View 10 match
+add v1 View 20 match
+frame
+hook v2 size v3 30 match
+hook v3 size v2 50 match
+size v2 45 match
+frame
+"""
+# scripts without a picture, and what is said of them
+WITHOUT = {
+    "": "the script opens no window",
+    "# frame\n\n   \n": "the script opens no window",
+    "window 0 5\nframe": "the script opens no window",
+    "window 9 9\nadd root View 1 1\n": "no frame came after the last window",
+    RED + "window 9 9\n": "no frame came after the last window",
+    UNSETTLED: "the last frame has not settled",
+}
+FOLLOWED = """window 100 100
+add root FrameLayout match match
+id v1 @A0
+add @a0 ScrollView 50 40
+id v2 @b
+add @b TextView match wrap
+min v3 0 100
+text v3 é\\n\\\\ z
+visible v3 invisible
+add v1 View 5 5
+id v4 @b
+add v1 View 6 6
+hook v4 bg v5 #ff112233
+add v1 FrameLayout 7 7
+add v6 View 1 1
+remove v6
+frame
+size v4 6 5
+frame
+scroll @b 30
+frame
+"""
+# a frame in which the only hook fires, and one in which one of two does
+MAYBE = """hook v1 bg v1 #ff00ff00
+add v1 View 1 1
+frame
+hook v1 bg v2 #ff0000ff
+hook v2 bg v1 #ff0000ff ; bg v1 #ff00ff00
+size v1 9 9
+frame
+"""
+VIEWS = """v1 FrameLayout @a0 0 0 100 100
+  v2 ScrollView @b 0 0 50 40 scroll 30
+    v3 TextView "é\\n\\\\ z" 0 0 50 100 at 0 -30 50 70 invisible
+  v4 View @b 0 0 6 5
+  v5 View 0 0 6 6 bg #ff112233
+"""
+
+
+class Place:
+    """A folder in which tools are called."""
+
+    def __init__(self, folder):
+        self.folder = folder
+
+    def put(self, name, text):
+        """Writes a file."""
+        with open(os.path.join(self.folder, name), "wb") as file:
+            file.write(text if isinstance(text, bytes) else text.encode())
+
+    def read(self, name):
+        with open(os.path.join(self.folder, name), "rb") as file:
+            return file.read()
+
+    def stand_in(self, act):
+        """The variables under which tools run this in place of the program."""
+        self.put("program", "#!/usr/bin/env bash\n%s\n" % act)
+        os.chmod(os.path.join(self.folder, "program"), 0o755)
+        return {"VINDAESK_PROGRAM": os.path.join(self.folder, "program")}
+
+    def start(self, *command, **variables):
+        """A tool, or another program of the repository, as a process of its own."""
+        return subprocess.Popen(
+            [os.path.join(TOP, command[0]), *command[1:]], cwd=self.folder, env={**os.environ, **variables},
+            stdin=subprocess.PIPE, stdout=subprocess.PIPE, stderr=subprocess.PIPE
+        )
+
+    def call(self, tool, *words, given="", **variables):
+        """Status, standard output and standard error of a tool, which runs in this process, since that is quicker."""
+        path = os.path.join(TOP, "tools", tool)
+        streams = [io.TextIOWrapper(io.BytesIO(text), encoding="utf-8") for text in (given.encode(), b"", b"")]
+        names, before = ("argv", "stdin", "stdout", "stderr"), (sys.argv, sys.stdin, sys.stdout, sys.stderr)
+        kept, status = dict(os.environ), 0
+        os.chdir(self.folder)
+        os.environ.update(variables)
+        try:
+            for name, value in zip(names, ([path, *words], *streams)):
+                setattr(sys, name, value)
+            runpy.run_path(path, run_name="__main__")
+        except SystemExit as ended:
+            status = ended.code
+        finally:
+            for name, value in zip(names, before):
+                setattr(sys, name, value)
+            os.chdir(TOP)
+            os.environ.clear()
+            os.environ.update(kept)
+        for stream in streams[1:]:
+            stream.flush()
+        return status, streams[1].buffer.getvalue(), streams[2].buffer.getvalue().decode()
+
+    def names(self):
+        return sorted(os.listdir(self.folder))
+
+
+@contextlib.contextmanager
+def place():
+    with tempfile.TemporaryDirectory() as folder:
+        yield Place(folder)
+
+
+def unlike(found, status, out=None, said=None):
+    """How the end of a call is not as it should be: the status, all of standard output, and a part of standard error,
+    which has to be empty where the part is."""
+    if found[0] != status:
+        return "status %d in place of %d, '%s'" % (found[0], status, found[2])
+    if out is not None and found[1] != out:
+        return "it writes %r" % found[1]
+    if said is not None and (said not in found[2] or bool(said) != bool(found[2])):
+        return "it says '%s', and not '%s'" % (found[2], said)
+    return ""
+
+
+def first(results):
+    """The first reason among some, or nothing."""
+    return next(filter(None, results), "")
+
+
+def helps():
+    with place() as it:
+        for tool in TOOLS:
+            started = it.start("tools/" + tool, "--help")
+            out, _ = started.communicate(timeout=SECONDS)
+            if started.returncode or not out.startswith(b"usage: %s" % tool.encode()):
+                return "%s: status %d, and it writes %r" % (tool, started.returncode, out)
+            why = unlike(it.call(tool, "--unknown"), 2, b"")
+            if why:
+                return "%s --unknown: %s" % (tool, why)
+        return ""
+
+
+def lacks_program():
+    with place() as it:
+        it.put("a.script", RED)
+        it.put("a.answer", "")
+        said = "there is no program at /nowhere/it; ./vindaesk run builds it, see ./vindaesk --help"
+        calls = (("screenshot", "a.script", "a.png"), ("tree", "a.script"), ("runall", "."))
+        return first(unlike(it.call(*words, VINDAESK_PROGRAM="/nowhere/it"), 126, b"", said) for words in calls)
+
+
+def takes_pictures():
+    with place() as it:
+        script, stored = (os.path.join(EXAMPLES, "screen" + ending) for ending in (".script", ".png"))
+        found = it.call("screenshot", script, "-")
+        if unlike(found, 0, None, ""):
+            return unlike(found, 0, None, "")
+        with open(stored, "rb") as file:
+            if png.parsed(found[1]) != png.parsed(file.read()):
+                return "the picture is another one than the stored"
+        it.put("a.png", "old")
+        why = unlike(it.call("screenshot", "-", "a.png", "--scale", "3", given=RED), 0, b"", "")
+        red = png.Picture(6, 6, [b"\xff\0\0" * 6] * 6)
+        return why or ("" if png.parsed(it.read("a.png")) == red else "a scaled picture is wrong")
+
+
+def reports_refused_lines():
+    with place() as it:
+        text = "# one\nad root View 1 1\n" + RED + "frame" + " " * 1020 + "\n\nbounds\nré\x07t"
+        found = it.call("screenshot", "-", "a.png", given=text)
+        said = ["line 2: refused 31 Syntax: ad root View 1 1", "line 7: refused 32 LongLine: frame" + " " * 155 + " ..",
+                "line 10: refused 31 Syntax: ré\\x07t"]
+        why = unlike(found, 1, b"", "".join("screenshot: %s\n" % line for line in said))
+        if why or it.names() != ["a.png"]:
+            return why or "files: %s" % it.names()
+        found = it.call("tree", "-", given="\n" * 100 + "x\n" * 60 + RED)
+        lines = found[2].splitlines()
+        ends = ["tree: line 101: refused 31 Syntax: x", "tree: 10 more lines are refused"]
+        if (len(lines), lines[::50]) != (51, ends):
+            return "of 60 refused lines it says '%s'" % found[2]
+        return unlike(found, 1, b"v1 View 0 0 2 2 bg #ffff0000\n")
+
+
+def lacks_pictures():
+    with place() as it:
+        for text, why in WITHOUT.items():
+            found = unlike(it.call("screenshot", "-", "a.png", given=text), 1, b"", "there is no picture: %s\n" % why)
+            found = found or unlike(it.call("tree", "-", given=text), 1, b"", "there are no bounds: %s\n" % why)
+            if found or it.names():
+                return "%r: %s" % (text, found or "files: %s" % it.names())
+        found = it.call("tree", "-", given=RED + "remove v1")
+        return unlike(found, 1, b"", "there are no bounds: the tree has no root\n")
+
+
+def lacks_files():
+    with place() as it:
+        os.mkdir(os.path.join(it.folder, "folder"))
+        it.put("a.script", RED)
+        calls = {
+            ("screenshot", "no.script", "a.png"): "no.script cannot be read: No such file",
+            ("screenshot", "folder", "a.png"): "folder cannot be read: Is a directory",
+            ("screenshot", "a.script", "folder"): "folder cannot be written: it is no file",
+            ("screenshot", "a.script", "no/a.png"): "no/a.png cannot be written: No such file",
+            ("screenshot", "a.script", "--frames", "a.script"): "a.script: File exists",
+            ("screenshot", "a.script"): "OUT.png or --frames DIR is needed",
+            ("screenshot", "a.script", "a.png", "--scale", "0"): "'0' is no number from 1 to 8",
+            ("tree", "no.script"): "no.script cannot be read: No such file",
+            ("tree", "folder"): "folder cannot be read: Is a directory",
+            ("picdiff", "a.script", "a.script"): "a.script is no PNG file that can be read: it does not begin as one",
+            ("picdiff", "no.png", "a.script"): "no.png cannot be read: No such file",
+            ("picdiff", "folder", "folder"): "folder cannot be read: Is a directory",
+            ("runall", "no"): "there is no folder no",
+            ("runall", "folder"): "there is no script in folder",
+            ("runall", ".", "--shard", "2/2"): "nothing falls to shard 2 of 2",
+            ("runall", ".", "--shard", "3/2"): "I is 1 to N",
+        }
+        why = first(unlike(it.call(*words), 2, b"", said) for words, said in calls.items())
+        return why or ("" if it.names() == ["a.script", "folder"] else "files: %s" % it.names())
+
+
+def takes_frames():
+    with place() as it:
+        text = UNSETTLED.replace("frame\n", "bg v1 #ff00ff00\nframe\nbounds\n")
+        text += "bg v1 #ff0000ff\nframe\nremove v1\nframe\n"
+        found = it.call("screenshot", "-", "--frames", "made/in", "last.png", given=text)
+        said = "line 13: refused 36 Unsettled: bounds\nscreenshot: line 17: refused 34 NoRoot: frame\n"
+        why = unlike(found, 1, b"", "screenshot: " + said)
+        if why:
+            return why
+        made = sorted(os.listdir(os.path.join(it.folder, "made/in")))
+        if made != ["0001.png", "0002.png"]:
+            return "the pictures are %s" % made
+        names = [os.path.join("made/in", name) for name in made] + ["last.png"]
+        points = [png.parsed(it.read(name)).rows[0][:3] for name in names]
+        return "" if points == [b"\0\xff\0", b"\0\0\xff", b"\0\0\xff"] else "the colours are %s" % points
+
+
+def ends_with_the_program():
+    with place() as it:
+        os.mkdir(os.path.join(it.folder, "folder"))
+        text = RED.replace("View", "FrameLayout") + "inflate folder into v1\n"
+        for words in (("screenshot", "-", "a.png"), ("tree", "-")):
+            why = unlike(it.call(*words, given=text), 6, b"", "status 6: a layout file could not be read")
+            for act, status, said in (("kill -9 $$", 137, "ended by the signal SIGKILL"),
+                                      ("exit 5", 5, "out of memory"), ("exit 0", 1, "wrote no answer to line")):
+                why = why or unlike(it.call(*words, given=text, **it.stand_in(act)), status, b"", said)
+            if why:
+                return "%s: %s" % (words[0], why)
+        return "" if it.names() == ["folder", "program"] else "files: %s" % it.names()
+
+
+def can_be_interrupted():
+    with place() as it:
+        it.put("a.script", RED)
+        variables = it.stand_in("touch started; exec sleep 60")
+        started = it.start("tools/screenshot", "a.script", "a.png", **variables)
+        until = time.monotonic() + SECONDS
+        while "started" not in it.names() and time.monotonic() < until:
+            time.sleep(0.01)
+        started.send_signal(signal.SIGINT)
+        out, said = started.communicate(timeout=SECONDS)
+        why = unlike((started.returncode, out, said.decode()), 130, b"", "screenshot: interrupted\n")
+        return why or ("" if "a.png" not in it.names() else "a picture is written")
+
+
+def follows_views():
+    with place() as it:
+        why = unlike(it.call("tree", "-", given=FOLLOWED), 0, VIEWS.encode(), "")
+        found = it.call("tree", "--json", "-", given=FOLLOWED)
+        if why or unlike(found, 0):
+            return why or unlike(found, 0)
+        whole = json.loads(found[1].decode())
+        wanted = {"number": 3, "parent": 2, "depth": 3, "class": "TextView", "id": None, "text": "é\n\\ z",
+                  "bounds": [0, 0, 50, 100], "window": [0, -30, 50, 70], "scroll": None, "visibility": "invisible",
+                  "background": "#00000000"}
+        return "" if (whole["window"], whole["views"][2]) == ([100, 100], wanted) else "JSON: %s" % whole
+
+
+def follows_files():
+    """The views of a file, which names resources, into a tree; and a background that one of two hooks may have set."""
+    with place() as it:
+        it.put("page.xml", open(os.path.join(EXAMPLES, "page.xml"), "rb").read())
+        before = "window 480 800\nadd root FrameLayout match match\n"
+        found = it.call("tree", "-", "--json", given=before + "inflate page.xml into v1\nframe\n")
+        if unlike(found, 0, None, ""):
+            return unlike(found, 0, None, "")
+        views = json.loads(found[1].decode())["views"]
+        if [view["number"] for view in views] != list(range(1, len(views) + 1)) or views[1]["parent"] != 1:
+            return "JSON: %s" % views
+        lines = it.call("tree", "-", given=before + MAYBE)[1].decode().splitlines()
+        wanted = ["v1 FrameLayout 0 0 9 9 bg #ff00ff00", "  v2 View 0 0 1 1 bg unknown"]
+        return "" if lines == wanted else "%s" % lines
+
+
+def coded(form, rows, filters, extra=b""):
+    """A PNG file of some colour type, whose rows go by these filters."""
+    step = png.BYTES[form]
+    above, body = bytes(len(rows[0])), b""
+    for kind, row in zip(filters, rows):
+        left = bytes(step) + row[:-step]
+        corner = bytes(step) + above[:-step]
+        guess = {0: bytes(len(row)), 1: left, 2: above, 3: bytes((a + b) // 2 for a, b in zip(left, above)),
+                 4: bytes(map(png.below, left, above, corner))}[kind]
+        body += bytes([kind]) + bytes((a - b) & 255 for a, b in zip(row, guess))
+        above = row
+    head = struct.pack(">IIBBBBB", len(rows[0]) // step, len(rows), 8, form, 0, 0, 0)
+    ends = png.chunk(b"IDAT", zlib.compress(body)) + png.chunk(b"IEND", b"")
+    return png.SIGNATURE + png.chunk(b"IHDR", head) + extra + ends
+
+
+def reads_png():
+    rows = [bytes((k * 7 + line * 90 + k * k) % 256 for k in range(12)) for line in range(5)]
+    colours = [b"".join(bytes([it] * 3) for it in row) for row in rows]
+    palette = png.chunk(b"PLTE", bytes(it for k in range(256) for it in (k, k, k)))
+    opaque = [b"".join(bytes((it, 255)) for it in row) for row in rows]
+    seen = [b"".join(row[k : k + 3] + b"\x80" for k in range(0, 12, 3)) for row in rows]
+    half = [bytes((it * 128 + 127) // 255 for it in row) for row in rows]
+    wanted = {2: (rows, rows), 0: (rows, colours), 3: (rows, colours), 4: (opaque, colours), 6: (seen, half)}
+    for form, (stored, shown) in wanted.items():
+        for filters in ((0, 1, 2, 3, 4), (4, 3, 2, 1, 0)):
+            if png.parsed(coded(form, stored, filters, palette if form == 3 else b"")).rows != shown:
+                return "a file of the type %d with filters %s is read wrong" % (form, filters)
+    picture = png.Picture(4, 5, rows)
+    return "" if png.parsed(png.written(picture)) == picture else "what is written is not read"
+
+
+def broken_files():
+    """Files that are no whole picture."""
+    good = png.written(png.Picture(2, 2, [b"\1\2\3\4\5\6"] * 2))
+    head = png.chunk(b"IHDR", struct.pack(">IIBBBBB", 60000, 60000, 8, 2, 0, 0, 0))
+    yield from (good[:size] for size in (0, 7, 8, 20, 33, len(good) - 12, len(good) - 1))
+    yield good.replace(b"IDAT", b"IDAU")
+    yield png.SIGNATURE + head + png.chunk(b"IDAT", zlib.compress(bytes(1000))) + png.chunk(b"IEND", b"")
+    yield png.SIGNATURE + good[33:]
+    for form, rows, extra in ((3, [b"\1\2"], b""), (2, [b"\1\2\3"] * 2, b"")):
+        yield coded(form, rows, (0,), extra)
+
+
+def refuses_broken_pictures():
+    for number, file in enumerate(broken_files(), 1):
+        try:
+            return "broken file %d is read as %s" % (number, png.parsed(file)[:2])
+        except (ValueError, struct.error, zlib.error):
+            pass
+    with place() as it:
+        it.put("a.png", list(broken_files())[3])
+        found = it.call("picdiff", "a.png", "a.png")
+        return unlike(found, 2, b"", "a.png is no PNG file that can be read: it is cut short\n")
+
+
+def compares_pictures():
+    with place() as it:
+        rows = [b"\x10\x20\x30" * 4] * 3
+        it.put("a.png", png.written(png.Picture(4, 3, rows)))
+        other = [rows[0], b"\x10\x20\x30\x10\x20\x37" * 2, b"\x15\x20\x30" + rows[2][3:]]
+        it.put("b.png", png.written(png.Picture(4, 3, other)))
+        it.put("c.png", png.written(png.Picture(3, 4, [b"\x10\x20\x30" * 3] * 4)))
+        calls = [
+            (("a.png", "a.png"), 0, b"no pixel differs\n"),
+            (("a.png", "b.png", "out.png"), 1, b"3 pixels differ, by at most 7, within 0 1 4 3\n"),
+            (("a.png", "b.png", "--tolerance", "5"), 1, b"2 pixels differ, by at most 7, within 1 1 4 2\n"),
+            (("a.png", "b.png", "--tolerance", "7"), 0, b"no pixel differs\n"),
+        ]
+        why = first(unlike(it.call("picdiff", *words), status, out, "") for words, status, out in calls)
+        why = why or unlike(it.call("picdiff", "a.png", "c.png"), 2, b"", "the sizes differ: 4 by 3, and 3 by 4\n")
+        why = why or unlike(it.call("picdiff", "-", "-"), 2, b"", "only one picture")
+        same, red = b"\4\x08\x0c", b"\xff\0\0"
+        wanted = [same * 4, same + red + same + red, red + same * 3]
+        is_right = png.parsed(it.read("out.png")).rows == wanted
+        return why or ("" if is_right else "the picture of the difference is wrong")
+
+
+def runs_all():
+    with place() as it:
+        os.mkdir(os.path.join(it.folder, "in"))
+        files = {"a.script": "window 1 1\n", "a.answer": "", "b.script": RED, "b.answer": "v7\nsettled 0\n",
+                 "b.png": "x", "c.script": "x", "in/d.script": "x", "in/d.answer": "line 1: refused 31 Syntax\n",
+                 "in/d.status": "1\n", "e.xml": "", "e.answer": "", "f.xml": ""}
+        for name, text in files.items():
+            it.put(name, text)
+        found = it.call("runall", ".", "--junit", "out.xml")
+        out = ("failed: ./b.script\n--- ./b.answer\n+++ what is written\n@@ -1,2 +1,2 @@\n-v7\n+v1\n settled 0\n"
+               "failed: ./c.script\nit has no c.answer; --accept writes one\n"
+               "failed: ./e.xml\n--- ./e.answer\n+++ what is written\n@@ -0,0 +1 @@\n+file: refused 1 Truncated at 0\n"
+               "2 passed, 3 failed\n")
+        suite = xml.etree.ElementTree.fromstring(it.read("out.xml"))
+        named = [case.get("name") for case in suite if case.find("failure") is not None]
+        why = unlike(found, 1, out.encode(), "")
+        why = why or ("" if named == ["b.script", "c.script", "e.xml"] else "JUnit: %s" % named)
+        shards = [it.call("runall", ".", "--shard", "%d/2" % k, "--jobs", "1")[1].splitlines()[-1] for k in (1, 2)]
+        why = why or ("" if shards == [b"2 passed, 1 failed", b"0 passed, 2 failed"] else "shards: %s" % shards)
+        accepted = b"accepted: ./b.script\naccepted: ./c.script\naccepted: ./e.xml\n5 passed, 0 failed\n"
+        why = why or unlike(it.call("runall", ".", "--accept"), 0, accepted, "")
+        why = why or unlike(it.call("runall", ".", "in/d.script"), 0, b"6 passed, 0 failed\n", "")
+        return why or ("" if it.read("c.status") == b"1\n" else "no status is accepted")
+
+
+def runs_all_that_break():
+    with place() as it:
+        for name, text in {"a.script": RED, "a.answer": "v1\nsettled 0\n", "a.png": "x"}.items():
+            it.put(name, text)
+        broken = b"./a.png is no PNG file that can be read: it does not begin as one\n"
+        why = unlike(it.call("runall", "."), 1, b"failed: ./a.script\n" + broken + b"0 passed, 1 failed\n", "")
+        slow = b"failed: ./a.script\nit takes more than 1 seconds\n0 passed, 1 failed\n"
+        why = why or unlike(it.call("runall", ".", "--timeout", "1", **it.stand_in("exec sleep 9")), 1, slow, "")
+        ended = b"failed: ./a.script\nthe program was ended by the signal SIGKILL\n0 passed, 1 failed\n"
+        return why or unlike(it.call("runall", ".", "--accept", **it.stand_in("kill -9 $$")), 1, ended, "")
+
+
+def unknown_words():
+    """The checks and the benchmark, by a word that names nothing."""
+    with place() as it:
+        for command, name in (("ci/checks", "examples/first.script"), ("bench/run", "bounds, 4096 views")):
+            tries = ((["no such"], 2, name), (["bounds", "no such"], 2, name), (["--help"], 0, command))
+            for words, status, shown in tries:
+                started = it.start(command, *words)
+                out, said = started.communicate(timeout=SECONDS)
+                if started.returncode != status or shown not in (said if status else out).decode():
+                    return "%s %s: status %d, '%s'" % (command, words, started.returncode, said.decode())
+        return ""
+
+
+def checks():
+    for check in (helps, lacks_program, takes_pictures, reports_refused_lines, lacks_pictures, lacks_files,
+                  takes_frames, ends_with_the_program, can_be_interrupted, follows_views, follows_files, reads_png,
+                  refuses_broken_pictures, compares_pictures, runs_all, runs_all_that_break, unknown_words):
+        yield "the tools: " + check.__name__.replace("_", " "), check

@@ -1,0 +1,84 @@
+"""The call of a tool: its arguments, what it says on standard error, and its status."""
+import argparse
+import os
+import sys
+from typing import Callable, Optional, Sequence
+
+# the statuses that tools have of their own; 3 to 7 are those of the program
+WRONG = 1
+NOT_RUN = 2
+NOT_WRITTEN = 4
+NOT_BUILT = 126
+INTERRUPTED = 130
+
+
+class Failure(Exception):
+    """A tool cannot go on: the sentence that says why, and the status."""
+
+    def __init__(self, sentence: str, status: int = WRONG):
+        super().__init__(sentence)
+        self.status = status
+
+
+def printable(text: str) -> str:
+    """A text whose control characters are escaped."""
+    return "".join(it if it.isprintable() else it.encode("unicode_escape", "replace").decode() for it in text)
+
+
+def shown(text: bytes, limit: int = 160) -> str:
+    """A text of a script as a message shows it: in one line, without control characters, and not too long."""
+    plain = printable(text[: 4 * limit].decode("utf-8", "backslashreplace"))
+    return plain if len(plain) <= limit and len(text) <= 4 * limit else plain[:limit] + " .."
+
+
+def say(sentence: str) -> None:
+    """Writes a sentence on standard error, after the tool's name."""
+    print("%s: %s" % (os.path.basename(sys.argv[0]), printable(sentence)), file=sys.stderr)
+
+
+def arguments(doc: str) -> argparse.ArgumentParser:
+    """A parser whose help is the first paragraphs of a tool's docstring."""
+    return argparse.ArgumentParser(description=doc, formatter_class=argparse.RawDescriptionHelpFormatter)
+
+
+def count(least: int, most: int) -> Callable[[str], int]:
+    """A reader of whole numbers between two limits, for arguments."""
+
+    def read(word: str) -> int:
+        if not (word.isascii() and word.isdigit() and least <= int(word[:9]) <= most and len(word) <= 9):
+            raise argparse.ArgumentTypeError("'%s' is no number from %d to %d" % (word, least, most))
+        return int(word)
+
+    return read
+
+
+def end_quietly() -> None:
+    """Nobody reads standard output any more: what is still to be written there goes nowhere."""
+    os.dup2(os.open(os.devnull, os.O_WRONLY), sys.stdout.fileno())
+
+
+def call(main: Callable[[Optional[Sequence[str]]], int]) -> None:
+    """Ends the process with the status of `main`; what goes wrong is one sentence."""
+    try:
+        status = main(None)
+        sys.stdout.flush()
+    except Failure as failure:
+        say(str(failure))
+        status = failure.status
+    except BrokenPipeError:
+        say("standard output was closed before all was written")
+        status = NOT_WRITTEN
+        end_quietly()
+    except KeyboardInterrupt:
+        say("interrupted")
+        status = INTERRUPTED
+    except MemoryError:
+        say("out of memory")
+        status = 5
+    except OSError as error:
+        # files have names, standard output has none
+        say("%s: %s" % (error.filename or "standard output", error.strerror or error))
+        status = NOT_RUN if error.filename else NOT_WRITTEN
+        if not error.filename:
+            end_quietly()
+    sys.exit(status)

@@ -1,0 +1,65 @@
+"""Finds the built program and runs it, without the launcher: whether sources have changed since is not looked at."""
+import os
+import signal
+import subprocess
+import tempfile
+from typing import Iterator, List, Optional, Tuple
+
+from .calling import NOT_BUILT, Failure
+
+TOP = os.path.dirname(os.path.dirname(os.path.dirname(os.path.realpath(__file__))))
+BUILT = os.path.join(TOP, "crates", "view_tool", "out", "view_tool")
+# the longest script that the program reads
+MAX_SCRIPT = 16777216
+SENTENCES = {
+    2: "it does not know these arguments",
+    3: "the script could not be read further",
+    4: "the answer could not be written further",
+    5: "out of memory",
+    6: "a layout file could not be read",
+    7: "the script has more than %d bytes" % MAX_SCRIPT,
+}
+
+
+def path() -> str:
+    """The program: the one that the variable VINDAESK_PROGRAM names, or the one that was built here."""
+    found = os.environ.get("VINDAESK_PROGRAM") or BUILT
+    if not (os.path.isfile(found) and os.access(found, os.X_OK)):
+        raise Failure("there is no program at %s; ./vindaesk run builds it, see ./vindaesk --help" % found, NOT_BUILT)
+    return os.path.realpath(found)
+
+
+def failed(status: int) -> Failure:
+    """What there is to say of a run that ended before its end."""
+    if status < 0:
+        return Failure("the program was ended by the signal %s" % signal.Signals(-status).name, 128 - status)
+    return Failure("the program ended with status %d: %s" % (status, SENTENCES.get(status, "unknown")), status)
+
+
+def ran(words: List[str], given: bytes, folder: str, seconds: Optional[float] = None) -> Tuple[bytes, int]:
+    """What the program writes over a script, and its status: below 0 for a signal, as `subprocess` has it."""
+    ended = subprocess.run(
+        [path(), *words], input=given, stdout=subprocess.PIPE, stderr=subprocess.DEVNULL, cwd=folder, timeout=seconds
+    )
+    return ended.stdout, ended.returncode
+
+
+def lines_of(script: bytes, folder: str) -> Iterator[bytes]:
+    """Each line that the program writes over a script, as it comes; a run that does not reach its end is a failure."""
+    with tempfile.TemporaryFile() as given:
+        given.write(script)
+        given.seek(0)
+        started = subprocess.Popen(
+            [path(), "run"], stdin=given, stdout=subprocess.PIPE, stderr=subprocess.DEVNULL, cwd=folder
+        )
+    try:
+        for line in started.stdout:
+            yield line.rstrip(b"\n")
+        status = started.wait()
+    finally:
+        started.stdout.close()
+        if started.poll() is None:
+            started.kill()
+            started.wait()
+    if status not in (0, 1):
+        raise failed(status)
