@@ -18,30 +18,61 @@ def tree(views):
     )
 
 
-def matching(views):
-    """The same, with children that all match their parent: each is measured twice."""
-    return b"window 1000 1000\nadd root FrameLayout wrap wrap\n" + b"add v1 FrameLayout match match\n" * (views - 1)
-
-
 def frames(n):
+    """So many frames, of which all but the first come after no edit."""
     return tree(4096) + b"frame\n" * n
 
 
-def matching_frames(n):
-    return matching(4096) + b"frame\n" * n
+def windows(n):
+    """A frame in each of so many small windows, of 4096 views that match: each is measured twice for each window, since there are
+    more windows than it remembers sizes."""
+    views = b"window 64 48\nadd root FrameLayout wrap wrap\n" + b"add v1 View match match\n" * 4095
+    return views + b"".join(b"window %d 48\nframe\n" % (64 + k % 16) for k in range(n))
+
+
+def edited_frames(n):
+    """A frame after each of so many edits, of one view or another of 4096, each of which has up to 31 views around it."""
+    lines = [nested(4096)]
+    for k in range(n):
+        lines.append(b"min v%d %d %d\nframe\n" % (1 + k * 7919 % 4096, k % 90, k % 70))
+    return b"".join(lines)
+
+
+def frames_of_twins(n):
+    """16 groups, one in another. Each wraps its height, and it and a view beside it match the width of the group around them: so each
+    is asked twice for each time that this is measured. The innermost view changes before each frame."""
+    lines = [b"window 600 1\nadd root FrameLayout wrap wrap\n"]
+    for deep in range(16):
+        around = 2 * deep or 1
+        lines.append(b"add v%d FrameLayout match wrap\nadd v%d View match 10\n" % (around, around))
+    lines.append(b"add v32 View 10 10\n")
+    return b"".join(lines) + b"".join(b"size v34 %d %d\nframe\n" % (10 + k % 90, 10 + k % 70) for k in range(n))
+
+
+def frames_of_weighted_twins(n):
+    """The same of linear layouts by turns down and across, in each of which a group and a view have weights. Here a group is measured
+    for more specs than it remembers sizes."""
+    lines = [b"window 64 48\nadd root LinearLayout match match\n"]
+    for deep in range(16):
+        around = 2 * deep or 1
+        turned, sides = ((b"vertical", b"match wrap"), (b"horizontal", b"wrap match"))[deep % 2]
+        lines.append(b"orient v%d %s\nadd v%d LinearLayout %s\nadd v%d View 10 10\n" % (around, turned, around, sides, around))
+        lines.append(b"weight v%d 1\nweight v%d 1\n" % (2 * deep + 2, 2 * deep + 3))
+    lines.append(b"add v32 View 10 10\n")
+    return b"".join(lines) + b"".join(b"size v34 %d %d\nframe\n" % (10 + k % 90, 10 + k % 70) for k in range(n))
 
 
 def weighted_frames(n):
-    """One linear layout of 4095 views with weights, each of which is measured twice a frame."""
+    """One linear layout of 4095 views with weights. Before each frame one weight is another, and so is each share."""
     lines = [b"window 4096 100\nadd root LinearLayout match match\n"]
     for number in range(2, 4097):
         lines.append(b"add v1 View %d match\nweight v%d %d\n" % (number % 3, number, 1 + number % 7))
-    return b"".join(lines) + b"frame\n" * n
+    return b"".join(lines) + b"".join(b"weight v2 %d\nframe\n" % (1 + k * 97 % 30000) for k in range(n))
 
 
 def nested_weighted_frames(n):
-    """Linear layouts of four views with weights each, 4 levels deep and by turns across and down: what is deeper is measured
-    twice for each measuring of its group."""
+    """Linear layouts of four views with weights each, 4 levels deep and by turns across and down: what is deeper is asked twice
+    for each measuring of its group. Before each frame the outermost group is asked for other shares."""
     lines = [b"window 1000 1000\nadd root LinearLayout match match\n"]
     level, number = [1], 1
     for deep in range(4):
@@ -55,15 +86,15 @@ def nested_weighted_frames(n):
                 lines.append(b"weight v%d %d\n" % (number, 1 + child))
                 below.append(number)
         level = below
-    return b"".join(lines) + b"frame\n" * n
+    return b"".join(lines) + b"".join(b"weight v2 %d\nframe\n" % (1 + k * 7 % 300) for k in range(n))
 
 
 def frames_of_texts(n):
-    """A column of 4000 texts of 60 characters, each in four lines."""
+    """A column of 4000 texts of 60 characters, one of which gets another width before each frame."""
     lines = [b"window 1000 1000\nadd root LinearLayout match match\norient v1 vertical\n"]
     for number in range(2, 4002):
         lines.append(b"add v1 TextView 100 wrap\ntext v%d %060d\n" % (number, number))
-    return b"".join(lines) + b"frame\n" * n
+    return b"".join(lines) + b"".join(b"size v%d %d wrap\nframe\n" % (2 + k % 4000, 90 + k % 9) for k in range(n))
 
 
 def filled(color, n):
@@ -168,12 +199,13 @@ def edits_by_own_id(views):
 
 
 def frames_of_nested_groups(n):
-    """32 groups, one in another, with a second measuring in each but the last: it wraps, and two more children match."""
+    """32 groups, one in another, with a second measuring in each but the last: it wraps, and two more children match. The innermost
+    gets another size before each frame."""
     children = [b"View match match", b"View match 9", b"FrameLayout wrap wrap"]
     lines = [b"window 1000 1000\nadd root FrameLayout wrap wrap\n"]
     for group in range(1, 92, 3):
         lines += [b"add v%d %s\n" % (group, child) for child in children]
-    return b"".join(lines) + b"frame\n" * n
+    return b"".join(lines) + b"".join(b"min v94 %d %d\nframe\n" % (k % 90, k % 70) for k in range(n))
 
 
 def group(children, is_chain, lines):
@@ -183,7 +215,8 @@ def group(children, is_chain, lines):
 
 
 def frames_of_a_chain(children):
-    return group(children, True, b"frame\n" * 200)
+    """The first child gets another size before each frame."""
+    return group(children, True, b"".join(b"size v2 %d 1\nframe\n" % (1 + k % 9) for k in range(200)))
 
 
 def rules_in_a_chain(children):
