@@ -28,6 +28,7 @@ impl FramePlan {
     ghost use Rattle.frame_layout.specs.FramePlan.{HasMeasured, InFirst, StandsFrame, TurnsFrame};
 
     /// The plan of a group with these facts under these specs, before its first child.
+    #[inline(always)]
     pub fn start(own: &Facts, ws: Spec, hs: Spec) -> FramePlan
         ensures { StandsFrame result (layout_facts own.now) (record { across = ws; down = hs }) [] [] }
     {

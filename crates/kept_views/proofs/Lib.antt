@@ -8,7 +8,6 @@ pub mod Emptied
 pub mod Fresh
 pub mod GraftedKept
 pub mod Grown
-pub mod HiddenKept
 pub mod InPass
 pub mod KeptFrames
 pub mod Keys

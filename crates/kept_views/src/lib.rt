@@ -6,7 +6,7 @@
 //!   pass. `specs/Laying`: what laying out a part wants and leaves.
 //! - `proofs/Lines`: each kind of edit keeps it with its request, and so does the end of a pass. `proofs/GraftedKept`:
 //!   a sapling that comes; `proofs/Fresh`: a tree of new views; `proofs/Dragged`: offsets; `proofs/QuietEdits`: edits
-//!   that ask for nothing; `proofs/HiddenKept`: views that are gone lie nowhere.
+//!   that ask for nothing.
 //! - `proofs/Replaced`, `Edits`, `EditParts`, `Pruned`, `Grown`, `AroundEdits`, `SameCourse`: edits before their
 //!   request. `proofs/Paths`, `Requested`, `PressedKept`, `Emptied`: requests. `proofs/InPass`: edits of a hook.
 //! - `proofs/LaidRows`, `LaidFrames`, `LaidCalm`, `PlacedKids`, `Quiet`, `Brought`: laying out.

@@ -1,3 +1,4 @@
+pub mod LinedLaws
 pub mod PassLaws
 pub mod PlacingLaws
 pub mod PlanLaws

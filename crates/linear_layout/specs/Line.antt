@@ -1,12 +1,24 @@
 -- The group that a line stands for.
+use Rattle.std.specs.Prelude.{pos}
 use Rattle.linear_layout.specs.declared.line.Line.{Line}
 use Rattle.view_model.specs.declared.facts.Facts.{Facts}
-use Rattle.view_model.specs.Facts.{layout_facts}
+use Rattle.view_model.specs.Facts.{layout_facts, new_facts, padding_left, padding_right}
 use Rattle.view_model.specs.Measuring.{Measured, Specs}
 use Rattle.geom_core.specs.declared.geometry.Size.{Size}
 
+-- a group of which nothing is set but what a line reads of it
 abbrev pub own_in : Line → Facts
-own_in line = layout_facts line.own
+own_in line =
+    record (new_facts (pos 0) (pos 0)) { padding = line.padding; min = line.min; weight_sum = line.weight_sum; vertical = line.vertical }
+
+-- that of a group, each padding as it comes out
+abbrev pub lined : Facts → Facts
+lined own = record (new_facts (pos 0) (pos 0)) {
+  padding = record { left = padding_left own; right = padding_right own; top = own.padding.top; bottom = own.padding.bottom };
+  min = own.min;
+  weight_sum = own.weight_sum;
+  vertical = own.vertical;
+}
 
 abbrev pub specs_in : Line → Specs
 specs_in line = record { across = line.ws; down = line.hs }

@@ -4,7 +4,7 @@ use Rattle.linear_layout.specs.declared.plan.LinearPlan.{LinearPlan}
 use Rattle.linear_layout.specs.declared.plan.Phase.{Phase}
 use Rattle.linear_layout.specs.declared.plan.Phase.TheVariants.{First, Weight, Uniform}
 use Rattle.linear_layout.specs.declared.weight_pass.WeightPass.{WeightPass}
-use Rattle.linear_layout.specs.Line.{own_in, specs_in}
+use Rattle.linear_layout.specs.Line.{lined, own_in, specs_in}
 use Rattle.linear_layout.specs.Passes.{IsFirstPass, IsWeightPass}
 use Rattle.view_model.specs.declared.facts.Facts.{Facts}
 use Rattle.view_model.specs.LinearLayout.{has_weight_pass, linear_rule}
@@ -16,7 +16,7 @@ weighed_by First = None
 weighed_by (Weight pass) = Some pass
 weighed_by (Uniform weighed) = weighed
 
--- the plan of a group with these facts under these specs
+-- the plan of a group with these facts, as a line reads them, under these specs
 pub record IsPlanOf (plan : LinearPlan) (own : Facts) (specs : Specs) : Type 0 where
   pub own_facts : own_in plan.line ≡ own
   pub own_specs : specs_in plan.line ≡ specs
@@ -40,11 +40,15 @@ pub record InThird (plan : LinearPlan) (own : Facts) (specs : Specs) (first seco
   pub is_pass : IsWeightPass pass own specs first second
 
 -- it has come through these phases, and has taken these children in the one that it is in
+abbrev pub StandsLine : LinearPlan → Facts → Specs → List (List Measured) → List Measured → Type 0
+StandsLine plan own specs [] taken = IsPlanOf plan own specs × (plan.phase ≡ First) × IsFirstPass plan.first own specs taken
+StandsLine plan own specs (first ∷ []) taken = IsPlanOf plan own specs × IsFirstPass plan.first own specs first × InSecond plan own specs first taken
+StandsLine plan own specs (first ∷ second ∷ []) taken = IsPlanOf plan own specs × IsFirstPass plan.first own specs first × InThird plan own specs first second
+StandsLine plan own specs (first ∷ second ∷ third ∷ more) taken = ⊥
+
+-- so has the plan of a group with these facts
 abbrev pub StandsLinear : LinearPlan → Facts → Specs → List (List Measured) → List Measured → Type 0
-StandsLinear plan own specs [] taken = IsPlanOf plan own specs × (plan.phase ≡ First) × IsFirstPass plan.first own specs taken
-StandsLinear plan own specs (first ∷ []) taken = IsPlanOf plan own specs × IsFirstPass plan.first own specs first × InSecond plan own specs first taken
-StandsLinear plan own specs (first ∷ second ∷ []) taken = IsPlanOf plan own specs × IsFirstPass plan.first own specs first × InThird plan own specs first second
-StandsLinear plan own specs (first ∷ second ∷ third ∷ more) taken = ⊥
+StandsLinear plan own specs past taken = StandsLine plan (lined own) specs past taken
 
 -- the plan at the end of a phase, where it has answered whether another follows
 pub record TurnsLinear (plan : LinearPlan) (own : Facts) (specs : Specs) (past : List (List Measured)) (taken : List Measured) (answer : Bool) : Type 0 where

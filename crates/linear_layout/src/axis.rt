@@ -1,7 +1,7 @@
 //! What is read of facts, sizes and specs on one axis, the vertical one or the other. Lengths are in pixels.
 ghost use Rattle.std.specs.Prelude.{◌≡◌, ◌≤ℤ◌, pos, negsuc};
 ghost use Rattle.view_model.specs.Facts.{layout_facts};
-ghost use Rattle.view_model.specs.LinearLayout.{alignment_on, dim_on, high_margin, high_padding, low_margin, low_padding, margins_on, min_on, padding_on, size_by, size_on, spec_on, specs_by};
+ghost use Rattle.view_model.specs.LinearLayout.{alignment_on, dim_on, high_margin, high_padding, low_margin, low_padding, margins_on, size_by, size_on, spec_on, specs_by};
 ghost use Rattle.view_model.specs.Measuring.{pair_of};
 
 use geom_core::{Size, Spec};
@@ -28,13 +28,6 @@ pub fn dim_on(vertical: bool, facts: &Facts) -> i32
     if vertical { facts.height } else { facts.width }
 }
 
-#[tactic(auto, unfolding(view_model::specs::LinearLayout::min_on))]
-pub fn min_on(vertical: bool, facts: &Facts) -> i32
-    ensures { result ≡ min_on vertical (layout_facts facts.now) }
-{
-    if vertical { facts.min.h } else { facts.min.w }
-}
-
 /// Both margins.
 #[tactic(auto, unfolding(view_model::specs::LinearLayout::margins_on))]
 pub fn margins_on(vertical: bool, facts: &Facts) -> i64
@@ -46,19 +39,6 @@ pub fn margins_on(vertical: bool, facts: &Facts) -> i64
         return facts.margins_down();
     }
     facts.margins_across()
-}
-
-/// Both paddings.
-#[tactic(auto, unfolding(view_model::specs::LinearLayout::padding_on))]
-pub fn padding_on(vertical: bool, facts: &Facts) -> i64
-    ensures value { result ≡ padding_on vertical (layout_facts facts.now) }
-    ensures low { negsuc 4294967295 ≤ℤ result }
-    ensures high { result ≤ℤ pos 4294967294 }
-{
-    if vertical {
-        return facts.padding_down();
-    }
-    facts.padding_across()
 }
 
 /// The margin on the left or at the top.

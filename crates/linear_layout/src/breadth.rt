@@ -10,7 +10,7 @@ ghost use Rattle.linear_layout.specs.Passes.{IsFirstPass, IsWeightPass};
 ghost use Rattle.view_model.specs.LinearLayout.{breadth_for, breadth_once, breadth_twice, exactly, needed_breadth, resolved_breadth, uniform_pass};
 ghost use Rattle.view_model.specs.Measuring.{Measured, pair_of};
 
-use crate::axis::{margins_on, min_on, padding_on, pair_by, size_on};
+use crate::axis::{margins_on, pair_by, size_on};
 use crate::first_pass::FirstPass;
 use crate::line::Line;
 use crate::running::greater;
@@ -33,8 +33,8 @@ pub fn own_breadth(line: &Line, first: &FirstPass, weighed: Option<WeightPass>) 
 {
     let beside = !line.vertical();
     resolved_breadth(
-        min_on(beside, &line.own),
-        padding_on(beside, &line.own),
+        line.min_on(beside),
+        line.padding_on(beside),
         needed_breadth(line, first, weighed),
         line.spec_beside(),
     )
@@ -97,11 +97,7 @@ pub fn ask_uniform(line: &Line, breadth: i32, kid: &Facts, size: Size) -> Option
     Some(pair_by(
         line.vertical(),
         exactly(size_on(line.vertical(), size)),
-        exact_rest(
-            breadth,
-            padding_on(beside, &line.own),
-            margins_on(beside, kid),
-        ),
+        exact_rest(breadth, line.padding_on(beside), margins_on(beside, kid)),
     ))
 }
 

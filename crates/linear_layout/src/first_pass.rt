@@ -9,7 +9,7 @@ ghost use Rattle.view_model.specs.Facts.{layout_facts};
 ghost use Rattle.view_model.specs.LinearLayout.{first_along, first_dim, first_pass, full_length, has_weight_pass, own_length, spare_of, used_before, whole_weight};
 ghost use Rattle.view_model.specs.Measuring.{Measured, Specs, pair_of};
 
-use crate::axis::{dim_on, margins_on, min_on, padding_on, pair_by};
+use crate::axis::{dim_on, margins_on, pair_by};
 use crate::line::Line;
 use crate::running::{Greatest, Total, Weights, greater};
 use geom_core::{Size, Spec, WRAP, child_spec, resolve};
@@ -95,7 +95,7 @@ impl FirstPass {
         let along = line.vertical();
         spec_behind(
             line.spec_along(),
-            padding_on(along, &line.own),
+            line.padding_on(along),
             margins_on(along, kid),
             self.used_before(kid),
             first_dim(dim_on(along, kid), kid.weight),
@@ -123,7 +123,7 @@ impl FirstPass {
         ensures low { negsuc 4294967295 ≤ℤ result }
         ensures high { result ≤ℤ pos (2 ^ 45 + 2 ^ 32) }
     {
-        self.extents.sum + padding_on(line.vertical(), &line.own)
+        self.extents.sum + line.padding_on(line.vertical())
     }
 
     /// The length of the group.
@@ -133,7 +133,7 @@ impl FirstPass {
             → result ≡ own_length (own_in line.now) (specs_in line.now) kids }
         ensures side { IsSide result }
     {
-        let least = i64::from(min_on(line.vertical(), &line.own));
+        let least = i64::from(line.min_on(line.vertical()));
         resolve(greater(self.full_length(line), least), line.spec_along())
     }
 
@@ -150,12 +150,12 @@ impl FirstPass {
     /// What weights are counted against, in 256ths.
     #[tactic(auto, unfolding(view_model::specs::LinearLayout::whole_weight))]
     pub fn whole_weight(&self, line: &Line) -> i64
-        ensures value { result ≡ whole_weight line.now.own.weight_sum self.now.weights.sum }
+        ensures value { result ≡ whole_weight line.now.weight_sum self.now.weights.sum }
         ensures low { pos 0 ≤ℤ result }
         ensures high { result ≤ℤ pos (2 ^ 44) }
     {
-        if line.own.weight_sum > 0 {
-            return i64::from(line.own.weight_sum);
+        if line.weight_sum > 0 {
+            return i64::from(line.weight_sum);
         }
         self.weights.sum as i64
     }

@@ -2,39 +2,86 @@
 ghost use Rattle.std.specs.Prelude.{◌≡◌, ◌+ℤ◌, ◌≤ℤ◌, ◌^◌, pos, negsuc, not};
 ghost use Rattle.view_model.specs.declared.facts.Facts.{Facts as FactsValue};
 ghost use Rattle.view_model.specs.Facts.{is_match, layout_facts};
-ghost use Rattle.view_model.specs.LinearLayout.{breadth_of, claim, claim_of, dim_on, extent, extent_of, is_exact_beside, is_skipped, skips, spec_beside, spec_on, where_even, where_weighted};
+ghost use Rattle.view_model.specs.LinearLayout.{breadth_of, claim, claim_of, dim_on, extent, extent_of, is_exact_beside, is_skipped, min_on, padding_on, skips, spec_beside, spec_on, where_even, where_weighted};
 ghost use Rattle.view_model.specs.Measuring.{Specs};
 
-use crate::axis::{dim_on, margins_on, padding_on, size_on, spec_on};
-use geom_core::{MATCH, Size, Spec};
+use crate::axis::{dim_on, margins_on, size_on, spec_on};
+use geom_core::{Insets, MATCH, Size, Spec};
 use view_model::{Facts, child_spec_within, is_exact};
 
-/// A group, and the specs for its width and for its height.
+/// What is read of a group's facts, and the specs for its width and for its height. It is a small part of the facts, so
+/// that a plan takes little room while what is below is measured.
 #[derive(Clone, Copy, Debug)]
 pub struct Line {
-    pub own: Facts,
+    /// On each side, as it comes out.
+    pub padding: Insets,
+    pub min: Size,
+    pub weight_sum: u32,
+    pub vertical: bool,
     pub ws: Spec,
     pub hs: Spec,
 }
 
 impl Line {
-    ghost use Rattle.linear_layout.specs.Line.{kid_with, own_in, specs_in};
+    ghost use Rattle.linear_layout.specs.Line.{kid_with, lined, own_in, specs_in};
+
+    /// The line of a group with these facts under these specs.
+    #[inline(always)]
+    pub fn of(own: &Facts, ws: Spec, hs: Spec) -> Line
+        ensures own { own_in result ≡ lined own.now }
+        ensures specs { specs_in result ≡ record { across = ws; down = hs } }
+    {
+        Line {
+            padding: Insets {
+                left: own.padding_left(),
+                top: own.padding.top,
+                right: own.padding_right(),
+                bottom: own.padding.bottom,
+            },
+            min: own.min,
+            weight_sum: own.weight_sum,
+            vertical: own.vertical,
+            ws,
+            hs,
+        }
+    }
+
+    /// Both paddings of the group on an axis.
+    #[tactic(auto, unfolding(view_model::specs::LinearLayout::padding_on))]
+    pub fn padding_on(&self, vertical: bool) -> i64
+        ensures value { result ≡ padding_on vertical (own_in self.now) }
+        ensures low { negsuc 4294967295 ≤ℤ result }
+        ensures high { result ≤ℤ pos 4294967294 }
+    {
+        if vertical {
+            return i64::from(self.padding.top) + i64::from(self.padding.bottom);
+        }
+        i64::from(self.padding.left) + i64::from(self.padding.right)
+    }
+
+    /// The least size of the group on an axis.
+    #[tactic(auto, unfolding(view_model::specs::LinearLayout::min_on))]
+    pub fn min_on(&self, vertical: bool) -> i32
+        ensures { result ≡ min_on vertical (own_in self.now) }
+    {
+        if vertical { self.min.h } else { self.min.w }
+    }
 
     /// Whether the line runs from top to bottom.
     pub fn vertical(&self) -> bool
-        ensures { result ≡ self.now.own.vertical }
+        ensures { result ≡ self.now.vertical }
     {
-        self.own.vertical
+        self.vertical
     }
 
     pub fn spec_along(&self) -> Spec
-        ensures { result ≡ spec_on self.now.own.vertical (specs_in self.now) }
+        ensures { result ≡ spec_on self.now.vertical (specs_in self.now) }
     {
         spec_on(self.vertical(), self.ws, self.hs)
     }
 
     pub fn spec_beside(&self) -> Spec
-        ensures { result ≡ spec_on (not self.now.own.vertical) (specs_in self.now) }
+        ensures { result ≡ spec_on (not self.now.vertical) (specs_in self.now) }
     {
         spec_on(!self.vertical(), self.ws, self.hs)
     }
@@ -55,7 +102,7 @@ impl Line {
 
     /// Whether a child wants to be as broad as the group.
     pub fn matches(&self, kid: &Facts) -> bool
-        ensures { result ≡ is_match (dim_on (not self.now.own.vertical) (layout_facts kid.now)) }
+        ensures { result ≡ is_match (dim_on (not self.now.vertical) (layout_facts kid.now)) }
     {
         dim_on(!self.vertical(), kid) == MATCH
     }
@@ -67,7 +114,7 @@ impl Line {
         let beside = !self.vertical();
         child_spec_within(
             self.spec_beside(),
-            padding_on(beside, &self.own),
+            self.padding_on(beside),
             margins_on(beside, kid),
             dim_on(beside, kid),
         )
@@ -75,7 +122,7 @@ impl Line {
 
     /// What a child takes of the length.
     pub fn extent(&self, kid: &Facts, size: Size) -> i64
-        ensures value { result ≡ extent_of self.now.own.vertical (kid_with kid.now size) }
+        ensures value { result ≡ extent_of self.now.vertical (kid_with kid.now size) }
         ensures low { pos 0 ≤ℤ result }
         ensures high { result ≤ℤ pos (2 ^ 33) }
     {
@@ -85,7 +132,7 @@ impl Line {
 
     /// What a child takes of the breadth.
     pub fn breadth(&self, kid: &Facts, size: Size) -> i64
-        ensures value { result ≡ breadth_of self.now.own.vertical (kid_with kid.now size) }
+        ensures value { result ≡ breadth_of self.now.vertical (kid_with kid.now size) }
         ensures high { result ≤ℤ pos (2 ^ 33) }
     {
         let beside = !self.vertical();
@@ -95,7 +142,7 @@ impl Line {
     /// What a child takes of the breadth of a group that is as broad as its children are.
     #[tactic(auto, unfolding(view_model::specs::LinearLayout::claim))]
     pub fn claim(&self, kid: &Facts, size: Size) -> i64
-        ensures value { result ≡ claim_of self.now.own.vertical (is_exact_beside (own_in self.now) (specs_in self.now)) (kid_with kid.now size) }
+        ensures value { result ≡ claim_of self.now.vertical (is_exact_beside (own_in self.now) (specs_in self.now)) (kid_with kid.now size) }
         ensures high { result ≤ℤ pos (2 ^ 33) }
     {
         if !self.is_exact_beside() && self.matches(kid) {
@@ -108,7 +155,7 @@ impl Line {
     #[tactic(auto, unfolding(view_model::specs::LinearLayout::where_even))]
     pub fn even_claim(&self, kid: &Facts, size: Size) -> i64
         ensures value { result ≡ where_even kid.now.weight
-            (claim_of self.now.own.vertical (is_exact_beside (own_in self.now) (specs_in self.now)) (kid_with kid.now size)) }
+            (claim_of self.now.vertical (is_exact_beside (own_in self.now) (specs_in self.now)) (kid_with kid.now size)) }
         ensures high { result ≤ℤ pos (2 ^ 33) }
     {
         if kid.weight == 0 {
@@ -121,7 +168,7 @@ impl Line {
     #[tactic(auto, unfolding(view_model::specs::LinearLayout::where_weighted))]
     pub fn weighted_claim(&self, kid: &Facts, size: Size) -> i64
         ensures value { result ≡ where_weighted kid.now.weight
-            (claim_of self.now.own.vertical (is_exact_beside (own_in self.now) (specs_in self.now)) (kid_with kid.now size)) }
+            (claim_of self.now.vertical (is_exact_beside (own_in self.now) (specs_in self.now)) (kid_with kid.now size)) }
         ensures high { result ≤ℤ pos (2 ^ 33) }
     {
         if kid.weight == 0 {

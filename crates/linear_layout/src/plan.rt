@@ -42,11 +42,12 @@ impl LinearPlan {
     ghost use Rattle.linear_layout.specs.Passes.{IsFirstPass, IsWeightPass};
 
     /// The plan of a group with these facts under these specs, before its first child.
+    #[inline(always)]
     pub fn start(own: &Facts, ws: Spec, hs: Spec) -> LinearPlan
         ensures { StandsLinear result (layout_facts own.now) (record { across = ws; down = hs }) [] [] }
     {
         LinearPlan {
-            line: Line { own: *own, ws, hs },
+            line: Line::of(own, ws, hs),
             first: FirstPass::new(),
             phase: Phase::First,
         }

@@ -5,7 +5,7 @@ ghost use Rattle.view_model.specs.declared.limits.TheConstants.{MAX_VIEWS};
 ghost use Rattle.view_model.specs.LinearLayout.{exactly, first_length, full_length, shared_length, weight_pass};
 ghost use Rattle.view_model.specs.Measuring.{Measured, pair_of};
 
-use crate::axis::{padding_on, pair_by, size_on};
+use crate::axis::{pair_by, size_on};
 use crate::first_pass::FirstPass;
 use crate::line::Line;
 use crate::running::{Greatest, Total};
@@ -92,7 +92,7 @@ impl WeightPass {
             → IsWeightPass self.now (own_in line.now) (specs_in line.now) first kids
             → result ≡ full_length (own_in line.now) kids }
     {
-        self.extents.sum + padding_on(line.vertical(), &line.own)
+        self.extents.sum + line.padding_on(line.vertical())
     }
 }
 

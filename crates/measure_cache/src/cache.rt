@@ -1,6 +1,7 @@
 //! The last sizes of a view.
 ghost use Rattle.std.specs.Prelude.{◌≡◌, []};
 ghost use Rattle.measure_cache.specs.Entries.{found, is_of, put_in};
+ghost use Rattle.measure_cache.specs.Kept.{entry_of};
 
 use arrayvec::ArrayVec;
 use geom_core::{Mode, Size, Spec};
@@ -14,17 +15,25 @@ pub struct Entry {
     pub size: Size,
 }
 
-impl Default for Entry {
+/// An entry as it is kept: the two modes lie side by side, so that it takes 20 bytes and not 24.
+#[derive(Clone, Copy, Debug, PartialEq, Eq)]
+struct Kept {
+    across: i32,
+    down: i32,
+    size: Size,
+    mode_across: Mode,
+    mode_down: Mode,
+}
+
+impl Default for Kept {
     /// What an unused place holds; nothing reads it.
-    fn default() -> Entry {
-        let any = Spec {
-            mode: Mode::Unspecified,
-            size: 0,
-        };
-        Entry {
-            ws: any,
-            hs: any,
+    fn default() -> Kept {
+        Kept {
+            across: 0,
+            down: 0,
             size: Size { w: 0, h: 0 },
+            mode_across: Mode::Unspecified,
+            mode_down: Mode::Unspecified,
         }
     }
 }
@@ -32,11 +41,11 @@ impl Default for Entry {
 /// The last eight sizes of a view, the oldest first.
 #[derive(Drop)]
 pub struct Cache {
-    entries: ArrayVec<Entry, 8>,
+    entries: ArrayVec<Kept, 8>,
 }
 
 impl Model for Cache {
-    ghost use Rattle.std.specs.Prelude.{List};
+    ghost use Rattle.std.specs.Prelude.{List, map};
     ghost use Rattle.measure_cache.specs.declared.cache.Entry.{Entry};
     ghost use Rattle.measure_cache.specs.Codes.{entries_code};
 
@@ -44,7 +53,9 @@ impl Model for Cache {
 
     ghost coded = { entries_code };
 
-    ghost view = { λ h. h.entries.items };
+    ghost use Rattle.measure_cache.specs.Kept.{entry_of};
+
+    ghost view = { λ h. map entry_of h.entries.items };
 }
 
 impl Cache {
@@ -62,9 +73,9 @@ impl Cache {
         ensures { result ≡ found self.now (record { across = ws; down = hs }) }
     {
         let mut answer = None;
-        for entry in self.entries.as_slice() {
-            if is_for(entry, ws, hs) {
-                answer = Some(entry.size);
+        for kept in self.entries.as_slice() {
+            if is_for(kept, ws, hs) {
+                answer = Some(kept.size);
             }
         }
         answer
@@ -77,7 +88,7 @@ impl Cache {
         if self.entries.is_full() {
             self.entries.remove(0);
         }
-        self.entries.push(Entry { ws, hs, size });
+        self.entries.push(keep(ws, hs, size));
     }
 
     /// Forgets all sizes.
@@ -88,12 +99,33 @@ impl Cache {
     }
 }
 
-/// Whether an entry is for these specs.
-fn is_for(entry: &Entry, ws: Spec, hs: Spec) -> bool
-    ensures { result ≡ is_of entry.now (record { across = ws; down = hs }) }
+/// A size for these specs, as it is kept.
+fn keep(ws: Spec, hs: Spec, size: Size) -> Kept
+    ensures { entry_of result ≡ record { ws = ws; hs = hs; size = size } }
 {
-    if same_spec(entry.ws, ws) {
-        same_spec(entry.hs, hs)
+    Kept {
+        across: ws.size,
+        down: hs.size,
+        size,
+        mode_across: ws.mode,
+        mode_down: hs.mode,
+    }
+}
+
+/// Whether an entry is for these specs.
+fn is_for(kept: &Kept, ws: Spec, hs: Spec) -> bool
+    ensures { result ≡ is_of (entry_of kept.now) (record { across = ws; down = hs }) }
+{
+    let across = Spec {
+        mode: kept.mode_across,
+        size: kept.across,
+    };
+    let down = Spec {
+        mode: kept.mode_down,
+        size: kept.down,
+    };
+    if same_spec(across, ws) {
+        same_spec(down, hs)
     } else {
         false
     }

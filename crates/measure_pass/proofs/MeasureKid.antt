@@ -2,12 +2,11 @@
 use Rattle.std.proofs.Common.{◌≡◌, ℤ, ℕ, ◌<◌, pos, true, false, Some, None, List, [], ◌∷◌, ◌++◌, ap, refl, sym, subst}
 use Rattle.std.specs.Option.{option_map}
 use Rattle.geom_core.specs.declared.geometry.Size.{Size}
-use Rattle.measure_pass.specs.declared.plan.Plan.{Plan}
 use Rattle.measure_pass.specs.Courses.{AfterAll, AfterPhase, CanTurn, InCourse, IsMeasuredBelow, StaysReady}
 use Rattle.measure_pass.specs.Caches.{Grown}
 use Rattle.kept_views.specs.Kept.{Sized}
 use Rattle.measure_pass.specs.Measured.{Costs, calls_under, size_under}
-use Rattle.measure_pass.specs.Plans.{Group, IsLeaf, IsPlanOf, Stands, group_by, rule_in}
+use Rattle.measure_pass.specs.Plans.{Group, IsLeaf, IsPlanOf, Plan, Stands, group_by, rule_in}
 use Rattle.measure_pass.proofs.Counts.{costs_nothing}
 use Rattle.measure_pass.proofs.Laws.{lawful_of}
 use Rattle.measure_pass.proofs.Parts.{facts_in}

@@ -5,12 +5,11 @@ use Rattle.std.specs.Option.{option_map}
 use Rattle.std.proofs.lemmas.List.{append-nil}
 use Rattle.geom_core.specs.declared.geometry.Size.{Size}
 use Rattle.geom_core.specs.declared.measuring.Spec.{Spec}
-use Rattle.measure_pass.specs.declared.plan.Plan.{Plan}
 use Rattle.measure_pass.specs.Courses.{AfterPhase, CanTurn, InCourse, MeasuredFor, calls_for, child_of, has_requests, turn_calls}
 use Rattle.measure_pass.specs.Caches.{Among, AskedAt, Grown}
 use Rattle.kept_views.specs.Kept.{IsSized, Sized}
 use Rattle.measure_pass.specs.Measured.{Costs, calls_under, size_under}
-use Rattle.measure_pass.specs.Plans.{Group, Stands, rule_in}
+use Rattle.measure_pass.specs.Plans.{Group, Plan, Stands, rule_in}
 use Rattle.measure_pass.proofs.Counts.{costs_nothing, costs_same}
 use Rattle.measure_pass.proofs.Grows.{Among-last, Grown-first, Grown-refl}
 use Rattle.view_model.specs.declared.facts.Facts.{Facts}

@@ -2,12 +2,11 @@
 use Rattle.std.proofs.Common.{◌≡◌, ℕ, ◌+◌, ◌≤◌, Bool, true, false, Option, List, [], ◌∷◌, ◌++◌, length, append_assoc, arith, ap, ◌∙◌, sym, refl, subst, length-append}
 use Rattle.std.specs.Prelude.{if◌then◌else◌}
 use Rattle.std.proofs.lemmas.List.{append-nil}
-use Rattle.measure_pass.specs.declared.plan.Plan.{Plan}
 use Rattle.measure_pass.specs.Courses.{AfterPhase, CanTurn, InCourse, phase_calls}
 use Rattle.measure_pass.specs.Caches.{AskedAt, Grown}
 use Rattle.kept_views.specs.Kept.{Ready}
 use Rattle.measure_pass.specs.Measured.{Costs}
-use Rattle.measure_pass.specs.Plans.{Group, Stands, rule_in}
+use Rattle.measure_pass.specs.Plans.{Group, Plan, Stands, rule_in}
 use Rattle.measure_pass.proofs.Counts.{costs_nothing, costs_parts, costs_same}
 use Rattle.measure_pass.proofs.Frames.{Ready-after, Ready-along, Ready-join}
 use Rattle.measure_pass.proofs.Grows.{Grown-along, Grown-join}

@@ -5,12 +5,11 @@ use Rattle.std.proofs.lemmas.List.Sums.{sum_by-cons}
 use Rattle.std.specs.Prelude.{if◌then◌else◌, map, filter, sum_by}
 use Rattle.geom_core.specs.declared.geometry.Size.{Size}
 use Rattle.geom_core.specs.Limits.{IsSide}
-use Rattle.measure_pass.specs.declared.plan.Plan.{Plan}
 use Rattle.measure_pass.specs.Courses.{AfterAll, AfterPhase, CanTurn, InCourse, IsMeasuredBelow, MeasuredFor, StaysReady, calls_for, calls_of, from_here, has_requests, phase_calls}
 use Rattle.measure_pass.specs.Caches.{AskedAt, Grown}
 use Rattle.kept_views.specs.Kept.{IsSized, Sized, last_specs}
 use Rattle.measure_pass.specs.Measured.{calls_under}
-use Rattle.measure_pass.specs.Plans.{Group, group_by, rule_in}
+use Rattle.measure_pass.specs.Plans.{Group, Plan, group_by, rule_in}
 use Rattle.measure_pass.proofs.Counts.{costs_own, costs_same, costs_twice}
 use Rattle.measure_pass.proofs.Grows.{AskedAt-on, AskedAt-through, Grown-mono, Grown-trans}
 use Rattle.view_model.specs.Course.{Child, Course, Progress, Requested, after_phase, after_turn, asked_for, begun, course_of, last_of, measured_of, one_phase, phases_on, size_in}

@@ -2,11 +2,10 @@
 use Rattle.std.specs.Prelude.{◌≡◌, ℤ, ℕ, ◌+◌, zero, suc, Bool, true, false, if◌then◌else◌, Option, Some, None, List, [], ◌∷◌, ◌++◌, sum_by}
 use Rattle.geom_core.specs.Limits.{IsSide}
 use Rattle.geom_core.specs.declared.geometry.Size.{Size}
-use Rattle.measure_pass.specs.declared.plan.Plan.{Plan}
 use Rattle.measure_pass.specs.Caches.{AskedAt, Grown, asked_under}
 use Rattle.kept_views.specs.Kept.{IsSized, Sized, last_edges, last_specs}
 use Rattle.measure_pass.specs.Measured.{Costs, calls_under, edges_under, finals_under, size_under, total_under}
-use Rattle.measure_pass.specs.Plans.{Group, Stands, rule_in}
+use Rattle.measure_pass.specs.Plans.{Group, Plan, Stands, rule_in}
 use Rattle.view_model.specs.declared.kinds.Class.TheVariants.{RelativeLayout}
 use Rattle.view_model.specs.Course.{Child, Progress, Requested, after_phase, after_turn, last_of, measured_of, one_phase, phases_on, size_after, size_in, sizes_of}
 use Rattle.view_model.specs.Facts.{is_shown}

@@ -1,14 +1,13 @@
 -- What a plan of any group has taken so far, and what a view without children measures.
-use Rattle.std.specs.Prelude.{◌≡◌, ◌⊎◌, true, false, Bool, List, [], ◌∷◌, ◌++◌}
+use Rattle.std.specs.Prelude.{◌≡◌, true, false, Bool, List, [], ◌∷◌, ◌++◌}
 use Rattle.frame_layout.specs.FramePlan.{StandsFrame}
+use Rattle.frame_layout.specs.declared.plan.FramePlan.{FramePlan}
 use Rattle.geom_core.specs.declared.geometry.Size.{Size}
 use Rattle.linear_layout.specs.LinearPlan.{StandsLinear}
-use Rattle.measure_pass.specs.declared.plan.Plan.{Plan}
-use Rattle.measure_pass.specs.declared.plan.Plan.TheVariants.{Frame, Linear, Scroll}
+use Rattle.linear_layout.specs.declared.plan.LinearPlan.{LinearPlan}
 use Rattle.scroll_view.specs.ScrollPlan.{StandsScroll}
+use Rattle.scroll_view.specs.declared.plan.ScrollPlan.{ScrollPlan}
 use Rattle.view_model.specs.declared.facts.Facts.{Facts}
-use Rattle.view_model.specs.declared.kinds.Class.{Class}
-use Rattle.view_model.specs.declared.kinds.Class.TheVariants as class
 use Rattle.view_model.specs.FrameLayout.{frame_rule}
 use Rattle.view_model.specs.Growth.{is_group}
 use Rattle.view_model.specs.Layout.{manner_of}
@@ -31,15 +30,17 @@ rule_in group = group.rule
 abbrev pub group_by : Rule → PlainView → Specs → Group
 group_by rule view specs = record { own = view.facts; specs = specs; rule = rule }
 
+-- how a group measures its children: in each phase they come in order
+pub data Plan : Type 0 where
+  Frame : FramePlan → Plan
+  Linear : LinearPlan → Plan
+  Scroll : ScrollPlan → Plan
+
 -- the plan of a view, once these phases are over and it has taken these children in the next
 abbrev pub Stands : Plan → Group → List (List Measured) → List Measured → Type 0
 Stands (Frame plan) group past taken = (rule_in group ≡ frame_rule group.own group.specs) × StandsFrame plan group.own group.specs past taken
 Stands (Linear plan) group past taken = (rule_in group ≡ linear_rule group.own group.specs) × StandsLinear plan group.own group.specs past taken
 Stands (Scroll plan) group past taken = (rule_in group ≡ scroll_rule group.own group.specs) × StandsScroll plan group.own group.specs past taken
-
--- the classes whose children are measured by a plan: one whose children are tied to one another has none
-abbrev pub HasPlan : Class → Type 0
-HasPlan kind = (kind ≡ class.FrameLayout) ⊎ ((kind ≡ class.LinearLayout) ⊎ (kind ≡ class.ScrollView))
 
 -- the plan of a view that measures so, before its first child
 abbrev pub IsPlanOf : Manner → Plan → PlainView → Specs → Type 0

@@ -1,4 +1,4 @@
-//! Measuring a view through all views below it: the walk, which is the same for every class.
+//! Measuring a view through all views below it: the walk, with functions for each class of groups.
 ghost use Rattle.std.specs.Prelude.{◌≡◌, ◌≤◌, ◌<◌, ◌+◌, ◌-◌, ◌^◌, ℕ, min, None, true, false, [], ◌∷◌, ◌++◌, List, length};
 ghost use Rattle.geom_core.specs.Limits.{IsSide};
 ghost use Rattle.measure_pass.specs.Courses.{AfterAll, AfterPhase, CanTurn, InCourse, IsMeasuredBelow, StaysReady};
@@ -6,7 +6,7 @@ ghost use Rattle.measure_cache.specs.Entries.{found, put_in};
 ghost use Rattle.measure_pass.specs.Caches.{Grown};
 ghost use Rattle.kept_views.specs.Kept.{Ready, owed};
 ghost use Rattle.measure_pass.specs.Measured.{Costs, Counted, IsFit, IsKnown, IsMeasured, IsReady, Keeps, calls_under, current, done_with, entry_for, hit_with, made_up, size_under, total_under};
-ghost use Rattle.measure_pass.specs.Plans.{Group, HasPlan, Stands, rule_in};
+ghost use Rattle.measure_pass.specs.Plans.{Frame, Group, Linear, Scroll, Stands, rule_in};
 ghost use Rattle.measure_pass.specs.Siblings.{AfterTurn, AfterTurns, FirstHasSize, FirstIsKnown, TurnIsFixed, kept_spans, kids_in, order_on, phase_of};
 ghost use Rattle.relative_layout.specs.RelativePlan.{StandsRelative};
 ghost use Rattle.view_model.specs.declared.facts.Facts.{Facts as FactsValue};
@@ -18,16 +18,22 @@ ghost use Rattle.view_model.specs.RelativeLayout.{Spanned, phase_axis};
 ghost use Rattle.view_model.specs.Cycles.{links_in};
 ghost use Rattle.view_tree.specs.Ordering.{AreOrders};
 ghost use Rattle.view_tree.specs.Rows.{first_tree, children_of_first, part_from, siblings_from, views_of};
-ghost use Rattle.view_model.specs.declared.kinds.Class.TheVariants.{RelativeLayout};
+ghost use Rattle.view_model.specs.declared.kinds.Class.TheVariants.{FrameLayout, LinearLayout, RelativeLayout, ScrollView};
 ghost use Rattle.view_tree.specs.Views.{IsLive, IsTree, KeepsOthers, KeepsOutside, SameTree, cache_of, class_of, held_of, orders_of, specs_of, state_of};
 
 use crate::anchors::anchors_of;
-use crate::plan::{Plan, minimal_size};
+use crate::plan::{
+    frame_ask, frame_take, frame_turn, linear_ask, linear_take, linear_turn, minimal_size,
+    scroll_ask, scroll_take, scroll_turn,
+};
 use crate::siblings::{edges_before, keep_edges, kid_in_turn, settle, turns};
 use crate::text_size::text_size;
+use frame_layout::FramePlan;
 use geom_core::{Size, Spec};
+use linear_layout::LinearPlan;
 use measure_cache::same_spec;
 use relative_layout::RelativePlan;
+use scroll_view::ScrollPlan;
 use view_model::{Axis, Class, Work};
 use view_tree::{Key, State, ViewTree};
 
@@ -213,18 +219,20 @@ fn measure_below(tree: &mut ViewTree, view: Key, ws: Spec, hs: Spec, work: &mut 
             size: text_size(facts, tree.text(view), ws, hs),
             total: 0,
         },
+        Class::FrameLayout => measure_frame(tree, view, ws, hs, work),
+        Class::LinearLayout => measure_linear(tree, view, ws, hs, work),
+        Class::ScrollView => measure_scroll(tree, view, ws, hs, work),
         Class::RelativeLayout => measure_siblings(tree, view, ws, hs, work),
-        _ => measure_group(tree, view, ws, hs, work),
     }
 }
 
-/// Measures what is below a group that has a plan, and says what that comes to. What a plan holds is cleared where the
-/// function that holds it begins, so it has one of its own, which no view without children comes to.
+/// Measures what is below a frame layout, and says what that comes to. What a plan holds is cleared where the function
+/// that holds it begins, and stays on the stack while what is below is measured, so each class has functions of its own.
 #[cycle(measure)]
 #[inline(never)]
-fn measure_group(tree: &mut ViewTree, view: Key, ws: Spec, hs: Spec, work: &mut Work) -> Outcome
+fn measure_frame(tree: &mut ViewTree, view: Key, ws: Spec, hs: Spec, work: &mut Work) -> Outcome
     requires live { IsLive tree.old view }
-    requires class { HasPlan (class_of tree.old view) }
+    requires class { class_of tree.old view ≡ FrameLayout }
     requires ready { Ready (held_of tree.old) (children_of_first (part_from view tree.old.tree)) }
     ensures ready { Ready (held_of tree.new) (children_of_first (part_from view tree.old.tree)) }
     ensures is_tree { IsTree tree.old }
@@ -235,8 +243,48 @@ fn measure_group(tree: &mut ViewTree, view: Key, ws: Spec, hs: Spec, work: &mut 
     ensures others { KeepsOutside (held_of tree.old) (held_of tree.new) (children_of_first (part_from view tree.old.tree)) }
     ensures counted { Counted 0 tree.old tree.new work.old work.new }
 {
-    let mut plan = Plan::start(tree, view, ws, hs);
-    measure_phases(tree, view, &mut plan, 2, work)
+    let mut plan = FramePlan::start(tree.facts(view), ws, hs);
+    frame_phases(tree, view, &mut plan, 2, work)
+}
+
+/// The same of a linear layout.
+#[cycle(measure)]
+#[inline(never)]
+fn measure_linear(tree: &mut ViewTree, view: Key, ws: Spec, hs: Spec, work: &mut Work) -> Outcome
+    requires live { IsLive tree.old view }
+    requires class { class_of tree.old view ≡ LinearLayout }
+    requires ready { Ready (held_of tree.old) (children_of_first (part_from view tree.old.tree)) }
+    ensures ready { Ready (held_of tree.new) (children_of_first (part_from view tree.old.tree)) }
+    ensures is_tree { IsTree tree.old }
+    ensures measured { IsMeasuredBelow (part_from view tree.old.tree) (record { across = ws; down = hs }) (held_of tree.old) (held_of tree.new)
+        result.size result.total work.old.measured work.new.measured }
+    ensures same { SameTree tree.old tree.new }
+    ensures keeps { Keeps (held_of tree.old) (held_of tree.new) }
+    ensures others { KeepsOutside (held_of tree.old) (held_of tree.new) (children_of_first (part_from view tree.old.tree)) }
+    ensures counted { Counted 0 tree.old tree.new work.old work.new }
+{
+    let mut plan = LinearPlan::start(tree.facts(view), ws, hs);
+    linear_phases(tree, view, &mut plan, 2, work)
+}
+
+/// The same of a scroll view.
+#[cycle(measure)]
+#[inline(never)]
+fn measure_scroll(tree: &mut ViewTree, view: Key, ws: Spec, hs: Spec, work: &mut Work) -> Outcome
+    requires live { IsLive tree.old view }
+    requires class { class_of tree.old view ≡ ScrollView }
+    requires ready { Ready (held_of tree.old) (children_of_first (part_from view tree.old.tree)) }
+    ensures ready { Ready (held_of tree.new) (children_of_first (part_from view tree.old.tree)) }
+    ensures is_tree { IsTree tree.old }
+    ensures measured { IsMeasuredBelow (part_from view tree.old.tree) (record { across = ws; down = hs }) (held_of tree.old) (held_of tree.new)
+        result.size result.total work.old.measured work.new.measured }
+    ensures same { SameTree tree.old tree.new }
+    ensures keeps { Keeps (held_of tree.old) (held_of tree.new) }
+    ensures others { KeepsOutside (held_of tree.old) (held_of tree.new) (children_of_first (part_from view tree.old.tree)) }
+    ensures counted { Counted 0 tree.old tree.new work.old work.new }
+{
+    let mut plan = ScrollPlan::start(tree.facts(view), ws, hs);
+    scroll_phases(tree, view, &mut plan, 2, work)
 }
 
 /// Measures what is below a relative layout under these specs: each child on the horizontal axis and then each on the
@@ -343,12 +391,12 @@ fn measure_in_turn(
     keep_edges(tree, kid, edges);
 }
 
-/// The phases of a view's measuring that are left, up to so many after the next, and what they come to.
+/// The phases of a frame layout's measuring that are left, up to so many after the next, and what they come to.
 #[cycle(measure)]
-fn measure_phases(
+fn frame_phases(
     tree: &mut ViewTree,
     view: Key,
-    plan: &mut Plan,
+    plan: &mut FramePlan,
     left: usize,
     work: &mut Work,
 ) -> Outcome
@@ -358,7 +406,7 @@ fn measure_phases(
     ensures ready { Ready (held_of tree.new) (children_of_first (part_from view tree.old.tree)) }
     ensures is_tree { IsTree tree.old }
     ensures phases { (group : Group) (past : List (List Measured)) (kids : List Requested)
-        → Stands plan.old group past []
+        → Stands (Frame plan.old) group past []
         → InCourse (held_of tree.old) (children_of_first (part_from view tree.old.tree)) kids
         → StaysReady (rule_in group) left (record { past = past; kids = kids })
         → AfterAll group left (record { past = past; kids = kids }) (held_of tree.old) (held_of tree.new) (children_of_first (part_from view tree.old.tree))
@@ -368,43 +416,28 @@ fn measure_phases(
     ensures others { KeepsOutside (held_of tree.old) (held_of tree.new) (children_of_first (part_from view tree.old.tree)) }
     ensures counted { Counted 0 tree.old tree.new work.old work.new }
 {
-    measure_kids(tree, view, plan, work);
+    frame_kids(tree, view, plan, work);
     if left == 0 {
-        return outcome_of(plan);
+        return frame_outcome(plan);
     }
-    if !plan.turn() {
-        return outcome_of(plan);
+    if !frame_turn(plan) {
+        return frame_outcome(plan);
     }
-    measure_phases(tree, view, plan, left - 1, work)
+    frame_phases(tree, view, plan, left - 1, work)
 }
 
-/// What a plan comes to after its last phase.
-fn outcome_of(plan: &Plan) -> Outcome
-    ensures size { (group : Group) (past : List (List Measured)) (taken : List Measured)
-        → Stands plan.now group past taken
-        → result.size ≡ (rule_in group).size (past ++ taken ∷ []) }
-    ensures total { (group : Group) (past : List (List Measured)) (taken : List Measured)
-        → Stands plan.now group past taken
-        → result.total ≡ (rule_in group).total (past ++ taken ∷ []) }
-{
-    Outcome {
-        size: plan.finish(),
-        total: plan.total(),
-    }
-}
-
-/// One phase of a view's measuring: each of its children in order, as the plan asks for it.
+/// One phase of a frame layout's measuring: each of its children in order, as the plan asks for it.
 #[cycle(measure)]
-fn measure_kids(tree: &mut ViewTree, view: Key, plan: &mut Plan, work: &mut Work)
+fn frame_kids(tree: &mut ViewTree, view: Key, plan: &mut FramePlan, work: &mut Work)
     requires live { IsLive tree.old view }
     requires ready { Ready (held_of tree.old) (children_of_first (part_from view tree.old.tree)) }
     ensures ready { Ready (held_of tree.new) (children_of_first (part_from view tree.old.tree)) }
     ensures is_tree { IsTree tree.old }
     ensures phase { (group : Group) (past : List (List Measured)) (kids : List Requested)
-        → Stands plan.old group past []
+        → Stands (Frame plan.old) group past []
         → InCourse (held_of tree.old) (children_of_first (part_from view tree.old.tree)) kids
         → CanTurn (rule_in group) past kids
-        → AfterPhase plan.new group past [] kids (held_of tree.old) (held_of tree.new) (children_of_first (part_from view tree.old.tree)) work.old.measured work.new.measured }
+        → AfterPhase (Frame plan.new) group past [] kids (held_of tree.old) (held_of tree.new) (children_of_first (part_from view tree.old.tree)) work.old.measured work.new.measured }
     ensures same { SameTree tree.old tree.new }
     ensures keeps { Keeps (held_of tree.old) (held_of tree.new) }
     ensures others { KeepsOutside (held_of tree.old) (held_of tree.new) (children_of_first (part_from view tree.old.tree)) }
@@ -412,23 +445,23 @@ fn measure_kids(tree: &mut ViewTree, view: Key, plan: &mut Plan, work: &mut Work
 {
     let mut next = tree.first(view);
     while let Some(kid) = next {
-        measure_kid(tree, kid, plan, work);
+        frame_kid(tree, kid, plan, work);
         next = tree.next(kid);
     }
 }
 
-/// Measures a child as the plan of its group asks for it, if it takes part in layout.
+/// Measures a child as the plan of a frame layout asks for it, if it takes part in layout.
 #[cycle(measure)]
-fn measure_kid(tree: &mut ViewTree, kid: Key, plan: &mut Plan, work: &mut Work)
+fn frame_kid(tree: &mut ViewTree, kid: Key, plan: &mut FramePlan, work: &mut Work)
     requires live { IsLive tree.old kid }
     requires ready { Ready (held_of tree.old) (first_tree (part_from kid tree.old.tree)) }
     ensures ready { Ready (held_of tree.new) (first_tree (part_from kid tree.old.tree)) }
     ensures phase { (group : Group) (past : List (List Measured)) (taken : List Measured) (kids : List Requested)
-        → Stands plan.old group past taken
+        → Stands (Frame plan.old) group past taken
         → length taken + count_of (first_tree (part_from kid tree.old.tree)) ≤ MAX_VIEWS
         → InCourse (held_of tree.old) (first_tree (part_from kid tree.old.tree)) kids
         → CanTurn (rule_in group) past kids
-        → AfterPhase plan.new group past taken kids (held_of tree.old) (held_of tree.new) (first_tree (part_from kid tree.old.tree)) work.old.measured work.new.measured }
+        → AfterPhase (Frame plan.new) group past taken kids (held_of tree.old) (held_of tree.new) (first_tree (part_from kid tree.old.tree)) work.old.measured work.new.measured }
     ensures same { SameTree tree.old tree.new }
     ensures keeps { Keeps (held_of tree.old) (held_of tree.new) }
     ensures others { KeepsOutside (held_of tree.old) (held_of tree.new) (first_tree (part_from kid tree.old.tree)) }
@@ -439,10 +472,233 @@ fn measure_kid(tree: &mut ViewTree, kid: Key, plan: &mut Plan, work: &mut Work)
         return;
     }
     let present = tree.state(kid).measured;
-    let Some((across, down)) = plan.ask(facts, present) else {
-        plan.take(facts, present);
+    let Some((across, down)) = frame_ask(plan, facts, present) else {
+        frame_take(plan, facts, present);
         return;
     };
     let size = measure(tree, kid, across, down, work);
-    plan.take(tree.facts(kid), size);
+    frame_take(plan, tree.facts(kid), size);
+}
+
+/// What the plan of a frame layout comes to after its last phase.
+fn frame_outcome(plan: &FramePlan) -> Outcome
+    ensures size { (group : Group) (past : List (List Measured)) (taken : List Measured)
+        → Stands (Frame plan.now) group past taken
+        → result.size ≡ (rule_in group).size (past ++ taken ∷ []) }
+    ensures total { (group : Group) (past : List (List Measured)) (taken : List Measured)
+        → Stands (Frame plan.now) group past taken
+        → result.total ≡ (rule_in group).total (past ++ taken ∷ []) }
+{
+    Outcome {
+        size: plan.finish(),
+        total: 0,
+    }
+}
+
+/// The phases of a linear layout's measuring that are left, up to so many after the next, and what they come to.
+#[cycle(measure)]
+fn linear_phases(
+    tree: &mut ViewTree,
+    view: Key,
+    plan: &mut LinearPlan,
+    left: usize,
+    work: &mut Work,
+) -> Outcome
+    requires live { IsLive tree.old view }
+    requires left { left ≤ 2 }
+    requires ready { Ready (held_of tree.old) (children_of_first (part_from view tree.old.tree)) }
+    ensures ready { Ready (held_of tree.new) (children_of_first (part_from view tree.old.tree)) }
+    ensures is_tree { IsTree tree.old }
+    ensures phases { (group : Group) (past : List (List Measured)) (kids : List Requested)
+        → Stands (Linear plan.old) group past []
+        → InCourse (held_of tree.old) (children_of_first (part_from view tree.old.tree)) kids
+        → StaysReady (rule_in group) left (record { past = past; kids = kids })
+        → AfterAll group left (record { past = past; kids = kids }) (held_of tree.old) (held_of tree.new) (children_of_first (part_from view tree.old.tree))
+        result.size result.total work.old.measured work.new.measured }
+    ensures same { SameTree tree.old tree.new }
+    ensures keeps { Keeps (held_of tree.old) (held_of tree.new) }
+    ensures others { KeepsOutside (held_of tree.old) (held_of tree.new) (children_of_first (part_from view tree.old.tree)) }
+    ensures counted { Counted 0 tree.old tree.new work.old work.new }
+{
+    linear_kids(tree, view, plan, work);
+    if left == 0 {
+        return linear_outcome(plan);
+    }
+    if !linear_turn(plan) {
+        return linear_outcome(plan);
+    }
+    linear_phases(tree, view, plan, left - 1, work)
+}
+
+/// One phase of a linear layout's measuring: each of its children in order, as the plan asks for it.
+#[cycle(measure)]
+fn linear_kids(tree: &mut ViewTree, view: Key, plan: &mut LinearPlan, work: &mut Work)
+    requires live { IsLive tree.old view }
+    requires ready { Ready (held_of tree.old) (children_of_first (part_from view tree.old.tree)) }
+    ensures ready { Ready (held_of tree.new) (children_of_first (part_from view tree.old.tree)) }
+    ensures is_tree { IsTree tree.old }
+    ensures phase { (group : Group) (past : List (List Measured)) (kids : List Requested)
+        → Stands (Linear plan.old) group past []
+        → InCourse (held_of tree.old) (children_of_first (part_from view tree.old.tree)) kids
+        → CanTurn (rule_in group) past kids
+        → AfterPhase (Linear plan.new) group past [] kids (held_of tree.old) (held_of tree.new) (children_of_first (part_from view tree.old.tree)) work.old.measured work.new.measured }
+    ensures same { SameTree tree.old tree.new }
+    ensures keeps { Keeps (held_of tree.old) (held_of tree.new) }
+    ensures others { KeepsOutside (held_of tree.old) (held_of tree.new) (children_of_first (part_from view tree.old.tree)) }
+    ensures counted { Counted 0 tree.old tree.new work.old work.new }
+{
+    let mut next = tree.first(view);
+    while let Some(kid) = next {
+        linear_kid(tree, kid, plan, work);
+        next = tree.next(kid);
+    }
+}
+
+/// Measures a child as the plan of a linear layout asks for it, if it takes part in layout.
+#[cycle(measure)]
+fn linear_kid(tree: &mut ViewTree, kid: Key, plan: &mut LinearPlan, work: &mut Work)
+    requires live { IsLive tree.old kid }
+    requires ready { Ready (held_of tree.old) (first_tree (part_from kid tree.old.tree)) }
+    ensures ready { Ready (held_of tree.new) (first_tree (part_from kid tree.old.tree)) }
+    ensures phase { (group : Group) (past : List (List Measured)) (taken : List Measured) (kids : List Requested)
+        → Stands (Linear plan.old) group past taken
+        → length taken + count_of (first_tree (part_from kid tree.old.tree)) ≤ MAX_VIEWS
+        → InCourse (held_of tree.old) (first_tree (part_from kid tree.old.tree)) kids
+        → CanTurn (rule_in group) past kids
+        → AfterPhase (Linear plan.new) group past taken kids (held_of tree.old) (held_of tree.new) (first_tree (part_from kid tree.old.tree)) work.old.measured work.new.measured }
+    ensures same { SameTree tree.old tree.new }
+    ensures keeps { Keeps (held_of tree.old) (held_of tree.new) }
+    ensures others { KeepsOutside (held_of tree.old) (held_of tree.new) (first_tree (part_from kid tree.old.tree)) }
+    ensures counted { Counted 0 tree.old tree.new work.old work.new }
+{
+    let facts = tree.facts(kid);
+    if !facts.is_shown() {
+        return;
+    }
+    let present = tree.state(kid).measured;
+    let Some((across, down)) = linear_ask(plan, facts, present) else {
+        linear_take(plan, facts, present);
+        return;
+    };
+    let size = measure(tree, kid, across, down, work);
+    linear_take(plan, tree.facts(kid), size);
+}
+
+/// What the plan of a linear layout comes to after its last phase.
+fn linear_outcome(plan: &LinearPlan) -> Outcome
+    ensures size { (group : Group) (past : List (List Measured)) (taken : List Measured)
+        → Stands (Linear plan.now) group past taken
+        → result.size ≡ (rule_in group).size (past ++ taken ∷ []) }
+    ensures total { (group : Group) (past : List (List Measured)) (taken : List Measured)
+        → Stands (Linear plan.now) group past taken
+        → result.total ≡ (rule_in group).total (past ++ taken ∷ []) }
+{
+    Outcome {
+        size: plan.finish(),
+        total: plan.total(),
+    }
+}
+
+/// The phases of a scroll view's measuring that are left, up to so many after the next, and what they come to.
+#[cycle(measure)]
+fn scroll_phases(
+    tree: &mut ViewTree,
+    view: Key,
+    plan: &mut ScrollPlan,
+    left: usize,
+    work: &mut Work,
+) -> Outcome
+    requires live { IsLive tree.old view }
+    requires left { left ≤ 2 }
+    requires ready { Ready (held_of tree.old) (children_of_first (part_from view tree.old.tree)) }
+    ensures ready { Ready (held_of tree.new) (children_of_first (part_from view tree.old.tree)) }
+    ensures is_tree { IsTree tree.old }
+    ensures phases { (group : Group) (past : List (List Measured)) (kids : List Requested)
+        → Stands (Scroll plan.old) group past []
+        → InCourse (held_of tree.old) (children_of_first (part_from view tree.old.tree)) kids
+        → StaysReady (rule_in group) left (record { past = past; kids = kids })
+        → AfterAll group left (record { past = past; kids = kids }) (held_of tree.old) (held_of tree.new) (children_of_first (part_from view tree.old.tree))
+        result.size result.total work.old.measured work.new.measured }
+    ensures same { SameTree tree.old tree.new }
+    ensures keeps { Keeps (held_of tree.old) (held_of tree.new) }
+    ensures others { KeepsOutside (held_of tree.old) (held_of tree.new) (children_of_first (part_from view tree.old.tree)) }
+    ensures counted { Counted 0 tree.old tree.new work.old work.new }
+{
+    scroll_kids(tree, view, plan, work);
+    if left == 0 {
+        return scroll_outcome(plan);
+    }
+    if !scroll_turn(plan) {
+        return scroll_outcome(plan);
+    }
+    scroll_phases(tree, view, plan, left - 1, work)
+}
+
+/// One phase of a scroll view's measuring: each of its children in order, as the plan asks for it.
+#[cycle(measure)]
+fn scroll_kids(tree: &mut ViewTree, view: Key, plan: &mut ScrollPlan, work: &mut Work)
+    requires live { IsLive tree.old view }
+    requires ready { Ready (held_of tree.old) (children_of_first (part_from view tree.old.tree)) }
+    ensures ready { Ready (held_of tree.new) (children_of_first (part_from view tree.old.tree)) }
+    ensures is_tree { IsTree tree.old }
+    ensures phase { (group : Group) (past : List (List Measured)) (kids : List Requested)
+        → Stands (Scroll plan.old) group past []
+        → InCourse (held_of tree.old) (children_of_first (part_from view tree.old.tree)) kids
+        → CanTurn (rule_in group) past kids
+        → AfterPhase (Scroll plan.new) group past [] kids (held_of tree.old) (held_of tree.new) (children_of_first (part_from view tree.old.tree)) work.old.measured work.new.measured }
+    ensures same { SameTree tree.old tree.new }
+    ensures keeps { Keeps (held_of tree.old) (held_of tree.new) }
+    ensures others { KeepsOutside (held_of tree.old) (held_of tree.new) (children_of_first (part_from view tree.old.tree)) }
+    ensures counted { Counted 0 tree.old tree.new work.old work.new }
+{
+    let mut next = tree.first(view);
+    while let Some(kid) = next {
+        scroll_kid(tree, kid, plan, work);
+        next = tree.next(kid);
+    }
+}
+
+/// Measures a child as the plan of a scroll view asks for it, if it takes part in layout.
+#[cycle(measure)]
+fn scroll_kid(tree: &mut ViewTree, kid: Key, plan: &mut ScrollPlan, work: &mut Work)
+    requires live { IsLive tree.old kid }
+    requires ready { Ready (held_of tree.old) (first_tree (part_from kid tree.old.tree)) }
+    ensures ready { Ready (held_of tree.new) (first_tree (part_from kid tree.old.tree)) }
+    ensures phase { (group : Group) (past : List (List Measured)) (taken : List Measured) (kids : List Requested)
+        → Stands (Scroll plan.old) group past taken
+        → length taken + count_of (first_tree (part_from kid tree.old.tree)) ≤ MAX_VIEWS
+        → InCourse (held_of tree.old) (first_tree (part_from kid tree.old.tree)) kids
+        → CanTurn (rule_in group) past kids
+        → AfterPhase (Scroll plan.new) group past taken kids (held_of tree.old) (held_of tree.new) (first_tree (part_from kid tree.old.tree)) work.old.measured work.new.measured }
+    ensures same { SameTree tree.old tree.new }
+    ensures keeps { Keeps (held_of tree.old) (held_of tree.new) }
+    ensures others { KeepsOutside (held_of tree.old) (held_of tree.new) (first_tree (part_from kid tree.old.tree)) }
+    ensures counted { Counted 0 tree.old tree.new work.old work.new }
+{
+    let facts = tree.facts(kid);
+    if !facts.is_shown() {
+        return;
+    }
+    let present = tree.state(kid).measured;
+    let Some((across, down)) = scroll_ask(plan, facts, present) else {
+        scroll_take(plan, facts, present);
+        return;
+    };
+    let size = measure(tree, kid, across, down, work);
+    scroll_take(plan, tree.facts(kid), size);
+}
+
+/// What the plan of a scroll view comes to after its last phase.
+fn scroll_outcome(plan: &ScrollPlan) -> Outcome
+    ensures size { (group : Group) (past : List (List Measured)) (taken : List Measured)
+        → Stands (Scroll plan.now) group past taken
+        → result.size ≡ (rule_in group).size (past ++ taken ∷ []) }
+    ensures total { (group : Group) (past : List (List Measured)) (taken : List Measured)
+        → Stands (Scroll plan.now) group past taken
+        → result.total ≡ (rule_in group).total (past ++ taken ∷ []) }
+{
+    Outcome {
+        size: plan.finish(),
+        total: 0,
+    }
 }

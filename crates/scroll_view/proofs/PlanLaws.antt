@@ -1,11 +1,11 @@
 -- What a plan answers and becomes, phase by phase.
-use Rattle.std.proofs.Common.{◌≡◌, Bool, true, false, Some, None, List, [], ◌∷◌, ◌++◌, ap, sym, ◌∙◌}
+use Rattle.std.proofs.Common.{◌≡◌, ℤ, Bool, true, false, Some, None, List, [], ◌∷◌, ◌++◌, ap, refl, sym, ◌∙◌}
 use Rattle.std.specs.Prelude.{if◌then◌else◌}
 use Rattle.frame_layout.specs.declared.plan.FramePlan.{FramePlan}
 use Rattle.frame_layout.specs.FramePlan.{StandsFrame}
 use Rattle.geom_core.specs.declared.geometry.Size.{Size}
 use Rattle.scroll_view.specs.declared.plan.ScrollPlan.{ScrollPlan}
-use Rattle.scroll_view.specs.ScrollPlan.{StandsScroll, own_in, specs_in}
+use Rattle.scroll_view.specs.ScrollPlan.{StandsScroll, own_in, scrolled, specs_in}
 use Rattle.view_model.specs.declared.facts.Facts.{Facts}
 use Rattle.view_model.specs.FrameLayout.{frame_own_size, frame_size}
 use Rattle.view_model.specs.Measuring.{Measured, Specs, taken_as}
@@ -18,6 +18,11 @@ no_both off on = let e : true ≡ false = sym on ∙ off in absurd (cc)
 abbrev pub IsRoom : ScrollPlan → Size → Type 0
 IsRoom plan room = (own : Facts) (specs : Specs) (first : List Measured) → StandsFrame plan.frame own specs [] first → room ≡ frame_size own specs first
 
+-- of a group it reads no more
+short-scrolled : (own : Facts) (height : ℤ) (kid : Measured) → is_short (scrolled own) height kid ≡ is_short own height kid
+unfolding is_short
+short-scrolled own height kid = refl
+
 -- in the second phase it asks for those that are too short
 pub ask-filling : (plan : ScrollPlan) (own : Facts) (specs : Specs) (past : List (List Measured)) (taken : List Measured) (kid : Measured) (room : Size)
     → plan.filling ≡ true → IsRoom plan room → StandsScroll plan own specs past taken
@@ -26,6 +31,7 @@ ask-filling plan own specs [] taken kid room filling is stands = no_both stands.
 ask-filling plan own specs (first ∷ []) taken kid room filling is stands =
     let answer = λ (own : Facts) (specs : Specs) (room : Size). if is_short own room.h kid then Some (filling_specs own specs room.h kid.facts) else None in
     ap (λ own. answer own (specs_in plan) room) stands.0.own_facts
+    ∙ ap (λ v. if v then Some (filling_specs own (specs_in plan) room.h kid.facts) else None) (short-scrolled own room.h kid)
     ∙ ap (λ specs. answer own specs room) stands.0.own_specs
     ∙ ap (λ room. answer own specs room) (is own specs first stands.0.frame)
 ask-filling plan own specs (first ∷ second ∷ more) taken kid room filling is stands = absurd stands

@@ -1,22 +1,29 @@
 -- What a plan stands for: a group, its specs, and the children that it has taken in each phase.
-use Rattle.std.specs.Prelude.{◌≡◌, Bool, true, false, List, [], ◌∷◌, ◌++◌}
+use Rattle.std.specs.Prelude.{◌≡◌, pos, Bool, true, false, List, [], ◌∷◌, ◌++◌}
 use Rattle.frame_layout.specs.FramePlan.{StandsFrame}
 use Rattle.scroll_view.specs.declared.plan.ScrollPlan.{ScrollPlan}
 use Rattle.view_model.specs.declared.facts.Facts.{Facts}
-use Rattle.view_model.specs.Facts.{layout_facts}
+use Rattle.view_model.specs.Facts.{new_facts, padding_left, padding_right}
 use Rattle.view_model.specs.Measuring.{Specs, Measured}
 use Rattle.view_model.specs.ScrollView.{scroll_rule}
 
--- the facts and the specs that a plan has
+-- a group of which nothing is set but what a plan reads of it, and the specs of the plan
 abbrev pub own_in : ScrollPlan → Facts
-own_in plan = layout_facts plan.own
+own_in plan = record (new_facts (pos 0) (pos 0)) { padding = plan.padding; fill = plan.fill }
+
+-- that of a group, each padding as it comes out
+abbrev pub scrolled : Facts → Facts
+scrolled own = record (new_facts (pos 0) (pos 0)) {
+  padding = record { left = padding_left own; right = padding_right own; top = own.padding.top; bottom = own.padding.bottom };
+  fill = own.fill;
+}
 
 abbrev pub specs_in : ScrollPlan → Specs
 specs_in plan = record { across = plan.ws; down = plan.hs }
 
 -- the plan of a group with these facts under these specs, which took these children in its first phase
 pub record HasTaken (plan : ScrollPlan) (own : Facts) (specs : Specs) (first : List Measured) : Type 0 where
-  pub own_facts : own_in plan ≡ own
+  pub own_facts : own_in plan ≡ scrolled own
   pub own_specs : specs_in plan ≡ specs
   pub frame : StandsFrame plan.frame own specs [] first
 

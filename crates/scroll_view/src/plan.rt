@@ -3,12 +3,12 @@ ghost use Rattle.std.specs.Prelude.{◌≡◌, negsuc, pos, ◌+ℤ◌, ◌-ℤ�
 ghost use Rattle.std.specs.Option.{option_map};
 ghost use Rattle.geom_core.specs.Limits.{IsSide};
 ghost use Rattle.view_model.specs.declared.facts.Facts.{Facts as FactsValue};
-ghost use Rattle.view_model.specs.Facts.{layout_facts};
+ghost use Rattle.view_model.specs.Facts.{layout_facts, padding_across, padding_down};
 ghost use Rattle.view_model.specs.Measuring.{Specs, Measured, pair_of, taken_as};
 ghost use Rattle.view_model.specs.ScrollView.{filling_specs, free_specs, is_filled, is_short, scroll_rule, is_unspecified};
 
 use frame_layout::FramePlan;
-use geom_core::{Mode, Size, Spec, remaining};
+use geom_core::{Insets, Mode, Size, Spec, remaining};
 use view_model::{Facts, child_spec_within};
 
 /// The measuring of one scroll view. In its first phase a child is measured with any height; in the second, where the group
@@ -16,7 +16,10 @@ use view_model::{Facts, child_spec_within};
 /// measuring, `take`.
 #[derive(Clone, Copy, Debug)]
 pub struct ScrollPlan {
-    own: Facts,
+    /// On each side, as it comes out.
+    padding: Insets,
+    /// Whether a child is to fill the group.
+    fill: bool,
     ws: Spec,
     hs: Spec,
     /// What a frame layout makes of the sizes of the first phase.
@@ -29,11 +32,18 @@ impl ScrollPlan {
     ghost use Rattle.scroll_view.specs.ScrollPlan.{StandsScroll, TurnsScroll, own_in, specs_in};
 
     /// The plan of a group with these facts under these specs, before its first child.
+    #[inline(always)]
     pub fn start(own: &Facts, ws: Spec, hs: Spec) -> ScrollPlan
         ensures { StandsScroll result (layout_facts own.now) (record { across = ws; down = hs }) [] [] }
     {
         ScrollPlan {
-            own: *own,
+            padding: Insets {
+                left: own.padding_left(),
+                top: own.padding.top,
+                right: own.padding_right(),
+                bottom: own.padding.bottom,
+            },
+            fill: own.fill,
             ws,
             hs,
             frame: FramePlan::start(own, ws, hs),
@@ -96,13 +106,31 @@ impl ScrollPlan {
         self.frame.finish()
     }
 
+    /// Both paddings from left to right.
+    fn padding_across(&self) -> i64
+        ensures value { result ≡ padding_across (own_in self.now) }
+        ensures low { negsuc 4294967295 ≤ℤ result }
+        ensures high { result ≤ℤ pos 4294967294 }
+    {
+        i64::from(self.padding.left) + i64::from(self.padding.right)
+    }
+
+    /// Both paddings from top to bottom.
+    fn padding_down(&self) -> i64
+        ensures value { result ≡ padding_down (own_in self.now) }
+        ensures low { negsuc 4294967295 ≤ℤ result }
+        ensures high { result ≤ℤ pos 4294967294 }
+    {
+        i64::from(self.padding.top) + i64::from(self.padding.bottom)
+    }
+
     /// The spec of a child's width, in both phases.
     fn width_spec(&self, kid: &Facts) -> Spec
         ensures { result ≡ (free_specs (own_in self.now) (specs_in self.now) (layout_facts kid.now)).across }
     {
         child_spec_within(
             self.ws,
-            self.own.padding_across(),
+            self.padding_across(),
             kid.margins_across(),
             kid.width,
         )
@@ -114,7 +142,7 @@ impl ScrollPlan {
     {
         let height = Spec {
             mode: Mode::Unspecified,
-            size: remaining(self.hs.size, self.own.padding_down() + kid.margins_down()),
+            size: remaining(self.hs.size, self.padding_down() + kid.margins_down()),
         };
         (self.width_spec(kid), height)
     }
@@ -132,7 +160,7 @@ impl ScrollPlan {
     {
         Spec {
             mode: Mode::Exactly,
-            size: remaining(height, self.own.padding_down() + kid.margins_down()),
+            size: remaining(height, self.padding_down() + kid.margins_down()),
         }
     }
 
@@ -141,14 +169,14 @@ impl ScrollPlan {
     fn is_short(&self, room: Size, kid: &Facts, size: Size) -> bool
         ensures { result ≡ is_short (own_in self.now) room.h (record { facts = layout_facts kid.now; size = size }) }
     {
-        is_below(size.h, room.h, self.own.padding_down(), kid.margins_down())
+        is_below(size.h, room.h, self.padding_down(), kid.margins_down())
     }
 
     /// Whether a child is to fill the group.
     fn is_filled(&self) -> bool
         ensures { result ≡ is_filled (own_in self.now) (specs_in self.now) }
     {
-        self.own.fill && !is_unspecified(self.hs)
+        self.fill && !is_unspecified(self.hs)
     }
 }
 

@@ -1,7 +1,6 @@
 -- Laws of what contracts see of a tree.
 pub mod ChangeLaws
 pub mod GeometryLaws
-pub mod HiddenLaws
 pub mod KeptLaws
 pub mod LayoutLaws
 pub mod OffsetLaws

@@ -6,12 +6,10 @@ use Rattle.view_model.specs.declared.facts.Facts.{Facts}
 use Rattle.view_model.specs.Facts.{unscrolled_facts}
 use Rattle.view_model.specs.Forest.{Forest, Nothing, Branch}
 use Rattle.view_model.specs.PlainTree.{PlainView}
-use Rattle.view_tree.specs.declared.state.State.{State}
 use Rattle.view_tree.specs.Rows.{Row, changed_at_key, count_of_key, head_view, part_from}
-use Rattle.view_tree.specs.Views.{IsLive, IsTree, Unscrolled, Views, facts_of, geometry_of, held_of, laid_rows}
+use Rattle.view_tree.specs.Views.{IsLive, IsTree, Unscrolled, Views, facts_of}
 use Rattle.view_tree.proofs.forest.KeyLaws.{Within, absent, here, in_after, in_below, located, or_else_live, zero_or_more}
 use Rattle.view_tree.proofs.forest.NumberLaws.{put_absent}
-use Rattle.view_tree.proofs.values.GeometryLaws.{laid_along}
 
 -- facts that a view has already change nothing
 same_put : (key : ℕ) (facts : Facts) (tree : Forest Row) → 0 < count_of_key key tree → count_of_key key tree ≤ 1 → facts ≡ (head_view (part_from key tree)).facts
@@ -51,8 +49,3 @@ offset_put views key facts offset is live set =
     let own = (head_view (part_from key views.tree)).facts in
     let flat : pos 0 ≡ own.offset = sym (flat_head key views.tree live is.unscrolled) in
     same_put key (unscrolled_facts facts) views.tree live (is.keys key) (ap unscrolled_facts set ∙ ap (λ (offset : ℤ). record own { offset = offset }) flat)
-
--- where the tree and the states are the same, views lie where they lay
-pub same_geometry : (old new : Views) → new.tree ≡ old.tree → ((key : ℕ) → (held_of new key).state ≡ (held_of old key).state) → geometry_of new ≡ geometry_of old
-same_geometry old new tree same =
-    ap (laid_rows (held_of new)) tree ∙ laid_along (held_of old) (held_of new) old.tree (λ key live. ap (λ (state : State). state.bounds) (same key))

@@ -1,12 +1,12 @@
-use Rattle.std.proofs.Common.{◌≡◌, ◌≤◌, ◌^◌, ◌*◌, pos, ◌*ℤ◌, ◌<ℤ◌, sym, refl, unsigned_abs, FitsSigned, w64, arith, int_div, rules}
+use Rattle.std.proofs.Common.{◌≡◌, ◌∙◌, ◌≤◌, ◌^◌, ◌*◌, pos, ◌*ℤ◌, ◌<ℤ◌, sym, unsigned_abs, FitsSigned, w64, arith, int_div, rules}
 use Rattle.std.specs.Int.{w128}
-use Rattle.std.proofs.lemmas.Int.{ints, to_z-of_z, quot_fits, fits_signed_mul}
+use Rattle.std.proofs.lemmas.Int.{ints, to_z-of_z, fits_signed_mul}
 use Rattle.linear_layout.proofs.ShareLaws.{share-above, share-at_most, share_fits}
 use Rattle.view_model.specs.LinearLayout.{share}
 use Rattle.linear_layout.proofs.sharing.share.Goals as goal
 
-pub overflow_mul-result : goal.overflow_mul-result
-overflow_mul-result c =
+pub overflow_mul-from : goal.overflow_mul-from
+overflow_mul-from c =
     let given : FitsSigned w64 c.args.whole = c.ranges.whole in
     let spare : FitsSigned w128 c.args.spare = c.ranges.spare in
     let above : pos 0 <ℤ c.args.whole = grind (arith, ints) in
@@ -20,12 +20,11 @@ returns-then-whole-gt0-clause-value c =
     let spare : FitsSigned w128 c.args.spare = c.ranges.spare in
     let above : pos 0 <ℤ c.args.whole = grind (arith, ints) in
     let weight : FitsSigned w128 c.from.result = search rules in
-    let wide : FitsSigned w128 c.from-then-whole-gt0.result = search rules in
-    let same : c.from-then-whole-gt0.result ≡ c.args.whole = simp to_z-of_z at c.from-then-whole-gt0.ensures in
     let small : unsigned_abs c.from.result ≤ 2 ^ 32 = rw c.from.ensures (omega arith) in
-    let whole : FitsSigned w128 (c.from.result *ℤ c.args.spare) = fits_signed_mul w128 c.from.result c.args.spare (2 ^ 32) (2 ^ 46) small (c.requires.near above) (omega arith) in
-    let part : FitsSigned w128 (int_div (c.from.result *ℤ c.args.spare) c.from-then-whole-gt0.result) = rw same (quot_fits w128 _ _ whole above) in
-    simp to_z-of_z (rw (same, c.from.ensures, share-above c.args.whole c.args.spare c.args.weight above) refl)
+    let product : FitsSigned w128 (c.from.result *ℤ c.args.spare) = fits_signed_mul w128 c.from.result c.args.spare (2 ^ 32) (2 ^ 46) small (c.requires.near above) (omega arith) in
+    let fits : FitsSigned w128 c.quotient.result = search rules in
+    let is : c.quotient.result ≡ int_div (c.from.result *ℤ c.args.spare) c.args.whole = simp to_z-of_z at c.quotient.ensures in
+    simp to_z-of_z ((rw c.from.ensures at is) ∙ sym (share-above c.args.whole c.args.spare c.args.weight above))
 
 pub returns-else-whole-gt0-clause-value : goal.returns-else-whole-gt0-clause-value
 returns-else-whole-gt0-clause-value c =

@@ -1,10 +1,16 @@
-use Rattle.std.proofs.Common.{◌≡◌, ◌≢◌, ◌≤◌, ◌<◌, ◌+◌, ℕ, [], ◌∷◌, List, length, get_or, false, Some, subst, ap, sym, ◌∙◌, refl, arith, inl, inr}
+use Rattle.std.proofs.Common.{◌≡◌, ◌≤◌, ◌<◌, ◌+◌, ℕ, [], ◌∷◌, List, length, get_or, false, Some, subst, ap, sym, ◌∙◌, refl, arith, inl}
 use Rattle.std.specs.Prelude.{pos, slice_index, take}
 use Rattle.measure_pass.specs.Courses.{AfterPhase, CanTurn, InCourse}
 use Rattle.measure_cache.specs.Entries.{found, put_in}
 use Rattle.kept_views.specs.Kept.{Ready, Sized}
 use Rattle.measure_pass.specs.Measured.{current, entry_for}
-use Rattle.measure_pass.specs.Plans.{HasPlan, IsLeaf, Stands, rule_in}
+use Rattle.frame_layout.specs.FramePlan.{StandsFrame}
+use Rattle.frame_layout.specs.declared.plan.FramePlan.{FramePlan}
+use Rattle.linear_layout.specs.LinearPlan.{StandsLinear}
+use Rattle.linear_layout.specs.declared.plan.LinearPlan.{LinearPlan}
+use Rattle.scroll_view.specs.ScrollPlan.{StandsScroll}
+use Rattle.scroll_view.specs.declared.plan.ScrollPlan.{ScrollPlan}
+use Rattle.measure_pass.specs.Plans.{Frame, IsLeaf, IsPlanOf, Linear, Scroll, Stands, rule_in}
 use Rattle.measure_pass.specs.Siblings.{AfterTurns, FirstHasSize, FirstIsKnown, IsSettled, TurnIsOver, kids_in, order_on, phase_of}
 use Rattle.measure_pass.proofs.AtPlace.{Ready-at, Ready-place}
 use Rattle.measure_pass.proofs.Calm.{Ready-below}
@@ -23,14 +29,13 @@ use Rattle.measure_pass.proofs.Whole.{ends_at_0, ends_here, phases_end, phases_m
 use Rattle.view_model.specs.declared.relative.Axis.TheVariants.{Horizontal, Vertical}
 use Rattle.geom_core.specs.declared.geometry.Size.{Size}
 use Rattle.view_model.specs.declared.facts.Facts.{Facts}
-use Rattle.view_model.specs.declared.kinds.Class.{Class}
-use Rattle.view_model.specs.declared.kinds.Class.TheVariants.{View, TextView, FrameLayout, LinearLayout, ScrollView, RelativeLayout}
+use Rattle.view_model.specs.declared.kinds.Class.TheVariants.{View, TextView, FrameLayout, LinearLayout, ScrollView}
 use Rattle.view_model.specs.declared.work.Work.{Work}
 use Rattle.view_model.specs.declared.limits.TheConstants.{MAX_VIEWS}
 use Rattle.view_model.specs.Course.{Progress, Requested, one_phase}
 use Rattle.view_model.specs.Facts.{is_shown, layout_facts}
 use Rattle.view_model.specs.Forest.{Branch, count_of}
-use Rattle.view_model.specs.Layout.{for_layout}
+use Rattle.view_model.specs.Layout.{for_layout, manner_of}
 use Rattle.view_model.specs.Leaf.{view_size}
 use Rattle.view_model.specs.PlainTree.{PlainView}
 use Rattle.view_model.specs.TextView.{text_size}
@@ -205,108 +210,126 @@ measure_below-returns-in-View-clause-counted t c = counted_self c.args.tree.now 
 pub measure_below-returns-in-TextView-clause-counted : goal.measure_below-returns-in-TextView-clause-counted
 measure_below-returns-in-TextView-clause-counted t c = counted_self c.args.tree.now c.args.work.now
 
--- every class but these has a plan
-planned_class : (kind : Class) → kind ≢ View → kind ≢ TextView → kind ≢ RelativeLayout → HasPlan kind
-planned_class View view text relative = absurd (view refl)
-planned_class TextView view text relative = absurd (text refl)
-planned_class FrameLayout view text relative = inl refl
-planned_class LinearLayout view text relative = inr (inl refl)
-planned_class ScrollView view text relative = inr (inr refl)
-planned_class RelativeLayout view text relative = absurd (relative refl)
+is_frame : (view : PlainView) (specs : Specs) (plan : FramePlan) → view.class ≡ FrameLayout → StandsFrame plan view.facts specs [] [] → IsPlanOf (manner_of view specs) (Frame plan) view specs
+is_frame view specs plan is stands = rw is (refl, stands)
 
-pub measure_below-measure_group-requires : goal.measure_below-measure_group-requires
-measure_below-measure_group-requires t c =
-    (omega arith, (c.requires.live, (subst HasPlan c.class.ensures.value (planned_class c.class.result c.in_default.not-View c.in_default.not-TextView c.in_default.not-RelativeLayout), c.requires.ready)))
+is_linear : (view : PlainView) (specs : Specs) (plan : LinearPlan) → view.class ≡ LinearLayout → StandsLinear plan view.facts specs [] [] → IsPlanOf (manner_of view specs) (Linear plan) view specs
+is_linear view specs plan is stands = rw is (refl, stands)
 
-pub measure_group-returns-clause-measured : goal.measure_group-returns-clause-measured
-measure_group-returns-clause-measured t c =
-    let m = c.measure_phases in
-    measured_planned c.args.tree.now c.args.view (record { across = c.args.ws; down = c.args.hs }) c.start-plan.result (held_of c.args.tree.now) (held_of m.new.tree) m.result.size m.result.total
-    c.args.work.now.measured m.new.work.measured m.ensures.is_tree c.requires.live c.start-plan.ensures m.ensures.phases
+is_scroll : (view : PlainView) (specs : Specs) (plan : ScrollPlan) → view.class ≡ ScrollView → StandsScroll plan view.facts specs [] [] → IsPlanOf (manner_of view specs) (Scroll plan) view specs
+is_scroll view specs plan is stands = rw is (refl, stands)
 
-pub measure_phases-returns-clause-counted : goal.measure_phases-returns-clause-counted
-measure_phases-returns-clause-counted t c =
-    counted_then 0 0 c.args.tree.now c.measure_kids.new.tree c.measure_phases.new.tree c.args.work.now c.measure_kids.new.work c.measure_phases.new.work
-    c.measure_kids.ensures.counted c.measure_phases.ensures.counted
+pub measure_frame-returns-clause-measured : goal.measure_frame-returns-clause-measured
+measure_frame-returns-clause-measured t c =
+    let specs : Specs = record { across = c.args.ws; down = c.args.hs } in
+    let m = c.frame_phases in
+    measured_planned c.args.tree.now c.args.view specs (Frame c.start-plan.result) (held_of c.args.tree.now) (held_of m.new.tree) m.result.size m.result.total
+    c.args.work.now.measured m.new.work.measured m.ensures.is_tree c.requires.live
+    (is_frame (for_layout (head_view (part_from c.args.view c.args.tree.now.tree))) specs c.start-plan.result c.requires.class (rw (ap layout_facts c.facts.ensures.value) at c.start-plan.ensures))
+    m.ensures.phases
 
-pub measure_phases-returns-then-left-eq0-clause-phases : goal.measure_phases-returns-then-left-eq0-clause-phases
-measure_phases-returns-then-left-eq0-clause-phases t c = λ group past kids stands course ready.
+pub measure_linear-returns-clause-measured : goal.measure_linear-returns-clause-measured
+measure_linear-returns-clause-measured t c =
+    let specs : Specs = record { across = c.args.ws; down = c.args.hs } in
+    let m = c.linear_phases in
+    measured_planned c.args.tree.now c.args.view specs (Linear c.start-plan.result) (held_of c.args.tree.now) (held_of m.new.tree) m.result.size m.result.total
+    c.args.work.now.measured m.new.work.measured m.ensures.is_tree c.requires.live
+    (is_linear (for_layout (head_view (part_from c.args.view c.args.tree.now.tree))) specs c.start-plan.result c.requires.class
+    (subst (λ (facts : Facts). StandsLinear c.start-plan.result facts specs [] []) (ap layout_facts c.facts.ensures.value) c.start-plan.ensures))
+    m.ensures.phases
+
+pub measure_scroll-returns-clause-measured : goal.measure_scroll-returns-clause-measured
+measure_scroll-returns-clause-measured t c =
+    let specs : Specs = record { across = c.args.ws; down = c.args.hs } in
+    let m = c.scroll_phases in
+    measured_planned c.args.tree.now c.args.view specs (Scroll c.start-plan.result) (held_of c.args.tree.now) (held_of m.new.tree) m.result.size m.result.total
+    c.args.work.now.measured m.new.work.measured m.ensures.is_tree c.requires.live
+    (is_scroll (for_layout (head_view (part_from c.args.view c.args.tree.now.tree))) specs c.start-plan.result c.requires.class (rw (ap layout_facts c.facts.ensures.value) at c.start-plan.ensures))
+    m.ensures.phases
+
+pub frame_phases-returns-clause-counted : goal.frame_phases-returns-clause-counted
+frame_phases-returns-clause-counted t c =
+    counted_then 0 0 c.args.tree.now c.frame_kids.new.tree c.frame_phases.new.tree c.args.work.now c.frame_kids.new.work c.frame_phases.new.work
+    c.frame_kids.ensures.counted c.frame_phases.ensures.counted
+
+pub frame_phases-returns-then-left-eq0-clause-phases : goal.frame_phases-returns-then-left-eq0-clause-phases
+frame_phases-returns-then-left-eq0-clause-phases t c = λ group past kids stands course ready.
     let before : Progress = record { past = past; kids = kids } in
-    let phase = c.measure_kids.ensures.phase group past kids stands course (ready_now (rule_in group) c.args.left before ready) in
-    phases_end c.measure_kids.new.plan group c.args.left past kids (held_of c.args.tree.now) (held_of c.measure_kids.new.tree) (children_of_first (part_from c.args.view c.args.tree.now.tree)) c.outcome_of.result.size c.outcome_of.result.total
-    c.args.work.now.measured c.measure_kids.new.work.measured
-    (ends_at_0 group c.args.left (one_phase (rule_in group) before) c.if-left-eq0.true) phase (c.outcome_of.ensures.size group past _ phase.plan_stands) (c.outcome_of.ensures.total group past _ phase.plan_stands)
+    let phase = c.frame_kids.ensures.phase group past kids stands course (ready_now (rule_in group) c.args.left before ready) in
+    phases_end (Frame c.frame_kids.new.plan) group c.args.left past kids (held_of c.args.tree.now) (held_of c.frame_kids.new.tree) (children_of_first (part_from c.args.view c.args.tree.now.tree)) c.frame_outcome.result.size c.frame_outcome.result.total
+    c.args.work.now.measured c.frame_kids.new.work.measured
+    (ends_at_0 group c.args.left (one_phase (rule_in group) before) c.if-left-eq0.true) phase (c.frame_outcome.ensures.size group past _ phase.plan_stands) (c.frame_outcome.ensures.total group past _ phase.plan_stands)
 
-pub measure_phases-returns-then-not-turn-clause-phases : goal.measure_phases-returns-then-not-turn-clause-phases
-measure_phases-returns-then-not-turn-clause-phases t c = λ group past kids stands course ready.
+pub frame_phases-returns-then-not-frame_turn-clause-phases : goal.frame_phases-returns-then-not-frame_turn-clause-phases
+frame_phases-returns-then-not-frame_turn-clause-phases t c = λ group past kids stands course ready.
     let before : Progress = record { past = past; kids = kids } in
-    let phase = c.measure_kids.ensures.phase group past kids stands course (ready_now (rule_in group) c.args.left before ready) in
-    let turned = c.turn.ensures group past _ phase.plan_stands in
-    phases_end c.measure_kids.new.plan group c.args.left past kids (held_of c.args.tree.now) (held_of c.measure_kids.new.tree) (children_of_first (part_from c.args.view c.args.tree.now.tree)) c.outcome_of-then-not-turn.result.size c.outcome_of-then-not-turn.result.total
-    c.args.work.now.measured c.measure_kids.new.work.measured
-    (ends_here group c.args.left (one_phase (rule_in group) before) (sym turned.answers ∙ c.if-not-turn.true)) phase
-    (c.outcome_of-then-not-turn.ensures.size group past _ (turned.ends c.if-not-turn.true))
-    (c.outcome_of-then-not-turn.ensures.total group past _ (turned.ends c.if-not-turn.true))
+    let phase = c.frame_kids.ensures.phase group past kids stands course (ready_now (rule_in group) c.args.left before ready) in
+    let turned = c.frame_turn.ensures group past _ phase.plan_stands in
+    phases_end (Frame c.frame_kids.new.plan) group c.args.left past kids (held_of c.args.tree.now) (held_of c.frame_kids.new.tree) (children_of_first (part_from c.args.view c.args.tree.now.tree)) c.frame_outcome-then-not-frame_turn.result.size c.frame_outcome-then-not-frame_turn.result.total
+    c.args.work.now.measured c.frame_kids.new.work.measured
+    (ends_here group c.args.left (one_phase (rule_in group) before) (sym turned.answers ∙ c.if-not-frame_turn.true)) phase
+    (c.frame_outcome-then-not-frame_turn.ensures.size group past _ (turned.ends c.if-not-frame_turn.true))
+    (c.frame_outcome-then-not-frame_turn.ensures.total group past _ (turned.ends c.if-not-frame_turn.true))
 
-pub measure_phases-returns-clause-phases : goal.measure_phases-returns-clause-phases
-measure_phases-returns-clause-phases t c = λ group past kids stands course ready.
+pub frame_phases-returns-clause-phases : goal.frame_phases-returns-clause-phases
+frame_phases-returns-clause-phases t c = λ group past kids stands course ready.
     let rule = rule_in group in
     let list = children_of_first (part_from c.args.view c.args.tree.now.tree) in
     let before : Progress = record { past = past; kids = kids } in
-    let phase = c.measure_kids.ensures.phase group past kids stands course (ready_now rule c.args.left before ready) in
-    let turned = c.turn.ensures group past _ phase.plan_stands in
-    let again = sym turned.answers ∙ c.if-not-turn.false in
+    let phase = c.frame_kids.ensures.phase group past kids stands course (ready_now rule c.args.left before ready) in
+    let turned = c.frame_turn.ensures group past _ phase.plan_stands in
+    let again = sym turned.answers ∙ c.if-not-frame_turn.false in
     let next = one_phase rule before in
-    let more = rw c.measure_kids.ensures.same.tree at (c.measure_phases.ensures.phases group next.past next.kids (turned.follows c.if-not-turn.false)) in
-    phases_more c.measure_kids.new.plan group c.args.left past kids (held_of c.args.tree.now) (held_of c.measure_kids.new.tree) (held_of c.measure_phases.new.tree) list c.measure_phases.result.size c.measure_phases.result.total
-    c.args.work.now.measured c.measure_kids.new.work.measured c.measure_phases.new.work.measured
+    let more = rw c.frame_kids.ensures.same.tree at (c.frame_phases.ensures.phases group next.past next.kids (turned.follows c.if-not-frame_turn.false)) in
+    phases_more (Frame c.frame_kids.new.plan) group c.args.left past kids (held_of c.args.tree.now) (held_of c.frame_kids.new.tree) (held_of c.frame_phases.new.tree) list c.frame_phases.result.size c.frame_phases.result.total
+    c.args.work.now.measured c.frame_kids.new.work.measured c.frame_phases.new.work.measured
     c.if-left-eq0.false again phase (more phase.course (ready_then rule c.args.left before c.if-left-eq0.false again ready))
 
-pub measure_kid-returns-then-not-is_shown-clause-counted : goal.measure_kid-returns-then-not-is_shown-clause-counted
-measure_kid-returns-then-not-is_shown-clause-counted t c = counted_self c.args.tree.now c.args.work.now
+pub frame_kid-returns-then-not-is_shown-clause-counted : goal.frame_kid-returns-then-not-is_shown-clause-counted
+frame_kid-returns-then-not-is_shown-clause-counted t c = counted_self c.args.tree.now c.args.work.now
 
-pub measure_kid-returns-in_default-clause-counted : goal.measure_kid-returns-in_default-clause-counted
-measure_kid-returns-in_default-clause-counted t c = counted_self c.args.tree.now c.args.work.now
+pub frame_kid-returns-in_default-clause-counted : goal.frame_kid-returns-in_default-clause-counted
+frame_kid-returns-in_default-clause-counted t c = counted_self c.args.tree.now c.args.work.now
 
-pub measure_kid-measure-size-requires : goal.measure_kid-measure-size-requires
-measure_kid-measure-size-requires t c =
+pub frame_kid-measure-size-requires : goal.frame_kid-measure-size-requires
+frame_kid-measure-size-requires t c =
     let shown = sym (ap is_shown c.facts-facts.ensures.value) ∙ sym c.is_shown.ensures ∙ c.if-not-is_shown.false in
     (omega arith, record { live = c.requires.live; shown = shown; ready = c.requires.ready })
 
-pub measure_kid-returns-clause-ready : goal.measure_kid-returns-clause-ready
-measure_kid-returns-clause-ready t c = let m = c.measure-size.ensures in rw m.same.tree at m.measured.ready
+pub frame_kid-returns-clause-ready : goal.frame_kid-returns-clause-ready
+frame_kid-returns-clause-ready t c = let m = c.measure-size.ensures in rw m.same.tree at m.measured.ready
 
-pub measure_kid-returns-then-not-is_shown-clause-phase : goal.measure_kid-returns-then-not-is_shown-clause-phase
-measure_kid-returns-then-not-is_shown-clause-phase t c = λ group past taken kids stands few course can.
-    gone_kid c.args.plan.now group past taken c.args.tree.now.tree c.args.kid kids (held_of c.args.tree.now) c.args.work.now.measured c.requires.live
+pub frame_kid-returns-then-not-is_shown-clause-phase : goal.frame_kid-returns-then-not-is_shown-clause-phase
+frame_kid-returns-then-not-is_shown-clause-phase t c = λ group past taken kids stands few course can.
+    gone_kid (Frame c.args.plan.now) group past taken c.args.tree.now.tree c.args.kid kids (held_of c.args.tree.now) c.args.work.now.measured c.requires.live
     (sym (ap is_shown c.facts-facts.ensures.value) ∙ sym c.is_shown.ensures ∙ c.if-not-is_shown.true) stands course
 
-pub measure_kid-returns-in_default-clause-phase : goal.measure_kid-returns-in_default-clause-phase
-measure_kid-returns-in_default-clause-phase t c = λ group past taken kids stands few course can.
+pub frame_kid-returns-in_default-clause-phase : goal.frame_kid-returns-in_default-clause-phase
+frame_kid-returns-in_default-clause-phase t c = λ group past taken kids stands few course can.
     let one = count_one c.args.tree.now.tree c.args.kid c.requires.live in
     let facts_is : layout_facts c.facts-facts.result.now ≡ facts_in (part_from c.args.kid c.args.tree.now.tree) = ap layout_facts c.facts-facts.ensures.value in
-    skipped_kid c.take.new.self group past taken c.args.tree.now.tree c.args.kid kids (held_of c.args.tree.now) c.state.result.measured
+    skipped_kid (Frame c.frame_take.new.plan) group past taken c.args.tree.now.tree c.args.kid kids (held_of c.args.tree.now) c.state.result.measured
     c.args.work.now.measured c.requires.live (sym (ap is_shown c.facts-facts.ensures.value) ∙ sym c.is_shown.ensures ∙ c.if-not-is_shown.false)
     (ap (λ (state : State). state.measured) c.state.ensures.value)
-    (rw facts_is at (sym c.in_default.is ∙ c.ask.ensures group past taken stands)) (rw facts_is at (c.take.ensures group past taken stands (omega arith))) course can
+    (rw facts_is at (sym c.in_default.is ∙ c.frame_ask.ensures group past taken stands)) (rw facts_is at (c.frame_take.ensures group past taken stands (omega arith))) course can
 
-pub measure_kid-returns-clause-phase : goal.measure_kid-returns-clause-phase
-measure_kid-returns-clause-phase t c = λ group past taken kids stands few course can.
+pub frame_kid-returns-clause-phase : goal.frame_kid-returns-clause-phase
+frame_kid-returns-clause-phase t c = λ group past taken kids stands few course can.
     let tree = c.args.tree.now.tree in
     let m = c.measure-size.ensures in
     let facts_is : layout_facts c.facts-facts.result.now ≡ facts_in (part_from c.args.kid tree) = ap layout_facts c.facts-facts.ensures.value in
     let still : layout_facts c.facts.result.now ≡ facts_in (part_from c.args.kid tree) = ap layout_facts c.facts.ensures.value ∙ ap (λ tree. facts_in (part_from c.args.kid tree)) m.same.tree in
     let sized : Sized (held_of c.measure-size.new.tree) (first_tree (part_from c.args.kid tree)) = rw m.same.tree at m.measured.sized in
     let one = count_one tree c.args.kid c.requires.live in
-    measured_kid c.take-2.new.self group past taken tree c.args.kid kids (held_of c.args.tree.now) (held_of c.measure-size.new.tree)
+    measured_kid (Frame c.frame_take-2.new.plan) group past taken tree c.args.kid kids (held_of c.args.tree.now) (held_of c.measure-size.new.tree)
     c.state.result.measured c.measure-size.result (record { across = c.in-Some.across; down = c.in-Some.down }) c.args.work.now.measured c.measure-size.new.work.measured
     c.requires.live (sym (ap is_shown c.facts-facts.ensures.value) ∙ sym c.is_shown.ensures ∙ c.if-not-is_shown.false)
     (ap (λ (state : State). state.measured) c.state.ensures.value)
-    (rw facts_is at (sym c.in-Some.is ∙ c.ask.ensures group past taken stands)) m.size sized m.measured.last
-    (rw still at (c.take-2.ensures group past taken stands (omega arith))) m.costs m.caches course can
+    (rw facts_is at (sym c.in-Some.is ∙ c.frame_ask.ensures group past taken stands)) m.size sized m.measured.last
+    (rw still at (c.frame_take-2.ensures group past taken stands (omega arith))) m.costs m.caches course can
 
-pub measure_kids-loop-next-init : goal.measure_kids-loop-next-init
-measure_kids-loop-next-init t c =
+pub frame_kids-loop-next-init : goal.frame_kids-loop-next-init
+frame_kids-loop-next-init t c =
     let tree = c.args.tree.now.tree in
     let kids = children_of_first (part_from c.args.view tree) in
     let first = c.first-next.ensures in
@@ -314,34 +337,34 @@ measure_kids-loop-next-init t c =
     record {
       same = record { tree = refl; orders = refl; next = refl };
       walked = keeping_start tree kids (held_of c.args.tree.now) c.first-next.result first.is_tree.keys first.part first.live;
-      phase = λ group past asked stands course can. rw first.part (phase_start c.args.plan.now group past asked kids (held_of c.args.tree.now) c.args.work.now.measured stands few course can);
+      phase = λ group past asked stands course can. rw first.part (phase_start (Frame c.args.plan.now) group past asked kids (held_of c.args.tree.now) c.args.work.now.measured stands few course can);
       ready = rw first.part (ready_start kids (held_of c.args.tree.now) c.requires.ready);
       keeps = keeps_self (held_of c.args.tree.now);
       counted = counted_self c.args.tree.now c.args.work.now;
     }
 
-pub measure_kids-measure_kid-requires : goal.measure_kids-measure_kid-requires
-measure_kids-measure_kid-requires t c =
+pub frame_kids-frame_kid-requires : goal.frame_kids-frame_kid-requires
+frame_kids-frame_kid-requires t c =
     let i = rw c.in-Some.is at c.loop-next.invariant.walked.walk in
     let fewer = fewer_below c.args.tree.now.tree c.args.view c.in-Some.kid c.requires.live i in
     let ready : Ready (held_of c.loop-next.tree) (part_from c.in-Some.kid c.args.tree.now.tree) = (rw c.in-Some.is at c.loop-next.invariant.ready).ready in
     rw c.loop-next.invariant.same.tree (omega arith, (i.live, Ready-alone (held_of c.loop-next.tree) (part_from c.in-Some.kid c.args.tree.now.tree) ready))
 
-pub measure_kids-loop-next-smaller : goal.measure_kids-loop-next-smaller
-measure_kids-loop-next-smaller t c =
+pub frame_kids-loop-next-smaller : goal.frame_kids-loop-next-smaller
+frame_kids-loop-next-smaller t c =
     let i = rw c.in-Some.is at c.loop-next.invariant.walked.walk in
-    rw (c.next-next.ensures.part, c.measure_kid.ensures.same.tree, c.loop-next.invariant.same.tree, c.in-Some.is) (live_after c.in-Some.kid c.args.tree.now.tree i.live)
+    rw (c.next-next.ensures.part, c.frame_kid.ensures.same.tree, c.loop-next.invariant.same.tree, c.in-Some.is) (live_after c.in-Some.kid c.args.tree.now.tree i.live)
 
-pub measure_kids-loop-next-preserved : goal.measure_kids-loop-next-preserved
-measure_kids-loop-next-preserved t c =
+pub frame_kids-loop-next-preserved : goal.frame_kids-loop-next-preserved
+frame_kids-loop-next-preserved t c =
     let tree = c.args.tree.now.tree in
     let kids = children_of_first (part_from c.args.view tree) in
     let kid = c.in-Some.kid in
     let old = held_of c.loop-next.tree in
-    let mid = held_of c.measure_kid.new.tree in
+    let mid = held_of c.frame_kid.new.tree in
     let i = c.loop-next.invariant in
     let same = i.same.tree in
-    let m = c.measure_kid.ensures in
+    let m = c.frame_kid.ensures in
     let walked = rw c.in-Some.is at i.walked in
     let others : KeepsOutside old mid (first_tree (part_from kid tree)) = rw same at m.others in
     let part : rest_from c.next-next.result tree ≡ later_siblings (part_from kid tree) = rw (m.same.tree, same) at c.next-next.ensures.part in
@@ -351,24 +374,318 @@ measure_kids-loop-next-preserved t c =
       walked = keeping_on tree kids (held_of c.args.tree.now) kid old mid c.next-next.result walked others part (rw (m.same.tree, same) at c.next-next.ensures.live);
       phase = λ group past asked started course can.
           let f = rw c.in-Some.is at (i.phase group past asked started course can) in
-          let turn : (taken : List Measured) (first : List Requested) → Stands c.loop-next.plan group past taken → length taken + count_of (first_tree (part_from kid tree)) ≤ MAX_VIEWS
+          let turn : (taken : List Measured) (first : List Requested) → Stands (Frame c.loop-next.plan) group past taken → length taken + count_of (first_tree (part_from kid tree)) ≤ MAX_VIEWS
           → InCourse old (first_tree (part_from kid tree)) first → CanTurn (rule_in group) past first
-          → AfterPhase c.measure_kid.new.plan group past taken first old mid (first_tree (part_from kid tree)) c.loop-next.work.measured c.measure_kid.new.work.measured =
+          → AfterPhase (Frame c.frame_kid.new.plan) group past taken first old mid (first_tree (part_from kid tree)) c.loop-next.work.measured c.frame_kid.new.work.measured =
           rw same at (m.phase group past) in
-          rw part (phase_on c.loop-next.plan c.measure_kid.new.plan group past asked kids (part_from kid tree) (held_of c.args.tree.now) old mid c.args.work.now.measured c.loop-next.work.measured
-          c.measure_kid.new.work.measured keys f others walked.still turn);
+          rw part (phase_on (Frame c.loop-next.plan) (Frame c.frame_kid.new.plan) group past asked kids (part_from kid tree) (held_of c.args.tree.now) old mid c.args.work.now.measured c.loop-next.work.measured
+          c.frame_kid.new.work.measured keys f others walked.still turn);
       ready = rw part (ready_on kids (part_from kid tree) old mid keys others (rw same at m.ready) (rw c.in-Some.is at i.ready));
       keeps = keeps_trans (held_of c.args.tree.now) old mid i.keeps m.keeps;
-      counted = counted_then 0 0 c.args.tree.now c.loop-next.tree c.measure_kid.new.tree c.args.work.now c.loop-next.work c.measure_kid.new.work i.counted m.counted;
+      counted = counted_then 0 0 c.args.tree.now c.loop-next.tree c.frame_kid.new.tree c.args.work.now c.loop-next.work c.frame_kid.new.work i.counted m.counted;
     }
 
-pub measure_kids-returns-clause-phase : goal.measure_kids-returns-clause-phase
-measure_kids-returns-clause-phase t c = λ group past asked started course can.
-    phase_end c.loop-next.plan group past asked (children_of_first (part_from c.args.view c.args.tree.now.tree)) (held_of c.args.tree.now) (held_of c.loop-next.tree) c.args.work.now.measured c.loop-next.work.measured
+pub frame_kids-returns-clause-phase : goal.frame_kids-returns-clause-phase
+frame_kids-returns-clause-phase t c = λ group past asked started course can.
+    phase_end (Frame c.loop-next.plan) group past asked (children_of_first (part_from c.args.view c.args.tree.now.tree)) (held_of c.args.tree.now) (held_of c.loop-next.tree) c.args.work.now.measured c.loop-next.work.measured
     (rw c.in_default.is at (c.loop-next.invariant.phase group past asked started course can))
 
-pub measure_kids-returns-clause-ready : goal.measure_kids-returns-clause-ready
-measure_kids-returns-clause-ready t c =
+pub frame_kids-returns-clause-ready : goal.frame_kids-returns-clause-ready
+frame_kids-returns-clause-ready t c =
+    ready_end (children_of_first (part_from c.args.view c.args.tree.now.tree)) (held_of c.loop-next.tree) (rw c.in_default.is at c.loop-next.invariant.ready)
+
+pub linear_phases-returns-clause-counted : goal.linear_phases-returns-clause-counted
+linear_phases-returns-clause-counted t c =
+    counted_then 0 0 c.args.tree.now c.linear_kids.new.tree c.linear_phases.new.tree c.args.work.now c.linear_kids.new.work c.linear_phases.new.work
+    c.linear_kids.ensures.counted c.linear_phases.ensures.counted
+
+pub linear_phases-returns-then-left-eq0-clause-phases : goal.linear_phases-returns-then-left-eq0-clause-phases
+linear_phases-returns-then-left-eq0-clause-phases t c = λ group past kids stands course ready.
+    let before : Progress = record { past = past; kids = kids } in
+    let phase = c.linear_kids.ensures.phase group past kids stands course (ready_now (rule_in group) c.args.left before ready) in
+    phases_end (Linear c.linear_kids.new.plan) group c.args.left past kids (held_of c.args.tree.now) (held_of c.linear_kids.new.tree) (children_of_first (part_from c.args.view c.args.tree.now.tree)) c.linear_outcome.result.size c.linear_outcome.result.total
+    c.args.work.now.measured c.linear_kids.new.work.measured
+    (ends_at_0 group c.args.left (one_phase (rule_in group) before) c.if-left-eq0.true) phase (c.linear_outcome.ensures.size group past _ phase.plan_stands) (c.linear_outcome.ensures.total group past _ phase.plan_stands)
+
+pub linear_phases-returns-then-not-linear_turn-clause-phases : goal.linear_phases-returns-then-not-linear_turn-clause-phases
+linear_phases-returns-then-not-linear_turn-clause-phases t c = λ group past kids stands course ready.
+    let before : Progress = record { past = past; kids = kids } in
+    let phase = c.linear_kids.ensures.phase group past kids stands course (ready_now (rule_in group) c.args.left before ready) in
+    let turned = c.linear_turn.ensures group past _ phase.plan_stands in
+    phases_end (Linear c.linear_kids.new.plan) group c.args.left past kids (held_of c.args.tree.now) (held_of c.linear_kids.new.tree) (children_of_first (part_from c.args.view c.args.tree.now.tree)) c.linear_outcome-then-not-linear_turn.result.size c.linear_outcome-then-not-linear_turn.result.total
+    c.args.work.now.measured c.linear_kids.new.work.measured
+    (ends_here group c.args.left (one_phase (rule_in group) before) (sym turned.answers ∙ c.if-not-linear_turn.true)) phase
+    (c.linear_outcome-then-not-linear_turn.ensures.size group past _ (turned.ends c.if-not-linear_turn.true))
+    (c.linear_outcome-then-not-linear_turn.ensures.total group past _ (turned.ends c.if-not-linear_turn.true))
+
+pub linear_phases-returns-clause-phases : goal.linear_phases-returns-clause-phases
+linear_phases-returns-clause-phases t c = λ group past kids stands course ready.
+    let rule = rule_in group in
+    let list = children_of_first (part_from c.args.view c.args.tree.now.tree) in
+    let before : Progress = record { past = past; kids = kids } in
+    let phase = c.linear_kids.ensures.phase group past kids stands course (ready_now rule c.args.left before ready) in
+    let turned = c.linear_turn.ensures group past _ phase.plan_stands in
+    let again = sym turned.answers ∙ c.if-not-linear_turn.false in
+    let next = one_phase rule before in
+    let more = rw c.linear_kids.ensures.same.tree at (c.linear_phases.ensures.phases group next.past next.kids (turned.follows c.if-not-linear_turn.false)) in
+    phases_more (Linear c.linear_kids.new.plan) group c.args.left past kids (held_of c.args.tree.now) (held_of c.linear_kids.new.tree) (held_of c.linear_phases.new.tree) list c.linear_phases.result.size c.linear_phases.result.total
+    c.args.work.now.measured c.linear_kids.new.work.measured c.linear_phases.new.work.measured
+    c.if-left-eq0.false again phase (more phase.course (ready_then rule c.args.left before c.if-left-eq0.false again ready))
+
+pub linear_kid-returns-then-not-is_shown-clause-counted : goal.linear_kid-returns-then-not-is_shown-clause-counted
+linear_kid-returns-then-not-is_shown-clause-counted t c = counted_self c.args.tree.now c.args.work.now
+
+pub linear_kid-returns-in_default-clause-counted : goal.linear_kid-returns-in_default-clause-counted
+linear_kid-returns-in_default-clause-counted t c = counted_self c.args.tree.now c.args.work.now
+
+pub linear_kid-measure-size-requires : goal.linear_kid-measure-size-requires
+linear_kid-measure-size-requires t c =
+    let shown = sym (ap is_shown c.facts-facts.ensures.value) ∙ sym c.is_shown.ensures ∙ c.if-not-is_shown.false in
+    (omega arith, record { live = c.requires.live; shown = shown; ready = c.requires.ready })
+
+pub linear_kid-returns-clause-ready : goal.linear_kid-returns-clause-ready
+linear_kid-returns-clause-ready t c = let m = c.measure-size.ensures in rw m.same.tree at m.measured.ready
+
+pub linear_kid-returns-then-not-is_shown-clause-phase : goal.linear_kid-returns-then-not-is_shown-clause-phase
+linear_kid-returns-then-not-is_shown-clause-phase t c = λ group past taken kids stands few course can.
+    gone_kid (Linear c.args.plan.now) group past taken c.args.tree.now.tree c.args.kid kids (held_of c.args.tree.now) c.args.work.now.measured c.requires.live
+    (sym (ap is_shown c.facts-facts.ensures.value) ∙ sym c.is_shown.ensures ∙ c.if-not-is_shown.true) stands course
+
+pub linear_kid-returns-in_default-clause-phase : goal.linear_kid-returns-in_default-clause-phase
+linear_kid-returns-in_default-clause-phase t c = λ group past taken kids stands few course can.
+    let one = count_one c.args.tree.now.tree c.args.kid c.requires.live in
+    let facts_is : layout_facts c.facts-facts.result.now ≡ facts_in (part_from c.args.kid c.args.tree.now.tree) = ap layout_facts c.facts-facts.ensures.value in
+    skipped_kid (Linear c.linear_take.new.plan) group past taken c.args.tree.now.tree c.args.kid kids (held_of c.args.tree.now) c.state.result.measured
+    c.args.work.now.measured c.requires.live (sym (ap is_shown c.facts-facts.ensures.value) ∙ sym c.is_shown.ensures ∙ c.if-not-is_shown.false)
+    (ap (λ (state : State). state.measured) c.state.ensures.value)
+    (rw facts_is at (sym c.in_default.is ∙ c.linear_ask.ensures group past taken stands)) (rw facts_is at (c.linear_take.ensures group past taken stands (omega arith))) course can
+
+pub linear_kid-returns-clause-phase : goal.linear_kid-returns-clause-phase
+linear_kid-returns-clause-phase t c = λ group past taken kids stands few course can.
+    let tree = c.args.tree.now.tree in
+    let m = c.measure-size.ensures in
+    let facts_is : layout_facts c.facts-facts.result.now ≡ facts_in (part_from c.args.kid tree) = ap layout_facts c.facts-facts.ensures.value in
+    let still : layout_facts c.facts.result.now ≡ facts_in (part_from c.args.kid tree) = ap layout_facts c.facts.ensures.value ∙ ap (λ tree. facts_in (part_from c.args.kid tree)) m.same.tree in
+    let sized : Sized (held_of c.measure-size.new.tree) (first_tree (part_from c.args.kid tree)) = rw m.same.tree at m.measured.sized in
+    let one = count_one tree c.args.kid c.requires.live in
+    measured_kid (Linear c.linear_take-2.new.plan) group past taken tree c.args.kid kids (held_of c.args.tree.now) (held_of c.measure-size.new.tree)
+    c.state.result.measured c.measure-size.result (record { across = c.in-Some.across; down = c.in-Some.down }) c.args.work.now.measured c.measure-size.new.work.measured
+    c.requires.live (sym (ap is_shown c.facts-facts.ensures.value) ∙ sym c.is_shown.ensures ∙ c.if-not-is_shown.false)
+    (ap (λ (state : State). state.measured) c.state.ensures.value)
+    (rw facts_is at (sym c.in-Some.is ∙ c.linear_ask.ensures group past taken stands)) m.size sized m.measured.last
+    (rw still at (c.linear_take-2.ensures group past taken stands (omega arith))) m.costs m.caches course can
+
+pub linear_kids-loop-next-init : goal.linear_kids-loop-next-init
+linear_kids-loop-next-init t c =
+    let tree = c.args.tree.now.tree in
+    let kids = children_of_first (part_from c.args.view tree) in
+    let first = c.first-next.ensures in
+    let few = count_few c.args.view tree c.requires.live first.is_tree.few in
+    record {
+      same = record { tree = refl; orders = refl; next = refl };
+      walked = keeping_start tree kids (held_of c.args.tree.now) c.first-next.result first.is_tree.keys first.part first.live;
+      phase = λ group past asked stands course can. rw first.part (phase_start (Linear c.args.plan.now) group past asked kids (held_of c.args.tree.now) c.args.work.now.measured stands few course can);
+      ready = rw first.part (ready_start kids (held_of c.args.tree.now) c.requires.ready);
+      keeps = keeps_self (held_of c.args.tree.now);
+      counted = counted_self c.args.tree.now c.args.work.now;
+    }
+
+pub linear_kids-linear_kid-requires : goal.linear_kids-linear_kid-requires
+linear_kids-linear_kid-requires t c =
+    let i = rw c.in-Some.is at c.loop-next.invariant.walked.walk in
+    let fewer = fewer_below c.args.tree.now.tree c.args.view c.in-Some.kid c.requires.live i in
+    let ready : Ready (held_of c.loop-next.tree) (part_from c.in-Some.kid c.args.tree.now.tree) = (rw c.in-Some.is at c.loop-next.invariant.ready).ready in
+    rw c.loop-next.invariant.same.tree (omega arith, (i.live, Ready-alone (held_of c.loop-next.tree) (part_from c.in-Some.kid c.args.tree.now.tree) ready))
+
+pub linear_kids-loop-next-smaller : goal.linear_kids-loop-next-smaller
+linear_kids-loop-next-smaller t c =
+    let i = rw c.in-Some.is at c.loop-next.invariant.walked.walk in
+    rw (c.next-next.ensures.part, c.linear_kid.ensures.same.tree, c.loop-next.invariant.same.tree, c.in-Some.is) (live_after c.in-Some.kid c.args.tree.now.tree i.live)
+
+pub linear_kids-loop-next-preserved : goal.linear_kids-loop-next-preserved
+linear_kids-loop-next-preserved t c =
+    let tree = c.args.tree.now.tree in
+    let kids = children_of_first (part_from c.args.view tree) in
+    let kid = c.in-Some.kid in
+    let old = held_of c.loop-next.tree in
+    let mid = held_of c.linear_kid.new.tree in
+    let i = c.loop-next.invariant in
+    let same = i.same.tree in
+    let m = c.linear_kid.ensures in
+    let walked = rw c.in-Some.is at i.walked in
+    let others : KeepsOutside old mid (first_tree (part_from kid tree)) = rw same at m.others in
+    let part : rest_from c.next-next.result tree ≡ later_siblings (part_from kid tree) = rw (m.same.tree, same) at c.next-next.ensures.part in
+    let keys = once_from tree kid walked.once walked.walk.live in
+    record {
+      same = record { tree = m.same.tree ∙ same; orders = m.same.orders ∙ i.same.orders; next = m.same.next ∙ i.same.next };
+      walked = keeping_on tree kids (held_of c.args.tree.now) kid old mid c.next-next.result walked others part (rw (m.same.tree, same) at c.next-next.ensures.live);
+      phase = λ group past asked started course can.
+          let f = rw c.in-Some.is at (i.phase group past asked started course can) in
+          let turn : (taken : List Measured) (first : List Requested) → Stands (Linear c.loop-next.plan) group past taken → length taken + count_of (first_tree (part_from kid tree)) ≤ MAX_VIEWS
+          → InCourse old (first_tree (part_from kid tree)) first → CanTurn (rule_in group) past first
+          → AfterPhase (Linear c.linear_kid.new.plan) group past taken first old mid (first_tree (part_from kid tree)) c.loop-next.work.measured c.linear_kid.new.work.measured =
+          rw same at (m.phase group past) in
+          rw part (phase_on (Linear c.loop-next.plan) (Linear c.linear_kid.new.plan) group past asked kids (part_from kid tree) (held_of c.args.tree.now) old mid c.args.work.now.measured c.loop-next.work.measured
+          c.linear_kid.new.work.measured keys f others walked.still turn);
+      ready = rw part (ready_on kids (part_from kid tree) old mid keys others (rw same at m.ready) (rw c.in-Some.is at i.ready));
+      keeps = keeps_trans (held_of c.args.tree.now) old mid i.keeps m.keeps;
+      counted = counted_then 0 0 c.args.tree.now c.loop-next.tree c.linear_kid.new.tree c.args.work.now c.loop-next.work c.linear_kid.new.work i.counted m.counted;
+    }
+
+pub linear_kids-returns-clause-phase : goal.linear_kids-returns-clause-phase
+linear_kids-returns-clause-phase t c = λ group past asked started course can.
+    phase_end (Linear c.loop-next.plan) group past asked (children_of_first (part_from c.args.view c.args.tree.now.tree)) (held_of c.args.tree.now) (held_of c.loop-next.tree) c.args.work.now.measured c.loop-next.work.measured
+    (rw c.in_default.is at (c.loop-next.invariant.phase group past asked started course can))
+
+pub linear_kids-returns-clause-ready : goal.linear_kids-returns-clause-ready
+linear_kids-returns-clause-ready t c =
+    ready_end (children_of_first (part_from c.args.view c.args.tree.now.tree)) (held_of c.loop-next.tree) (rw c.in_default.is at c.loop-next.invariant.ready)
+
+pub scroll_phases-returns-clause-counted : goal.scroll_phases-returns-clause-counted
+scroll_phases-returns-clause-counted t c =
+    counted_then 0 0 c.args.tree.now c.scroll_kids.new.tree c.scroll_phases.new.tree c.args.work.now c.scroll_kids.new.work c.scroll_phases.new.work
+    c.scroll_kids.ensures.counted c.scroll_phases.ensures.counted
+
+pub scroll_phases-returns-then-left-eq0-clause-phases : goal.scroll_phases-returns-then-left-eq0-clause-phases
+scroll_phases-returns-then-left-eq0-clause-phases t c = λ group past kids stands course ready.
+    let before : Progress = record { past = past; kids = kids } in
+    let phase = c.scroll_kids.ensures.phase group past kids stands course (ready_now (rule_in group) c.args.left before ready) in
+    phases_end (Scroll c.scroll_kids.new.plan) group c.args.left past kids (held_of c.args.tree.now) (held_of c.scroll_kids.new.tree) (children_of_first (part_from c.args.view c.args.tree.now.tree)) c.scroll_outcome.result.size c.scroll_outcome.result.total
+    c.args.work.now.measured c.scroll_kids.new.work.measured
+    (ends_at_0 group c.args.left (one_phase (rule_in group) before) c.if-left-eq0.true) phase (c.scroll_outcome.ensures.size group past _ phase.plan_stands) (c.scroll_outcome.ensures.total group past _ phase.plan_stands)
+
+pub scroll_phases-returns-then-not-scroll_turn-clause-phases : goal.scroll_phases-returns-then-not-scroll_turn-clause-phases
+scroll_phases-returns-then-not-scroll_turn-clause-phases t c = λ group past kids stands course ready.
+    let before : Progress = record { past = past; kids = kids } in
+    let phase = c.scroll_kids.ensures.phase group past kids stands course (ready_now (rule_in group) c.args.left before ready) in
+    let turned = c.scroll_turn.ensures group past _ phase.plan_stands in
+    phases_end (Scroll c.scroll_kids.new.plan) group c.args.left past kids (held_of c.args.tree.now) (held_of c.scroll_kids.new.tree) (children_of_first (part_from c.args.view c.args.tree.now.tree)) c.scroll_outcome-then-not-scroll_turn.result.size c.scroll_outcome-then-not-scroll_turn.result.total
+    c.args.work.now.measured c.scroll_kids.new.work.measured
+    (ends_here group c.args.left (one_phase (rule_in group) before) (sym turned.answers ∙ c.if-not-scroll_turn.true)) phase
+    (c.scroll_outcome-then-not-scroll_turn.ensures.size group past _ (turned.ends c.if-not-scroll_turn.true))
+    (c.scroll_outcome-then-not-scroll_turn.ensures.total group past _ (turned.ends c.if-not-scroll_turn.true))
+
+pub scroll_phases-returns-clause-phases : goal.scroll_phases-returns-clause-phases
+scroll_phases-returns-clause-phases t c = λ group past kids stands course ready.
+    let rule = rule_in group in
+    let list = children_of_first (part_from c.args.view c.args.tree.now.tree) in
+    let before : Progress = record { past = past; kids = kids } in
+    let phase = c.scroll_kids.ensures.phase group past kids stands course (ready_now rule c.args.left before ready) in
+    let turned = c.scroll_turn.ensures group past _ phase.plan_stands in
+    let again = sym turned.answers ∙ c.if-not-scroll_turn.false in
+    let next = one_phase rule before in
+    let more = rw c.scroll_kids.ensures.same.tree at (c.scroll_phases.ensures.phases group next.past next.kids (turned.follows c.if-not-scroll_turn.false)) in
+    phases_more (Scroll c.scroll_kids.new.plan) group c.args.left past kids (held_of c.args.tree.now) (held_of c.scroll_kids.new.tree) (held_of c.scroll_phases.new.tree) list c.scroll_phases.result.size c.scroll_phases.result.total
+    c.args.work.now.measured c.scroll_kids.new.work.measured c.scroll_phases.new.work.measured
+    c.if-left-eq0.false again phase (more phase.course (ready_then rule c.args.left before c.if-left-eq0.false again ready))
+
+pub scroll_kid-returns-then-not-is_shown-clause-counted : goal.scroll_kid-returns-then-not-is_shown-clause-counted
+scroll_kid-returns-then-not-is_shown-clause-counted t c = counted_self c.args.tree.now c.args.work.now
+
+pub scroll_kid-returns-in_default-clause-counted : goal.scroll_kid-returns-in_default-clause-counted
+scroll_kid-returns-in_default-clause-counted t c = counted_self c.args.tree.now c.args.work.now
+
+pub scroll_kid-measure-size-requires : goal.scroll_kid-measure-size-requires
+scroll_kid-measure-size-requires t c =
+    let shown = sym (ap is_shown c.facts-facts.ensures.value) ∙ sym c.is_shown.ensures ∙ c.if-not-is_shown.false in
+    (omega arith, record { live = c.requires.live; shown = shown; ready = c.requires.ready })
+
+pub scroll_kid-returns-clause-ready : goal.scroll_kid-returns-clause-ready
+scroll_kid-returns-clause-ready t c = let m = c.measure-size.ensures in rw m.same.tree at m.measured.ready
+
+pub scroll_kid-returns-then-not-is_shown-clause-phase : goal.scroll_kid-returns-then-not-is_shown-clause-phase
+scroll_kid-returns-then-not-is_shown-clause-phase t c = λ group past taken kids stands few course can.
+    gone_kid (Scroll c.args.plan.now) group past taken c.args.tree.now.tree c.args.kid kids (held_of c.args.tree.now) c.args.work.now.measured c.requires.live
+    (sym (ap is_shown c.facts-facts.ensures.value) ∙ sym c.is_shown.ensures ∙ c.if-not-is_shown.true) stands course
+
+pub scroll_kid-returns-in_default-clause-phase : goal.scroll_kid-returns-in_default-clause-phase
+scroll_kid-returns-in_default-clause-phase t c = λ group past taken kids stands few course can.
+    let one = count_one c.args.tree.now.tree c.args.kid c.requires.live in
+    let facts_is : layout_facts c.facts-facts.result.now ≡ facts_in (part_from c.args.kid c.args.tree.now.tree) = ap layout_facts c.facts-facts.ensures.value in
+    skipped_kid (Scroll c.scroll_take.new.plan) group past taken c.args.tree.now.tree c.args.kid kids (held_of c.args.tree.now) c.state.result.measured
+    c.args.work.now.measured c.requires.live (sym (ap is_shown c.facts-facts.ensures.value) ∙ sym c.is_shown.ensures ∙ c.if-not-is_shown.false)
+    (ap (λ (state : State). state.measured) c.state.ensures.value)
+    (rw facts_is at (sym c.in_default.is ∙ c.scroll_ask.ensures group past taken stands)) (rw facts_is at (c.scroll_take.ensures group past taken stands (omega arith))) course can
+
+pub scroll_kid-returns-clause-phase : goal.scroll_kid-returns-clause-phase
+scroll_kid-returns-clause-phase t c = λ group past taken kids stands few course can.
+    let tree = c.args.tree.now.tree in
+    let m = c.measure-size.ensures in
+    let facts_is : layout_facts c.facts-facts.result.now ≡ facts_in (part_from c.args.kid tree) = ap layout_facts c.facts-facts.ensures.value in
+    let still : layout_facts c.facts.result.now ≡ facts_in (part_from c.args.kid tree) = ap layout_facts c.facts.ensures.value ∙ ap (λ tree. facts_in (part_from c.args.kid tree)) m.same.tree in
+    let sized : Sized (held_of c.measure-size.new.tree) (first_tree (part_from c.args.kid tree)) = rw m.same.tree at m.measured.sized in
+    let one = count_one tree c.args.kid c.requires.live in
+    measured_kid (Scroll c.scroll_take-2.new.plan) group past taken tree c.args.kid kids (held_of c.args.tree.now) (held_of c.measure-size.new.tree)
+    c.state.result.measured c.measure-size.result (record { across = c.in-Some.across; down = c.in-Some.down }) c.args.work.now.measured c.measure-size.new.work.measured
+    c.requires.live (sym (ap is_shown c.facts-facts.ensures.value) ∙ sym c.is_shown.ensures ∙ c.if-not-is_shown.false)
+    (ap (λ (state : State). state.measured) c.state.ensures.value)
+    (rw facts_is at (sym c.in-Some.is ∙ c.scroll_ask.ensures group past taken stands)) m.size sized m.measured.last
+    (rw still at (c.scroll_take-2.ensures group past taken stands (omega arith))) m.costs m.caches course can
+
+pub scroll_kids-loop-next-init : goal.scroll_kids-loop-next-init
+scroll_kids-loop-next-init t c =
+    let tree = c.args.tree.now.tree in
+    let kids = children_of_first (part_from c.args.view tree) in
+    let first = c.first-next.ensures in
+    let few = count_few c.args.view tree c.requires.live first.is_tree.few in
+    record {
+      same = record { tree = refl; orders = refl; next = refl };
+      walked = keeping_start tree kids (held_of c.args.tree.now) c.first-next.result first.is_tree.keys first.part first.live;
+      phase = λ group past asked stands course can. rw first.part (phase_start (Scroll c.args.plan.now) group past asked kids (held_of c.args.tree.now) c.args.work.now.measured stands few course can);
+      ready = rw first.part (ready_start kids (held_of c.args.tree.now) c.requires.ready);
+      keeps = keeps_self (held_of c.args.tree.now);
+      counted = counted_self c.args.tree.now c.args.work.now;
+    }
+
+pub scroll_kids-scroll_kid-requires : goal.scroll_kids-scroll_kid-requires
+scroll_kids-scroll_kid-requires t c =
+    let i = rw c.in-Some.is at c.loop-next.invariant.walked.walk in
+    let fewer = fewer_below c.args.tree.now.tree c.args.view c.in-Some.kid c.requires.live i in
+    let ready : Ready (held_of c.loop-next.tree) (part_from c.in-Some.kid c.args.tree.now.tree) = (rw c.in-Some.is at c.loop-next.invariant.ready).ready in
+    rw c.loop-next.invariant.same.tree (omega arith, (i.live, Ready-alone (held_of c.loop-next.tree) (part_from c.in-Some.kid c.args.tree.now.tree) ready))
+
+pub scroll_kids-loop-next-smaller : goal.scroll_kids-loop-next-smaller
+scroll_kids-loop-next-smaller t c =
+    let i = rw c.in-Some.is at c.loop-next.invariant.walked.walk in
+    rw (c.next-next.ensures.part, c.scroll_kid.ensures.same.tree, c.loop-next.invariant.same.tree, c.in-Some.is) (live_after c.in-Some.kid c.args.tree.now.tree i.live)
+
+pub scroll_kids-loop-next-preserved : goal.scroll_kids-loop-next-preserved
+scroll_kids-loop-next-preserved t c =
+    let tree = c.args.tree.now.tree in
+    let kids = children_of_first (part_from c.args.view tree) in
+    let kid = c.in-Some.kid in
+    let old = held_of c.loop-next.tree in
+    let mid = held_of c.scroll_kid.new.tree in
+    let i = c.loop-next.invariant in
+    let same = i.same.tree in
+    let m = c.scroll_kid.ensures in
+    let walked = rw c.in-Some.is at i.walked in
+    let others : KeepsOutside old mid (first_tree (part_from kid tree)) = rw same at m.others in
+    let part : rest_from c.next-next.result tree ≡ later_siblings (part_from kid tree) = rw (m.same.tree, same) at c.next-next.ensures.part in
+    let keys = once_from tree kid walked.once walked.walk.live in
+    record {
+      same = record { tree = m.same.tree ∙ same; orders = m.same.orders ∙ i.same.orders; next = m.same.next ∙ i.same.next };
+      walked = keeping_on tree kids (held_of c.args.tree.now) kid old mid c.next-next.result walked others part (rw (m.same.tree, same) at c.next-next.ensures.live);
+      phase = λ group past asked started course can.
+          let f = rw c.in-Some.is at (i.phase group past asked started course can) in
+          let turn : (taken : List Measured) (first : List Requested) → Stands (Scroll c.loop-next.plan) group past taken → length taken + count_of (first_tree (part_from kid tree)) ≤ MAX_VIEWS
+          → InCourse old (first_tree (part_from kid tree)) first → CanTurn (rule_in group) past first
+          → AfterPhase (Scroll c.scroll_kid.new.plan) group past taken first old mid (first_tree (part_from kid tree)) c.loop-next.work.measured c.scroll_kid.new.work.measured =
+          rw same at (m.phase group past) in
+          rw part (phase_on (Scroll c.loop-next.plan) (Scroll c.scroll_kid.new.plan) group past asked kids (part_from kid tree) (held_of c.args.tree.now) old mid c.args.work.now.measured c.loop-next.work.measured
+          c.scroll_kid.new.work.measured keys f others walked.still turn);
+      ready = rw part (ready_on kids (part_from kid tree) old mid keys others (rw same at m.ready) (rw c.in-Some.is at i.ready));
+      keeps = keeps_trans (held_of c.args.tree.now) old mid i.keeps m.keeps;
+      counted = counted_then 0 0 c.args.tree.now c.loop-next.tree c.scroll_kid.new.tree c.args.work.now c.loop-next.work c.scroll_kid.new.work i.counted m.counted;
+    }
+
+pub scroll_kids-returns-clause-phase : goal.scroll_kids-returns-clause-phase
+scroll_kids-returns-clause-phase t c = λ group past asked started course can.
+    phase_end (Scroll c.loop-next.plan) group past asked (children_of_first (part_from c.args.view c.args.tree.now.tree)) (held_of c.args.tree.now) (held_of c.loop-next.tree) c.args.work.now.measured c.loop-next.work.measured
+    (rw c.in_default.is at (c.loop-next.invariant.phase group past asked started course can))
+
+pub scroll_kids-returns-clause-ready : goal.scroll_kids-returns-clause-ready
+scroll_kids-returns-clause-ready t c =
     ready_end (children_of_first (part_from c.args.view c.args.tree.now.tree)) (held_of c.loop-next.tree) (rw c.in_default.is at c.loop-next.invariant.ready)
 
 pub measure_siblings-measure_turns-requires-2 : goal.measure_siblings-measure_turns-requires-2

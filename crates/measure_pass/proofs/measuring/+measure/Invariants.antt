@@ -3,7 +3,7 @@ use Rattle.std.specs.Prelude.{slice_index}
 use Rattle.measure_pass.specs.Courses.{CanTurn, InCourse}
 use Rattle.kept_views.specs.Kept.{Ready}
 use Rattle.measure_pass.specs.Measured.{Counted, Keeps}
-use Rattle.measure_pass.specs.Plans.{Group, Stands, rule_in}
+use Rattle.measure_pass.specs.Plans.{Frame, Group, Linear, Scroll, Stands, rule_in}
 use Rattle.measure_pass.specs.Siblings.{FirstHasSize, FirstIsKnown, kids_in, order_on, phase_of}
 use Rattle.measure_pass.proofs.SiblingTurns.{Turning}
 use Rattle.measure_pass.proofs.Walk.{Phasing, ReadyWalk}
@@ -19,9 +19,6 @@ use Rattle.view_tree.proofs.forest.Walks.{KeepingWalk}
 use Rattle.measure_pass.proofs.measuring.+measure.Given as goal
 
 -- one round from a view to its child goes through these functions
-abbrev pub decreases-measure_kid : goal.decreases-measure_kid
-decreases-measure_kid l = 9 * count_of (first_tree (part_from l.kid l.tree.now.tree)) + 8
-
 abbrev pub decreases-measure : goal.decreases-measure
 decreases-measure l = 9 * count_of (first_tree (part_from l.view l.tree.now.tree)) + 7
 
@@ -31,8 +28,14 @@ decreases-measure_anew l = 9 * count_of (first_tree (part_from l.view l.tree.now
 abbrev pub decreases-measure_below : goal.decreases-measure_below
 decreases-measure_below l = 9 * count_of (first_tree (part_from l.view l.tree.now.tree)) + 5
 
-abbrev pub decreases-measure_group : goal.decreases-measure_group
-decreases-measure_group l = 9 * count_of (first_tree (part_from l.view l.tree.now.tree)) + 4
+abbrev pub decreases-measure_frame : goal.decreases-measure_frame
+decreases-measure_frame l = 9 * count_of (first_tree (part_from l.view l.tree.now.tree)) + 4
+
+abbrev pub decreases-measure_linear : goal.decreases-measure_linear
+decreases-measure_linear l = 9 * count_of (first_tree (part_from l.view l.tree.now.tree)) + 4
+
+abbrev pub decreases-measure_scroll : goal.decreases-measure_scroll
+decreases-measure_scroll l = 9 * count_of (first_tree (part_from l.view l.tree.now.tree)) + 4
 
 abbrev pub decreases-measure_siblings : goal.decreases-measure_siblings
 decreases-measure_siblings l = 9 * count_of (first_tree (part_from l.view l.tree.now.tree)) + 3
@@ -62,14 +65,17 @@ invariant-measure_turns-loop-turn l =
       counted : Counted 0 l.fn.tree l.tree l.fn.work l.work;
     }
 
-abbrev pub decreases-measure_phases : goal.decreases-measure_phases
-decreases-measure_phases l = 9 * count_of (first_tree (part_from l.view l.tree.now.tree)) + 1 + l.left
+abbrev pub decreases-frame_kid : goal.decreases-frame_kid
+decreases-frame_kid l = 9 * count_of (first_tree (part_from l.kid l.tree.now.tree)) + 8
 
-abbrev pub decreases-measure_kids : goal.decreases-measure_kids
-decreases-measure_kids l = 9 * count_of (first_tree (part_from l.view l.tree.now.tree))
+abbrev pub decreases-frame_phases : goal.decreases-frame_phases
+decreases-frame_phases l = 9 * count_of (first_tree (part_from l.view l.tree.now.tree)) + 1 + l.left
 
-abbrev pub invariant-measure_kids-loop-next : goal.invariant-measure_kids-loop-next
-invariant-measure_kids-loop-next l =
+abbrev pub decreases-frame_kids : goal.decreases-frame_kids
+decreases-frame_kids l = 9 * count_of (first_tree (part_from l.view l.tree.now.tree))
+
+abbrev pub invariant-frame_kids-loop-next : goal.invariant-frame_kids-loop-next
+invariant-frame_kids-loop-next l =
     let tree = l.fn.tree.tree in
     let kids = children_of_first (part_from l.view tree) in
     let start = held_of l.fn.tree in
@@ -77,12 +83,68 @@ invariant-measure_kids-loop-next l =
     record {
       same : SameTree l.fn.tree l.tree;
       walked : KeepingWalk tree kids start l.next now;
-      phase : (group : Group) (past : List (List Measured)) (asked : List Requested) → Stands l.fn.plan group past [] → InCourse start kids asked → CanTurn (rule_in group) past asked
-          → Phasing l.plan group past asked kids (rest_from l.next tree) start now l.fn.work.measured l.work.measured;
+      phase : (group : Group) (past : List (List Measured)) (asked : List Requested) → Stands (Frame l.fn.plan) group past [] → InCourse start kids asked → CanTurn (rule_in group) past asked
+          → Phasing (Frame l.plan) group past asked kids (rest_from l.next tree) start now l.fn.work.measured l.work.measured;
       ready : ReadyWalk kids (rest_from l.next tree) now;
       keeps : Keeps start now;
       counted : Counted 0 l.fn.tree l.tree l.fn.work l.work;
     }
 
-abbrev pub decreases-measure_kids-loop-next : goal.decreases-measure_kids-loop-next
-decreases-measure_kids-loop-next l = count_of (rest_from l.next l.tree.tree)
+abbrev pub decreases-frame_kids-loop-next : goal.decreases-frame_kids-loop-next
+decreases-frame_kids-loop-next l = count_of (rest_from l.next l.tree.tree)
+
+abbrev pub decreases-linear_kid : goal.decreases-linear_kid
+decreases-linear_kid l = 9 * count_of (first_tree (part_from l.kid l.tree.now.tree)) + 8
+
+abbrev pub decreases-linear_phases : goal.decreases-linear_phases
+decreases-linear_phases l = 9 * count_of (first_tree (part_from l.view l.tree.now.tree)) + 1 + l.left
+
+abbrev pub decreases-linear_kids : goal.decreases-linear_kids
+decreases-linear_kids l = 9 * count_of (first_tree (part_from l.view l.tree.now.tree))
+
+abbrev pub invariant-linear_kids-loop-next : goal.invariant-linear_kids-loop-next
+invariant-linear_kids-loop-next l =
+    let tree = l.fn.tree.tree in
+    let kids = children_of_first (part_from l.view tree) in
+    let start = held_of l.fn.tree in
+    let now = held_of l.tree in
+    record {
+      same : SameTree l.fn.tree l.tree;
+      walked : KeepingWalk tree kids start l.next now;
+      phase : (group : Group) (past : List (List Measured)) (asked : List Requested) → Stands (Linear l.fn.plan) group past [] → InCourse start kids asked → CanTurn (rule_in group) past asked
+          → Phasing (Linear l.plan) group past asked kids (rest_from l.next tree) start now l.fn.work.measured l.work.measured;
+      ready : ReadyWalk kids (rest_from l.next tree) now;
+      keeps : Keeps start now;
+      counted : Counted 0 l.fn.tree l.tree l.fn.work l.work;
+    }
+
+abbrev pub decreases-linear_kids-loop-next : goal.decreases-linear_kids-loop-next
+decreases-linear_kids-loop-next l = count_of (rest_from l.next l.tree.tree)
+
+abbrev pub decreases-scroll_kid : goal.decreases-scroll_kid
+decreases-scroll_kid l = 9 * count_of (first_tree (part_from l.kid l.tree.now.tree)) + 8
+
+abbrev pub decreases-scroll_phases : goal.decreases-scroll_phases
+decreases-scroll_phases l = 9 * count_of (first_tree (part_from l.view l.tree.now.tree)) + 1 + l.left
+
+abbrev pub decreases-scroll_kids : goal.decreases-scroll_kids
+decreases-scroll_kids l = 9 * count_of (first_tree (part_from l.view l.tree.now.tree))
+
+abbrev pub invariant-scroll_kids-loop-next : goal.invariant-scroll_kids-loop-next
+invariant-scroll_kids-loop-next l =
+    let tree = l.fn.tree.tree in
+    let kids = children_of_first (part_from l.view tree) in
+    let start = held_of l.fn.tree in
+    let now = held_of l.tree in
+    record {
+      same : SameTree l.fn.tree l.tree;
+      walked : KeepingWalk tree kids start l.next now;
+      phase : (group : Group) (past : List (List Measured)) (asked : List Requested) → Stands (Scroll l.fn.plan) group past [] → InCourse start kids asked → CanTurn (rule_in group) past asked
+          → Phasing (Scroll l.plan) group past asked kids (rest_from l.next tree) start now l.fn.work.measured l.work.measured;
+      ready : ReadyWalk kids (rest_from l.next tree) now;
+      keeps : Keeps start now;
+      counted : Counted 0 l.fn.tree l.tree l.fn.work l.work;
+    }
+
+abbrev pub decreases-scroll_kids-loop-next : goal.decreases-scroll_kids-loop-next
+decreases-scroll_kids-loop-next l = count_of (rest_from l.next l.tree.tree)

@@ -2,4 +2,4 @@ use Rattle.std.proofs.Common.{refl}
 use Rattle.linear_layout.proofs.plan.LinearPlan.start.Goals as goal
 
 pub returns : goal.returns
-returns c = (record { own_facts = refl; own_specs = refl }, refl, c.new.ensures _ _)
+returns c = (record { own_facts = c.of.ensures.own; own_specs = c.of.ensures.specs }, refl, c.new.ensures _ _)

@@ -1,8 +1,9 @@
 use Rattle.std.proofs.Common.{◌≡◌, ◌∙◌, sym, [], ◌∷◌, ◌++◌, Option, Some, None, FitsSigned, w64, rules, subst}
 use Rattle.std.proofs.lemmas.Int.{to_z-of_z}
+use Rattle.linear_layout.proofs.LinedLaws.{total-lined}
 use Rattle.linear_layout.proofs.PlanLaws.{of_group, plan_of, total-is}
-use Rattle.linear_layout.specs.Line.{own_in, specs_in}
-use Rattle.linear_layout.specs.LinearPlan.{StandsLinear, weighed_by}
+use Rattle.linear_layout.specs.Line.{lined, own_in, specs_in}
+use Rattle.linear_layout.specs.LinearPlan.{StandsLine, weighed_by}
 use Rattle.linear_layout.specs.Passes.{IsWeightPass}
 use Rattle.view_model.specs.declared.facts.Facts.{Facts}
 use Rattle.view_model.specs.LinearLayout.{linear_rule}
@@ -22,11 +23,11 @@ returns-in-Some c = λ own specs past taken s.
     let fits : FitsSigned w64 total = search rules in
     let ran : weighed_by plan.phase ≡ Some c.in-Some.pass = sym c.weighed.ensures ∙ c.in-Some.is in
     simp to_z-of_z
-    (of_group (λ (own : Facts) (specs : Specs). StandsLinear plan own specs past taken → total ≡ (linear_rule own specs).total (past ++ taken ∷ []))
-    plan own specs (plan_of plan own specs past taken s)
+    (of_group (λ (own : Facts) (specs : Specs). StandsLine plan own specs past taken → total ≡ (linear_rule own specs).total (past ++ taken ∷ []))
+    plan (lined own) specs (plan_of plan (lined own) specs past taken s)
     (total-is plan (own_in plan.line) (specs_in plan.line) past taken total
     (λ first none f. none_some none ran)
-    (λ pass first second some w. c.full_length.ensures first second (subst (λ pass. IsWeightPass pass (own_in plan.line) (specs_in plan.line) first second) (some_same some ran) w))) s)
+    (λ pass first second some w. c.full_length.ensures first second (subst (λ pass. IsWeightPass pass (own_in plan.line) (specs_in plan.line) first second) (some_same some ran) w))) s ∙ total-lined own specs (past ++ taken ∷ []))
 
 pub returns-in-None : goal.returns-in-None
 returns-in-None c = λ own specs past taken s.
@@ -35,8 +36,8 @@ returns-in-None c = λ own specs past taken s.
     let fits : FitsSigned w64 total = search rules in
     let not_ran : weighed_by plan.phase ≡ None = sym c.weighed.ensures ∙ c.in-None.is in
     simp to_z-of_z
-    (of_group (λ (own : Facts) (specs : Specs). StandsLinear plan own specs past taken → total ≡ (linear_rule own specs).total (past ++ taken ∷ []))
-    plan own specs (plan_of plan own specs past taken s)
+    (of_group (λ (own : Facts) (specs : Specs). StandsLine plan own specs past taken → total ≡ (linear_rule own specs).total (past ++ taken ∷ []))
+    plan (lined own) specs (plan_of plan (lined own) specs past taken s)
     (total-is plan (own_in plan.line) (specs_in plan.line) past taken total
     (λ first none f. c.full_length-in-None.ensures.value first f)
-    (λ pass first second some w. none_some not_ran some)) s)
+    (λ pass first second some w. none_some not_ran some)) s ∙ total-lined own specs (past ++ taken ∷ []))
