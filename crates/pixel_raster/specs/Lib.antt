@@ -1,4 +1,6 @@
 pub mod Bytes
 pub mod Cuts
 pub mod Raster
+pub mod Shares
+pub mod Strips
 pub mod Surfaces

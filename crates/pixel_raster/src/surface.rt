@@ -1,12 +1,15 @@
 //! A picture in memory.
-ghost use Rattle.std.specs.Prelude.{◌≡◌, ◌<◌, ◌≤◌, ◌+◌, ◌-◌, ◌*◌, ◌^◌, IfOk, length, min};
+ghost use Rattle.std.specs.Prelude.{◌≡◌, ◌<◌, ◌≤◌, ◌+◌, ◌-◌, ◌*◌, ◌^◌, IfOk, IsOk, OnErr, OnOk, length, min, replicate, true};
+ghost use Rattle.geom_core.specs.declared.color.TheConstants.{BLACK};
 ghost use Rattle.pixel_raster.specs.Bytes.{digest_of};
 ghost use Rattle.pixel_raster.specs.Cuts.{area_within, from_zero};
 ghost use Rattle.pixel_raster.specs.Raster.{Fills, IsInside, IsRaster, black_raster, color_at, empty_raster, size_of};
+ghost use Rattle.pixel_raster.specs.Strips.{InksStrip, set_bits};
 
 use crate::cut::{Cut, from_zero};
 use crate::digest::digest_of;
-use crate::rows::fill_rows;
+use crate::rows::{cover_black, fill_rows};
+use crate::strip::{Strip, ink_strip};
 use geom_core::{Argb, BLACK, Rect, Size};
 use std::alloc::{AllocError, Global};
 use std::marker::Model;
@@ -21,18 +24,22 @@ pub struct Surface {
     /// Row by row, from the top.
     pixels: Vec<Argb>,
     filled: u64,
+    /// The digest of the pixels, where it was taken since the last of them was painted.
+    digest: Option<[u8; 32]>,
+    /// Set where no pixel was painted since all were made black.
+    black: bool,
 }
 
 impl Model for Surface {
-    ghost use Rattle.pixel_raster.specs.Raster.{IsRaster, Raster};
+    ghost use Rattle.pixel_raster.specs.Raster.{Raster};
 
     ghost Value = { Raster };
 
-    ghost use Rattle.pixel_raster.specs.Surfaces.{raster_of};
+    ghost use Rattle.pixel_raster.specs.Surfaces.{IsSurface, raster_of};
 
     ghost view = { raster_of };
 
-    ghost invariant = { λ s. IsRaster (raster_of s) };
+    ghost invariant = { IsSurface };
 }
 
 impl Surface {
@@ -41,15 +48,9 @@ impl Surface {
         ensures value { IfOk result (λ s. s ≡ black_raster size) }
         ensures raster { IfOk result IsRaster }
     {
-        let width = from_zero(size.w);
-        let height = from_zero(size.h);
-        let pixels = vec![in alloc; BLACK; width * height]?;
-        Ok(Surface {
-            width,
-            height,
-            pixels,
-            filled: 0,
-        })
+        let mut surface = Surface::empty(alloc);
+        surface.reset(size)?;
+        Ok(surface)
     }
 
     /// A picture without a pixel, for a window that is not there yet.
@@ -61,7 +62,37 @@ impl Surface {
             height: 0,
             pixels: Vec::new(alloc),
             filled: 0,
+            digest: None,
+            black: true,
         }
+    }
+
+    /// Makes the picture black again, as a new one of this size is. It takes memory only where there are more pixels than
+    /// before, and no time where they are as many and still black.
+    pub fn reset(&mut self, size: Size) -> Result<(), AllocError>
+        ensures value { OnOk result (self.new ≡ black_raster size) }
+        ensures unchanged { OnErr result (self.new ≡ self.old) }
+        ensures fits { from_zero size.w * from_zero size.h ≤ length self.old.pixels → IsOk result }
+        ensures raster { IsRaster self.new }
+    {
+        let width = from_zero(size.w);
+        let height = from_zero(size.h);
+        if !self.is_black(width * height) {
+            cover_black(&mut self.pixels, width * height)?;
+            self.digest = None;
+            self.black = true;
+        }
+        self.width = width;
+        self.height = height;
+        self.filled = 0;
+        Ok(())
+    }
+
+    /// Whether there are this many pixels, and none was painted since all were made black.
+    fn is_black(&self, count: usize) -> bool
+        ensures { result ≡ true → self.now.pixels ≡ replicate count BLACK }
+    {
+        self.black && self.pixels.len() == count
     }
 
     /// The size of the window whose picture it is, in pixels.
@@ -73,6 +104,22 @@ impl Surface {
             w: self.width as i32,
             h: self.height as i32,
         }
+    }
+
+    /// How many columns of pixels there are.
+    pub fn columns(&self) -> usize
+        ensures value { result ≡ self.now.width }
+        ensures bound { result < 2 ^ 31 }
+    {
+        self.width
+    }
+
+    /// How many rows of pixels there are.
+    pub fn rows(&self) -> usize
+        ensures value { result ≡ self.now.height }
+        ensures bound { result < 2 ^ 31 }
+    {
+        self.height
     }
 
     /// Blends a colour over the pixels of a rectangle, in window coordinates, as far as they are in the picture. Both
@@ -93,7 +140,28 @@ impl Surface {
         if color.alpha() == 0 {
             return;
         }
+        self.digest = None;
+        self.black = false;
         fill_rows(&mut self.pixels, self.width, cut, color);
+    }
+
+    /// Blends a colour over those pixels of a strip whose bits are set; the lowest bit is that of its top row. Both counts
+    /// rise by the number of these pixels.
+    pub fn ink(&mut self, strip: Strip, bits: u8, color: Argb, work: &mut Work)
+        requires column { strip.column < self.old.width }
+        requires down { strip.top ≤ strip.bottom }
+        requires rows { strip.bottom ≤ self.old.height }
+        requires few { strip.bottom ≤ strip.top + 8 }
+        ensures inks { InksStrip strip bits color self.old self.new }
+        ensures raster { IsRaster self.new }
+        ensures counted { work.new ≡ record work.old { painted = min (work.old.painted + set_bits bits (strip.bottom - strip.top)) (2 ^ 64 - 1) } }
+        ensures grew { work.old.painted ≤ work.new.painted }
+    {
+        self.digest = None;
+        self.black = false;
+        let count = ink_strip(&mut self.pixels, self.width, strip, bits, color);
+        self.filled = self.filled.saturating_add(count);
+        work.painted = work.painted.saturating_add(count);
     }
 
     /// How many pixels were filled since the picture was made, one that was filled twice counting twice. It stays at the
@@ -130,10 +198,21 @@ impl Surface {
         from_zero(y) * self.width + from_zero(x)
     }
 
-    /// The SHA-256 of the red, green and blue of each pixel, row by row from the top.
+    /// The SHA-256 of the red, green and blue of each pixel, row by row from the top. It is computed only where pixels were
+    /// painted since it was kept.
     pub fn digest(&self) -> [u8; 32]
         ensures { result ≡ digest_of self.now.pixels }
     {
-        digest_of(&self.pixels)
+        match self.digest {
+            Some(digest) => digest,
+            None => digest_of(&self.pixels),
+        }
+    }
+
+    /// Keeps the digest until a pixel is painted.
+    pub fn keep_digest(&mut self)
+        ensures { self.new ≡ self.old }
+    {
+        self.digest = Some(self.digest());
     }
 }

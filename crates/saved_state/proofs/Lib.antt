@@ -2,7 +2,7 @@ mod EntryLaws
 mod Examples
 mod FoundLaws
 mod OffsetLaws
-mod RestoredLaws
+pub mod RestoredLaws
 mod RestoringLaws
 mod SavingLaws
 mod StateLaws

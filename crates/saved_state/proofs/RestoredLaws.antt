@@ -123,10 +123,21 @@ given_on entries tree view next old new live is came key =
     ∙ ap (λ (held : ℕ → Held). held key) (sym (given_first entries tree f.row (rows_from next tree) old))
     ∙ ap (λ (list : List Row). all_given entries tree (given_keys entries tree list) old key) (sym parts)
 
-all_bounds : (entries : List (ℕ × ℕ)) (tree : Forest Row) (keys : List ℕ) (held : ℕ → Held) (key : ℕ) → (all_given entries tree keys held key).state.bounds ≡ (held key).state.bounds
+pub all_bounds : (entries : List (ℕ × ℕ)) (tree : Forest Row) (keys : List ℕ) (held : ℕ → Held) (key : ℕ) → (all_given entries tree keys held key).state.bounds ≡ (held key).state.bounds
 all_bounds entries tree [] held key = refl
 all_bounds entries tree (view ∷ views) held key =
     all_bounds entries tree views (given_held (wanted entries tree view) view tree held) key ∙ given_bounds (wanted entries tree view) view tree held key
+
+-- a view that is given no offset keeps its own
+pub all_offsets : (entries : List (ℕ × ℕ)) (tree : Forest Row) (keys : List ℕ) (held : ℕ → Held) (key : ℕ) → wanted entries tree key ≡ None
+    → (all_given entries tree keys held key).offset ≡ (held key).offset
+all_offsets entries tree [] held key none = refl
+all_offsets entries tree (view ∷ views) held key none =
+    all_offsets entries tree views (given_held (wanted entries tree view) view tree held) key none
+    ∙ elim (cases_eq key view) [
+      | inl e ↦ ap (λ (given : Option ℤ). (given_held given view tree held key).offset) (ap (wanted entries tree) (sym e) ∙ none)
+      | inr ne ↦ given_others (wanted entries tree view) view tree held key ne
+    ]
 
 all_off : (entries : List (ℕ × ℕ)) (tree : Forest Row) (keys : List ℕ) (held : ℕ → Held) (key : ℕ) → on_paths key keys tree ≡ false → all_given entries tree keys held key ≡ held key
 all_off entries tree [] held key off = refl

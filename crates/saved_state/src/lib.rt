@@ -15,6 +15,6 @@ mod states;
 
 pub use fault::StateFault;
 pub use reading::read;
-pub use restoring::restore;
+pub use restoring::{given_offset, restore};
 pub use saving::save;
 pub use states::States;

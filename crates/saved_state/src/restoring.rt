@@ -83,8 +83,8 @@ fn moved(facts: &Facts, offset: i32) -> Facts
     Facts { offset, ..*facts }
 }
 
-/// The offset in pixels that a state gives a view, if it gives one.
-fn given_offset(tree: &ViewTree, states: &States, view: Key) -> Option<i32>
+/// The offset in pixels that a state gives a view, if it gives one: to each scroll view whose id it has.
+pub fn given_offset(tree: &ViewTree, states: &States, view: Key) -> Option<i32>
     requires { IsLive tree.now view }
     ensures { result ≡ given_offset states.now (view_at tree.now view) }
 {

@@ -1,5 +1,5 @@
 //! The offset of a scroll view, which was laid out, comes into its range.
-ghost use Rattle.std.specs.Prelude.{◌≡◌};
+ghost use Rattle.std.specs.Prelude.{◌≡◌, ◌≢◌, true, false};
 ghost use Rattle.scroll_offsets.specs.Bringing.{child_rect, range_at};
 ghost use Rattle.view_model.specs.declared.kinds.Class.TheVariants.{ScrollView};
 ghost use Rattle.view_model.specs.Offsets.{brought, range_by};
@@ -13,19 +13,34 @@ use view_model::{Class, Facts};
 use view_tree::{Key, ViewTree};
 
 /// Brings the offset of a view, if it is a scroll view that lies somewhere, into the range that it has where it and its
-/// first child lie now. Nothing else changes, and an offset that is in its range stays.
-pub fn bring_one(tree: &mut ViewTree, view: Key)
+/// first child lie now; returns whether that changes it. An offset that is in its range stays, and then nothing is
+/// written. Nothing else changes.
+pub fn bring_one(tree: &mut ViewTree, view: Key) -> bool
     requires { IsLive tree.old view }
+    ensures moved { result ≡ true → offset_of tree.new view ≢ offset_of tree.old view }
+    ensures still { result ≡ false → tree.new ≡ tree.old }
     ensures same { SameTree tree.old tree.new }
     ensures held { held_of tree.new view ≡ record (held_of tree.old view) { offset = brought (range_at tree.old view) (offset_of tree.old view) } }
     ensures others { KeepsOthers tree.old tree.new view }
     ensures counts { tree.new.counts ≡ tree.old.counts }
 {
     let Some(range) = range_of(tree, view) else {
-        return;
+        return false;
     };
     let facts = facts_within(tree.facts(view), range);
+    if has_offset(&facts, tree.facts(view)) {
+        return false;
+    }
     tree.set_facts(view, facts);
+    true
+}
+
+/// Whether two views are scrolled by the same offset.
+fn has_offset(one: &Facts, other: &Facts) -> bool
+    ensures same { result ≡ true → one.now.offset ≡ other.now.offset }
+    ensures other { result ≡ false → one.now.offset ≢ other.now.offset }
+{
+    one.offset == other.offset
 }
 
 /// These facts, with the offset brought into this range.

@@ -4,6 +4,7 @@ mod OnceTries
 mod RangeLaws
 mod RootLaws
 mod ParentLaws
+pub mod ScrollLaws
 mod ScrollSteps
 mod Backwards
 mod CaughtLaws

@@ -1,5 +1,6 @@
 pub mod Gestures
 pub mod Points
+pub mod Scrolled
 pub mod Drags
 pub mod Handling
 pub mod Dispatch

@@ -1,10 +1,12 @@
 mod ChangeLaws
 mod CountLaws
 mod CountedLaws
+mod CoverLaws
 mod EditLaws
 mod Examples
 mod FiringLaws
 pub mod FitLaws
+mod FollowedViews
 pub mod FrameLaws
 mod GrownKeys
 mod GrownLaid
@@ -21,4 +23,5 @@ mod ReportLaws
 pub mod ReportedLaws
 mod RestLaws
 pub mod ShapeLaws
+mod SightLaws
 mod Unedited

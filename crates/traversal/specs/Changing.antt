@@ -1,13 +1,18 @@
 -- What passes and frames leave of a tree of the code.
-use Rattle.std.specs.Prelude.{◌≡◌, pos, true, List, [], ◌∷◌}
+use Rattle.std.specs.Prelude.{◌≡◌, ◌<◌, ℤ, pos, true, false, List, [], ◌∷◌}
+use Rattle.damage_rect.specs.Within.{LiesIn}
+use Rattle.geom_core.specs.Rects.{holds}
+use Rattle.geom_core.specs.declared.geometry.Rect.{Rect}
 use Rattle.geom_core.specs.declared.geometry.Size.{Size}
 use Rattle.size_hooks.specs.Hook.{Hook}
 use Rattle.view_model.specs.Facts.{new_facts}
 use Rattle.view_model.specs.Forest.{map_rows}
 use Rattle.view_model.specs.Geometry.{Laid, rect_at}
+use Rattle.view_model.specs.Painting.{pixel_color}
 use Rattle.view_tree.specs.Rows.{Row}
 use Rattle.view_tree.specs.Views.{Views, geometry_of, plain_of}
 use Rattle.traversal.specs.declared.outcome.Frame.{Frame}
+use Rattle.traversal.specs.Covering.{HasShifted}
 use Rattle.traversal.specs.Frames.{Framed, Pass}
 use Rattle.traversal.specs.Narrow.{IsNarrow}
 
@@ -40,6 +45,11 @@ pub record IsFramed (after : Framed) (views : Views) (hooks : List Hook) (frame 
   pub fired : frame.fired ≡ after.fired
   pub geometry : after.settled ≡ true → geometry_of views ≡ after.geometry
 
--- what has to be painted: all of the window
+-- What has to be painted. After a frame that has settled each other point of the window has the colour that the views
+-- gave before it. Where a hook fired it is all of the window; otherwise it lies in each box that has what is seen,
+-- before and after, of the views that lie elsewhere or are scrolled by another offset.
 pub record IsDamage (old new : Views) (window : Size) (frame : Frame) : Type 0 where
-  pub whole : frame.damage ≡ rect_at (pos 0) (pos 0) window
+  pub colors : frame.settled ≡ true → (x y : ℤ) → holds (rect_at (pos 0) (pos 0) window) x y ≡ true → holds frame.damage x y ≡ false
+      → pixel_color (geometry_of new) (plain_of new) x y ≡ pixel_color (geometry_of old) (plain_of old) x y
+  pub whole : 0 < frame.fired → frame.damage ≡ rect_at (pos 0) (pos 0) window
+  pub within : frame.fired ≡ 0 → (box : Rect) → HasShifted window box old new → LiesIn frame.damage box

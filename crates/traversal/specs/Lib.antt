@@ -1,4 +1,6 @@
 pub mod Changing
+pub mod Covering
+pub mod Following
 pub mod Frames
 pub mod Growing
 pub mod Counting

@@ -21,6 +21,7 @@ ghost use Rattle.view_tree.specs.Views.{IsLive, IsTree, cache_of, geometry_of, h
 use crate::outcome::Frame;
 use crate::pass::pass;
 use crate::reporting::report_all;
+use damage_rect::Damage;
 use geom_core::{Rect, Size};
 use size_hooks::Hooks;
 use view_model::Work;
@@ -30,6 +31,9 @@ use view_tree::ViewTree;
 /// fired a hook. Where the last pass fired none, the frame has settled: the views lie where it laid them, and each
 /// armed hook has the present size of its view reported. Then nothing is left to do, and another frame changes nothing
 /// until something is asked of a view, a hook is armed or the window changes.
+///
+/// The damage is what has to be painted then: the bounding box of what was seen and what is seen of the views that lie
+/// elsewhere or are scrolled by another offset, or the whole window where a hook fired.
 pub fn frame(tree: &mut ViewTree, hooks: &mut Hooks, window: Size, work: &mut Work) -> Frame
     requires consistent { IsConsistent tree.old }
     ensures framed { IsFramed (after_frame (plain_of tree.old) hooks.old window) tree.new hooks.new result }
@@ -50,11 +54,12 @@ pub fn frame(tree: &mut ViewTree, hooks: &mut Hooks, window: Size, work: &mut Wo
         → current (state_of tree.new root) (root_specs window (head_view tree.new.tree).facts) ≡ true }
 {
     let _in_range = work.measured;
-    if !pass(tree, hooks, window, work) {
-        return settle(tree, hooks, window, 0);
+    let mut damage = Damage::new();
+    if !pass(tree, hooks, window, &mut damage, work) {
+        return settle(tree, hooks, damage.rect(), 0);
     }
-    if !pass(tree, hooks, window, work) {
-        return settle(tree, hooks, window, 1);
+    if !pass(tree, hooks, window, &mut damage, work) {
+        return settle(tree, hooks, whole(window), 1);
     }
     Frame {
         settled: false,
@@ -63,20 +68,20 @@ pub fn frame(tree: &mut ViewTree, hooks: &mut Hooks, window: Size, work: &mut Wo
     }
 }
 
-/// Ends a frame whose last pass fired no hook, after so many that were fired before.
-fn settle(tree: &ViewTree, hooks: &mut Hooks, window: Size, fired: u8) -> Frame
+/// Ends a frame whose last pass fired no hook, after so many that were fired before; this has to be painted.
+fn settle(tree: &ViewTree, hooks: &mut Hooks, damage: Rect, fired: u8) -> Frame
     ensures hooks { hooks.new ≡ told_in (geometry_of tree.now) hooks.old }
     ensures is_tree { IsTree tree.now }
     ensures map { IsMap hooks.old }
     ensures settled { result.settled ≡ true }
     ensures fired { result.fired ≡ fired }
-    ensures damage { result.damage ≡ rect_at (pos 0) (pos 0) window }
+    ensures damage { result.damage ≡ damage }
 {
     report_all(tree, hooks);
     Frame {
         settled: true,
         fired,
-        damage: whole(window),
+        damage,
     }
 }
 

@@ -8,6 +8,6 @@ pub struct Frame {
     pub settled: bool,
     /// How many hooks fired: at most one a pass.
     pub fired: u8,
-    /// What has to be painted, in the window's coordinates.
+    /// What has to be painted, in the window's coordinates: nothing where it is empty.
     pub damage: Rect,
 }

@@ -1,15 +1,20 @@
 //! One pass over the whole tree.
 ghost use Rattle.std.specs.Prelude.{◌≡◌, ◌≤◌, ◌+◌, ℕ, [], None, Some, true, false};
+ghost use Rattle.damage_rect.specs.Within.{LiesIn};
+ghost use Rattle.geom_core.specs.declared.geometry.Rect.{Rect};
 ghost use Rattle.kept_views.specs.Passes.{InPass, settled};
 ghost use Rattle.measure_pass.specs.Caches.{Grew};
 ghost use Rattle.measure_pass.specs.Measured.{current};
+ghost use Rattle.seen_parts.specs.Meeting.{KeepsSight};
 ghost use Rattle.view_model.specs.Facts.{is_shown};
+ghost use Rattle.view_model.specs.Visible.{whole_window};
 ghost use Rattle.view_tree.specs.Rows.{first_key, head_view};
 ghost use Rattle.view_tree.specs.Requests.{among};
 ghost use Rattle.kept_views.specs.Kept.{IsConsistent, IsKept};
 ghost use Rattle.kept_views.specs.Laying.{differ};
 ghost use Rattle.traversal.specs.Changing.{IsPassed, SameShape};
 ghost use Rattle.traversal.specs.Counting.{IsCounted};
+ghost use Rattle.traversal.specs.Covering.{Covered};
 ghost use Rattle.traversal.specs.Frames.{after_pass, fired_in};
 ghost use Rattle.view_model.specs.Layout.{root_calls, root_specs};
 ghost use Rattle.view_tree.specs.Views.{IsLive, SameTree, cache_of, geometry_of, held_of, number_of, plain_of, state_of};
@@ -20,6 +25,7 @@ ghost use Rattle.traversal.specs.Resting.{IsAtRest};
 use crate::firing::{fire, fired};
 use crate::forcing::force_all;
 use crate::laying::{lay_root, settle};
+use damage_rect::Damage;
 use geom_core::Size;
 use size_hooks::Hooks;
 use view_model::Work;
@@ -27,9 +33,19 @@ use view_tree::{Key, ViewTree};
 
 /// Lays the whole tree out in a window of this size, as far as it needs that, and makes the edits of the first hook
 /// that fires; returns whether one did. The edits are made while a root that was forced still is. A request stops
-/// there, so that each view that made one is forced with all above it once the root has settled.
-pub fn pass(tree: &mut ViewTree, hooks: &mut Hooks, window: Size, work: &mut Work) -> bool
+/// there, so that each view that made one is forced with all above it once the root has settled. Where no hook fired,
+/// what is seen of the views that were moved or scrolled is damage.
+pub fn pass(
+    tree: &mut ViewTree,
+    hooks: &mut Hooks,
+    window: Size,
+    damage: &mut Damage,
+    work: &mut Work,
+) -> bool
     requires consistent { IsConsistent tree.old }
+    ensures quiet { result ≡ false → SameTree tree.old tree.new }
+    ensures sight { result ≡ false → KeepsSight (whole_window window) damage.new.rect (held_of tree.old) (held_of tree.new) tree.old.tree }
+    ensures within { result ≡ false → (box : Rect) → LiesIn damage.old.rect box → Covered (whole_window window) box (held_of tree.old) (held_of tree.new) tree.old.tree → LiesIn damage.new.rect box }
     ensures passed { IsPassed (after_pass (plain_of tree.old) hooks.old window) tree.new hooks.new }
     ensures fired { result ≡ (after_pass (plain_of tree.old) hooks.old window).fired }
     ensures shape { SameShape tree.old tree.new }
@@ -49,7 +65,7 @@ pub fn pass(tree: &mut ViewTree, hooks: &mut Hooks, window: Size, work: &mut Wor
     let Some(root) = root_to_lay(tree) else {
         return false;
     };
-    lay_root(tree, root, window, work);
+    lay_root(tree, root, window, damage, work);
     let Some(view) = fired(tree, hooks) else {
         end_pass(tree, root, &[]);
         return false;
@@ -67,6 +83,7 @@ fn end_pass(tree: &mut ViewTree, root: Key, requesters: &[Key])
     ensures plain { plain_of tree.new ≡ plain_of tree.old }
     ensures geometry { geometry_of tree.new ≡ geometry_of tree.old }
     ensures bounds { (key : ℕ) → (state_of tree.new key).bounds ≡ (state_of tree.old key).bounds }
+    ensures offsets { (key : ℕ) → (held_of tree.new key).offset ≡ (held_of tree.old key).offset }
     ensures own { requesters.now ≡ [] → held_of tree.new root ≡ settled (held_of tree.old root) }
     ensures caches { (key : ℕ) → IsOffPaths requesters.now tree.old.tree key → cache_of tree.new key ≡ cache_of tree.old key }
     ensures still { requesters.now ≡ [] → (state_of tree.old root).forced ≡ false → (state_of tree.old root).layout_needed ≡ false → tree.new ≡ tree.old }

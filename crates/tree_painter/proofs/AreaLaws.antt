@@ -12,10 +12,10 @@ use Rattle.geom_core.specs.declared.geometry.Rect.{Rect}
 use Rattle.pixel_raster.specs.Cuts.{cut_of, edge_within, from_zero}
 use Rattle.pixel_raster.specs.Raster.{Fills, Raster}
 use Rattle.view_model.specs.declared.work.Work.{Work}
-use Rattle.tree_painter.specs.declared.frame.Canvas.{Canvas}
-use Rattle.tree_painter.specs.declared.frame.Frame.{Frame}
+use Rattle.seen_parts.specs.declared.frame.Canvas.{Canvas}
+use Rattle.seen_parts.specs.declared.frame.Frame.{Frame}
 use Rattle.tree_painter.specs.Areas.{area_between, column_at, edge_at, row_at, strip_between}
-use Rattle.tree_painter.specs.Frames.{IsInside, IsPart}
+use Rattle.seen_parts.specs.Frames.{IsInside, IsPart}
 use Rattle.tree_painter.specs.Painted.{IsCounted, area_in}
 
 edge_grows : (limit : ℕ) (a b : ℤ) → a ≤ℤ b → edge_within limit a ≤ edge_within limit b

@@ -13,9 +13,9 @@ use Rattle.pixel_raster.specs.Raster.{Fills, Raster, color_at}
 use Rattle.view_model.specs.CellText.{cell_in, cell_of, lines_for}
 use Rattle.view_model.specs.Glyphs.{glyph_of, has_bit}
 use Rattle.view_model.specs.Painting.{cell_pixel}
-use Rattle.tree_painter.specs.declared.frame.Canvas.{Canvas}
-use Rattle.tree_painter.specs.declared.frame.Frame.{Frame}
-use Rattle.tree_painter.specs.Frames.{IsMoved, frame_holds}
+use Rattle.seen_parts.specs.declared.frame.Canvas.{Canvas}
+use Rattle.seen_parts.specs.declared.frame.Frame.{Frame}
+use Rattle.seen_parts.specs.Frames.{IsMoved, frame_holds}
 use Rattle.tree_painter.specs.Inks.{column_ink, in_column, line_ink, rect_ink, text_ink}
 use Rattle.tree_painter.specs.Painted.{PaintedIn}
 use Rattle.tree_painter.proofs.PainterLaws.{moved_holds, painted_nothing, right_of}

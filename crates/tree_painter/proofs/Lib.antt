@@ -1,7 +1,7 @@
 mod AreaLaws
+pub mod CoveredAreas
 mod InkLaws
 mod OwnLaws
 mod PainterLaws
-mod PartLaws
 mod TreeLaws
 mod UnderWay

@@ -14,11 +14,11 @@ use Rattle.view_model.specs.Geometry.{size_of_rect}
 use Rattle.view_model.specs.Painting.{Painter, content, drawn_in, has_ink, inner_rect, is_drawn, reaches_children, shows_text, text_pixel}
 use Rattle.view_model.specs.PlainTree.{PlainView}
 use Rattle.view_model.specs.TextView.{cells_across}
-use Rattle.tree_painter.specs.declared.frame.Canvas.{Canvas}
-use Rattle.tree_painter.specs.declared.frame.Frame.{Frame}
-use Rattle.tree_painter.specs.Frames.{IsMoved, IsWithout, canvas_holds, frame_holds, frame_size, padding_of}
+use Rattle.seen_parts.specs.declared.frame.Canvas.{Canvas}
+use Rattle.seen_parts.specs.declared.frame.Frame.{Frame}
+use Rattle.seen_parts.specs.Frames.{IsBelow, IsMoved, IsWithout, canvas_holds, frame_holds, frame_size, padding_of}
 use Rattle.tree_painter.specs.Inks.{own_ink, text_ink}
-use Rattle.tree_painter.specs.Painted.{ChildrenPainted, IsBelow, IsPainted, PaintedIn, from_origin}
+use Rattle.tree_painter.specs.Painted.{ChildrenPainted, IsPainted, PaintedIn, from_origin}
 use Rattle.tree_painter.proofs.PainterLaws.{moved_holds, painted_nothing, right_of}
 
 inner_lt : (x edge at : ℤ) → int_lt (x -ℤ edge) at ≡ int_lt x (edge +ℤ at)

@@ -7,9 +7,9 @@ use Rattle.geom_core.specs.declared.color.Argb.{Argb}
 use Rattle.geom_core.specs.declared.geometry.Rect.{Rect}
 use Rattle.pixel_raster.specs.Raster.{Raster, color_at}
 use Rattle.view_model.specs.Painting.{Painter}
-use Rattle.tree_painter.specs.declared.frame.Canvas.{Canvas}
-use Rattle.tree_painter.specs.declared.frame.Frame.{Frame}
-use Rattle.tree_painter.specs.Frames.{IsMoved, frame_holds}
+use Rattle.seen_parts.specs.declared.frame.Canvas.{Canvas}
+use Rattle.seen_parts.specs.declared.frame.Frame.{Frame}
+use Rattle.seen_parts.specs.Frames.{IsMoved, frame_holds}
 use Rattle.tree_painter.specs.Painted.{IsPainted}
 
 kept : (t : Bool) (p u : Argb) → (t ≡ true → p ≡ u) → u ≡ (if t then p else u)

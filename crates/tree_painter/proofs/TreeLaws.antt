@@ -10,16 +10,15 @@ use Rattle.geom_core.specs.declared.geometry.Rect.{Rect}
 use Rattle.geom_core.proofs.ColorLaws.{blend_of-covering}
 use Rattle.pixel_raster.specs.Raster.{Fills, Raster, color_at}
 use Rattle.view_model.specs.Forest.{Forest, Nothing, Branch, count_of}
-use Rattle.view_model.specs.Geometry.{rect_in}
 use Rattle.view_model.specs.Painting.{Painter, drawn_in, is_drawn, painted, pixel_color, placed_by}
 use Rattle.view_model.specs.declared.work.Work.{Work}
-use Rattle.view_tree.specs.Rows.{Row, children_of_first, count_of_key, first_tree, head_view, later_siblings, part_from}
-use Rattle.view_tree.specs.Views.{Held, IsLive, IsTree, Views, facts_of, geometry_of, held_of, number_of, plain_of, plain_rows, state_of, view_at}
-use Rattle.view_tree.proofs.forest.Forests.{Within-children_of_first, Within-later_siblings}
-use Rattle.view_tree.proofs.forest.KeyLaws.{Within, count_of_key-within, from_within, here, located, times_self}
-use Rattle.view_tree.proofs.values.GeometryLaws.{rect_live}
-use Rattle.tree_painter.specs.declared.frame.Canvas.{Canvas}
-use Rattle.tree_painter.specs.Painted.{IsCounted, IsPainted, PaintedIn, from_origin, placed_rows, share_of}
+use Rattle.view_tree.specs.Rows.{Row, children_of_first, count_of_key, first_tree, later_siblings, part_from}
+use Rattle.view_tree.specs.Views.{Held, IsLive, IsTree, Views, facts_of, geometry_of, held_of, plain_of, state_of, view_at}
+use Rattle.view_tree.proofs.forest.KeyLaws.{located}
+use Rattle.seen_parts.specs.declared.frame.Canvas.{Canvas}
+use Rattle.seen_parts.proofs.PlacedLaws.{placed_is}
+use Rattle.seen_parts.specs.Meeting.{placed_rows}
+use Rattle.tree_painter.specs.Painted.{IsCounted, IsPainted, PaintedIn, from_origin, share_of}
 use Rattle.tree_painter.proofs.AreaLaws.{counted_none, counted_then}
 use Rattle.tree_painter.proofs.PainterLaws.{painted_by, painted_nothing}
 
@@ -101,21 +100,6 @@ pub counted_own : (tree : Forest Row) (view area : ℕ) (a b : Raster) (u v : Wo
 counted_own tree view area a b u v live own =
     let f = located view tree live in
     rw f.is (counted_then (area + area) 0 (area + area + (share_of area f.kids + 0)) a b b u v v (omega arith) own (counted_none 0 b v))
-
--- the rectangles that are kept of views are those of the geometry
-placed_same : (views : Views) (list : Forest Row) → IsTree views → Within list views.tree
-    → placed_by (geometry_of views) (plain_rows (held_of views) list) ≡ placed_rows (held_of views) list
-placed_same views Nothing is within = refl
-placed_same views (Branch row kids siblings) is within =
-    let live : IsLive views row.key = let w = count_of_key-within row.key within in let s = times_self row kids siblings in omega arith in
-    let at : part_from row.key views.tree ≡ Branch row kids siblings = from_within row kids siblings within (is.keys row.key) in
-    let number : number_of views row.key ≡ row.view.number = ap (λ (list : Forest Row). (head_view list).number) at in
-    let rect : rect_in (geometry_of views) row.view.number ≡ (held_of views row.key).state.bounds =
-    ap (rect_in (geometry_of views)) (sym number) ∙ rect_live views row.key is live in
-    rw (rect, placed_same views kids is (Within-children_of_first within), placed_same views siblings is (Within-later_siblings within)) refl
-
-pub placed_is : (views : Views) → IsTree views → placed_by (geometry_of views) (plain_of views) ≡ placed_rows (held_of views) views.tree
-placed_is views is = placed_same views views.tree is here
 
 black_covers : (u : Argb) → blend_of BLACK u ≡ BLACK
 unfolding alpha_of

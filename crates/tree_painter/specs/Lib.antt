@@ -1,4 +1,3 @@
 pub mod Areas
-pub mod Frames
 pub mod Inks
 pub mod Painted

@@ -5,12 +5,10 @@ use Rattle.geom_core.specs.declared.geometry.Rect.{Rect}
 use Rattle.pixel_raster.specs.Cuts.{area_within}
 use Rattle.pixel_raster.specs.Raster.{Raster, color_at}
 use Rattle.view_model.specs.declared.work.Work.{Work}
-use Rattle.view_model.specs.Forest.{Forest, map_rows, sum_of}
-use Rattle.view_model.specs.Painting.{Painter, PlacedView}
+use Rattle.view_model.specs.Forest.{Forest, sum_of}
+use Rattle.view_model.specs.Painting.{Painter}
 use Rattle.view_tree.specs.Rows.{Row}
-use Rattle.view_tree.specs.Views.{Held, scrolled}
-use Rattle.tree_painter.specs.declared.frame.Canvas.{Canvas}
-use Rattle.tree_painter.specs.declared.frame.Frame.{Frame}
+use Rattle.seen_parts.specs.declared.frame.Canvas.{Canvas}
 
 -- each pixel in a rectangle is what a painter makes of the colour that was there, and the others are as they were
 pub record IsPainted (paint : Painter) (clip : Rect) (old new : Raster) : Type 0 where
@@ -26,10 +24,6 @@ from_origin left top paint x y under = paint (x -ℤ left) (y -ℤ top) under
 abbrev pub PaintedIn : Canvas → Painter → Raster → Raster → Type 0
 PaintedIn canvas paint old new = IsPainted (from_origin canvas.left canvas.top paint) canvas.clip old new
 
--- the views of a list with the rectangles that are kept of them
-abbrev pub placed_rows : (ℕ → Held) → Forest Row → Forest PlacedView
-placed_rows held list = map_rows (λ (row : Row). record { view = scrolled held row; bounds = (held row.key).state.bounds }) list
-
 -- the area of a rectangle within a picture
 abbrev pub area_in : Raster → Rect → ℕ
 area_in picture rect = area_within picture.width picture.height rect
@@ -42,11 +36,6 @@ pub record IsCounted (most : ℕ) (old new : Raster) (before after : Work) : Typ
   pub bound : after.painted ≤ before.painted + most
   pub alike : after.painted < 2 ^ 64 - 1 → new.filled < 2 ^ 64 - 1 → after.painted + old.filled ≡ before.painted + new.filled
   pub measured : after.measured ≡ before.measured
-
--- a canvas whose origin is that of the children of a view in this frame, with this offset
-pub record IsBelow (frame : Frame) (offset : ℤ) (canvas : Canvas) : Type 0 where
-  pub left : canvas.left ≡ frame.left
-  pub top : canvas.top ≡ frame.top -ℤ offset
 
 -- what is left to paint of a view was painted: its children, if they are seen anywhere
 abbrev pub ChildrenPainted : Option Canvas → Painter → Raster → Raster → Type 0

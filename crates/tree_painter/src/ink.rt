@@ -2,13 +2,13 @@
 ghost use Rattle.std.specs.Prelude.{◌≡◌, min, ◌+◌, ◌<◌, ◌≤◌, ◌^◌, ◌+ℤ◌, ℕ, pos, true, false};
 ghost use Rattle.view_model.specs.Glyphs.{has_bit};
 ghost use Rattle.tree_painter.specs.Areas.{area_between};
-ghost use Rattle.tree_painter.specs.Frames.{IsCanvas};
+ghost use Rattle.seen_parts.specs.Frames.{IsCanvas};
 ghost use Rattle.tree_painter.specs.Inks.{column_ink, rect_ink};
 ghost use Rattle.tree_painter.specs.Painted.{IsCounted, PaintedIn};
 
-use crate::frame::{Canvas, moved, part_in};
 use geom_core::{Argb, Rect};
 use pixel_raster::Surface;
+use seen_parts::{Canvas, moved, part_in};
 use view_model::Work;
 
 /// Blends a colour over a rectangle of a canvas.

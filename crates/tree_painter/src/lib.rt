@@ -1,10 +1,8 @@
 //! Painting of a tree of views into a picture, over black and within a rectangle. Nothing here takes memory.
 //!
-//! `painting` walks over the tree, `own` paints what one view shows itself, `text` and `ink` its characters; `frame`
-//! has the arithmetic of rectangles that may lie far outside.
+//! `painting` walks over the tree, `own` paints what one view shows itself, `text` and `ink` its characters.
 #![tactic(auto)]
 
-mod frame;
 mod ink;
 mod own;
 mod painting;

@@ -5,15 +5,15 @@ ghost use Rattle.pixel_raster.specs.Raster.{Raster};
 ghost use Rattle.view_model.specs.Facts.{padding_across, padding_left};
 ghost use Rattle.view_model.specs.Painting.{Painter, drawn_in, is_drawn, reaches_children, shows_text};
 ghost use Rattle.view_tree.specs.Views.{IsLive, facts_of, view_at};
-ghost use Rattle.tree_painter.specs.Frames.{IsCanvas, IsInReach, IsInside, IsSeen, canvas_holds, frame_size};
+ghost use Rattle.seen_parts.specs.Frames.{IsBelow, IsCanvas, IsInReach, IsInside, IsSeen, canvas_holds, frame_size};
 ghost use Rattle.tree_painter.specs.Inks.{own_ink};
-ghost use Rattle.tree_painter.specs.Painted.{ChildrenPainted, IsBelow, IsCounted, IsPainted, PaintedIn, area_in, from_origin};
+ghost use Rattle.tree_painter.specs.Painted.{ChildrenPainted, IsCounted, IsPainted, PaintedIn, area_in, from_origin};
 
-use crate::frame::{Canvas, Frame, before, inner_frame, moved, part_in, past};
 use crate::text::ink_text;
 use cell_text::cells_in;
 use geom_core::Rect;
 use pixel_raster::Surface;
+use seen_parts::{Canvas, Frame, before, inner_frame, moved, part_in, past};
 use view_model::{Class, Facts, Work};
 use view_tree::{Key, ViewTree};
 

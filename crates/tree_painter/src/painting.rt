@@ -4,13 +4,14 @@ ghost use Rattle.view_model.specs.Forest.{count_of};
 ghost use Rattle.view_model.specs.Painting.{is_drawn, painted, pixel_color};
 ghost use Rattle.view_tree.specs.Rows.{children_of_first, first_tree, part_from};
 ghost use Rattle.view_tree.specs.Views.{IsLive, geometry_of, held_of, plain_of};
-ghost use Rattle.tree_painter.specs.Frames.{IsCanvas};
-ghost use Rattle.tree_painter.specs.Painted.{IsCounted, IsPainted, PaintedIn, area_in, placed_rows, share_of};
+ghost use Rattle.seen_parts.specs.Frames.{IsCanvas};
+ghost use Rattle.seen_parts.specs.Meeting.{placed_rows};
+ghost use Rattle.tree_painter.specs.Painted.{IsCounted, IsPainted, PaintedIn, area_in, share_of};
 
-use crate::frame::Canvas;
 use crate::own::paint_own;
 use geom_core::{BLACK, Rect};
 use pixel_raster::Surface;
+use seen_parts::Canvas;
 use view_model::{Visibility, Work};
 use view_tree::{Key, ViewTree};
 

@@ -2,17 +2,23 @@
 ghost use Rattle.std.specs.Prelude.{◌≡◌, pos, ◌+◌, ◌*◌, ◌<◌, ◌≤◌, ◌^◌, ◌+ℤ◌, ◌-ℤ◌, not, int_lt, length};
 ghost use Rattle.pixel_raster.specs.Cuts.{edge_within, from_zero};
 ghost use Rattle.tree_painter.specs.Areas.{strip_between};
-ghost use Rattle.tree_painter.specs.Frames.{IsCanvas};
+ghost use Rattle.seen_parts.specs.Frames.{IsCanvas};
 ghost use Rattle.tree_painter.specs.Inks.{line_ink, text_ink};
 ghost use Rattle.tree_painter.specs.Painted.{IsCounted, PaintedIn, area_in};
 
-use crate::frame::{Canvas, Length};
 use crate::ink::ink_column;
 use cell_text::{first_line, glyph};
 use geom_core::Argb;
 use pixel_raster::Surface;
+use seen_parts::Canvas;
 use view_model::Work;
 use view_model::limits::{CELL_HEIGHT, CELL_WIDTH};
+
+/// A number of pixels, which may be negative.
+#[derive(Clone, Copy)]
+struct Length {
+    pixels: i64,
+}
 
 /// Columns of pixels from one on and before another.
 #[derive(Clone, Copy)]

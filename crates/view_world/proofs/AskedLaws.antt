@@ -5,6 +5,8 @@ use Rattle.std.proofs.lemmas.List.{map-append}
 use Rattle.std.proofs.lemmas.List.Folds.{list_any-append}
 use Rattle.std.specs.Prelude.{◌≢◌, ◌⊎◌, ◌==◌, ◌||◌, if◌then◌else◌, IfSome}
 use Rattle.std.specs.Option.{option_map}
+use Rattle.damage_rect.specs.Within.{LiesIn}
+use Rattle.geom_core.specs.declared.geometry.Rect.{Rect}
 use Rattle.touch_dispatch.specs.TreeEvents.{OnlyScrolls}
 use Rattle.tree_edits.specs.Applied.{IsEdit}
 use Rattle.tree_edits.specs.Asking.{LeavesUnasked as EditLeaves, asked_by_act as asked_key, excused, is_in_part, is_on_paths as are_on_paths, listed as listed_key, nearest as nearest_key, requests_layout}
@@ -200,11 +202,15 @@ excused_same old mid (edit.Text view text) key same = ap (λ (tree : Forest Row)
 -- what comes of a file leaves all views but those around it
 pub graft_keeps : (old new : KeyedScreen) (place : Option ℕ) → IsTree old.views → IfSome place (λ (view : ℕ). IsLive old.views view)
     → ((key : ℕ) → IsLive old.views key → are_on_paths (listed_key place) old.views.tree key ≡ false → held_of new.views key ≡ held_of old.views key) → new.views.counts ≡ old.views.counts
-    → KeepsBut Asks (listed (option_map (number_of old.views) place)) [] old new
-graft_keeps old new place is live leaves counts = record {
+    → new.damage ≡ old.damage → new.stage ≡ old.stage → new.surface ≡ old.surface → KeepsBut Asks (listed (option_map (number_of old.views) place)) [] [] old new
+graft_keeps old new place is live leaves counts damage stage surface = record {
   measures = ap (λ counts. counts.measures) counts;
   rests = λ quiet. absurd cc;
-  shows = λ quiet. absurd cc;
+  within = λ ne box lies seen. subst (λ (damage : Rect). LiesIn damage box) (sym damage) lies;
+  scrolled = λ touches. absurd cc;
+  stage = λ ne. stage;
+  surface = λ ne. surface;
+  opened = λ opens. absurd cc;
   leaves = λ key there still free.
       let same = leaves key there (off_place old.views place key is live (unless _ _ free).0) in
       (ap (λ (held : Held). held.state) same, ap (λ (held : Held). held.cache) same);

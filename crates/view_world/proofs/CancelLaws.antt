@@ -174,3 +174,95 @@ same_cancel first second (Some parent) number part progress =
       | inl e ↦ rw e (ap (λ (r : Reached). with_gesture (without_target number) r.progress) (reach_cancelled first second part progress))
       | inr e ↦ rw e refl
     ]
+
+-- a cancel moves nothing that is below a scroll view
+
+handled_still : (number : ℕ) (moves : Bool) (answer : Answer) (intercept : ℕ) (rect : Option Rect) (range : ℤ) (childless : Bool) (slop : ℤ) (progress : Progress)
+    → (handled (received number moves answer intercept rect range childless slop) cancel_event progress).progress.offsets ≡ progress.offsets
+handled_still number true answer intercept rect range childless slop progress = refl
+handled_still number false Off intercept rect range childless slop progress = refl
+handled_still number false Yes intercept rect range childless slop progress = refl
+handled_still number false Click intercept rect range childless slop progress = refl
+
+own_still : (scene : Scene) (own : PlainView) (kids : List EventChild) (progress : Progress) → (handled (receiver scene own kids) cancel_event progress).progress.offsets ≡ progress.offsets
+own_still scene own kids progress =
+    handled_still own.number (scrolls own.class) own.facts.answer own.facts.intercept (scene.rects own.number)
+    (range_for (scrolls own.class) own.facts (scene.rects own.number) (first_rect scene kids)) (is_nil kids) scene.slop progress
+
+asked_still : (own : Receiver) (progress : Progress) → (asked own cancel_event progress).progress.offsets ≡ progress.offsets
+asked_still own progress = elim (cases_Bool (is_nil (targets_at progress own.number))) [
+  | inl e ↦ rw e refl
+  | inr e ↦ elim (cases_Bool (progress.gesture.disallows own.number)) [
+    | inl d ↦ rw (e, d) refl
+    | inr d ↦ rw (e, d) refl
+  ]
+]
+
+-- a cancel that goes to a view of a list
+CancelsStill : Scene → Forest PlainView → Type 0
+CancelsStill scene Nothing = Unit {0}
+CancelsStill scene (Branch view below after) =
+    ((progress : Progress) → (reached_by scene view (event_children scene below) cancel_event progress).progress.offsets ≡ progress.offsets) × CancelsStill scene after
+
+part_still : (scene : Scene) (child : ℕ) (list : Forest PlainView) (progress : Progress) → CancelsStill scene list
+    → (hand_part (Some cancel_event) (child_of child (event_children scene list)) progress).progress.offsets ≡ progress.offsets
+unfolding CancelsStill
+part_still scene child Nothing progress still = refl
+part_still scene child (Branch view below after) progress still = elim (cases_Bool (view.number == child)) [
+  | inl e ↦ rw e (still.0 progress)
+  | inr e ↦ rw e (part_still scene child after progress still.1)
+]
+
+hand_out_still : (scene : Scene) (own : PlainView) (below : Forest PlainView) (intercepted : Bool) (targets : List Target) (said : Bool) (progress : Progress) → CancelsStill scene below
+    → (hand_out scene own (event_children scene below) cancel_event intercepted Nobody targets said progress).progress.offsets ≡ progress.offsets
+hand_out_still scene own below intercepted [] said progress still = refl
+hand_out_still scene own below intercepted (t ∷ targets) said progress still =
+    let r = hand_to scene own (event_children scene below) cancel_event intercepted Nobody t progress in
+    hand_out_still scene own below intercepted targets (said || r.yes) r.progress still
+    ∙ ap (λ (r : Reached). r.progress.offsets) (hand_to_cancel scene own (event_children scene below) intercepted t progress)
+    ∙ part_still scene t.child below progress still
+
+answered_still : (scene : Scene) (own : PlainView) (below : Forest PlainView) (intercepted : Bool) (progress : Progress) → CancelsStill scene below
+    → (answered scene own (event_children scene below) cancel_event intercepted Nobody progress).progress.offsets ≡ progress.offsets
+answered_still scene own below intercepted progress still = elim (cases_Bool (is_nil (targets_at progress own.number))) [
+  | inl e ↦ rw e (own_still scene own (event_children scene below) progress)
+  | inr e ↦ rw e (hand_out_still scene own below intercepted (targets_at progress own.number) false progress still)
+]
+
+ended_still : (group : ℕ) (split intercepted : Bool) (progress : Progress) → (ended group split cancel_event intercepted progress).offsets ≡ progress.offsets
+ended_still group split true progress = refl
+ended_still group split false progress = refl
+
+group_still : (scene : Scene) (own : PlainView) (below : Forest PlainView) (progress : Progress) → CancelsStill scene below
+    → (group_reached scene own (event_children scene below) cancel_event progress).progress.offsets ≡ progress.offsets
+group_still scene own below progress still =
+    let first = asked (receiver scene own (event_children scene below)) cancel_event progress in
+    let third = answered scene own (event_children scene below) cancel_event first.yes Nobody first.progress in
+    ap (λ (r : Reached). r.progress.offsets) (group_cancel scene own (event_children scene below) progress)
+    ∙ ended_still own.number own.facts.split first.yes third.progress
+    ∙ answered_still scene own below first.yes first.progress still
+    ∙ asked_still (receiver scene own (event_children scene below)) progress
+
+reached_still : (scene : Scene) (own : PlainView) (below : Forest PlainView) (progress : Progress) → CancelsStill scene below
+    → (reached_by scene own (event_children scene below) cancel_event progress).progress.offsets ≡ progress.offsets
+reached_still scene own below progress still = elim (cases_Bool (is_group own.class)) [
+  | inl e ↦ rw e (group_still scene own below progress still)
+  | inr e ↦ rw e (own_still scene own (event_children scene below) progress)
+]
+
+cancels_still : (scene : Scene) (list : Forest PlainView) → CancelsStill scene list
+unfolding CancelsStill
+cancels_still scene Nothing = tt
+cancels_still scene (Branch view below after) = let inner = cancels_still scene below in (λ progress. reached_still scene view below progress inner, cancels_still scene after)
+
+reach_still : (scene : Scene) (part : Forest PlainView) (progress : Progress) → (reach scene part cancel_event progress).progress.offsets ≡ progress.offsets
+reach_still scene Nothing progress = refl
+reach_still scene (Branch view below after) progress = reached_still scene view below progress (cancels_still scene below)
+
+-- a view that goes away leaves all offsets
+pub still_cancelled : (scene : Scene) (parent : Option ℕ) (number : ℕ) (part : Forest PlainView) (progress : Progress) → (cancelled scene parent number part progress).offsets ≡ progress.offsets
+still_cancelled scene None number part progress = reach_still scene part progress
+still_cancelled scene (Some parent) number part progress = elim (cases_Bool (is_target number (targets_at progress parent))) [
+  | inl e ↦ rw e (reach_still scene part progress)
+  | inr e ↦ rw e refl
+]

@@ -1,13 +1,16 @@
 -- What an edit of a screen keeps: where it requests no layout, what rested still does.
-use Rattle.std.proofs.Common.{◌≡◌, ◌≢◌, ℕ, ◌<◌, Bool, true, false, List, Option, Some, None, Result, Ok, Err, refl, sym, ◌∙◌, ap, subst, arith, inl, inr}
+use Rattle.std.proofs.Common.{◌≡◌, ◌≢◌, ℕ, ◌<◌, Bool, true, false, List, [], ◌∷◌, Option, Some, None, Result, Ok, Err, refl, sym, ◌∙◌, ap, subst, arith, inl, inr}
 use Rattle.std.proofs.lemmas.Bool.{cases_Bool}
-use Rattle.std.specs.Prelude.{◌==◌, OnOk}
+use Rattle.std.specs.Prelude.{◌==◌, ◌||◌, if◌then◌else◌, chars, OnOk}
+use Rattle.damage_rect.specs.Within.{LiesIn}
 use Rattle.geom_core.specs.declared.geometry.Size.{Size}
 use Rattle.pixel_raster.specs.Raster.{size_of}
+use Rattle.seen_edits.specs.Shown.{GrowsWithin, IsChange, act_is_unseen, edited, flag_is_unseen, is_unseen, seen_of}
 use Rattle.touch_dispatch.specs.TreeEvents.{OnlyScrolls}
 use Rattle.traversal.specs.Frames.{fired_in}
+use Rattle.geom_core.specs.declared.geometry.Rect.{Rect}
 use Rattle.tree_edits.specs.Applied.{AppliesEdit, IsEdit, numbered}
-use Rattle.tree_edits.specs.Asking.{LeavesUnasked as EditLeaves, requests_layout}
+use Rattle.tree_edits.specs.Asking.{LeavesUnasked as EditLeaves, change_requests, flag_requests, requests_layout}
 use Rattle.tree_edits.specs.Editing.{Outcome, ActOn, cycle_of_act, hides, outcome_of_act, outcome_of_edit, outcome_unless, takes}
 use Rattle.tree_edits.specs.Keeping.{KeepsViews, acted_view}
 use Rattle.tree_edits.specs.Scene.{Scene, scene_of as edited_of}
@@ -23,20 +26,24 @@ use Rattle.view_model.specs.PlainTree.{PlainView, view_in}
 use Rattle.view_model.specs.Refusals.{PlainRefusal}
 use Rattle.view_model.specs.declared.changes.Act.{Act}
 use Rattle.view_model.specs.declared.changes.Act.TheVariants as act
+use Rattle.view_model.specs.declared.changes.Change.{Change}
 use Rattle.view_model.specs.declared.changes.Change.TheVariants as change
+use Rattle.view_model.specs.declared.changes.Flag.{Flag}
 use Rattle.view_model.specs.declared.changes.Flag.TheVariants as flag
 use Rattle.view_model.specs.declared.facts.Facts.{Facts}
 use Rattle.view_tree.proofs.forest.KeyLaws.{times_self}
 use Rattle.view_tree.proofs.forest.NumberLaws.{count_of_key-put}
-use Rattle.view_tree.specs.Rows.{Row, changed_at_key, count_of_key, first_key, head_view}
+use Rattle.view_tree.specs.Rows.{Row, changed_at_key, count_of_key, first_key, head_view, part_from}
 use Rattle.view_tree.specs.Views.{IsLive, IsTree, Views, geometry_of, number_of, plain_of}
 use Rattle.view_world.proofs.AskedLaws.{leaves_edit}
 use Rattle.view_world.proofs.LeaveLaws.{scrolls_none}
 use Rattle.view_world.proofs.RestLaws.{rest_along}
+use Rattle.view_world.proofs.SeenLaws.{among_first, number_changed, seen_named}
 use Rattle.view_world.specs.KeyedScreen.{KeyedScreen}
 use Rattle.view_world.specs.Marks.{effect_by, effect_of_edit, leaves_layout}
-use Rattle.view_world.specs.Resting.{IsResting, KeepsEdit}
-use Rattle.view_world.specs.declared.marks.Effect.TheVariants.{Asks, Leaves}
+use Rattle.view_world.specs.Resting.{AreSeenIn, IsResting, KeepsEdit, seen_on}
+use Rattle.view_world.specs.Seen.{act_paints, change_paints, edited_by_act, flag_paints, numbers_edited}
+use Rattle.view_world.specs.declared.marks.Effect.TheVariants.{Asks, Opens, Touches}
 
 -- an act that requests no layout leaves what layout reads of a root
 
@@ -78,7 +85,7 @@ quiet_shows (act.Answer answer) quiet = refl
 quiet_shows (act.Intercept actions) quiet = refl
 quiet_shows (act.Scroll offset) quiet = refl
 
-pub hides_asks : (act : Act) → hides act ≡ true → effect_by (requests_layout act) ≡ Asks
+pub hides_asks : (act : Act) → hides act ≡ true → effect_by (requests_layout act) (act_paints act) ≡ Asks
 hides_asks (act.Visible visibility) hidden = refl
 hides_asks (act.Change change) hidden = absurd cc
 hides_asks (act.WeightSum sum) hidden = absurd cc
@@ -164,35 +171,135 @@ rests_edit old new (edit.Act view act) made applied keeps leaves quiet rests = e
   | inr e ↦ quiet_rests old new view act made e applied keeps leaves rests
 ]
 
--- no edit leaves what is painted
-edit_repaints : (edit : Edit) → effect_of_edit edit ≢ Leaves
-edit_repaints (edit.Add parent class width height) e = cc
-edit_repaints (edit.Remove view) e = cc
-edit_repaints (edit.Text view text) e = cc
-edit_repaints (edit.Act view act) e = by (requests_layout act) e
+-- no edit is a touch
+edit_untouched : (edit : Edit) → effect_of_edit edit ≢ Touches
+edit_untouched (edit.Add parent class width height) e = cc
+edit_untouched (edit.Remove view) e = cc
+edit_untouched (edit.Text view text) e = cc
+edit_untouched (edit.Act view act) e = by (requests_layout act) (act_paints act) e
   where
-    by : (requests : Bool) → effect_by requests ≡ Leaves → ⊥
-    by true e = cc
-    by false e = cc
+    by : (requests paints : Bool) → effect_by requests paints ≡ Touches → ⊥
+    by true paints e = cc
+    by false true e = cc
+    by false false e = cc
+
+-- nor does one open a window
+edit_unopened : (edit : Edit) → effect_of_edit edit ≢ Opens
+edit_unopened (edit.Add parent class width height) e = cc
+edit_unopened (edit.Remove view) e = cc
+edit_unopened (edit.Text view text) e = cc
+edit_unopened (edit.Act view act) e = by (requests_layout act) (act_paints act) e
+  where
+    by : (requests paints : Bool) → effect_by requests paints ≡ Opens → ⊥
+    by true paints e = cc
+    by false true e = cc
+    by false false e = cc
+
+-- an act that is not painted, and that layout does not read, shows in no picture
+unpainted_change : (change : Change) → (change_requests change || change_paints change) ≡ false → act_is_unseen (act.Change change) ≡ true
+unpainted_change (change.Size width height) e = absurd cc
+unpainted_change (change.Min size) e = absurd cc
+unpainted_change (change.Margins sides) e = absurd cc
+unpainted_change (change.Padding sides) e = absurd cc
+unpainted_change (change.Weight weight) e = absurd cc
+unpainted_change (change.Gravity kids gravity) e = absurd cc
+unpainted_change (change.Background color) e = absurd cc
+
+unpainted_flag : (flag : Flag) → (flag_requests flag || flag_paints flag) ≡ false → flag_is_unseen flag ≡ true
+unpainted_flag flag.Clip e = absurd cc
+unpainted_flag flag.Fill e = absurd cc
+unpainted_flag flag.Split e = refl
+
+unpainted : (act : Act) → (requests_layout act || act_paints act) ≡ false → act_is_unseen act ≡ true
+unpainted (act.Change change) e = unpainted_change change e
+unpainted (act.WeightSum sum) e = absurd cc
+unpainted (act.Orient vertical) e = absurd cc
+unpainted (act.Flag flag on) e = unpainted_flag flag e
+unpainted (act.Visible visibility) e = absurd cc
+unpainted (act.Ink color) e = absurd cc
+unpainted (act.Id id) e = absurd cc
+unpainted (act.Rule verb value) e = absurd cc
+unpainted (act.Answer answer) e = refl
+unpainted (act.Intercept actions) e = refl
+unpainted (act.Scroll offset) e = absurd cc
+
+-- what was seen of a view, and what is seen of it after an edit, lies where it is known to lie
+seen_edited : (old new : KeyedScreen) (view : ℕ) (box : Rect) → IsTree old.views → IsTree new.views → IsLive old.views view → IsLive new.views view → number_of new.views view ≡ number_of old.views view
+    → size_of new.surface ≡ size_of old.surface → LiesIn (seen_on old (number_of old.views view)) box → LiesIn (seen_on new (number_of old.views view)) box
+    → LiesIn (seen_of (size_of old.surface) old.views view) box × LiesIn (seen_of (size_of old.surface) new.views view) box
+seen_edited old new view box was is live there number size before after = (
+  subst (λ (rect : Rect). LiesIn rect box) (seen_named old view was live) before,
+  subst (λ (window : Size). LiesIn (seen_of window new.views view) box) size
+      (subst (λ (rect : Rect). LiesIn rect box) (seen_named new view is there) (subst (λ (n : ℕ). LiesIn (seen_on new n) box) (sym number) after)),
+)
+
+-- an edit that was made damages what is seen of its view alone
+within_act : (old new : KeyedScreen) (view : ℕ) (act : Act) (requests paints : Bool) (box : Rect) → requests_layout act ≡ requests → act_paints act ≡ paints → IsTree old.views → IsTree new.views
+    → IsLive old.views view → IsLive new.views view → number_of new.views view ≡ number_of old.views view → size_of new.surface ≡ size_of old.surface
+    → GrowsWithin (size_of old.surface) view old.views new.views old.damage new.damage → (act_is_unseen act ≡ true → new.damage ≡ old.damage)
+    → LiesIn old.damage box → AreSeenIn box (if requests || paints then number_of old.views view ∷ [] else []) old new → LiesIn new.damage box
+within_act old new view act true paints box r p was is live there number size grows unseen lies seen =
+    let both = seen (number_of old.views view) (among_first (number_of old.views view) []) in
+    let own = seen_edited old new view box was is live there number size both.0 both.1 in
+    grows box lies own.0 own.1
+within_act old new view act false true box r p was is live there number size grows unseen lies seen =
+    let both = seen (number_of old.views view) (among_first (number_of old.views view) []) in
+    let own = seen_edited old new view box was is live there number size both.0 both.1 in
+    grows box lies own.0 own.1
+within_act old new view act false false box r p was is live there number size grows unseen lies seen =
+    subst (λ (damage : Rect). LiesIn damage box) (sym (unseen (unpainted act (rw (r, p) refl)))) lies
+
+-- an edit of views that only have moved since names the same ones
+pub edited_same : (old mid : Views) (edit : Edit) → mid.tree ≡ old.tree → numbers_edited old edit ≡ numbers_edited mid edit
+edited_same old mid (edit.Add parent class width height) same = refl
+edited_same old mid (edit.Remove view) same = ap (λ (tree : Forest Row). (head_view (part_from view tree)).number ∷ []) (sym same)
+edited_same old mid (edit.Act view act) same = ap (λ (tree : Forest Row). edited_by_act (Some (head_view (part_from view tree)).number) act) (sym same)
+edited_same old mid (edit.Text view text) same = ap (λ (tree : Forest Row). (head_view (part_from view tree)).number ∷ []) (sym same)
+
+pub within_edit : (old new : KeyedScreen) (edit : Edit) (box : Rect) → IsChange edit → IsTree old.views → IsTree new.views → IsEdit old.views edit → KeepsViews old.views new.views edit
+    → size_of new.surface ≡ size_of old.surface → GrowsWithin (size_of old.surface) (edited edit) old.views new.views old.damage new.damage → (is_unseen edit ≡ true → new.damage ≡ old.damage)
+    → LiesIn old.damage box → AreSeenIn box (numbers_edited old.views edit) old new → LiesIn new.damage box
+within_edit old new (edit.Add parent class width height) box leaves was is made keeps size grows unseen lies seen = absurd leaves
+within_edit old new (edit.Remove view) box leaves was is made keeps size grows unseen lies seen = absurd leaves
+within_edit old new (edit.Act view act) box leaves was is made keeps size grows unseen lies seen =
+    within_act old new view act (requests_layout act) (act_paints act) box refl refl was is made.0
+    (subst (λ (t : Forest Row). 0 < count_of_key view t) (sym keeps.tree) (let count = count_of_key-put view view (acted_view act) old.views.tree in let live = made.0 in omega (arith, count, live)))
+    (number_changed old.views new.views view view (acted_view act) (λ own. refl) keeps.tree) size grows unseen lies seen
+within_edit old new (edit.Text view text) box leaves was is made keeps size grows unseen lies seen =
+    let there = subst (λ (t : Forest Row). 0 < count_of_key view t) (sym keeps.tree) (let count = count_of_key-put view view (λ own. record own { text = chars text.now }) old.views.tree in let live = made.0 in omega (arith, count, live)) in
+    let number = number_changed old.views new.views view view (λ own. record own { text = chars text.now }) (λ own. refl) keeps.tree in
+    let both = seen (number_of old.views view) (among_first (number_of old.views view) []) in
+    let own = seen_edited old new view box was is made.0 there number size both.0 both.1 in
+    grows box lies own.0 own.1
 
 -- an edit was made by which no view comes or goes, or none was
-pub edit_keeps : (old : KeyedScreen) (new : Views) (edit : Edit) (result : Result (Option ℕ) EditFault) → IsTree old.views → IsEdit old.views edit
+pub edit_keeps : (old : KeyedScreen) (new : Views) (damage : Rect) (edit : Edit) (result : Result (Option ℕ) EditFault) → IsTree old.views → IsEdit old.views edit
     → AppliesEdit (outcome_of_edit (edited_of old.views) (numbered old.views edit)) (edited_of new) result → OnOk result (KeepsViews old.views new edit) → EditLeaves old.views new edit
-    → new.counts.measures ≡ old.views.counts.measures → OnOk result (KeepsEdit edit old (record old { views = new }))
-edit_keeps old new edit (Ok made) is there applied keeps leaves measures = record {
+    → new.counts.measures ≡ old.views.counts.measures → IsChange edit → (OnOk result (IsTree new)) → GrowsWithin (size_of old.surface) (edited edit) old.views new old.damage damage → (is_unseen edit ≡ true → damage ≡ old.damage)
+    → OnOk result (KeepsEdit edit old (record old { views = new; damage = damage }))
+edit_keeps old new damage edit (Ok made) is there applied keeps leaves measures change now grows unseen = record {
   measures = measures;
-  rests = rests_edit old new edit made applied keeps leaves;
-  shows = λ kept. absurd (edit_repaints edit kept);
+  rests = λ quiet rests. let still = rests_edit old new edit made applied keeps leaves quiet rests in record { settled = still.settled; laid = still.laid; unfired = still.unfired };
   leaves = leaves_edit old.views old.views new edit is there (scrolls_none old.views) leaves;
+  within = λ ne box lies seen. within_edit old (record old { views = new; damage = damage }) edit box change is now there keeps refl grows unseen lies seen;
+  scrolled = λ touches. absurd (edit_untouched edit touches);
+  stage = λ ne. refl;
+  surface = λ ne. refl;
+  opened = λ opens. absurd (edit_unopened edit opens);
 }
-edit_keeps old new edit (Err fault) is there applied keeps leaves measures = tt
+edit_keeps old new damage edit (Err fault) is there applied keeps leaves measures change now grows unseen = tt
 
 -- an edit that requests layout was made of a screen that was scrolled before, and more of it has changed
 pub loud_keeps : (old new : KeyedScreen) (mid : Views) (edit : Edit) → effect_of_edit edit ≡ Asks → IsTree old.views → IsEdit old.views edit → OnlyScrolls old.views mid → EditLeaves mid new.views edit
-    → new.views.counts.measures ≡ mid.counts.measures → KeepsEdit edit old new
-loud_keeps old new mid edit asks is there scrolls leaves measures = record {
+    → new.views.counts.measures ≡ mid.counts.measures → ((box : Rect) → LiesIn old.damage box → AreSeenIn box (numbers_edited old.views edit) old new → LiesIn new.damage box)
+    → new.stage ≡ old.stage → new.surface ≡ old.surface → KeepsEdit edit old new
+loud_keeps old new mid edit asks is there scrolls leaves measures within stage surface = record {
   measures = measures ∙ ap (λ counts. counts.measures) scrolls.counts;
   rests = λ quiet. absurd (let clash = rw asks at quiet in cc);
-  shows = λ kept. absurd (edit_repaints edit kept);
   leaves = leaves_edit old.views mid new.views edit is there scrolls leaves;
+  within = λ ne. within;
+  scrolled = λ touches. absurd (edit_untouched edit touches);
+  stage = λ ne. stage;
+  surface = λ ne. surface;
+  opened = λ opens. absurd (edit_unopened edit opens);
 }

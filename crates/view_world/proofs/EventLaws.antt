@@ -3,6 +3,7 @@ use Rattle.std.proofs.Common.{◌≡◌, ℕ, ◌≤◌, ◌+◌, ℤ, Bool, Lis
 use Rattle.std.specs.Prelude.{Ok}
 use Rattle.saved_state.specs.Saving.{OffsetsFit}
 use Rattle.text_lines.specs.Joined.{◌⧺◌}
+use Rattle.seen_edits.specs.Shown.{Shows}
 use Rattle.touch_dispatch.specs.Dispatch.{Scene, dispatched}
 use Rattle.touch_dispatch.specs.Handling.{Reached}
 use Rattle.touch_dispatch.specs.Kept.{Kept, gesture_of, is_open}
@@ -21,6 +22,7 @@ use Rattle.view_world.specs.Changed.{CarriesOut}
 use Rattle.view_world.specs.Deliveries.{done_text, entries_text}
 use Rattle.view_world.specs.KeyedScreen.{KeyedScreen, geometry_in, world_of}
 use Rattle.view_world.specs.Pointers.{AreDown}
+use Rattle.view_world.specs.Seen.{deliveries_of}
 use Rattle.view_world.specs.Sound.{IsSound}
 use Rattle.view_world.specs.Step.{Reply, Done, after_event}
 use Rattle.view_world.specs.Touching.{after_progress, progress_in, reached_in, scene_in, slop_at, unscrolled_tree}
@@ -87,6 +89,14 @@ handed old new kept before after slop event pointers yes_ is settled same none r
       tt,
     )
 
+-- what was delivered of an event
+pub delivered : (old : KeyedScreen) (new : Views) (kept : Kept) (before after : Log) (slop : ℤ) (event : Event) (yes_ : Bool) → IsTree old.views → old.stage ≡ Settled → slop ≡ slop_at old.dpi → before.entries.items ≡ []
+    → (let reached : Reached = record { yes = yes_; progress = progress_of new kept after } in
+    dispatched (scene_of old.views slop) (views_of old.views.tree) event (progress_of old.views old.gesture before) ≡ reached)
+    → deliveries_of (world_of old) event ≡ after.entries.items
+delivered old new kept before after slop event yes_ is settled same none reached =
+    ap (λ (r : Reached). r.progress.entries) (reached_plain old before slop event is settled same none ∙ reached)
+
 -- a log that was cleared has room for as much as before
 pub room_cleared : (before cleared : Log) (entries : ℕ) → cleared.entries.items ≡ [] → room_of cleared ≡ room_of before → entries ≤ room_of before
     → length cleared.entries.items + entries ≤ room_of cleared
@@ -94,8 +104,10 @@ room_cleared before cleared entries none same room = let bare : length cleared.e
 
 -- a world stays sound
 pub sound_scrolled : (old new : Inside) → IsSound old → OnlyScrolls old.tree new.tree → IsGestureIn new.tree.tree new.gesture
-    → ((view : ℕ) → is_open new.gesture view ≡ is_open old.gesture view) → room_of new.log ≡ room_of old.log → AreDown new.pointers.items → OffsetsFit (plain_of new.tree) → IsSound new
-sound_scrolled old new sound scrolls caught opened room down offsets = record {
+    → ((view : ℕ) → is_open new.gesture view ≡ is_open old.gesture view) → room_of new.log ≡ room_of old.log → AreDown new.pointers.items → OffsetsFit (plain_of new.tree)
+    → Shows new.surface new.damage.rect new.tree → IsSound new
+sound_scrolled old new sound scrolls caught opened room down offsets shows = record {
+  shows = shows;
   consistent = scrolls.consistent sound.consistent;
   caught = caught;
   closed = λ number none. opened number ∙ sound.closed number (rw scrolls.same.tree at none);

@@ -4,6 +4,8 @@ use Rattle.std.specs.Prelude.{◌==◌, ◌<◌, true, IfSome, Option, Some, Non
 use Rattle.std.specs.Option.{option_map, option_or}
 use Rattle.std.proofs.lemmas.Bool.{cases_Bool, cases_eq, cases_lt, eq-eqb}
 use Rattle.saved_state.specs.Saving.{OffsetsFit}
+use Rattle.pixel_raster.specs.Raster.{size_of}
+use Rattle.seen_edits.proofs.ShownLaws.{shows_on}
 use Rattle.touch_dispatch.specs.Kept.{Kept, gesture_of, is_open}
 use Rattle.touch_dispatch.specs.TreeEvents.{room_of}
 use Rattle.touch_dispatch.specs.declared.log.Log.{Log}
@@ -24,8 +26,9 @@ use Rattle.view_tree.specs.declared.fault.AttachFault.TheVariants as attach
 use Rattle.view_tree.proofs.forest.KeyLaws.{number_live, zero_or_more}
 use Rattle.view_tree.proofs.forest.PlainLaws.{plain-count}
 use Rattle.view_world.proofs.CaughtLaws.{times-plain}
-use Rattle.view_world.proofs.GrowingLaws.{placed_root}
+use Rattle.view_world.proofs.GrowingLaws.{placed_root, plain_root}
 use Rattle.view_world.proofs.GrownCaught.{gesture_grafted}
+use Rattle.view_world.proofs.GrownShown.{nowhere_numbered, shown_come}
 use Rattle.view_world.proofs.PartCounts.{times-joined}
 use Rattle.view_world.proofs.ShapeLaws.{times_in}
 use Rattle.view_world.specs.Changed.{CarriesOut, fault_of_graft}
@@ -202,4 +205,7 @@ sound_grafted inside new gesture log place sprouts sound is live root order came
       down = sound.down;
       narrow = subst FitAll (sym came.geometry) sound.narrow;
       offsets = offsets;
+      shows = shows_on inside.surface inside.damage.rect inside.damage.rect old new sound.shows
+          (shown_come (size_of inside.surface) inside.damage.rect old new (option_map (number_of old) place) (numbered old.next (seeds_of sprouts)) (nowhere_numbered old old.next (seeds_of sprouts) is (omega arith))
+          (plain_root old place root) came.plain came.geometry);
     }

@@ -5,6 +5,9 @@ use Rattle.std.specs.Option.{option_map}
 use Rattle.std.specs.Result.{is_err}
 use Rattle.std.proofs.lemmas.Bool.{ne_eqb}
 use Rattle.saved_state.specs.Saving.{OffsetsFit}
+use Rattle.pixel_raster.specs.Raster.{size_of}
+use Rattle.seen_edits.proofs.ShownLaws.{shows_on}
+use Rattle.seen_edits.specs.Shown.{KeepsShown, Shows}
 use Rattle.touch_dispatch.specs.Kept.{IsUnknown, Kept, gesture_of, is_open, with_place}
 use Rattle.touch_targets.specs.Captures.{is_target}
 use Rattle.touch_dispatch.specs.TreeEvents.{IsGestureIn, room_of}
@@ -24,7 +27,7 @@ use Rattle.view_model.specs.Refusals.{PlainRefusal}
 use Rattle.view_model.specs.declared.kinds.Class.{Class}
 use Rattle.kept_views.specs.Kept.{IsConsistent}
 use Rattle.view_tree.specs.Rows.{Row, count_of_key, count_of_number, leaf}
-use Rattle.view_tree.specs.Views.{IsTree, Views, geometry_of, number_of, plain_of}
+use Rattle.view_tree.specs.Views.{IsTree, Views, geometry_of, held_of, number_of, plain_of, plain_rows}
 use Rattle.view_tree.proofs.forest.NumberLaws.{count-with_child, number-leaf_own, sum-with_child}
 use Rattle.view_world.proofs.FreshLaws.{free_next, none_from}
 use Rattle.view_world.proofs.GrownCaught.{gesture_grown}
@@ -96,6 +99,7 @@ sound_same inside views gesture log one two room sound = record {
   down = sound.down;
   narrow = subst (λ (v : Views). FitAll (geometry_of v)) (sym one) sound.narrow;
   offsets = subst (λ (v : Views). OffsetsFit (plain_of v)) (sym one) sound.offsets;
+  shows = subst (Shows inside.surface inside.damage.rect) (sym one) sound.shows;
 }
 
 -- a view is added where it may be
@@ -111,6 +115,10 @@ pub placed_root : (views : Views) (parent : Option ℕ) → (parent ≡ None →
 placed_root views None root e = root refl
 placed_root views (Some parent) root e = absurd (cc)
 
+-- where there is no place, there is no view
+pub plain_root : (views : Views) (parent : Option ℕ) → (parent ≡ None → views.tree ≡ Nothing) → option_map (number_of views) parent ≡ None → plain_of views ≡ Nothing
+plain_root views parent root e = ap (plain_rows (held_of views)) (placed_root views parent root e)
+
 added_tree : (scene after : Scene) (parent : Option ℕ) (class : Class) (width height : ℤ) (number : Option ℕ) (reason : Option PlainRefusal)
     → outcome_of_add scene parent class width height reason ≡ Ok (after, number) → after.tree ≡ grown_at parent (single (new_view scene.next class width height)) scene.tree
 added_tree scene after parent class width height number (Some refusal) e = absurd (cc)
@@ -118,6 +126,21 @@ added_tree scene after parent class width height number None e = sym (ap (λ (p 
   where
     same_outcome : {one other : Scene × Option ℕ} → (let o : Result (Scene × Option ℕ) PlainRefusal = Ok one in o) ≡ Ok other → one ≡ other
     same_outcome e = cc
+
+added_geometry : (scene after : Scene) (parent : Option ℕ) (class : Class) (width height : ℤ) (number : Option ℕ) (reason : Option PlainRefusal)
+    → outcome_of_add scene parent class width height reason ≡ Ok (after, number) → after.geometry ≡ scene.geometry
+added_geometry scene after parent class width height number (Some refusal) e = absurd (cc)
+added_geometry scene after parent class width height number None e = sym (ap (λ (p : Scene × Option ℕ). p.0.geometry) (same_outcome e))
+  where
+    same_outcome : {one other : Scene × Option ℕ} → (let o : Result (Scene × Option ℕ) PlainRefusal = Ok one in o) ≡ Ok other → one ≡ other
+    same_outcome e = cc
+
+-- a new view lies nowhere
+pub grown_nowhere : (old new : Views) (parent : Option ℕ) (class : Class) (width height : ℤ) (result : Result (Option ℕ) EditFault) → false ≡ is_err result
+    → AppliesEdit (outcome_of_edit (scene_of old) (Add (option_map (number_of old) parent) class width height)) (scene_of new) result → geometry_of new ≡ geometry_of old
+grown_nowhere old new parent class width height (Err error) ok applied = absurd (cc)
+grown_nowhere old new parent class width height (Ok number) ok applied =
+    added_geometry (scene_of old) (scene_of new) (option_map (number_of old) parent) class width height number (refusal_at (plain_of old) (option_map (number_of old) parent)) applied
 
 pub grown_as : (old new : Views) (parent : Option ℕ) (class : Class) (width height : ℤ) (result : Result (Option ℕ) EditFault) → false ≡ is_err result
     → AppliesEdit (outcome_of_edit (scene_of old) (Add (option_map (number_of old) parent) class width height)) (scene_of new) result
@@ -131,8 +154,10 @@ pub sound_grown : (inside : Inside) (new : Views) (gesture : Kept) (log : Log) (
     → IsAddable inside.tree parent → IsConsistent new → KeepsViews inside.tree new (edit.Add parent class width height)
     → plain_of new ≡ grown_at (option_map (number_of inside.tree) parent) (single (new_view inside.tree.next class width height)) (plain_of inside.tree)
     → gesture_of gesture ≡ gesture_of inside.gesture → ((other : ℕ) → is_open gesture other ≡ (is_open inside.gesture other || other == inside.tree.next))
-    → 3 * (count_of inside.tree.tree + 1) ≤ room_of log → FitAll (geometry_of new) → OffsetsFit (plain_of new) → IsSound (record inside { tree = new; gesture = gesture; log = log })
-sound_grown inside new gesture log parent class width height sound is addable consistent keeps grew same opened room narrow offsets = record {
+    → 3 * (count_of inside.tree.tree + 1) ≤ room_of log → FitAll (geometry_of new) → OffsetsFit (plain_of new)
+    → KeepsShown (size_of inside.surface) inside.damage.rect inside.damage.rect inside.tree new → IsSound (record inside { tree = new; gesture = gesture; log = log })
+sound_grown inside new gesture log parent class width height sound is addable consistent keeps grew same opened room narrow offsets shown = record {
+  shows = shows_on inside.surface inside.damage.rect inside.damage.rect inside.tree new sound.shows shown;
   consistent = consistent;
   caught = gesture_grown inside.tree new (option_map (number_of inside.tree) parent) (new_view inside.tree.next class width height) inside.gesture gesture is
       (placed_root inside.tree parent (addable_root inside.tree parent addable)) refl grew same opened sound.caught;

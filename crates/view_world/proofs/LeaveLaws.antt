@@ -6,7 +6,7 @@ use Rattle.std.specs.Option.{is_some}
 use Rattle.text_lines.specs.Joined.{◌⧺◌, texts_of}
 use Rattle.pixel_raster.specs.Raster.{Raster}
 use Rattle.size_hooks.specs.Hook.{Hook}
-use Rattle.touch_dispatch.specs.Dispatch.{cancelled}
+use Rattle.touch_dispatch.specs.Dispatch.{Scene, cancelled}
 use Rattle.touch_dispatch.specs.Handling.{Progress, is_nil}
 use Rattle.touch_dispatch.specs.Kept.{Kept, gesture_of}
 use Rattle.touch_dispatch.specs.TreeEvents.{OnlyScrolls, first_number, offsets_in as offsets_kept, parent_number, part_at, progress_by, progress_of, scene_of}
@@ -19,7 +19,7 @@ use Rattle.tree_edits.specs.Scene.{Scene as Edited, scene_of as edited_of}
 use Rattle.tree_edits.specs.declared.fault.EditFault.{EditFault}
 use Rattle.tree_edits.specs.declared.fault.EditFault.TheVariants as fault
 use Rattle.view_model.specs.Facts.{is_shown}
-use Rattle.view_model.specs.Forest.{Forest, Nothing}
+use Rattle.view_model.specs.Forest.{Forest, Nothing, map_rows}
 use Rattle.view_model.specs.PlainTree.{PlainView, numbers_of, part_of, pruned, view_in}
 use Rattle.view_model.specs.declared.changes.Act.{Act}
 use Rattle.view_model.specs.declared.changes.Act.TheVariants as act
@@ -29,17 +29,18 @@ use Rattle.view_tree.proofs.forest.PlainLaws.{number_there}
 use Rattle.view_tree.specs.Rows.{ancestors}
 use Rattle.view_tree.specs.Views.{IsLive, IsTree, SameTree, Views, facts_of, number_of, plain_of}
 use Rattle.view_world.proofs.AncestorLaws.{parent_named}
-use Rattle.view_world.proofs.CancelLaws.{same_cancel}
+use Rattle.view_world.proofs.CancelLaws.{same_cancel, still_cancelled}
 use Rattle.view_world.proofs.EventLaws.{progress_plain, world_scrolled}
 use Rattle.view_world.proofs.PartLaws.{part_plain}
 use Rattle.view_world.proofs.RemovalLaws.{part_numbers}
+use Rattle.view_world.proofs.SceneLaws.{scrolls_plain}
 use Rattle.view_world.proofs.WorldLaws.{Changed-edit}
 use Rattle.view_world.specs.Changed.{CarriesOut}
 use Rattle.view_world.specs.Deliveries.{entries_text}
 use Rattle.view_world.specs.KeyedScreen.{KeyedScreen, world_of}
 use Rattle.view_world.specs.Responses.{IsTellable, deliveries_only, response_text}
 use Rattle.view_world.specs.Step.{Reply, Done, acted, after_edit, all_disarmed, removed, told_behind, without_hooks}
-use Rattle.view_world.specs.Touching.{after_progress, all_closed, is_told, leaving, parent_of, scene_in, told_away, unscrolled_tree, without_part}
+use Rattle.view_world.specs.Touching.{after_progress, all_closed, is_told, leaving, parent_of, scene_in, scrolled_to, told_away, unscrolled_tree, without_part}
 use Rattle.view_world.specs.World.{World}
 
 -- no view was handed anything yet
@@ -111,6 +112,17 @@ nil-length (p ∷ points) = ne_eqb (length (p ∷ points)) 0 (λ e. absurd (omeg
 
 pub scrolls_none : (views : Views) → OnlyScrolls views views
 scrolls_none views = record { same = record { tree = refl; orders = refl; next = refl }; counts = refl; consistent = λ consistent. consistent; held = λ key. refl; fits = λ key side. side }
+
+-- where no offset has changed, the plain tree is the same
+plain_still : (old new : Views) → IsTree old → OnlyScrolls old new → offsets_kept new ≡ offsets_kept old → plain_of new ≡ plain_of old
+plain_still old new is scrolls same =
+    scrolls_plain old new is scrolls ∙ ap (λ (offsets : ℕ → ℤ). map_rows (scrolled_to offsets) (plain_of old)) same ∙ sym (scrolls_plain old old is (scrolls_none old))
+
+-- a cancel leaves the plain tree
+pub plain_cancelled : (old new : Views) (before after : Kept) (log new_log : Log) (scene : Scene) (parent : Option ℕ) (number : ℕ) (part : Forest PlainView) → IsTree old → OnlyScrolls old new
+    → progress_of new after new_log ≡ cancelled scene parent number part (progress_of old before log) → plain_of new ≡ plain_of old
+plain_cancelled old new before after log new_log scene parent number part is scrolls done =
+    plain_still old new is scrolls (ap (λ (progress : Progress). progress.offsets) done ∙ still_cancelled scene parent number part (progress_of old before log))
 
 -- the world once a view was told, by what was made of the gesture and of the offsets
 pub world_told : (old : KeyedScreen) (new : Views) (kept : Kept) (after : Log) (number : ℕ) → IsTree old.views → OnlyScrolls old.views new

@@ -1,11 +1,14 @@
--- Screens that rest still do after lines that request no layout, and what is shown still is after lines that leave it.
+-- Screens that rest still do after lines that request no layout.
 use Rattle.std.proofs.Common.{◌≡◌, ℕ, List, [], Option, Some, Result, Ok, Err, refl, sym, ◌∙◌, ap, subst}
-use Rattle.std.specs.Prelude.{OnOk, pos}
+use Rattle.std.specs.Prelude.{◌≢◌, OnOk, pos}
+use Rattle.damage_rect.specs.Within.{LiesIn}
+use Rattle.geom_core.specs.declared.geometry.Rect.{Rect}
 use Rattle.geom_core.specs.declared.geometry.Size.{Size}
 use Rattle.pixel_raster.specs.Raster.{Raster, size_of}
 use Rattle.size_hooks.specs.Hook.{Hook}
 use Rattle.size_hooks.specs.Hooks.{armed}
 use Rattle.touch_dispatch.specs.TreeEvents.{OnlyScrolls}
+use Rattle.touch_event.specs.declared.event.Event.{Event}
 use Rattle.traversal.specs.Frames.{fired_in}
 use Rattle.tree_edits.specs.declared.fault.EditFault.{EditFault}
 use Rattle.traversal.specs.Resting.{IsAtPlace, IsAtRest}
@@ -17,12 +20,13 @@ use Rattle.view_tree.specs.Rows.{Row, first_key, head_view}
 use Rattle.view_tree.specs.Views.{Held, IsTree, Views, cache_of, geometry_of, specs_of, state_of}
 use Rattle.view_tree.specs.declared.state.State.{State}
 use Rattle.view_world.proofs.ArmedLaws.{armed_unfired}
-use Rattle.view_world.specs.KeyedScreen.{KeyedScreen, geometry_in}
+use Rattle.view_world.specs.KeyedScreen.{KeyedScreen, geometry_in, window_of, world_of}
 use Rattle.view_world.specs.Responses.{response_of}
-use Rattle.view_world.specs.Resting.{IsIdle, IsResting, IsShown, KeepsBut}
+use Rattle.view_world.specs.Resting.{AreSeenIn, IsIdle, IsResting, KeepsBut}
+use Rattle.view_world.specs.Seen.{black_picture, deliveries_of, scrolled_in}
 use Rattle.view_world.specs.Step.{size_in}
 use Rattle.view_world.specs.declared.marks.Effect.{Effect}
-use Rattle.view_world.specs.declared.marks.Effect.TheVariants.{Opens, Repaints, Leaves}
+use Rattle.view_world.specs.declared.marks.Effect.TheVariants.{Opens, Touches, Leaves}
 use Rattle.view_world.specs.declared.fault.StepFault.{StepFault}
 use Rattle.view_world.specs.declared.response.Response.{Response}
 use Rattle.view_world.specs.declared.stage.Stage.{Stage}
@@ -48,21 +52,22 @@ idle_rests old new idle rests = record {
   unfired = ap (λ (hooks : List Hook). fired_in hooks (geometry_of new.views)) idle.hooks ∙ ap (λ (views : Views). fired_in old.hooks (geometry_of views)) idle.views ∙ rests.unfired;
 }
 
-idle_shows : (old new : KeyedScreen) → IsIdle old new → IsShown old → IsShown new
-idle_shows old new idle shown = record {
-  rests = idle_rests old new idle shown.rests;
-  picture = rw (idle.surface, idle.views) shown.picture;
-}
-
 pub idle_still : (screen : KeyedScreen) → IsIdle screen screen
-idle_still screen = record { views = refl; stage = refl; surface = refl; hooks = refl }
+idle_still screen = record { views = refl; stage = refl; surface = refl; damage = refl; hooks = refl }
+
+pub idle_same : (old new : KeyedScreen) → new ≡ old → IsIdle old new
+idle_same old new same = subst (IsIdle old) (sym same) (idle_still old)
 
 -- where neither the tree nor the hooks have changed
-pub idle_keeps : (effect : Effect) (asked gone : List ℕ) (old new : KeyedScreen) → IsIdle old new → KeepsBut effect asked gone old new
-idle_keeps effect asked gone old new idle = record {
+pub idle_keeps : (effect : Effect) (asked gone changed : List ℕ) (old new : KeyedScreen) → effect ≢ Touches → effect ≢ Opens → IsIdle old new → KeepsBut effect asked gone changed old new
+idle_keeps effect asked gone changed old new other no_window idle = record {
   measures = ap (λ (views : Views). views.counts.measures) idle.views;
   rests = λ leaves rests. idle_rests old new idle rests;
-  shows = λ leaves shown. idle_shows old new idle shown;
+  within = λ ne box lies seen. subst (λ (damage : Rect). LiesIn damage box) (sym idle.damage) lies;
+  scrolled = λ touches. absurd (other touches);
+  stage = λ ne. idle.stage;
+  surface = λ ne. idle.surface;
+  opened = λ opens. absurd (no_window opens);
   leaves = λ key live still free. (ap (λ (views : Views). state_of views key) idle.views, ap (λ (views : Views). cache_of views key) idle.views);
 }
 
@@ -79,9 +84,9 @@ scrolls_rest old new window scrolls rest =
     (ap (λ (tree : Forest Row). root_specs window (head_view tree).facts) same) (λ root first. scrolls_state old new scrolls root) rest
 
 -- where views have been scrolled alone
-pub scrolls_keep : (asked gone : List ℕ) (old new : KeyedScreen) → OnlyScrolls old.views new.views → new.stage ≡ old.stage → new.surface ≡ old.surface → new.hooks ≡ old.hooks
-    → KeepsBut Repaints asked gone old new
-scrolls_keep asked gone old new scrolls stage surface hooks = record {
+pub scrolls_keep : (asked gone changed : List ℕ) (old new : KeyedScreen) → OnlyScrolls old.views new.views → new.stage ≡ old.stage → new.surface ≡ old.surface → new.hooks ≡ old.hooks
+    → ((box : Rect) → LiesIn old.damage box → AreSeenIn box changed old new → LiesIn new.damage box) → scrolled_in new.told ≡ changed → KeepsBut Touches asked gone changed old new
+scrolls_keep asked gone changed old new scrolls stage surface hooks within scrolled = record {
   measures = ap (λ counts. counts.measures) scrolls.counts;
   rests = λ leaves rests. record {
     settled = stage ∙ rests.settled;
@@ -89,9 +94,18 @@ scrolls_keep asked gone old new scrolls stage surface hooks = record {
     unfired = ap (λ (hooks : List Hook). fired_in hooks (geometry_of new.views)) hooks
         ∙ ap (λ (geometry : List Laid). fired_in old.hooks geometry) (scrolls_geometry old.views new.views scrolls) ∙ rests.unfired;
   };
-  shows = λ leaves. absurd cc;
   leaves = λ key live still free. (scrolls_state old.views new.views scrolls key, scrolls_cache old.views new.views scrolls key);
+  within = λ ne. within;
+  scrolled = λ touches. scrolled;
+  stage = λ ne. stage;
+  surface = λ ne. surface;
+  opened = λ opens. absurd cc;
 }
+
+-- the event of a line is the one that was handed to the root
+pub touch_keeps : (old new : KeyedScreen) (event line : Event) → event ≡ line → KeepsBut Touches [] [] (scrolled_in (deliveries_of (world_of old) event)) old new
+    → KeepsBut Touches [] [] (scrolled_in (deliveries_of (world_of old) line)) old new
+touch_keeps old new event line same = subst (λ (event : Event). KeepsBut Touches [] [] (scrolled_in (deliveries_of (world_of old) event)) old new) same
 
 -- what a line keeps whether its reply was made or not
 
@@ -108,11 +122,15 @@ responded P (Ok number) result is ok = rw is ok
 responded P (Err fault) result is ok = rw is tt
 
 -- a window that opens leaves the tree as it is
-pub window_keeps : (old new : KeyedScreen) → new.views ≡ old.views → KeepsBut Opens [] [] old new
-window_keeps old new same = record {
+pub window_keeps : (old new : KeyedScreen) → new.views ≡ old.views → black_picture (window_of new) ≡ new.surface.pixels → KeepsBut Opens [] [] [] old new
+window_keeps old new same black = record {
   measures = ap (λ (views : Views). views.counts.measures) same;
   rests = λ leaves. absurd cc;
-  shows = λ leaves. absurd cc;
+  within = λ ne. absurd (ne refl);
+  scrolled = λ touches. absurd cc;
+  stage = λ ne. absurd (ne refl);
+  surface = λ ne. absurd (ne refl);
+  opened = λ opens. black;
   leaves = λ key live still free. (ap (λ (views : Views). state_of views key) same, ap (λ (views : Views). cache_of views key) same);
 }
 
@@ -129,10 +147,14 @@ armed_rests old hooks hook is new size rests = record {
 }
 
 pub armed_keeps : (old : KeyedScreen) (hooks : List Hook) (hook : Hook) → IsTree old.views → hooks ≡ armed hook old.hooks → hook.reported ≡ size_in (geometry_in old.stage old.views) hook.view
-    → KeepsBut Leaves [] [] old (record old { hooks = hooks })
+    → KeepsBut Leaves [] [] [] old (record old { hooks = hooks })
 armed_keeps old hooks hook is new size = record {
   measures = refl;
   rests = λ leaves rests. armed_rests old hooks hook is new size rests;
-  shows = λ leaves shown. record { rests = armed_rests old hooks hook is new size shown.rests; picture = shown.picture };
+  within = λ ne box lies seen. lies;
+  scrolled = λ touches. absurd cc;
+  stage = λ ne. refl;
+  surface = λ ne. refl;
+  opened = λ opens. absurd cc;
   leaves = λ key live still free. (refl, refl);
 }

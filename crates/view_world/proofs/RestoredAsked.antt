@@ -1,21 +1,32 @@
 -- The views whose offset a state sets, by their keys and by their numbers.
-use Rattle.std.proofs.Common.{◌≡◌, ℕ, false, List, [], ◌∷◌, ◌++◌, map, Some, None, Ok, refl, sym, ◌∙◌, ap, subst, arith, inl, inr}
-use Rattle.std.proofs.lemmas.Bool.{cases_Bool}
+use Rattle.std.proofs.Common.{◌≡◌, ℕ, ◌<◌, true, false, List, [], ◌∷◌, ◌++◌, map, Some, None, Ok, refl, sym, ◌∙◌, ap, subst, arith, inl, inr}
+use Rattle.std.proofs.lemmas.Bool.{cases_Bool, cases_eq, eq-eqb, ne_eqb}
+use Rattle.std.proofs.lemmas.List.Folds.{list_any-append}
 use Rattle.std.proofs.lemmas.List.{map-append}
-use Rattle.std.specs.Prelude.{is_some}
+use Rattle.std.specs.Prelude.{◌==◌, is_some}
+use Rattle.std.specs.List.{list_any}
+use Rattle.damage_rect.specs.Within.{LiesIn}
+use Rattle.geom_core.specs.declared.geometry.Rect.{Rect}
+use Rattle.geom_core.specs.declared.geometry.Size.{Size}
+use Rattle.pixel_raster.specs.Raster.{size_of}
 use Rattle.saved_state.specs.Restored.{given_keys, on_paths, set_by, wanted}
 use Rattle.saved_state.specs.Restoring.{given_offset}
 use Rattle.saved_state.specs.State.{decoded}
+use Rattle.seen_edits.specs.Scrolled.{GivenIn}
+use Rattle.seen_edits.specs.Shown.{seen_of}
 use Rattle.view_model.specs.Forest.{Forest, Nothing, Branch, EveryRow, rows}
 use Rattle.view_model.specs.PlainTree.{PlainView}
-use Rattle.view_tree.proofs.forest.KeyLaws.{Within, here, in_below, in_after, from_within}
-use Rattle.view_tree.specs.Rows.{Row, head_view, part_from}
-use Rattle.view_tree.specs.Views.{Held, IsLive, IsTree, Views, held_of, number_of, plain_of, plain_rows}
+use Rattle.view_tree.proofs.forest.KeyLaws.{Within, here, in_below, in_after, from_within, zero_or_more}
+use Rattle.view_tree.proofs.values.KeptLaws.{is_tree-same}
+use Rattle.view_tree.specs.Rows.{Row, count_of_key, head_view, part_from}
+use Rattle.view_tree.specs.Views.{Held, IsLive, IsTree, SameTree, Views, held_of, number_of, plain_of, plain_rows}
 use Rattle.view_world.proofs.AskedLaws.{AllLive, every_live, off_key, unless}
+use Rattle.view_world.proofs.SeenLaws.{among_key, or_right, seen_named}
 use Rattle.view_world.specs.Asked.{given_numbers, is_on_paths, restored_numbers}
 use Rattle.view_world.specs.KeyedScreen.{KeyedScreen, world_of}
 use Rattle.view_world.specs.Replies.{state_bytes}
-use Rattle.view_world.specs.Resting.{KeepsBut}
+use Rattle.view_world.specs.Resting.{AreSeenIn, KeepsBut, seen_on}
+use Rattle.view_world.specs.Touching.{is_among}
 use Rattle.view_world.specs.declared.marks.Effect.TheVariants.{Asks}
 
 -- a row is what its key leads to
@@ -95,16 +106,62 @@ off_set : (views : Views) (keys : List ℕ) (key : ℕ) → IsTree views → All
 off_set views [] key is live none = refl
 off_set views (view ∷ keys) key is live none = let both = unless _ _ none in rw (off_key views view key is live.0 both.0) (off_set views keys key is live.1 both.1)
 
+-- a view that is given an offset is among those that a state sets
+among_given : (entries : List (ℕ × ℕ)) (tree : Forest Row) (key : ℕ) (list : List Row) → is_some (wanted entries tree key) ≡ true → list_any (λ (row : Row). row.key == key) list ≡ true
+    → list_any (λ (k : ℕ). key == k) (given_keys entries tree list) ≡ true
+among_given entries tree key [] some there = absurd cc
+among_given entries tree key (row ∷ list) some there = elim (cases_eq row.key key) [
+  | inl e ↦ rw (e, some, eq-eqb key key refl) refl
+  | inr ne ↦
+      let later = among_given entries tree key list some (rw (ne_eqb row.key key ne) at there) in
+      elim (cases_Bool (is_some (wanted entries tree row.key))) [
+        | inl f ↦ rw f (or_right (key == row.key) _ later)
+        | inr f ↦ rw f later
+      ]
+]
+
+row_there : (key : ℕ) (tree : Forest Row) → 0 < count_of_key key tree → list_any (λ (row : Row). row.key == key) (rows tree) ≡ true
+row_there key Nothing live = absurd (omega arith)
+row_there key (Branch row kids siblings) live = elim (cases_Bool (row.key == key)) [
+  | inl e ↦ rw e refl
+  | inr e ↦
+      let live = rw e at live in
+      rw e (list_any-append (λ (row : Row). row.key == key) (rows kids) (rows siblings) ∙ (elim (zero_or_more (count_of_key key kids)) [
+        | inl z ↦ or_right (list_any (λ (row : Row). row.key == key) (rows kids)) _ (row_there key siblings (omega arith))
+        | inr l ↦ rw (row_there key kids l) refl
+      ]))
+]
+
+-- what is seen of the views that are given offsets lies where it is known to lie
+given_seen : (old new : KeyedScreen) (entries : List (ℕ × ℕ)) (box : Rect) → IsTree old.views → SameTree old.views new.views → size_of new.surface ≡ size_of old.surface
+    → AreSeenIn box (given_numbers entries (rows (plain_of old.views))) old new → GivenIn entries (size_of old.surface) box new.views
+given_seen old new entries box is same size seen key live some =
+    let was : IsTree new.views = is_tree-same old.views new.views is same.tree same.next in
+    let tree : wanted entries new.views.tree key ≡ wanted entries old.views.tree key = ap (λ (tree : Forest Row). wanted entries tree key) same.tree in
+    let there = among_given entries old.views.tree key (rows old.views.tree) (ap is_some (sym tree) ∙ some)
+    (row_there key old.views.tree (subst (λ (tree : Forest Row). 0 < count_of_key key tree) same.tree live)) in
+    let number : number_of new.views key ≡ number_of old.views key = ap (λ (tree : Forest Row). (head_view (part_from key tree)).number) same.tree in
+    let among : is_among (number_of old.views key) (given_numbers entries (rows (plain_of old.views))) ≡ true =
+    ap (is_among (number_of old.views key)) (set_named old.views entries is) ∙ among_key (number_of old.views) key (set_by entries old.views.tree) there in
+    let lies = (seen (number_of old.views key) among).1 in
+    let own = subst (λ (n : ℕ). LiesIn (seen_on new n) box) (sym number) lies in
+    subst (λ (window : Size). LiesIn (seen_of window new.views key) box) size (subst (λ (rect : Rect). LiesIn rect box) (seen_named new key was live) own)
+
 -- what is restored leaves all views that are on no path of those whose offset it sets
-restored_keeps : (old : KeyedScreen) (new : Views) (entries : List (ℕ × ℕ)) → IsTree old.views → new.counts ≡ old.views.counts
+restored_keeps : (old : KeyedScreen) (new : Views) (damage : Rect) (entries : List (ℕ × ℕ)) → IsTree old.views → new.counts ≡ old.views.counts
     → ((key : ℕ) → on_paths key (set_by entries old.views.tree) old.views.tree ≡ false → held_of new key ≡ held_of old.views key)
-    → KeepsBut Asks (given_numbers entries (rows (plain_of old.views))) [] old (record old { views = new })
-restored_keeps old new entries is counts leaves =
+    → SameTree old.views new → ((box : Rect) → LiesIn old.damage box → GivenIn entries (size_of old.surface) box new → LiesIn damage box)
+    → KeepsBut Asks (given_numbers entries (rows (plain_of old.views))) [] (given_numbers entries (rows (plain_of old.views))) old (record old { views = new; damage = damage })
+restored_keeps old new damage entries is counts leaves same within =
     let live = keys_live old.views entries (rows old.views.tree) (rows_live old.views old.views.tree (every_live old.views old.views.tree (λ key. omega arith))) in
     record {
       measures = ap (λ counts. counts.measures) counts;
       rests = λ quiet. absurd cc;
-      shows = λ quiet. absurd cc;
+      within = λ ne box lies seen. within box lies (given_seen old (record old { views = new; damage = damage }) entries box is same refl seen);
+      scrolled = λ touches. absurd cc;
+      stage = λ ne. refl;
+      surface = λ ne. refl;
+      opened = λ opens. absurd cc;
       leaves = λ key there still free.
           let off = (unless _ _ free).0 in
           let none = subst (λ (numbers : List ℕ). is_on_paths numbers (plain_of old.views) (number_of old.views key) ≡ false) (set_named old.views entries is) off in
@@ -113,12 +170,14 @@ restored_keeps old new entries is counts leaves =
     }
 
 -- the state of a text, or the one that is kept
-pub text_keeps : (old : KeyedScreen) (new : Views) (entries : List (ℕ × ℕ)) (text : List ℕ) → decoded (state_bytes text) ≡ Ok entries → IsTree old.views → new.counts ≡ old.views.counts
+pub text_keeps : (old : KeyedScreen) (new : Views) (damage : Rect) (entries : List (ℕ × ℕ)) (text : List ℕ) → decoded (state_bytes text) ≡ Ok entries → IsTree old.views → new.counts ≡ old.views.counts
     → ((key : ℕ) → on_paths key (set_by entries old.views.tree) old.views.tree ≡ false → held_of new key ≡ held_of old.views key)
-    → KeepsBut Asks (restored_numbers (world_of old) (Some text)) [] old (record old { views = new })
-text_keeps old new entries text read is counts leaves = rw read (restored_keeps old new entries is counts leaves)
+    → SameTree old.views new → ((box : Rect) → LiesIn old.damage box → GivenIn entries (size_of old.surface) box new → LiesIn damage box)
+    → KeepsBut Asks (restored_numbers (world_of old) (Some text)) [] (restored_numbers (world_of old) (Some text)) old (record old { views = new; damage = damage })
+text_keeps old new damage entries text read is counts leaves same within = rw read (restored_keeps old new damage entries is counts leaves same within)
 
-pub kept_keeps : (old : KeyedScreen) (new : Views) → IsTree old.views → new.counts ≡ old.views.counts
+pub kept_keeps : (old : KeyedScreen) (new : Views) (damage : Rect) → IsTree old.views → new.counts ≡ old.views.counts
     → ((key : ℕ) → on_paths key (set_by old.kept old.views.tree) old.views.tree ≡ false → held_of new key ≡ held_of old.views key)
-    → KeepsBut Asks (restored_numbers (world_of old) None) [] old (record old { views = new })
-kept_keeps old new is counts leaves = restored_keeps old new old.kept is counts leaves
+    → SameTree old.views new → ((box : Rect) → LiesIn old.damage box → GivenIn old.kept (size_of old.surface) box new → LiesIn damage box)
+    → KeepsBut Asks (restored_numbers (world_of old) None) [] (restored_numbers (world_of old) None) old (record old { views = new; damage = damage })
+kept_keeps old new damage is counts leaves same within = restored_keeps old new damage old.kept is counts leaves same within

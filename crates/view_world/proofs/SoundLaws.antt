@@ -1,22 +1,29 @@
 -- What a world keeps, where its tree is another one.
-use Rattle.std.proofs.Common.{◌≡◌, ◌∙◌, ℕ, arith, sym}
+use Rattle.std.proofs.Common.{◌≡◌, ◌∙◌, ℕ, ◌*◌, ◌≤◌, arith, sym, subst}
 use Rattle.std.specs.Prelude.{OnErr, OnOk, Option, Result, Ok, Err}
+use Rattle.damage_rect.specs.declared.bounding.Damage.{Damage}
+use Rattle.pixel_raster.specs.Raster.{size_of}
 use Rattle.saved_state.specs.Saving.{OffsetsFit}
+use Rattle.seen_edits.proofs.ShownLaws.{shows_on}
+use Rattle.seen_edits.specs.Shown.{KeepsShown}
 use Rattle.traversal.specs.Changing.{FitAll}
 use Rattle.tree_edits.specs.Keeping.{KeepsViews}
 use Rattle.tree_edits.specs.declared.edits.Edit.{Edit}
 use Rattle.tree_edits.specs.declared.fault.EditFault.{EditFault}
 use Rattle.touch_dispatch.specs.Kept.{Kept}
+use Rattle.touch_dispatch.specs.TreeEvents.{IsGestureIn, room_of}
+use Rattle.view_model.specs.Forest.{Forest, count_of}
 use Rattle.kept_views.specs.Kept.{IsConsistent}
-use Rattle.view_tree.specs.Views.{Views, geometry_of, plain_of}
+use Rattle.view_tree.specs.Rows.{Row}
+use Rattle.view_tree.specs.Views.{SameTree, Views, geometry_of, plain_of}
 use Rattle.view_world.specs.Changed.{LeavesViews}
-use Rattle.view_world.specs.Sound.{IsSound}
+use Rattle.view_world.specs.Sound.{HasNoneElse, IsSound}
 use Rattle.view_world.specs.declared.screen.Screen.TheInside.{Inside}
 use Rattle.view_world.proofs.EditedCaught.{Stays, edit_stays, same_stays}
 
-pub sound_stays : (inside : Inside) (new : Views) → Stays inside.tree new inside.gesture → IsConsistent new → FitAll (geometry_of new) → OffsetsFit (plain_of new) → IsSound inside
-    → IsSound (record inside { tree = new })
-sound_stays inside new stays consistent narrow offsets sound = record {
+pub sound_stays : (inside : Inside) (new : Views) (damage : Damage) → KeepsShown (size_of inside.surface) inside.damage.rect damage.rect inside.tree new → Stays inside.tree new inside.gesture → IsConsistent new
+    → FitAll (geometry_of new) → OffsetsFit (plain_of new) → IsSound inside → IsSound (record inside { tree = new; damage = damage })
+sound_stays inside new damage shown stays consistent narrow offsets sound = record {
   consistent = consistent;
   caught = stays.caught sound.caught;
   closed = λ number none. sound.closed number (sym (stays.numbers number) ∙ none);
@@ -24,6 +31,7 @@ sound_stays inside new stays consistent narrow offsets sound = record {
   down = sound.down;
   narrow = narrow;
   offsets = offsets;
+  shows = shows_on inside.surface inside.damage.rect damage.rect inside.tree new sound.shows shown;
 }
 
 -- an edit was made by which no view comes or goes, or none was
@@ -31,3 +39,17 @@ pub result_stays : (old new : Views) (edit : Edit) (kept : Kept) (result : Resul
     → Stays old new kept
 result_stays old new edit kept (Ok number) leaves keeps same = edit_stays old new edit kept leaves keeps
 result_stays old new edit kept (Err fault) leaves keeps same = same_stays old new kept same
+
+-- nothing but offsets is other
+pub sound_restored : (inside : Inside) (new : Views) (damage : Damage) → KeepsShown (size_of inside.surface) inside.damage.rect damage.rect inside.tree new → IsSound inside → SameTree inside.tree new
+    → geometry_of new ≡ geometry_of inside.tree → IsConsistent new → OffsetsFit (plain_of new) → IsSound (record inside { tree = new; damage = damage })
+sound_restored inside new damage shown sound same geometry consistent offsets = record {
+  consistent = consistent;
+  caught = subst (λ (tree : Forest Row). IsGestureIn tree inside.gesture) (sym same.tree) sound.caught;
+  closed = subst (λ (tree : Forest Row). HasNoneElse tree inside.gesture) (sym same.tree) sound.closed;
+  room = subst (λ (tree : Forest Row). 3 * count_of tree ≤ room_of inside.log) (sym same.tree) sound.room;
+  down = sound.down;
+  narrow = subst FitAll (sym geometry) sound.narrow;
+  offsets = offsets;
+  shows = shows_on inside.surface inside.damage.rect damage.rect inside.tree new sound.shows shown;
+}

@@ -1,10 +1,11 @@
 -- How lines that touch views change the world of a script.
 use Rattle.std.proofs.Common.{◌≡◌, ℕ, Bool, true, false, List, [], ◌∷◌, Some, refl, sym, ◌∙◌, ap, subst}
 use Rattle.std.specs.Prelude.{Ok}
+use Rattle.touch_dispatch.specs.Handling.{is_nil}
 use Rattle.touch_dispatch.specs.Gestures.{PlainGesture, set_disallow}
 use Rattle.touch_dispatch.specs.Kept.{Kept, gesture_of, is_open}
 use Rattle.touch_dispatch.specs.TreeEvents.{IsGestureIn}
-use Rattle.touch_event.specs.declared.event.Action.TheVariants.{Move as Moved}
+use Rattle.touch_event.specs.declared.event.Action.TheVariants.{Move as Moved, Cancel as Cancelled}
 use Rattle.touch_event.specs.declared.event.Event.{Event}
 use Rattle.touch_event.specs.declared.event.Point.{Point}
 use Rattle.touch_targets.specs.Captures.{Target, is_target}
@@ -18,9 +19,9 @@ use Rattle.view_tree.specs.Views.{plain_of}
 use Rattle.view_world.specs.World.{World}
 use Rattle.view_world.specs.Changed.{CarriesOut}
 use Rattle.view_world.specs.KeyedScreen.{KeyedScreen, world_of}
-use Rattle.view_world.specs.Pointers.{event_of, is_pressed, with_point}
+use Rattle.view_world.specs.Pointers.{down_action, event_of, is_pressed, up_action, with_point, without_point}
 use Rattle.view_world.specs.Sound.{HasNoneElse}
-use Rattle.view_world.specs.Step.{Reply, Done, Refused, after_event, disallow_told, moved, touched}
+use Rattle.view_world.specs.Step.{Reply, Done, Refused, after_event, disallow_told, lifted, moved, put_down, taken_away, touched}
 use Rattle.view_world.specs.Touching.{all_disallowed, ancestors_of}
 use Rattle.view_world.specs.declared.response.Response.{Response}
 use Rattle.view_world.specs.declared.response.Response.TheVariants as response
@@ -39,6 +40,35 @@ pub Changed-move : (now new : KeyedScreen) (point : Point) (pointers : List Poin
 Changed-move now new point pointers event response touchable pressed are is changed =
     let made : moved (world_of now) point ≡ after_event (world_of now) event pointers = rw (pressed, is, are) refl in
     Changed-as _ _ new (Ok response) (touchable (moved (world_of now) point) ∙ made) changed
+
+-- a pointer that is not down yet goes down
+pub Changed-down : (now new : KeyedScreen) (point : Point) (pointers : List Point) (event : Event) (response : Response)
+    → Touchable now → is_pressed point.id now.pointers ≡ false
+    → pointers ≡ with_point point now.pointers → event ≡ event_of (down_action now.pointers) point.id pointers
+    → CarriesOut (after_event (world_of now) event pointers) new (Ok response)
+    → CarriesOut (touched (world_of now) (put_down (world_of now) point)) new (Ok response)
+Changed-down now new point pointers event response touchable pressed are is changed =
+    let made : put_down (world_of now) point ≡ after_event (world_of now) event pointers = rw (pressed, is, are) refl in
+    Changed-as _ _ new (Ok response) (touchable (put_down (world_of now) point) ∙ made) changed
+
+-- a pointer that is down goes up
+pub Changed-up : (now new : KeyedScreen) (id : ℕ) (others : List Point) (event : Event) (response : Response)
+    → Touchable now → is_pressed id now.pointers ≡ true
+    → others ≡ without_point id now.pointers → event ≡ event_of (up_action others) id now.pointers
+    → CarriesOut (after_event (world_of now) event others) new (Ok response)
+    → CarriesOut (touched (world_of now) (lifted (world_of now) id)) new (Ok response)
+Changed-up now new id others event response touchable pressed are is changed =
+    let made : lifted (world_of now) id ≡ after_event (world_of now) event others = rw (pressed, is, are) refl in
+    Changed-as _ _ new (Ok response) (touchable (lifted (world_of now) id) ∙ made) changed
+
+-- all pointers that are down are taken away
+pub Changed-cancel : (now new : KeyedScreen) (pointers : List Point) (event : Event) (response : Response)
+    → Touchable now → is_nil now.pointers ≡ false → pointers ≡ [] → event ≡ event_of Cancelled 0 []
+    → CarriesOut (after_event (world_of now) event pointers) new (Ok response)
+    → CarriesOut (touched (world_of now) (taken_away (world_of now))) new (Ok response)
+Changed-cancel now new pointers event response touchable some are is changed =
+    let made : taken_away (world_of now) ≡ after_event (world_of now) event pointers = rw (some, is, are) refl in
+    Changed-as _ _ new (Ok response) (touchable (taken_away (world_of now)) ∙ made) changed
 
 -- a group may not take events away from its children, nor may its ancestors, or they may again
 pub Changed-disallow : (now : KeyedScreen) (kept : Kept) (number : ℕ) (on : Bool) (view : PlainView) → view_in (plain_of now.views) number ≡ Some view → is_group view.class ≡ true

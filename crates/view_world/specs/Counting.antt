@@ -1,5 +1,5 @@
 -- How many views a frame measures, and how many pixels it paints at most.
-use Rattle.std.specs.Prelude.{ℕ, List, ◌+◌, ◌*◌, ◌≤◌, unsigned_abs, Option, Some, None}
+use Rattle.std.specs.Prelude.{◌≡◌, ℕ, List, ◌+◌, ◌-◌, ◌*◌, ◌^◌, ◌<◌, ◌≤◌, unsigned_abs, Option, Some, None}
 use Rattle.geom_core.specs.declared.geometry.Size.{Size}
 use Rattle.size_hooks.specs.Hook.{Hook}
 use Rattle.traversal.specs.Frames.{frame_calls as calls_of_frame}
@@ -21,8 +21,7 @@ abbrev pub area_of : Option Size → ℕ
 area_of None = 0
 area_of (Some window) = unsigned_abs window.w * unsigned_abs window.h
 
--- how many pixels a frame of this world paints at most: the window once, and twice for each view; none where it does not
--- settle
+-- how many pixels a frame of this world paints at most: the window once, and twice for each view
 unfoldable pub paint_bound : World → ℕ
 paint_bound world = (2 * count_of world.tree + 1) * area_of world.window
 
@@ -30,3 +29,7 @@ paint_bound world = (2 * count_of world.tree + 1) * area_of world.window
 pub record RisesWithin (bound old new : ℕ) : Type 0 where
   pub grew : old ≤ new
   pub most : new ≤ old + bound
+
+-- a picture counts as many filled pixels as were painted, unless one of the counts has come to the greatest number
+abbrev pub FillsAlike : ℕ → ℕ → ℕ → ℕ → Type 0
+FillsAlike filled full before after = after < 2 ^ 64 - 1 → full < 2 ^ 64 - 1 → after + filled ≡ before + full

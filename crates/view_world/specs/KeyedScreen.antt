@@ -2,7 +2,9 @@
 -- resources and its gesture.
 use Rattle.std.specs.Prelude.{ℕ, Bool, if◌then◌else◌, List, [], Option, Some, None, refl}
 use Rattle.std.specs.Coded.{Coded, code_by, coded×, coded_ℕ, coded_list}
+use Rattle.geom_core.specs.contracts.geometry.Rect.{the_row as rect_row}
 use Rattle.geom_core.specs.declared.color.Argb.{Argb}
+use Rattle.geom_core.specs.declared.geometry.Rect.{Rect}
 use Rattle.geom_core.specs.declared.geometry.Size.{Size}
 use Rattle.pixel_raster.specs.Raster.{Raster, empty_raster, size_of}
 use Rattle.pixel_raster.specs.contracts.surface.Surface.{the_row as surface_row}
@@ -15,6 +17,7 @@ use Rattle.touch_event.specs.contracts.event.Point.{the_row as point_row}
 use Rattle.touch_event.specs.declared.event.Point.{Point}
 use Rattle.view_model.specs.Geometry.{Laid}
 use Rattle.view_model.specs.Resources.{Entries}
+use Rattle.view_model.specs.Visible.{no_rect}
 use Rattle.view_world.specs.World as plain
 use Rattle.view_model.specs.declared.limits.TheConstants.{NORMAL_DPI}
 use Rattle.res_values.specs.contracts.resources.Resources.{the_row as resources_row}
@@ -29,6 +32,8 @@ pub record KeyedScreen : Type 0 where
   pub stage : Stage
   -- black where there was no frame yet, and of no size where there is no window
   pub surface : Raster
+  -- where the picture may be another than that of the views as they are now
+  pub damage : Rect
   pub dpi : ℕ
   pub resources : Entries
   pub gesture : Kept
@@ -43,14 +48,15 @@ pub record KeyedScreen : Type 0 where
 
 abbrev pub screen_code : Coded KeyedScreen
 screen_code =
-    code_by ((((Views × (Stage × Raster)) × (ℕ × Entries)) × (Kept × (List Point × List Entry))) × ((List Hook × List (ℕ × ℕ)) × List ℕ))
-    (coded× (coded× (coded× (coded× views_code (coded× stage_row.coded surface_row.coded)) (coded× coded_ℕ resources_row.coded))
+    code_by ((((Views × (Stage × (Raster × Rect))) × (ℕ × Entries)) × (Kept × (List Point × List Entry))) × ((List Hook × List (ℕ × ℕ)) × List ℕ))
+    (coded× (coded× (coded× (coded× views_code (coded× stage_row.coded (coded× surface_row.coded rect_row.coded))) (coded× coded_ℕ resources_row.coded))
     (coded× kept_code (coded× (coded_list point_row.coded) (coded_list entry_row.coded)))) (coded× (coded× hooks_code (coded_list (coded× coded_ℕ coded_ℕ))) (coded_list coded_ℕ)))
-    (λ w. ((((w.views, (w.stage, w.surface)), (w.dpi, w.resources)), (w.gesture, (w.pointers, w.told))), ((w.hooks, w.kept), w.saved)))
+    (λ w. ((((w.views, (w.stage, (w.surface, w.damage))), (w.dpi, w.resources)), (w.gesture, (w.pointers, w.told))), ((w.hooks, w.kept), w.saved)))
     (λ p. record {
       views = p.0.0.0.0;
       stage = p.0.0.0.1.0;
-      surface = p.0.0.0.1.1;
+      surface = p.0.0.0.1.1.0;
+      damage = p.0.0.0.1.1.1;
       dpi = p.0.0.1.0;
       resources = p.0.0.1.1;
       gesture = p.0.1.0;
@@ -119,6 +125,7 @@ new_screen = record {
   views = no_views;
   stage = NoWindow;
   surface = empty_raster;
+  damage = no_rect;
   dpi = NORMAL_DPI;
   resources = [];
   gesture = nothing_kept;

@@ -2,13 +2,15 @@
 use Rattle.std.specs.Prelude.{◌≡◌, true}
 use Rattle.view_world.specs.KeyedWorld.{KeyedWorld}
 use Rattle.view_world.specs.Resting.{IsResting, IsShown}
+use Rattle.view_world.specs.declared.stage.Stage.TheVariants.{Settled}
 use Rattle.view_world.specs.declared.world.World.TheInside.{Inside}
 
 -- what contracts see of a world
 abbrev pub keyed : Inside → KeyedWorld
 keyed inside = record { screen = inside.screen; marks = inside.marks }
 
--- where the next frame is quiet, it finds nothing to lay out, and where the picture is shown, nothing to paint
+-- where there is a frame to go on from, it has settled; where the next frame is quiet, it finds nothing to lay out, and where it is idle, nothing to paint
 pub record IsMarked (inside : Inside) : Type 0 where
+  pub based : inside.marks.based ≡ true → inside.screen.stage ≡ Settled
   pub rest : inside.marks.quiet ≡ true → IsResting inside.screen
-  pub shown : inside.marks.shown ≡ true → IsShown inside.screen
+  pub idle : inside.marks.idle ≡ true → IsShown inside.screen

@@ -1,25 +1,32 @@
 -- Screens of which nothing is left to lay out, what lines leave of that, and what frames count.
-use Rattle.std.specs.Prelude.{◌≡◌, ℕ, ◌+◌, ◌-◌, ◌*◌, ◌^◌, ◌≤◌, min, true, List, Some, None}
+use Rattle.std.specs.Prelude.{◌≡◌, ◌≢◌, ℕ, ◌+◌, ◌-◌, ◌*◌, ◌^◌, ◌≤◌, min, true, List, Some, None}
+use Rattle.damage_rect.specs.Within.{LiesIn}
+use Rattle.damage_rect.specs.Areas.{rect_area}
+use Rattle.geom_core.specs.Rects.{is_empty}
+use Rattle.geom_core.specs.declared.geometry.Rect.{Rect}
 use Rattle.geom_core.specs.declared.geometry.Size.{Size}
 use Rattle.kept_views.specs.Laying.{differ}
 use Rattle.measure_pass.specs.Caches.{Grew}
 use Rattle.pixel_raster.specs.Raster.{size_of}
 use Rattle.script_lines.specs.PlainCommands.{PlainCommand}
+use Rattle.seen_edits.specs.Differing.{differing}
 use Rattle.traversal.specs.Frames.{after_frame as frame_of, fired_in}
 use Rattle.traversal.specs.Growing.{IsMeasuredByFrame, IsUnedited, frame_edits}
 use Rattle.traversal.specs.Resting.{IsAtRest}
 use Rattle.tree_edits.specs.declared.edits.Edit.{Edit}
 use Rattle.view_model.specs.Forest.{count_of}
+use Rattle.view_model.specs.Visible.{visible_rect}
 use Rattle.view_model.specs.declared.work.Work.{Work}
 use Rattle.view_tree.specs.Views.{IsLive, cache_of, geometry_of, held_of, number_of, plain_of}
 use Rattle.view_tree.specs.declared.counts.Counts.{Counts}
 use Rattle.view_world.specs.Asked.{LeavesBut, asked_views, gone_views, numbers_asked, numbers_gone}
-use Rattle.view_world.specs.Counting.{frame_calls}
+use Rattle.view_world.specs.Counting.{FillsAlike, frame_calls}
 use Rattle.view_world.specs.KeyedScreen.{KeyedScreen, window_of, world_of}
 use Rattle.view_world.specs.Marks.{effect_of, effect_of_edit, leaves_layout}
-use Rattle.view_world.specs.Step.{picture_in}
+use Rattle.view_world.specs.Seen.{black_picture, changed_views, moved_views, numbers_edited, scrolled_in}
+use Rattle.view_world.specs.Touching.{is_among}
 use Rattle.view_world.specs.declared.marks.Effect.{Effect}
-use Rattle.view_world.specs.declared.marks.Effect.TheVariants.{Leaves}
+use Rattle.view_world.specs.declared.marks.Effect.TheVariants.{Opens, Touches}
 use Rattle.view_world.specs.declared.stage.Stage.TheVariants.{Settled}
 
 -- the last frame has settled, nothing was asked of the root since, and no hook fires: laying out again would change
@@ -29,32 +36,47 @@ pub record IsResting (screen : KeyedScreen) : Type 0 where
   pub laid : IsAtRest screen.views (size_of screen.surface)
   pub unfired : fired_in screen.hooks (geometry_of screen.views) ≡ None
 
--- nor would painting again: the picture is that of the tree as it is, where it was laid out last
+-- nor would painting again: no point of the picture is another than that of the tree as it is
 pub record IsShown (screen : KeyedScreen) : Type 0 where
   pub rests : IsResting screen
-  pub picture : screen.surface.pixels ≡ picture_in (size_of screen.surface) (geometry_of screen.views) (plain_of screen.views)
+  pub clean : is_empty screen.damage ≡ true
 
--- A line that is no frame measures nothing; where it requests no layout, what rested still does; where it leaves what is
--- painted too, what was shown still is; and it leaves all views but those that it has a reason to lay out.
-pub record KeepsBut (effect : Effect) (asked gone : List ℕ) (old new : KeyedScreen) : Type 0 where
+-- where a view is seen in the window of a screen
+abbrev pub seen_on : KeyedScreen → ℕ → Rect
+seen_on screen number = visible_rect (plain_of screen.views) (geometry_of screen.views) (size_of screen.surface) number
+
+-- what is seen of some views, on one screen and on another, lies in a rectangle
+abbrev pub AreSeenIn : Rect → List ℕ → KeyedScreen → KeyedScreen → Type 0
+AreSeenIn box numbers old new = (number : ℕ) → is_among number numbers ≡ true → LiesIn (seen_on old number) box × LiesIn (seen_on new number) box
+
+-- A line that is no frame measures nothing; where it requests no layout, what rested still does; it leaves all views but
+-- those that it has a reason to lay out; unless it opens a window, it damages the picture only where the views that it
+-- changes are seen, before or after it; and the deliveries of a touch say which views it has scrolled.
+pub record KeepsBut (effect : Effect) (asked gone changed : List ℕ) (old new : KeyedScreen) : Type 0 where
   pub measures : new.views.counts.measures ≡ old.views.counts.measures
   pub rests : leaves_layout effect ≡ true → IsResting old → IsResting new
-  pub shows : effect ≡ Leaves → IsShown old → IsShown new
   pub leaves : LeavesBut asked gone (plain_of old.views) old.views new.views
+  pub within : effect ≢ Opens → (box : Rect) → LiesIn old.damage box → AreSeenIn box changed old new → LiesIn new.damage box
+  pub scrolled : effect ≡ Touches → scrolled_in new.told ≡ changed
+  -- only a window takes another picture, a black one
+  pub stage : effect ≢ Opens → new.stage ≡ old.stage
+  pub surface : effect ≢ Opens → new.surface ≡ old.surface
+  pub opened : effect ≡ Opens → black_picture (window_of new) ≡ new.surface.pixels
 
 -- the same of a line
 abbrev pub KeepsLine : PlainCommand → KeyedScreen → KeyedScreen → Type 0
-KeepsLine line old new = KeepsBut (effect_of line) (asked_views (world_of old) line) (gone_views (world_of old) line) old new
+KeepsLine line old new = KeepsBut (effect_of line) (asked_views (world_of old) line) (gone_views (world_of old) line) (changed_views (world_of old) line) old new
 
 -- and of an edit
 abbrev pub KeepsEdit : Edit → KeyedScreen → KeyedScreen → Type 0
-KeepsEdit edit old new = KeepsBut (effect_of_edit edit) (numbers_asked old.views edit) (numbers_gone old.views edit) old new
+KeepsEdit edit old new = KeepsBut (effect_of_edit edit) (numbers_asked old.views edit) (numbers_gone old.views edit) (numbers_edited old.views edit) old new
 
 -- nothing but the density, the resources, the gesture, the pointers, or what is kept for replies is other
 pub record IsIdle (old new : KeyedScreen) : Type 0 where
   pub views : new.views ≡ old.views
   pub stage : new.stage ≡ old.stage
   pub surface : new.surface ≡ old.surface
+  pub damage : new.damage ≡ old.damage
   pub hooks : new.hooks ≡ old.hooks
 
 -- each measuring was counted both in the work and in the tree; a count stays at the greatest number once it is there
@@ -73,6 +95,21 @@ pub record LaysOut (old new : KeyedScreen) (window : Size) : Type 0 where
   pub caches : (key : ℕ) → IsLive old.views key → IsUnedited old.views.tree (frame_edits (plain_of old.views) old.hooks window) key
       → Grew (IsMeasuredByFrame (plain_of old.views) old.hooks window (number_of old.views key)) (cache_of old.views key) (cache_of new.views key)
 
+-- what is seen, on one screen and on another, of the views that lie elsewhere there or have another offset lies in a
+-- rectangle
+abbrev pub MovedIn : Rect → KeyedScreen → KeyedScreen → Type 0
+MovedIn box old new = AreSeenIn box (moved_views (world_of old) (world_of new)) old new
+
+-- How many pixels a frame paints: at least those whose colour is another then, and where no hook fired, at most the points
+-- in which the damage and the views that moved lie, once and twice for each view. The picture counts as many, unless a
+-- count has come to the greatest number. A frame that has not settled leaves the picture.
+pub record FramePaints (old new : KeyedScreen) (before after : Work) : Type 0 where
+  pub least : min (before.painted + differing old.surface.pixels new.surface.pixels) (2 ^ 64 - 1) ≤ after.painted
+  pub most : old.stage ≡ Settled → new.stage ≡ Settled → (window : Size) → window_of old ≡ Some window → (frame_of (plain_of old.views) old.hooks window).fired ≡ 0
+      → (box : Rect) → LiesIn old.damage box → MovedIn box old new → after.painted ≤ before.painted + (2 * count_of old.views.tree + 1) * rect_area box
+  pub filled : FillsAlike old.surface.filled new.surface.filled before.painted after.painted
+  pub unsettled : new.stage ≢ Settled → (new.surface ≡ old.surface) × (after.painted ≡ before.painted)
+
 -- what a frame has counted, and what it leaves
 pub record IsFrameDone (old new : KeyedScreen) (before after : Work) : Type 0 where
   pub measured : after.measured ≤ before.measured + frame_calls (world_of old)
@@ -80,3 +117,4 @@ pub record IsFrameDone (old new : KeyedScreen) (before after : Work) : Type 0 wh
   pub counted : CountsMeasures old.views.counts new.views.counts before after
   pub laid : (window : Size) → window_of old ≡ Some window → LaysOut old new window
   pub shows : new.stage ≡ Settled → IsShown new
+  pub paints : FramePaints old new before after

@@ -5,6 +5,7 @@ use Rattle.touch_dispatch.specs.TreeEvents.{IsGestureIn, room_of}
 use Rattle.view_model.specs.Forest.{Forest, count_of}
 use Rattle.kept_views.specs.Kept.{IsConsistent}
 use Rattle.saved_state.specs.Saving.{OffsetsFit}
+use Rattle.seen_edits.specs.Shown.{Shows}
 use Rattle.traversal.specs.Changing.{FitAll}
 use Rattle.view_tree.specs.Rows.{Row, count_of_number}
 use Rattle.view_tree.specs.Views.{geometry_of, plain_of}
@@ -18,6 +19,7 @@ keyed inside = record {
   views = inside.tree;
   stage = inside.stage;
   surface = inside.surface;
+  damage = inside.damage.rect;
   dpi = inside.dpi;
   resources = inside.resources;
   gesture = inside.gesture;
@@ -43,3 +45,5 @@ pub record IsSound (inside : Inside) : Type 0 where
   -- each view has a size that can be told, and each scroll view an offset that can be kept
   pub narrow : FitAll (geometry_of inside.tree)
   pub offsets : OffsetsFit (plain_of inside.tree)
+  -- the picture shows the views as they are now, but for the damage
+  pub shows : Shows inside.surface inside.damage.rect inside.tree

@@ -14,7 +14,6 @@ mod inflating;
 mod marks;
 mod naming;
 mod opening;
-mod painting;
 mod pixels;
 mod pointers;
 mod replies;

@@ -2,10 +2,11 @@
 ghost use Rattle.std.specs.Prelude.{◌≡◌};
 ghost use Rattle.script_lines.specs.PlainCommands.{plain_command};
 ghost use Rattle.view_world.specs.Marks.{effect_of, effect_of_act, marked, no_marks};
+ghost use Rattle.view_world.specs.Seen.{act_paints};
 
 use script_lines::Command;
 use tree_edits::requests_layout;
-use view_model::Act;
+use view_model::{Act, Change, Flag};
 
 /// What is known of the next frame.
 #[derive(Clone, Copy, Debug, PartialEq, Eq)]
@@ -15,7 +16,7 @@ pub struct Marks {
     /// Nor has a line requested layout since: the next frame measures nothing.
     pub quiet: bool,
     /// Nor has a line changed what is painted: the next frame paints nothing either.
-    pub shown: bool,
+    pub idle: bool,
 }
 
 /// What a line does to the marks.
@@ -29,6 +30,8 @@ pub enum Effect {
     Asks,
     /// The layout stays, but the picture of the tree may be another one.
     Repaints,
+    /// An event goes to views, which may move their children.
+    Touches,
     /// Neither the layout nor the picture of the tree changes.
     Leaves,
 }
@@ -41,30 +44,36 @@ impl Marks {
         Marks {
             based: false,
             quiet: false,
-            shown: false,
+            idle: false,
         }
     }
 
-    /// The marks after a line. `settled`: whether the last frame has settled by then, and no window came since.
-    pub fn after(self, effect: Effect, settled: bool) -> Marks
-        ensures { result ≡ marked effect self settled }
+    /// The marks after a line. `settled`: whether the last frame has settled by then, and no window came since. `scrolled`:
+    /// whether a touch has moved the children of a scroll view.
+    pub fn after(self, effect: Effect, settled: bool, scrolled: bool) -> Marks
+        ensures { result ≡ marked effect self settled scrolled }
     {
         match effect {
             Effect::Opens => Marks::none(),
             Effect::Lays => Marks {
                 based: settled,
                 quiet: settled,
-                shown: settled,
+                idle: settled,
             },
             Effect::Asks => Marks {
                 based: self.based,
                 quiet: false,
-                shown: false,
+                idle: false,
             },
             Effect::Repaints => Marks {
                 based: self.based,
                 quiet: self.quiet,
-                shown: false,
+                idle: false,
+            },
+            Effect::Touches => Marks {
+                based: self.based,
+                quiet: self.quiet,
+                idle: self.idle && !scrolled,
             },
             Effect::Leaves => self,
         }
@@ -85,7 +94,7 @@ pub fn effect_of(command: &Command<'_>) -> Effect
         | Command::Restore(_) => Effect::Asks,
         Command::Act { act, .. } => effect_of_act(act),
         Command::Down { .. } | Command::Move { .. } | Command::Up(_) | Command::Cancel => {
-            Effect::Repaints
+            Effect::Touches
         }
         Command::Dpi(_)
         | Command::Res { .. }
@@ -104,7 +113,28 @@ fn effect_of_act(act: Act) -> Effect
 {
     if requests_layout(act) {
         Effect::Asks
-    } else {
+    } else if paints(act) {
         Effect::Repaints
+    } else {
+        Effect::Leaves
+    }
+}
+
+/// Whether an act is painted, and layout does not read it: a colour, or whether children are clipped.
+fn paints(act: Act) -> bool
+    ensures { result ≡ act_paints act }
+{
+    match act {
+        Act::Change(Change::Background(_)) | Act::Ink(_) => true,
+        Act::Flag { flag, .. } => matches!(flag, Flag::Clip),
+        Act::Change(_)
+        | Act::WeightSum(_)
+        | Act::Orient { .. }
+        | Act::Visible(_)
+        | Act::Id(_)
+        | Act::Rule { .. }
+        | Act::Answer(_)
+        | Act::Intercept(_)
+        | Act::Scroll(_) => false,
     }
 }

@@ -22,6 +22,7 @@ ghost use Rattle.view_world.specs.Counting.{RisesWithin, paint_bound};
 ghost use Rattle.view_world.specs.Inflating.{asked_file, asked_for, inflation_of};
 ghost use Rattle.view_world.specs.Offsets.{EditsWithin};
 ghost use Rattle.view_world.specs.Responses.{IsTellable, response_text};
+ghost use Rattle.view_world.specs.Seen.{black_picture, has_any_scrolled};
 ghost use Rattle.view_world.specs.Step.{Done, after_edit, defined, dpi_told, graft_reason, grafted, inflation, resource_given, step, with_window};
 ghost use Rattle.view_world.specs.KeyedScreen.{new_screen, window_of, world_of};
 ghost use Rattle.view_world.specs.Marks.{has_settled};
@@ -36,20 +37,21 @@ mod touch;
 use crate::fault::StepFault;
 use crate::inflating::{fetch, inflation_of, views_of};
 use crate::naming::{find, place_of, resolve, tell_tree};
-use crate::painting::paint_window;
 use crate::pixels::part_in;
 use crate::resources::value_of;
 use crate::response::{Response, respond, write_response};
 use crate::stage::{Stage, stage_after};
 use crate::texts::resolved;
-use crate::touching::hides;
+use crate::touching::{has_any_scrolled, hides};
 use arrayvec::ArrayVec;
+use damage_rect::Damage;
 use geom_core::Size;
 use inflater::Grown;
 use pixel_raster::Surface;
 use res_values::{ResFault, Resources};
 use saved_state::States;
 use script_lines::{Command, Given, Name};
+use seen_edits::{change, damage_all, paint_damage};
 use size_hooks::Hooks;
 use std::alloc::Global;
 use std::marker::Model;
@@ -58,7 +60,7 @@ use tool_io::{Shelf, Sink};
 use touch_dispatch::{Gesture, Log};
 use touch_event::{MAX_POINTERS, Point};
 use traversal::frame;
-use tree_edits::{Edit, apply};
+use tree_edits::Edit;
 use view_model::limits::NORMAL_DPI;
 use view_model::refusals::{
     HAS_ROOT, LATE_DPI, NO_FRAME, NO_ROOT, NO_VIEW, NO_WINDOW, OUT_OF_RANGE, UNSETTLED,
@@ -73,6 +75,8 @@ pub struct Screen {
     stage: Stage,
     /// The picture of the window: black before its first frame, and of no size before there is a window.
     surface: Surface,
+    /// Where the picture may be another than that of the views as they are now.
+    damage: Damage,
     /// How many dots the screen has an inch.
     dpi: u32,
     resources: Resources,
@@ -80,13 +84,13 @@ pub struct Screen {
     gesture: Gesture,
     /// The pointers that are down, by rising ids, each where its last line has put it.
     pointers: ArrayVec<Point, MAX_POINTERS>,
-    /// The deliveries of the last line that had any, with room for all that an event can tell.
+    /// The deliveries of the last line that had any, with room for all that an event delivers.
     log: Log,
     /// The armed hooks, of views that are in the tree.
     hooks: Hooks,
     /// The state that was kept last.
     states: States,
-    /// Its bytes, as they were told.
+    /// Its bytes, as they were printed.
     saved: Vec<u8>,
     /// What gathers the text of each reply.
     text: TextBuffer,
@@ -115,6 +119,7 @@ impl Screen {
             tree: ViewTree::new(alloc),
             stage: Stage::NoWindow,
             surface: Surface::empty(alloc),
+            damage: Damage::new(),
             dpi: NORMAL_DPI,
             resources: Resources::new(alloc),
             gesture: Gesture::new(alloc),
@@ -128,12 +133,11 @@ impl Screen {
     }
 
     /// Carries out a command, and then writes its text. Where it is refused, finds no memory, or a fetch fails, nothing has
-    /// changed. `shown`: the picture is that of the tree as it is, and nothing is left to lay out.
+    /// changed.
     pub fn line<K: Sink, F: Shelf>(
         &mut self,
         alloc: Global,
         command: Command<'_>,
-        shown: bool,
         shelf: &mut F,
         sink: &mut K,
         work: &mut Work,
@@ -141,7 +145,6 @@ impl Screen {
         requires numbers { self.old.views.next < NUMBERS_END }
         requires bounds { IsInBounds (plain_command command) }
         requires short { text_length (plain_command command) < 2 ^ 31 }
-        requires shown { shown ≡ true → IsShown self.old }
         ensures carried { (files : Files)
             → AreAtHand files (F.files shelf.old) (asked_file (world_of self.old) (plain_command command.entry))
             → WritesReply (step files (world_of self.old) (plain_command command.entry)) (world_of self.new) (K.state sink.old) (K.state sink.new) result }
@@ -158,7 +161,7 @@ impl Screen {
         ensures numbers { self.new.views.next ≤ self.old.views.next + MAX_VIEWS }
         ensures work { plain_command command.entry ≢ Frame → work.new ≡ work.old }
         ensures idle { IsDone result ⊎ (work.new ≡ work.old) }
-        ensures still { plain_command command.entry ≡ Frame → shown ≡ true → work.new ≡ work.old }
+        ensures still { plain_command command.entry ≡ Frame → IsShown self.old → work.new ≡ work.old }
         ensures framed { plain_command command.entry ≡ Frame → IsDone result → IsFrameDone self.old self.new work.old work.new }
         ensures keeps { plain_command command.entry ≢ Frame → IsDone result → KeepsLine (plain_command command.entry) self.old self.new }
         ensures painted { RisesWithin (paint_bound (world_of self.old)) work.old.painted work.new.painted }
@@ -166,7 +169,7 @@ impl Screen {
     {
         match inflation_of(&command) {
             Some((name, into)) => self.inflate_line(alloc, name, into, shelf, sink),
-            None => self.command(alloc, command, shown, sink, work),
+            None => self.command(alloc, command, sink, work),
         }
     }
 
@@ -187,12 +190,18 @@ impl Screen {
         }
     }
 
+    /// Whether a view has moved its children, by the deliveries of the last line that had any.
+    pub fn has_scrolled(&self) -> bool
+        ensures { result ≡ has_any_scrolled self.now.told }
+    {
+        has_any_scrolled(self.log.entries())
+    }
+
     /// Carries out a command that asks for no file, and then writes its text.
     fn command<K: Sink>(
         &mut self,
         alloc: Global,
         command: Command<'_>,
-        shown: bool,
         sink: &mut K,
         work: &mut Work,
     ) -> Result<(), StepFault>
@@ -200,7 +209,6 @@ impl Screen {
         requires numbers { self.old.views.next < NUMBERS_END }
         requires bounds { IsInBounds (plain_command command) }
         requires short { text_length (plain_command command) < 2 ^ 31 }
-        requires shown { shown ≡ true → IsShown self.old }
         ensures carried { WritesReply (step [] (world_of self.old) (plain_command command.entry)) (world_of self.new) (K.state sink.old) (K.state sink.new) result }
         ensures unchanged { IsDone result ⊎ ((self.new ≡ self.old) × (sink.new ≡ sink.old)) }
         ensures silent { (world : PlainWorld) → step [] (world_of self.old) (plain_command command.entry) ≡ Done world [] → sink.new ≡ sink.old }
@@ -208,14 +216,14 @@ impl Screen {
         ensures numbers { self.new.views.next ≤ self.old.views.next + 1 }
         ensures work { plain_command command.entry ≢ Frame → work.new ≡ work.old }
         ensures idle { IsDone result ⊎ (work.new ≡ work.old) }
-        ensures still { plain_command command.entry ≡ Frame → shown ≡ true → work.new ≡ work.old }
+        ensures still { plain_command command.entry ≡ Frame → IsShown self.old → work.new ≡ work.old }
         ensures framed { plain_command command.entry ≡ Frame → IsDone result → IsFrameDone self.old self.new work.old work.new }
         ensures keeps { plain_command command.entry ≢ Frame → IsDone result → KeepsLine (plain_command command.entry) self.old self.new }
         ensures painted { RisesWithin (paint_bound (world_of self.old)) work.old.painted work.new.painted }
         ensures sink_failed { (K.state sink.new).faults ≡ faults_after_line result (K.state sink.old).faults }
         ensures no_shelf { result ≢ Err StepFault.Shelf }
     {
-        let response = self.carry_out(alloc, command, shown, work)?;
+        let response = self.carry_out(alloc, command, work)?;
         self.tell(response, sink)
     }
 
@@ -245,7 +253,7 @@ impl Screen {
         self.tell(response, sink)
     }
 
-    /// Writes what there is to tell of a line that was carried out.
+    /// Writes the text of a line that was carried out.
     fn tell<K: Sink>(&mut self, response: Response, sink: &mut K) -> Result<(), StepFault>
         requires { IsTellable self.old.views self.old.surface self.old.told self.old.saved response }
         ensures carried { WritesReply (Done (world_of self.old) (response_text self.old.views self.old.surface self.old.told self.old.saved response)) (world_of self.new) (K.state sink.old) (K.state sink.new) result }
@@ -296,32 +304,30 @@ impl Screen {
         self.graft(place, grown)
     }
 
-    /// Carries out a command that asks for no file, and answers what there is to tell.
+    /// Carries out a command that asks for no file, and returns its reply.
     fn carry_out(
         &mut self,
         alloc: Global,
         command: Command<'_>,
-        shown: bool,
         work: &mut Work,
     ) -> Result<Response, StepFault>
         requires alone { inflation_of (plain_command command) ≡ None }
         requires numbers { self.old.views.next < NUMBERS_END }
         requires bounds { IsInBounds (plain_command command) }
         requires short { text_length (plain_command command) < 2 ^ 31 }
-        requires shown { shown ≡ true → IsShown self.old }
         ensures changed { CarriesOut (step [] (world_of self.old) (plain_command command.entry)) self.new result }
         ensures unchanged { OnErr result (self.new ≡ self.old) }
         ensures memory { result ≡ Err StepFault.NoMemory → MayWantMemory (plain_command command.entry) }
         ensures numbers { self.new.views.next ≤ self.old.views.next + 1 }
         ensures work { plain_command command.entry ≢ Frame → work.new ≡ work.old }
         ensures idle { OnErr result (work.new ≡ work.old) }
-        ensures still { plain_command command.entry ≡ Frame → shown ≡ true → work.new ≡ work.old }
+        ensures still { plain_command command.entry ≡ Frame → IsShown self.old → work.new ≡ work.old }
         ensures framed { plain_command command.entry ≡ Frame → OnOk result (IsFrameDone self.old self.new work.old work.new) }
         ensures keeps { plain_command command.entry ≢ Frame → OnOk result (KeepsLine (plain_command command.entry) self.old self.new) }
         ensures painted { RisesWithin (paint_bound (world_of self.old)) work.old.painted work.new.painted }
     {
         match command {
-            Command::Window { w, h } => self.open(alloc, Size { w, h }),
+            Command::Window { w, h } => self.open(Size { w, h }),
             Command::Dpi(dpi) => self.set_dpi(dpi),
             Command::Res { id, value } => self.define(alloc, id, value),
             // An `inflate` line goes by `inflate_line`.
@@ -341,7 +347,7 @@ impl Screen {
             Command::Move { p, x, y } => self.drag(p, x, y),
             Command::Up(p) => self.up(p),
             Command::Cancel => self.cancel(),
-            Command::Frame => self.frame(shown, work),
+            Command::Frame => self.frame(work),
             Command::Bounds(view) => self.bounds(view),
             Command::Pixels { x, y, w, h } => self.pixels(x, y, w, h),
             Command::Digest => self.digest(),
@@ -360,21 +366,25 @@ impl Screen {
         }
     }
 
-    /// Opens a window of this size, in pixels. Its picture is made before the last one is given up.
-    fn open(&mut self, alloc: Global, size: Size) -> Result<Response, StepFault>
+    /// Opens a window of this size, in pixels. Its picture takes the place of the last one.
+    fn open(&mut self, size: Size) -> Result<Response, StepFault>
         requires width { IsWithin (pos 1) MAX_WINDOW size.w }
         requires height { IsWithin (pos 1) MAX_WINDOW size.h }
         ensures changed { CarriesOut (Done (with_window (world_of self.old) size) []) self.new result }
         ensures unchanged { OnErr result (self.new ≡ self.old) }
         ensures numbers { self.new.views.next ≡ self.old.views.next }
         ensures keeps { self.new.views ≡ self.old.views }
+        ensures opened { OnOk result (black_picture (window_of self.new) ≡ self.new.surface.pixels) }
     {
-        let Ok(surface) = Surface::new(alloc, size) else {
-            return Err(StepFault::NoMemory);
-        };
-        self.surface = surface;
-        self.stage = Stage::NoFrame;
-        Ok(Response::Nothing)
+        match self.surface.reset(size) {
+            Err(_) => Err(StepFault::NoMemory),
+            Ok(()) => {
+                self.damage = Damage::new();
+                damage_all(&mut self.damage, self.surface.size());
+                self.stage = Stage::NoFrame;
+                Ok(Response::Nothing)
+            }
+        }
     }
 
     /// Sets the density of the screen, as long as there is no view.
@@ -420,7 +430,10 @@ impl Screen {
         ensures keeps { OnOk result (KeepsEdit edit.entry self.old self.new) }
     {
         tell_tree(&self.tree);
-        respond(apply(alloc, &mut self.tree, edit))
+        let window = self.surface.size();
+        let made = change(alloc, &mut self.tree, window, edit, &mut self.damage);
+        tell_tree(&self.tree);
+        respond(made)
     }
 
     /// Makes a root.
@@ -513,15 +526,14 @@ impl Screen {
         )
     }
 
-    /// Lays the whole tree out, and paints it where the frame has settled, unless it is shown as it is.
-    fn frame(&mut self, shown: bool, work: &mut Work) -> Result<Response, StepFault>
-        requires shown { shown ≡ true → IsShown self.old }
+    /// Lays the whole tree out, and where the frame has settled, paints what may be another picture since.
+    fn frame(&mut self, work: &mut Work) -> Result<Response, StepFault>
         ensures changed { CarriesOut (step [] (world_of self.old) Frame) self.new result }
         ensures unchanged { OnErr result (self.new ≡ self.old) }
         ensures memory { result ≢ Err StepFault.NoMemory }
         ensures numbers { self.new.views.next ≡ self.old.views.next }
         ensures idle { OnErr result (work.new ≡ work.old) }
-        ensures still { shown ≡ true → work.new ≡ work.old }
+        ensures still { IsShown self.old → work.new ≡ work.old }
         ensures framed { OnOk result (IsFrameDone self.old self.new work.old work.new) }
         ensures painted { RisesWithin (paint_bound (world_of self.old)) work.old.painted work.new.painted }
     {
@@ -531,21 +543,25 @@ impl Screen {
         if self.tree.root().is_none() {
             return Err(StepFault::Refused(Refusal::plain(NO_ROOT)));
         }
+        tell_tree(&self.tree);
         let outcome = frame(&mut self.tree, &mut self.hooks, window, work);
         let response = Response::Framed {
             settled: outcome.settled,
             fired: outcome.fired,
         };
         if !outcome.settled {
+            damage_all(&mut self.damage, self.surface.size());
             self.stage = Stage::Unsettled;
             return Ok(response);
         }
-        paint_window(&self.tree, &mut self.surface, shown, work);
+        tell_tree(&self.tree);
+        self.damage.add(outcome.damage);
+        paint_damage(&self.tree, &mut self.surface, &mut self.damage, work);
         self.stage = Stage::Settled;
         Ok(response)
     }
 
-    /// Finds what there is to tell of the bounds of a view, or of each view.
+    /// Finds the bounds of a view, or of each view.
     fn bounds(&self, view: Option<Name>) -> Result<Response, StepFault>
         ensures changed { CarriesOut (step [] (world_of self.now) (Bounds view)) self.now result }
         ensures memory { result ≢ Err StepFault.NoMemory }
@@ -596,12 +612,14 @@ impl Screen {
         }
     }
 
-    /// Finds the digest of the picture.
-    fn digest(&self) -> Result<Response, StepFault>
-        ensures changed { CarriesOut (step [] (world_of self.now) Digest) self.now result }
+    /// Finds the digest of the picture, which is kept until a pixel is painted.
+    fn digest(&mut self) -> Result<Response, StepFault>
+        ensures changed { CarriesOut (step [] (world_of self.old) Digest) self.new result }
+        ensures same { self.new ≡ self.old }
         ensures memory { result ≢ Err StepFault.NoMemory }
     {
         self.pictured()?;
+        self.surface.keep_digest();
         Ok(Response::Digest)
     }
 }

@@ -1,10 +1,14 @@
-//! States as they are told, and as they are read.
+//! States as they are printed, and as they are read.
 ghost use Rattle.std.specs.Prelude.{◌≡◌, ℕ, false, ◌∷◌, [], Err, IfOk, OnErr, OnOk};
+ghost use Rattle.damage_rect.specs.Within.{LiesIn};
+ghost use Rattle.geom_core.specs.declared.geometry.Rect.{Rect};
 ghost use Rattle.hex.specs.Hex.{encode_lower};
 ghost use Rattle.saved_state.specs.Restored.{on_paths, set_by};
 ghost use Rattle.saved_state.specs.Restoring.{is_for_other_class, restored};
 ghost use Rattle.saved_state.specs.Saving.{OffsetsFit};
 ghost use Rattle.saved_state.specs.State.{decoded};
+ghost use Rattle.seen_edits.specs.Scrolled.{GivenIn};
+ghost use Rattle.seen_edits.specs.Shown.{KeepsShown};
 ghost use Rattle.text_lines.specs.BufferedText.{Sends};
 ghost use Rattle.view_model.specs.Forest.{rows};
 ghost use Rattle.kept_views.specs.Kept.{IsConsistent};
@@ -14,7 +18,10 @@ ghost use Rattle.view_world.specs.Stated.{ReadsState, TakesUp, fault_of_state};
 
 use crate::fault::StepFault;
 use crate::response::Response;
-use saved_state::{StateFault, States, read, restore};
+use damage_rect::Damage;
+use geom_core::Size;
+use saved_state::{StateFault, States, read};
+use seen_edits::restore_offsets;
 use std::alloc::Global;
 use text_lines::TextBuffer;
 use tool_io::Sink;
@@ -38,7 +45,7 @@ fn put_bytes<K: Sink>(text: &mut TextBuffer, sink: &mut K, bytes: &[u8])
     }
 }
 
-/// The reply that tells a state of these bytes.
+/// The reply with a state of these bytes.
 #[tactic(auto, using(text_lines::proofs::Sending::sends_both))]
 pub fn put_state<K: Sink>(text: &mut TextBuffer, sink: &mut K, bytes: &[u8])
     ensures { Sends (K.state sink.old) (K.state sink.new) text.old text.new (state_text bytes.now) }
@@ -79,8 +86,16 @@ pub fn state_of(alloc: Global, bytes: &[u8]) -> Result<States, StepFault>
     }
 }
 
-/// Sets the offsets that a state has.
-pub fn take_up(tree: &mut ViewTree, states: &States) -> Result<Response, StepFault>
+/// Sets the offsets that a state has. Where they are seen in a window of this size is damage.
+pub fn take_up(
+    tree: &mut ViewTree,
+    window: Size,
+    states: &States,
+    damage: &mut Damage,
+) -> Result<Response, StepFault>
+    ensures shown { KeepsShown window damage.old.rect damage.new.rect tree.old tree.new }
+    ensures undamaged { OnErr result (damage.new ≡ damage.old) }
+    ensures within { (box : Rect) → LiesIn damage.old.rect box → GivenIn states.now window box tree.new → LiesIn damage.new.rect box }
     ensures taken { TakesUp (is_for_other_class states.now (rows (plain_of tree.old))) result }
     ensures plain { OnOk result (plain_of tree.new ≡ restored states.now (plain_of tree.old)) }
     ensures unchanged { OnErr result (tree.new ≡ tree.old) }
@@ -91,7 +106,7 @@ pub fn take_up(tree: &mut ViewTree, states: &States) -> Result<Response, StepFau
     ensures consistent { IsConsistent tree.old → IsConsistent tree.new }
     ensures fits { OffsetsFit (plain_of tree.old) → OffsetsFit (plain_of tree.new) }
 {
-    match restore(tree, states) {
+    match restore_offsets(tree, window, states, damage) {
         Ok(()) => Ok(Response::Nothing),
         Err(fault) => Err(fault_of(fault)),
     }

@@ -2,12 +2,14 @@
 
 ghost use Rattle.std.specs.Prelude.{◌≡◌, ℕ, ◌∷◌};
 ghost use Rattle.touch_dispatch.specs.Kept.{gesture_of, is_open};
+ghost use Rattle.touch_dispatch.specs.Scrolled.{is_scroll};
 ghost use Rattle.touch_dispatch.specs.TreeEvents.{IsGestureIn};
 ghost use Rattle.tree_edits.specs.Editing.{hides};
 ghost use Rattle.view_tree.specs.Views.{IsLive, IsTree, number_of, plain_of};
+ghost use Rattle.view_world.specs.Seen.{has_any_scrolled};
 ghost use Rattle.view_world.specs.Touching.{all_disallowed, ancestors_of, slop_at};
 
-use touch_dispatch::Gesture;
+use touch_dispatch::{Entry, Gesture, Kind};
 use view_model::{Act, Visibility, px};
 use view_tree::{Key, ViewTree};
 
@@ -27,6 +29,23 @@ pub fn hides(act: Act) -> bool
     ensures { result ≡ hides act }
 {
     matches!(act, Act::Visible(Visibility::Gone))
+}
+
+/// Whether a view has moved its children, by the deliveries of an event.
+pub fn has_any_scrolled(entries: &[Entry]) -> bool
+    ensures { result ≡ has_any_scrolled entries.now }
+{
+    entries.iter().any(|entry| is_scroll(entry.kind))
+}
+
+/// Whether a delivery says that a scroll view has moved its child.
+fn is_scroll(kind: Kind) -> bool
+    ensures { result ≡ is_scroll kind }
+{
+    match kind {
+        Kind::Ask | Kind::Touch | Kind::Click => false,
+        Kind::Scroll => true,
+    }
 }
 
 /// Tells a view and its ancestors that they may not take events away from their children, or that they may again.

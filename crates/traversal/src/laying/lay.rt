@@ -1,5 +1,10 @@
 //! Laying a measured view and all below it, as far as they need that: the walk, which is the same for every class.
-ghost use Rattle.std.specs.Prelude.{◌≡◌, ◌+◌, ◌-ℤ◌, ◌≤◌, true, false, if◌then◌else◌, [], List, length};
+ghost use Rattle.std.specs.Prelude.{◌≡◌, ◌≢◌, ◌+◌, ◌-ℤ◌, ◌≤◌, ◌^◌, ℤ, ◌⊎◌, true, false, if◌then◌else◌, [], IfSome, List, Some, length};
+ghost use Rattle.damage_rect.specs.Within.{LiesIn};
+ghost use Rattle.geom_core.specs.Rects.{holds};
+ghost use Rattle.geom_core.specs.declared.geometry.Rect.{Rect};
+ghost use Rattle.seen_parts.specs.Frames.{IsCanvas};
+ghost use Rattle.seen_parts.specs.Meeting.{as_seen};
 ghost use Rattle.kept_views.specs.Kept.{owed};
 ghost use Rattle.kept_views.specs.Laying.{Fit, IsPut, IsQuiet, differ, moved_to, same_place, spot_of};
 ghost use Rattle.kept_views.specs.Passes.{settled, settled_at};
@@ -12,27 +17,44 @@ ghost use Rattle.view_model.specs.Facts.{is_shown};
 ghost use Rattle.view_model.specs.Geometry.{size_of_rect};
 ghost use Rattle.view_model.specs.Layout.{Spot};
 ghost use Rattle.view_model.specs.Measuring.{Measured};
+ghost use Rattle.view_model.specs.Offsets.{brought};
 ghost use Rattle.view_model.specs.RelativeLayout.{sides_of};
+ghost use Rattle.view_model.specs.Visible.{seen_in};
 ghost use Rattle.view_tree.specs.Rows.{first_tree, children_of_first, part_from};
-ghost use Rattle.view_tree.specs.Views.{IsLive, IsTree, KeepsOthers, KeepsOutside, SameTree, class_of, facts_of, held_of, specs_of, state_of};
+ghost use Rattle.scroll_offsets.specs.Bringing.{range_at};
+ghost use Rattle.view_tree.specs.Views.{IsLive, IsTree, KeepsOthers, KeepsOutside, SameTree, class_of, facts_of, held_of, offset_of, specs_of, state_of};
 ghost use Rattle.traversal.specs.Counting.{IsCounted};
+ghost use Rattle.traversal.specs.Following.{GrowsWithin, KeepsSightIn};
 ghost use Rattle.traversal.specs.Growing.{LastAt};
 ghost use Rattle.traversal.specs.Narrow.{AreNarrow, IsNarrow, IsNarrowFor, IsStretch};
 ghost use Rattle.traversal.specs.Placing.{LaidKids, PlacesAs, Unmarked};
 ghost use Rattle.traversal.specs.Resting.{IsAtPlace};
 
 use super::placer::Placer;
+use damage_rect::Damage;
 use geom_core::{Rect, Size};
 use measure_pass::remeasure;
 use scroll_offsets::bring_one;
+use seen_parts::{Canvas, follow, part_seen};
 use view_model::Work;
 use view_tree::{Key, ViewTree};
 
 /// Lays a shown view, which was measured, in a rectangle, and all below it, as far as they need that.
 #[cycle(lay)]
-pub fn lay(tree: &mut ViewTree, view: Key, rect: Rect, work: &mut Work)
+pub fn lay(
+    tree: &mut ViewTree,
+    view: Key,
+    rect: Rect,
+    canvas: Option<Canvas>,
+    damage: &mut Damage,
+    work: &mut Work,
+)
     requires fit { IsFit tree.old view }
     requires narrow { IsNarrow rect }
+    requires near { IfSome canvas (IsCanvas (2 ^ 37)) }
+    ensures grew { LiesIn damage.old.rect damage.new.rect }
+    ensures sight { KeepsSightIn canvas damage.new.rect (held_of tree.old) (held_of tree.new) (first_tree (part_from view tree.old.tree)) }
+    ensures within { GrowsWithin canvas damage.old.rect damage.new.rect (held_of tree.old) (held_of tree.new) (first_tree (part_from view tree.old.tree)) }
     ensures same { SameTree tree.old tree.new }
     ensures put { IsPut (held_of tree.old) (held_of tree.new) view (part_from view tree.old.tree) rect }
     ensures others { KeepsOutside (held_of tree.old) (held_of tree.new) (first_tree (part_from view tree.old.tree)) }
@@ -41,15 +63,26 @@ pub fn lay(tree: &mut ViewTree, view: Key, rect: Rect, work: &mut Work)
     ensures counted { IsCounted tree.old tree.new work.old work.new }
     ensures caches { Grown (λ place other. other ≡ specs_of (state_of tree.old view)) (held_of tree.old) (held_of tree.new) (first_tree (part_from view tree.old.tree)) }
 {
-    lay_open(tree, view, rect, work);
+    lay_open(tree, view, rect, canvas, damage, work);
     settle(tree, view);
 }
 
 /// The same, but that the view itself has not settled: what was asked of it stays until then.
 #[cycle(lay)]
-pub fn lay_open(tree: &mut ViewTree, view: Key, rect: Rect, work: &mut Work)
+pub fn lay_open(
+    tree: &mut ViewTree,
+    view: Key,
+    rect: Rect,
+    canvas: Option<Canvas>,
+    damage: &mut Damage,
+    work: &mut Work,
+)
     requires fit { IsFit tree.old view }
     requires narrow { IsNarrow rect }
+    requires near { IfSome canvas (IsCanvas (2 ^ 37)) }
+    ensures grew { LiesIn damage.old.rect damage.new.rect }
+    ensures sight { KeepsSightIn canvas damage.new.rect (held_of tree.old) (held_of tree.new) (first_tree (part_from view tree.old.tree)) }
+    ensures within { GrowsWithin canvas damage.old.rect damage.new.rect (held_of tree.old) (held_of tree.new) (first_tree (part_from view tree.old.tree)) }
     ensures same { SameTree tree.old tree.new }
     ensures put { IsPut (held_of tree.old) (settled_at view (held_of tree.new)) view (part_from view tree.old.tree) rect }
     ensures others { KeepsOutside (held_of tree.old) (held_of tree.new) (first_tree (part_from view tree.old.tree)) }
@@ -60,13 +93,40 @@ pub fn lay_open(tree: &mut ViewTree, view: Key, rect: Rect, work: &mut Work)
     ensures still { IsAtPlace (state_of tree.old view) rect → (tree.new ≡ tree.old) × (work.new ≡ work.old) }
 {
     make_fit(tree, view, work);
+    let before = tree.state(view).bounds;
     let moved = move_to(tree, view, rect);
     let state = tree.state(view);
     if is_calm(moved, state.forced, state.layout_needed) {
         return;
     }
-    lay_kids(tree, view, extent(rect), work);
-    bring_one(tree, view);
+    let inner = follow(tree.facts(view), before, rect, canvas, damage);
+    lay_kids(tree, view, extent(rect), inner, damage, work);
+    bring(tree, view, rect, canvas, damage);
+}
+
+/// Brings the offset of a view that lies in this rectangle into its range. Where that changes it, what is seen of the
+/// view is damage; a view without a canvas is not looked at.
+fn bring(tree: &mut ViewTree, view: Key, rect: Rect, canvas: Option<Canvas>, damage: &mut Damage)
+    requires live { IsLive tree.old view }
+    requires near { IfSome canvas (IsCanvas (2 ^ 37)) }
+    ensures same { SameTree tree.old tree.new }
+    ensures held { held_of tree.new view ≡ record (held_of tree.old view) { offset = brought (range_at tree.old view) (offset_of tree.old view) } }
+    ensures others { KeepsOthers tree.old tree.new view }
+    ensures counts { tree.new.counts ≡ tree.old.counts }
+    ensures grew { LiesIn damage.old.rect damage.new.rect }
+    ensures seen { IfSome canvas (λ canvas. (offset_of tree.new view ≡ offset_of tree.old view)
+        ⊎ ((x y : ℤ) → holds damage.new.rect x y ≡ false → holds (seen_in (Some rect) (as_seen canvas)) x y ≡ false)) }
+    ensures within { (box : Rect) → LiesIn damage.old.rect box
+        → IfSome canvas (λ canvas. offset_of tree.new view ≢ offset_of tree.old view → LiesIn (seen_in (Some rect) (as_seen canvas)) box)
+        → LiesIn damage.new.rect box }
+{
+    if !bring_one(tree, view) {
+        return;
+    }
+    let Some(canvas) = canvas else {
+        return;
+    };
+    damage.add(part_seen(Some(rect), canvas));
 }
 
 /// Whether nothing is to be done below a view.
@@ -167,10 +227,21 @@ pub fn settle(tree: &mut ViewTree, view: Key)
 
 /// Lays the children of a view of this size.
 #[cycle(lay)]
-fn lay_kids(tree: &mut ViewTree, view: Key, size: Size, work: &mut Work)
+fn lay_kids(
+    tree: &mut ViewTree,
+    view: Key,
+    size: Size,
+    canvas: Option<Canvas>,
+    damage: &mut Damage,
+    work: &mut Work,
+)
     requires live { IsLive tree.old view }
     requires fit { Fit (held_of tree.old) (children_of_first (part_from view tree.old.tree)) }
     requires narrow { class_of tree.old view ≡ RelativeLayout → AreNarrow (held_of tree.old) (children_of_first (part_from view tree.old.tree)) }
+    requires near { IfSome canvas (IsCanvas (2 ^ 37)) }
+    ensures grew { LiesIn damage.old.rect damage.new.rect }
+    ensures sight { KeepsSightIn canvas damage.new.rect (held_of tree.old) (held_of tree.new) (children_of_first (part_from view tree.old.tree)) }
+    ensures within { GrowsWithin canvas damage.old.rect damage.new.rect (held_of tree.old) (held_of tree.new) (children_of_first (part_from view tree.old.tree)) }
     ensures same { SameTree tree.old tree.new }
     ensures quiet { IsQuiet (held_of tree.new) (spot_of (part_from view tree.old.tree) (held_of tree.old view) size) [] (held_of tree.old) (children_of_first (part_from view tree.old.tree)) }
     ensures others { KeepsOutside (held_of tree.old) (held_of tree.new) (children_of_first (part_from view tree.old.tree)) }
@@ -183,17 +254,28 @@ fn lay_kids(tree: &mut ViewTree, view: Key, size: Size, work: &mut Work)
     let mut next = tree.first(view);
     let mut placer = Placer::start(tree, view, size);
     while let Some(kid) = next {
-        lay_kid(tree, &mut placer, kid, work);
+        lay_kid(tree, &mut placer, kid, canvas, damage, work);
         next = tree.next(kid);
     }
 }
 
 /// Lays a child where its group places it, if it takes part in layout.
 #[cycle(lay)]
-fn lay_kid(tree: &mut ViewTree, placer: &mut Placer, kid: Key, work: &mut Work)
+fn lay_kid(
+    tree: &mut ViewTree,
+    placer: &mut Placer,
+    kid: Key,
+    canvas: Option<Canvas>,
+    damage: &mut Damage,
+    work: &mut Work,
+)
     requires live { IsLive tree.old kid }
     requires fit { Fit (held_of tree.old) (first_tree (part_from kid tree.old.tree)) }
     requires narrow { is_shown (facts_of tree.old kid) ≡ true → IsNarrowFor placer.old (sides_of (state_of tree.old kid).edges) }
+    requires near { IfSome canvas (IsCanvas (2 ^ 37)) }
+    ensures grew { LiesIn damage.old.rect damage.new.rect }
+    ensures sight { KeepsSightIn canvas damage.new.rect (held_of tree.old) (held_of tree.new) (first_tree (part_from kid tree.old.tree)) }
+    ensures within { GrowsWithin canvas damage.old.rect damage.new.rect (held_of tree.old) (held_of tree.new) (first_tree (part_from kid tree.old.tree)) }
     ensures same { SameTree tree.old tree.new }
     ensures quiet { (spot : Spot) (before : List Measured)
         → PlacesAs placer.old spot before
@@ -212,7 +294,7 @@ fn lay_kid(tree: &mut ViewTree, placer: &mut Placer, kid: Key, work: &mut Work)
     }
     let state = tree.state(kid);
     let rect = placer.place(facts, state.measured, state.edges);
-    lay(tree, kid, rect, work);
+    lay(tree, kid, rect, canvas, damage, work);
 }
 
 /// The size of a rectangle.

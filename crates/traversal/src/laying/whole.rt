@@ -1,34 +1,43 @@
 //! The layout of a whole tree.
 ghost use Rattle.std.specs.Prelude.{◌≡◌, ◌≤◌, ◌+◌, ℕ, pos, Some, [], true};
+ghost use Rattle.damage_rect.specs.Within.{LiesIn};
+ghost use Rattle.geom_core.specs.declared.geometry.Rect.{Rect};
 ghost use Rattle.geom_core.specs.declared.measuring.Mode.TheVariants.{Exactly};
 ghost use Rattle.kept_views.specs.Kept.{IsConsistent};
 ghost use Rattle.kept_views.specs.Laying.{differ};
 ghost use Rattle.kept_views.specs.Passes.{InPass};
 ghost use Rattle.measure_pass.specs.Caches.{Grown};
 ghost use Rattle.measure_pass.specs.Measured.{current};
+ghost use Rattle.seen_parts.specs.Meeting.{KeepsSight};
 ghost use Rattle.view_model.specs.Facts.{is_shown};
 ghost use Rattle.view_model.specs.Geometry.{rect_at};
 ghost use Rattle.view_model.specs.Layout.{full_layout, root_calls, root_specs};
 ghost use Rattle.view_model.specs.Measuring.{pair_of};
 ghost use Rattle.view_model.specs.Offsets.{ranged};
+ghost use Rattle.view_model.specs.Visible.{whole_window};
 ghost use Rattle.view_tree.specs.Rows.{first_key, head_view};
 ghost use Rattle.view_tree.specs.Views.{IsTree, SameTree, geometry_of, held_of, plain_of, specs_of, state_of};
 ghost use Rattle.traversal.specs.Counting.{IsCounted};
+ghost use Rattle.traversal.specs.Covering.{Covered};
 ghost use Rattle.traversal.specs.Resting.{IsRootAtRest};
 
 use super::lay::lay_open;
+use damage_rect::Damage;
 use geom_core::{Mode, Size, Spec, child_spec};
 use measure_pass::measure;
+use seen_parts::window_canvas;
 use view_model::{Facts, Work, rect_at};
 use view_tree::{Key, ViewTree};
 
 /// Measures the root, which is not gone, and lays it out in a window of this size, and all below it, as far as they
-/// need that; the offset of each scroll view that lies somewhere is then in its range. The root has not settled when
-/// this ends.
-pub fn lay_root(tree: &mut ViewTree, root: Key, window: Size, work: &mut Work)
+/// need that; the offset of each scroll view that lies somewhere is then in its range. What is seen of the views that
+/// this moves or scrolls is damage. The root has not settled when this ends.
+pub fn lay_root(tree: &mut ViewTree, root: Key, window: Size, damage: &mut Damage, work: &mut Work)
     requires root { first_key tree.old.tree ≡ Some root }
     requires shown { is_shown (head_view tree.old.tree).facts ≡ true }
     requires consistent { IsConsistent tree.old }
+    ensures sight { KeepsSight (whole_window window) damage.new.rect (held_of tree.old) (held_of tree.new) tree.old.tree }
+    ensures within { (box : Rect) → LiesIn damage.old.rect box → Covered (whole_window window) box (held_of tree.old) (held_of tree.new) tree.old.tree → LiesIn damage.new.rect box }
     ensures geometry { geometry_of tree.new ≡ full_layout (plain_of tree.old) window }
     ensures plain { plain_of tree.new ≡ ranged (full_layout (plain_of tree.old) window) (plain_of tree.old) }
     ensures same { SameTree tree.old tree.new }
@@ -45,7 +54,14 @@ pub fn lay_root(tree: &mut ViewTree, root: Key, window: Size, work: &mut Work)
 {
     let (ws, hs) = specs_in(window, tree.facts(root));
     let size = measure(tree, root, ws, hs, work);
-    lay_open(tree, root, rect_at(0, 0, size), work);
+    lay_open(
+        tree,
+        root,
+        rect_at(0, 0, size),
+        Some(window_canvas(window)),
+        damage,
+        work,
+    );
 }
 
 /// The specs of the root in a window of this size.

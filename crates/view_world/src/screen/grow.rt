@@ -79,7 +79,7 @@ impl Screen {
         ensures told { IfOk result (λ response. IsTellable self.new.views self.new.surface self.new.told self.new.saved response) }
         ensures unchanged { OnErr result (self.new ≡ self.old) }
         ensures numbers { self.new.views.next ≤ self.old.views.next + MAX_VIEWS }
-        ensures keeps { OnOk result (KeepsBut Asks (listed (option_map (number_of self.old.views) place)) [] self.old self.new) }
+        ensures keeps { OnOk result (KeepsBut Asks (listed (option_map (number_of self.old.views) place)) [] [] self.old self.new) }
         ensures no_sink { result ≢ Err StepFault.Sink }
         ensures no_shelf { result ≢ Err StepFault.Shelf }
     {

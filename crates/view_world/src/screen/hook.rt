@@ -58,7 +58,7 @@ impl Screen {
         ensures unchanged { OnErr result (self.new ≡ self.old) }
         ensures memory { result ≢ Err StepFault.NoMemory }
         ensures numbers { self.new.views.next ≡ self.old.views.next }
-        ensures keeps { OnOk result (KeepsBut Leaves [] [] self.old self.new) }
+        ensures keeps { OnOk result (KeepsBut Leaves [] [] [] self.old self.new) }
     {
         tell_tree(&self.tree);
         let reported = size_at(&self.tree, self.stage, view);

@@ -3,7 +3,7 @@ ghost use Rattle.std.specs.Prelude.{◌≡◌, ◌≢◌, OnErr, OnOk, true};
 ghost use Rattle.touch_dispatch.specs.TreeEvents.{OnlyScrolls};
 ghost use Rattle.tree_edits.specs.Applied.{IsVerb};
 ghost use Rattle.tree_edits.specs.Editing.{hides};
-ghost use Rattle.view_tree.specs.Views.{IsLive, IsTree, SameTree, facts_of, number_of};
+ghost use Rattle.view_tree.specs.Views.{IsLive, IsTree, SameTree, facts_of, number_of, plain_of};
 ghost use Rattle.view_world.specs.Changed.{CarriesOut};
 ghost use Rattle.view_world.specs.KeyedScreen.{world_of};
 ghost use Rattle.view_world.specs.Responses.{deliveries_only};
@@ -14,16 +14,18 @@ ghost use Rattle.view_world.specs.Touching.{after_progress, leaving, is_told, pa
 use super::Screen;
 use crate::fault::StepFault;
 use crate::forgetting::forget;
+use crate::naming::tell_tree;
 use crate::response::Response;
 use crate::touching::slop_at;
+use seen_edits::{change, take};
 use std::alloc::Global;
 use touch_dispatch::cancel_view;
-use tree_edits::{Edit, apply};
+use tree_edits::Edit;
 use view_model::Act;
 use view_tree::Key;
 
 impl Screen {
-    /// Takes a view and all below it away. It is told so first.
+    /// Takes a view and all below it away. Where it has to, its gesture is cancelled first.
     pub(super) fn take_away(&mut self, alloc: Global, view: Key) -> Result<Response, StepFault>
         requires live { IsLive self.old.views view }
         ensures changed { CarriesOut (removed (world_of self.old) (number_of self.old.views view)) self.new result }
@@ -34,13 +36,14 @@ impl Screen {
     {
         self.tell_leaving(view);
         forget(&self.tree, &mut self.hooks, &mut self.gesture, view);
-        match apply(alloc, &mut self.tree, Edit::Remove(view)) {
+        let window = self.surface.size();
+        match take(alloc, &mut self.tree, window, view, &mut self.damage) {
             Ok(_) => Ok(self.deliveries()),
             Err(_) => unreachable!(),
         }
     }
 
-    /// Hides a view by an act. It is told so first.
+    /// Hides a view by an act. Where it has to, its gesture is cancelled first.
     pub(super) fn hide(&mut self, alloc: Global, view: Key, act: Act) -> Result<Response, StepFault>
         requires live { IsLive self.old.views view }
         requires verb { IsVerb act }
@@ -52,13 +55,23 @@ impl Screen {
         ensures keeps { OnOk result (KeepsEdit (Edit.Act view act) self.old self.new) }
     {
         self.tell_leaving(view);
-        match apply(alloc, &mut self.tree, Edit::Act { view, act }) {
-            Ok(_) => Ok(self.deliveries()),
+        let window = self.surface.size();
+        match change(
+            alloc,
+            &mut self.tree,
+            window,
+            Edit::Act { view, act },
+            &mut self.damage,
+        ) {
+            Ok(_) => {
+                tell_tree(&self.tree);
+                Ok(self.deliveries())
+            }
             Err(_) => unreachable!(),
         }
     }
 
-    /// Tells a view that it goes away.
+    /// Cancels the gesture of a view that goes away, where that has to be.
     fn tell_leaving(&mut self, view: Key)
         requires { IsLive self.old.views view }
         ensures world { world_of self.new ≡ after_progress (world_of self.old) (leaving (world_of self.old) (number_of self.old.views view)) }
@@ -67,6 +80,7 @@ impl Screen {
         ensures is_tree { IsTree self.new.views }
         ensures live { IsLive self.new.views view }
         ensures scrolls { OnlyScrolls self.old.views self.new.views }
+        ensures plain { plain_of self.new.views ≡ plain_of self.old.views }
         ensures rest { self.new ≡ record self.old { views = self.new.views; gesture = self.new.gesture; told = self.new.told } }
     {
         self.log.clear();
@@ -81,8 +95,8 @@ impl Screen {
         }
     }
 
-    /// Whether a view is told that it goes away: a root is where it is not gone and a pointer is down, and of another view
-    /// its parent decides.
+    /// Whether the gesture of a view that goes away is cancelled: that of a root is where it is not gone and a pointer is
+    /// down, and of another view its parent decides.
     fn is_told(&self, view: Key) -> bool
         requires { IsLive self.now.views view }
         ensures told { result ≡ is_told (parent_of (number_of self.now.views view) (world_of self.now).tree) (facts_of self.now.views view) self.now.pointers }
@@ -92,7 +106,7 @@ impl Screen {
         self.tree.parent(view).is_some() || (facts.is_shown() && !self.pointers.is_empty())
     }
 
-    /// What there is to tell of a view that goes away.
+    /// The reply of a line by which a view goes away.
     fn deliveries(&self) -> Response
         ensures { result ≡ deliveries_only self.now.told }
     {

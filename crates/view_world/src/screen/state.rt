@@ -51,11 +51,12 @@ impl Screen {
             return Err(StepFault::Refused(Refusal::plain(NO_ROOT)));
         }
         tell_tree(&self.tree);
+        let window = self.surface.size();
         let Some(digits) = text else {
-            return take_up(&mut self.tree, &self.states);
+            return take_up(&mut self.tree, window, &self.states, &mut self.damage);
         };
         let bytes = bytes_of(alloc, digits)?;
         let states = state_of(alloc, bytes.as_slice())?;
-        take_up(&mut self.tree, &states)
+        take_up(&mut self.tree, window, &states, &mut self.damage)
     }
 }

@@ -8,7 +8,8 @@ ghost use Rattle.view_world.specs.KeyedScreen.{world_of};
 ghost use Rattle.view_world.specs.Pointers.{AreDown};
 ghost use Rattle.view_world.specs.Resting.{IsIdle, KeepsBut, KeepsLine};
 ghost use Rattle.view_world.specs.Step.{after_event, step};
-ghost use Rattle.view_world.specs.declared.marks.Effect.TheVariants.{Repaints};
+ghost use Rattle.view_world.specs.Seen.{deliveries_of, scrolled_in};
+ghost use Rattle.view_world.specs.declared.marks.Effect.TheVariants.{Touches};
 ghost use Rattle.view_world.specs.declared.stage.Stage.TheVariants.{Settled};
 
 use super::Screen;
@@ -20,6 +21,7 @@ use crate::stage::Stage;
 use crate::touching::{disallow_from, slop_at};
 use arrayvec::ArrayVec;
 use script_lines::Name;
+use seen_edits::note_scrolled;
 use touch_dispatch::dispatch;
 use touch_event::{Action, Event, MAX_POINTERS, Point};
 use view_model::Refusal;
@@ -124,7 +126,7 @@ impl Screen {
         requires down { AreDown pointers.items }
         ensures changed { CarriesOut (after_event (world_of self.old) event.now pointers.items) self.new (Ok result) }
         ensures numbers { self.new.views.next ≡ self.old.views.next }
-        ensures keeps { KeepsBut Repaints [] [] self.old self.new }
+        ensures keeps { KeepsBut Touches [] [] (scrolled_in (deliveries_of (world_of self.old) event.now)) self.old self.new }
     {
         self.log.clear();
         let yes = dispatch(
@@ -134,6 +136,7 @@ impl Screen {
             slop_at(self.dpi),
             &mut self.log,
         );
+        note_scrolled(&self.tree, self.surface.size(), &self.log, &mut self.damage);
         self.pointers = pointers;
         Response::Deliveries(Some(yes))
     }

@@ -1,4 +1,9 @@
-use Rattle.std.proofs.Common.{◌≡◌, ◌<◌, List, None, true, false, sym, ◌∙◌, ap, arith}
+use Rattle.std.proofs.Common.{◌≡◌, ◌<◌, List, None, true, false, sym, ◌∙◌, ap, subst, arith}
+use Rattle.damage_rect.proofs.RectLaws.{holds_none}
+use Rattle.damage_rect.specs.Within.{LiesIn}
+use Rattle.damage_rect.specs.declared.bounding.Damage.{Damage}
+use Rattle.geom_core.specs.Rects.{holds}
+use Rattle.geom_core.specs.declared.geometry.Rect.{Rect}
 use Rattle.size_hooks.specs.Hook.{Hook}
 use Rattle.view_tree.specs.Rows.{count_of_key}
 use Rattle.view_tree.specs.Views.{Views, geometry_of, held_of, plain_of}
@@ -6,6 +11,7 @@ use Rattle.traversal.proofs.GrownKeys.{grown_once, grown_twice}
 use Rattle.traversal.specs.Frames.{fired_in}
 use Rattle.traversal.proofs.CountLaws.{differ_few, measured_once, measured_twice}
 use Rattle.traversal.proofs.CountedLaws.{counted_then}
+use Rattle.traversal.proofs.SightLaws.{color_stays, covered_tree}
 use Rattle.traversal.proofs.ShapeLaws.{count_of-same, count_of_key-same}
 use Rattle.traversal.proofs.FrameLaws.{passed_fits, settled_first, settled_second}
 use Rattle.traversal.proofs.QuietHooks.{reported_quiet, told_still}
@@ -21,6 +27,21 @@ returns-then-not-pass-2-clause-framed c =
     settled_second (plain_of c.args.tree.now) c.args.hooks.now c.args.window c.pass.new.tree c.pass-2.new.tree c.pass.new.hooks c.pass-2.new.hooks c.settle-then-not-pass-2.new.hooks c.settle-then-not-pass-2.result
     c.pass.ensures.passed (sym c.pass.ensures.fired ∙ c.if-not-pass.false) c.pass-2.ensures.passed (sym c.pass-2.ensures.fired ∙ c.if-not-pass-2.true)
     c.settle-then-not-pass-2.ensures.is_tree c.settle-then-not-pass-2.ensures.hooks c.settle-then-not-pass-2.ensures.settled c.settle-then-not-pass-2.ensures.fired
+
+pub returns-then-not-pass-clause-damage : goal.returns-then-not-pass-clause-damage
+returns-then-not-pass-clause-damage c =
+    let quiet = c.pass.ensures.quiet c.if-not-pass.true in
+    let damage = c.settle.ensures.damage ∙ c.rect.ensures in
+    record {
+      colors = λ settled x y inside out.
+          color_stays c.args.tree.now c.pass.new.tree c.args.window c.pass.new.damage.rect quiet c.settle.ensures.is_tree
+          (c.pass.ensures.sight c.if-not-pass.true) x y inside (ap (λ (rect : Rect). holds rect x y) (sym damage) ∙ out);
+      whole = λ some. absurd (let none = c.settle.ensures.fired in omega arith);
+      within = λ none box around.
+          subst (λ (rect : Rect). LiesIn rect box) (sym damage)
+          (c.pass.ensures.within c.if-not-pass.true box (λ x y h. absurd (let no : true ≡ false = sym h ∙ ap (λ (damage : Damage). holds damage.rect x y) c.new-damage.ensures ∙ holds_none x y in cc))
+          (covered_tree c.args.tree.now c.pass.new.tree c.args.window box quiet c.settle.ensures.is_tree around));
+    }
 
 pub returns-then-not-pass-clause-fits : goal.returns-then-not-pass-clause-fits
 returns-then-not-pass-clause-fits c = passed_fits (plain_of c.args.tree.now) c.args.hooks.now c.args.window c.pass.new.tree c.pass.new.hooks c.pass.ensures.passed

@@ -6,13 +6,19 @@ use Rattle.traversal.proofs.PassEdits.{all_bounds, all_offset, ended_kept, one_b
 use Rattle.traversal.proofs.Unedited.{ended_cache}
 use Rattle.traversal.proofs.pass.end_pass.Goals as goal
 
+offsets_same : goal.returns-clause-offsets
+offsets_same c = λ key.
+    ap (λ (h : Held). h.offset) (c.force_all.ensures.held key) ∙ all_offset (held_of c.settle.new.tree) c.args.requesters.now c.settle.new.tree.tree key
+    ∙ one_offset c.args.root (held_of c.args.tree.now) (held_of c.settle.new.tree) c.settle.ensures.held c.settle.ensures.others key
+
+pub returns-clause-offsets : goal.returns-clause-offsets
+returns-clause-offsets c = offsets_same c
+
 pub returns-clause-plain : goal.returns-clause-plain
 returns-clause-plain c =
     let tree : c.force_all.new.tree.tree ≡ c.args.tree.now.tree = c.force_all.ensures.same.tree ∙ c.settle.ensures.same.tree in
     ap (plain_rows (held_of c.force_all.new.tree)) tree
-    ∙ plain_same (held_of c.args.tree.now) (held_of c.force_all.new.tree) c.args.tree.now.tree
-    (λ key. ap (λ (h : Held). h.offset) (c.force_all.ensures.held key) ∙ all_offset (held_of c.settle.new.tree) c.args.requesters.now c.settle.new.tree.tree key
-    ∙ one_offset c.args.root (held_of c.args.tree.now) (held_of c.settle.new.tree) c.settle.ensures.held c.settle.ensures.others key)
+    ∙ plain_same (held_of c.args.tree.now) (held_of c.force_all.new.tree) c.args.tree.now.tree (offsets_same c)
 
 bounds_same : goal.returns-clause-bounds
 bounds_same c = λ key.

@@ -13,6 +13,9 @@ use Rattle.view_tree.specs.declared.counts.Counts.{Counts}
 use Rattle.view_tree.specs.Rows.{count_of_key}
 use Rattle.view_tree.specs.declared.state.State.{State}
 use Rattle.view_tree.specs.Views.{Held, Views, cache_of, geometry_of, held_of, number_of, plain_of, specs_of, state_of}
+use Rattle.seen_parts.specs.Meeting.{met_at}
+use Rattle.view_model.specs.Visible.{whole_window}
+use Rattle.traversal.proofs.CoverLaws.{covered_same, placed_same}
 use Rattle.traversal.proofs.LaidAt.{settled_mark}
 use Rattle.traversal.proofs.LaidWhole.{gone_whole, root_live, root_unmarked}
 use Rattle.size_hooks.specs.Hooks.{hook_of}
@@ -38,6 +41,39 @@ returns-in_default-fired-clause-laid c =
     let counts = ap (λ (counts : Counts). counts.laid) c.end_pass.ensures.counts in
     let laid = c.lay_root.ensures.laid in
     omega arith
+
+pub returns-in_default-clause-sight : goal.returns-in_default-clause-sight
+returns-in_default-clause-sight c = λ quiet x y out. refl
+
+pub returns-in_default-clause-within : goal.returns-in_default-clause-within
+returns-in_default-clause-within c = λ quiet box lies covered. lies
+
+pub returns-in_default-fired-clause-quiet : goal.returns-in_default-fired-clause-quiet
+returns-in_default-fired-clause-quiet c = λ quiet.
+    let end = c.end_pass.ensures.same in
+    let laid = c.lay_root.ensures.same in
+    record { tree = end.tree ∙ laid.tree; orders = end.orders ∙ laid.orders; next = end.next ∙ laid.next }
+
+pub returns-in_default-fired-clause-sight : goal.returns-in_default-fired-clause-sight
+returns-in_default-fired-clause-sight c = λ quiet x y out.
+    ap (met_at x y (whole_window c.args.window))
+    (placed_same (held_of c.lay_root.new.tree) (held_of c.end_pass.new.tree) c.args.tree.now.tree (λ key here. (c.end_pass.ensures.bounds key, c.end_pass.ensures.offsets key)))
+    ∙ c.lay_root.ensures.sight x y out
+
+pub returns-in_default-fired-clause-within : goal.returns-in_default-fired-clause-within
+returns-in_default-fired-clause-within c = λ quiet box lies covered.
+    let old = held_of c.args.tree.now in
+    c.lay_root.ensures.within box lies (covered_same (whole_window c.args.window) box old old (held_of c.end_pass.new.tree) (held_of c.lay_root.new.tree) c.args.tree.now.tree (λ key here. (refl, refl))
+    (λ key here. (sym (c.end_pass.ensures.bounds key), sym (c.end_pass.ensures.offsets key))) covered)
+
+pub returns-clause-quiet : goal.returns-clause-quiet
+returns-clause-quiet c = λ quiet. absurd (let no : true ≡ false = quiet in cc)
+
+pub returns-clause-sight : goal.returns-clause-sight
+returns-clause-sight c = λ quiet. absurd (let no : true ≡ false = quiet in cc)
+
+pub returns-clause-within : goal.returns-clause-within
+returns-clause-within c = λ quiet. absurd (let no : true ≡ false = quiet in cc)
 
 pub end_pass-requires-2-clause-live : goal.end_pass-requires-2-clause-live
 end_pass-requires-2-clause-live c =

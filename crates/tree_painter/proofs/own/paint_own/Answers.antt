@@ -5,8 +5,8 @@ use Rattle.pixel_raster.specs.Raster.{Fills}
 use Rattle.view_model.specs.declared.facts.Facts.{Facts}
 use Rattle.view_model.specs.Painting.{reaches_children}
 use Rattle.view_tree.specs.Views.{view_at}
-use Rattle.tree_painter.specs.Frames.{canvas_holds, frame_size}
-use Rattle.tree_painter.specs.Painted.{IsBelow, IsCounted, area_in}
+use Rattle.seen_parts.specs.Frames.{IsBelow, canvas_holds, frame_size}
+use Rattle.tree_painter.specs.Painted.{IsCounted, area_in}
 use Rattle.tree_painter.proofs.AreaLaws.{area_in-same, counted_fill, counted_then, counted_within, inside_area, narrower}
 use Rattle.tree_painter.proofs.OwnLaws.{seen, unseen}
 use Rattle.tree_painter.proofs.own.paint_own.Goals as goal

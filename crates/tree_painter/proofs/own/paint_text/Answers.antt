@@ -4,7 +4,7 @@ use Rattle.view_model.specs.declared.facts.Facts.{Facts}
 use Rattle.view_model.specs.Facts.{padding_across, padding_left}
 use Rattle.view_model.specs.TextView.{cells_across, cells_in}
 use Rattle.view_tree.specs.Views.{view_at}
-use Rattle.tree_painter.specs.Frames.{IsWithout, frame_size, padding_of}
+use Rattle.seen_parts.specs.Frames.{IsWithout, frame_size, padding_of}
 use Rattle.tree_painter.specs.Inks.{text_ink}
 use Rattle.tree_painter.specs.Painted.{PaintedIn, area_in}
 use Rattle.tree_painter.proofs.AreaLaws.{counted_within, inside_area}

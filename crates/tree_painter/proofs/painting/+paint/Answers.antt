@@ -5,7 +5,8 @@ use Rattle.view_tree.specs.declared.state.State.{State}
 use Rattle.view_tree.specs.Rows.{children_of_first, first_tree, later_siblings, part_from}
 use Rattle.view_tree.specs.Views.{held_of}
 use Rattle.view_tree.proofs.forest.Walks.{fewer_below, walk_falls, walk_on}
-use Rattle.tree_painter.specs.Painted.{IsCounted, area_in, from_origin, placed_rows, share_of}
+use Rattle.seen_parts.specs.Meeting.{placed_rows}
+use Rattle.tree_painter.specs.Painted.{IsCounted, area_in, from_origin, share_of}
 use Rattle.tree_painter.proofs.AreaLaws.{area_in-same, counted_same}
 use Rattle.tree_painter.proofs.TreeLaws.{counted_children, counted_own, own_drawn, own_hidden, own_nowhere, painted_parts, share_parts}
 use Rattle.tree_painter.proofs.UnderWay.{way_on}

@@ -4,7 +4,8 @@ use Rattle.view_model.specs.Painting.{painted}
 use Rattle.view_tree.specs.Rows.{children_of_first, first_tree, part_from, rest_from}
 use Rattle.view_tree.specs.Views.{held_of}
 use Rattle.view_tree.proofs.forest.Walks.{Walk}
-use Rattle.tree_painter.specs.Painted.{area_in, from_origin, placed_rows, share_of}
+use Rattle.seen_parts.specs.Meeting.{placed_rows}
+use Rattle.tree_painter.specs.Painted.{area_in, from_origin, share_of}
 use Rattle.tree_painter.proofs.UnderWay.{IsUnderWay}
 use Rattle.tree_painter.proofs.painting.+paint.Given as goal
 

@@ -3,7 +3,7 @@ use Rattle.std.specs.Prelude.{slice_get}
 use Rattle.std.proofs.lemmas.Int.{ints}
 use Rattle.std.proofs.lemmas.Option.{slice_get_read}
 use Rattle.geom_core.specs.declared.color.Argb.{Argb}
-use Rattle.tree_painter.specs.declared.frame.Canvas.{Canvas}
+use Rattle.seen_parts.specs.declared.frame.Canvas.{Canvas}
 use Rattle.tree_painter.specs.Areas.{area_between}
 use Rattle.tree_painter.specs.Inks.{column_ink, line_ink}
 use Rattle.tree_painter.specs.Painted.{IsCounted, IsPainted, PaintedIn, from_origin}

@@ -1,7 +1,7 @@
 use Rattle.std.proofs.Common.{◌≡◌, ◌+◌, ◌-◌, ◌<◌, ◌≤◌, List, ℕ, drop, take, length, pos, ◌+ℤ◌, ◌-ℤ◌, refl, sym, ap, ◌∙◌, arith}
 use Rattle.std.proofs.lemmas.Int.{ints}
 use Rattle.std.proofs.lemmas.List.{drop-drop, drop_all, length-drop, take_all}
-use Rattle.tree_painter.specs.declared.frame.Canvas.{Canvas}
+use Rattle.seen_parts.specs.declared.frame.Canvas.{Canvas}
 use Rattle.tree_painter.specs.Areas.{strip_between}
 use Rattle.tree_painter.specs.Inks.{line_ink, text_ink}
 use Rattle.tree_painter.specs.Painted.{IsCounted, IsPainted, from_origin}

@@ -28,6 +28,8 @@ use Rattle.traversal.proofs.CountedLaws.{counted_still, counted_then}
 use Rattle.traversal.proofs.GrownLaid.{grown_caches, grown_kid, grown_view}
 use Rattle.traversal.proofs.LastAsked.{kids_asked}
 use Rattle.traversal.proofs.LaidAt.{alone_outside, below_at, calm_at, differ_at, kid_at, kid_gone, outside_at, put_at, put_same, settled_bounds, settled_cache, settled_is, sides_at}
+use Rattle.traversal.proofs.CoverLaws.{SamePlaces}
+use Rattle.traversal.proofs.FollowedViews.{covers_along, covers_at, covers_end, covers_on, covers_start, settled_places, sight_along, sight_at, sight_same, steps_by, walks_end, walks_on, walks_start}
 use Rattle.traversal.proofs.LaidWalk.{laid_on, laid_start, next_narrow}
 use Rattle.traversal.proofs.RestLaws.{calm_is, calm_of, unmoved}
 use Rattle.traversal.proofs.laying.lay.+lay.Goals as goal
@@ -56,7 +58,7 @@ lay_kid-place-rect-requires-clause-sides t c =
 pub lay_kid-lay-requires : goal.lay_kid-lay-requires
 lay_kid-lay-requires t c =
     let shown = sym (ap is_shown c.facts-facts.ensures.value) ∙ sym c.is_shown.ensures ∙ c.if-not-is_shown.false in
-    (omega arith, (record { live = c.requires.live; shown = shown; ready = c.requires.fit.ready; sized = c.requires.fit.sized }, c.place-rect.ensures.narrow))
+    (omega arith, (record { live = c.requires.live; shown = shown; ready = c.requires.fit.ready; sized = c.requires.fit.sized }, (c.place-rect.ensures.narrow, c.requires.near)))
 
 pub lay_kid-returns-clause-quiet : goal.lay_kid-returns-clause-quiet
 lay_kid-returns-clause-quiet t c = λ spot before places few.
@@ -95,9 +97,12 @@ lay_kids-lay_kid-requires t c =
         (
           Fit-first (held_of c.loop-next.tree) (part_from c.in-Some.kid tree)
               (Fit-along (held_of c.args.tree.now) (held_of c.loop-next.tree) (part_from c.in-Some.kid tree) walk.walked.still walk.fit),
-          λ shown.
-              next_narrow tree (children_of_first (part_from c.args.view tree)) c.loop-next.placer (spot_of (part_from c.args.view tree) (held_of c.args.tree.now c.args.view) c.args.size)
-              (held_of c.args.tree.now) c.args.work.now.measured c.args.tree.now.counts.laid c.in-Some.kid (held_of c.loop-next.tree) c.loop-next.work.measured c.loop-next.tree.counts.laid walk shown,
+          (
+            λ shown.
+                next_narrow tree (children_of_first (part_from c.args.view tree)) c.loop-next.placer (spot_of (part_from c.args.view tree) (held_of c.args.tree.now c.args.view) c.args.size)
+                (held_of c.args.tree.now) c.args.work.now.measured c.args.tree.now.counts.laid c.in-Some.kid (held_of c.loop-next.tree) c.loop-next.work.measured c.loop-next.tree.counts.laid walk shown,
+            c.requires.near,
+          ),
         ),
       ),
     )
@@ -115,6 +120,9 @@ lay_kids-loop-next-init t c =
     record {
       same = record { tree = refl; orders = refl; next = refl };
       counted = record { by = 0; work = omega arith; tree = omega arith; painted = refl };
+      grew = λ x y h. h;
+      sight = walks_start c.args.canvas c.args.damage.now.rect tree (children_of_first (part_from c.args.view tree)) (held_of c.args.tree.now) c.first-next.result first.part;
+      cover = covers_start c.args.canvas c.args.damage.now.rect tree (children_of_first (part_from c.args.view tree)) (held_of c.args.tree.now) c.first-next.result first.part;
       walked =
           laid_start tree (children_of_first (part_from c.args.view tree)) c.start-placer.result spot (held_of c.args.tree.now) c.args.work.now.measured c.args.tree.now.counts.laid c.first-next.result c.start-placer.ensures
           (count_few c.args.view tree c.requires.live first.is_tree.few) first.is_tree.keys first.part first.live c.requires.fit c.requires.narrow;
@@ -135,6 +143,15 @@ lay_kids-loop-next-preserved t c =
     record {
       same = record { tree = kid.same.tree ∙ before.same.tree; orders = kid.same.orders ∙ before.same.orders; next = kid.same.next ∙ before.same.next };
       counted = counted_then before.counted kid.counted;
+      grew = λ x y h. kid.grew x y (before.grew x y h);
+      sight =
+          walks_on c.args.canvas c.loop-next.damage.rect c.lay_kid.new.damage.rect tree (children_of_first (part_from c.args.view tree)) (held_of c.args.tree.now) c.in-Some.kid
+          (held_of c.loop-next.tree) (held_of c.lay_kid.new.tree) c.next-next.result walk.walked (rw c.in-Some.is at before.sight) kid.grew
+          (rw before.same.tree at kid.others) (rw before.same.tree at kid.sight) (rw (kid.same.tree, before.same.tree) at c.next-next.ensures.part);
+      cover =
+          covers_on c.args.canvas c.args.damage.now.rect c.loop-next.damage.rect c.lay_kid.new.damage.rect tree (children_of_first (part_from c.args.view tree)) (held_of c.args.tree.now) c.in-Some.kid
+          (held_of c.loop-next.tree) (held_of c.lay_kid.new.tree) c.next-next.result walk.walked (rw c.in-Some.is at before.cover)
+          (rw before.same.tree at kid.others) (rw before.same.tree at kid.within) (rw (kid.same.tree, before.same.tree) at c.next-next.ensures.part);
       walked =
           laid_on tree (children_of_first (part_from c.args.view tree)) c.loop-next.placer c.lay_kid.new.placer spot (held_of c.args.tree.now) c.args.work.now.measured c.args.tree.now.counts.laid c.in-Some.kid
           (held_of c.loop-next.tree) (held_of c.lay_kid.new.tree) c.loop-next.work.measured c.loop-next.tree.counts.laid c.lay_kid.new.work.measured c.lay_kid.new.tree.counts.laid
@@ -163,6 +180,16 @@ pub lay_kids-returns-clause-caches : goal.lay_kids-returns-clause-caches
 lay_kids-returns-clause-caches t c =
     let walk = rw c.in_default.is at c.loop-next.invariant.walked in
     walk.caches (held_of c.loop-next.tree) (λ key none. refl) tt
+
+pub lay_kids-returns-clause-sight : goal.lay_kids-returns-clause-sight
+lay_kids-returns-clause-sight t c =
+    walks_end c.args.canvas c.loop-next.damage.rect c.args.tree.now.tree (children_of_first (part_from c.args.view c.args.tree.now.tree)) (held_of c.args.tree.now) (held_of c.loop-next.tree)
+    (rw c.in_default.is at c.loop-next.invariant.sight)
+
+pub lay_kids-returns-clause-within : goal.lay_kids-returns-clause-within
+lay_kids-returns-clause-within t c =
+    covers_end c.args.canvas c.args.damage.now.rect c.loop-next.damage.rect c.args.tree.now.tree (children_of_first (part_from c.args.view c.args.tree.now.tree)) (held_of c.args.tree.now) (held_of c.loop-next.tree)
+    (rw c.in_default.is at c.loop-next.invariant.cover)
 
 -- lay_open
 
@@ -193,6 +220,17 @@ lay_open-returns-then-is_calm-clause-put t c =
     })
     (λ key. ap (λ (h : Held). h.offset) (same_all a b view own f.others key) ∙ g.keeps.offsets key)
 
+pub lay_open-returns-then-is_calm-clause-sight : goal.lay_open-returns-then-is_calm-clause-sight
+lay_open-returns-then-is_calm-clause-sight t c =
+    let list = first_tree (part_from c.args.view c.args.tree.now.tree) in
+    let calm = calm_of c.move_to-moved.result c.state-state.result.forced c.state-state.result.layout_needed (sym c.is_calm.ensures ∙ c.if-is_calm.true) in
+    let keeps = c.make_fit.ensures.keeps in
+    sight_same c.args.canvas c.args.damage.now.rect (held_of c.args.tree.now) (held_of c.move_to-moved.new.tree) list
+    (subst (λ (views : Views). SamePlaces (held_of c.args.tree.now) (held_of views) list) (sym (c.move_to-moved.ensures.still calm.0)) (λ key here. (keeps.bounds key, keeps.offsets key)))
+
+pub lay_open-returns-then-is_calm-clause-within : goal.lay_open-returns-then-is_calm-clause-within
+lay_open-returns-then-is_calm-clause-within t c = λ box lies covered. lies
+
 pub lay_open-lay_kids-requires : goal.lay_open-lay_kids-requires
 lay_open-lay_kids-requires t c =
     let tree = c.args.tree.now.tree in
@@ -205,7 +243,7 @@ lay_open-lay_kids-requires t c =
     let there = moved_is (a view) (b view) c.args.rect c.move_to-moved.result f.moved f.held in
     let under = below_at tree view a b (moved_to (a view) c.args.rect) c.make_fit.ensures.is_tree.keys r.live r.shown c.make_fit.ensures.fit c.make_fit.ensures.unmarked.first
     (record { at = there; others = f.others }) in
-    rw same (omega arith, (r.live, (under.fit, under.narrow)))
+    rw same (omega arith, (r.live, (under.fit, (under.narrow, c.follow-inner.ensures.near))))
 
 pub lay_open-returns-clause-put : goal.lay_open-returns-clause-put
 lay_open-returns-clause-put t c =
@@ -219,10 +257,52 @@ lay_open-returns-clause-put t c =
     let same : c.move_to-moved.new.tree.tree ≡ tree = f.same.tree ∙ g.same.tree in
     let all : c.lay_kids.new.tree.tree ≡ tree = c.lay_kids.ensures.same.tree ∙ same in
     let there = moved_is (a view) (b view) c.args.rect c.move_to-moved.result f.moved f.held in
-    put_at tree view (held_of c.args.tree.now) a b (held_of c.lay_kids.new.tree) (held_of c.bring_one.new.tree) c.args.rect g.is_tree.keys r.live r.shown g.fit
+    put_at tree view (held_of c.args.tree.now) a b (held_of c.lay_kids.new.tree) (held_of c.bring.new.tree) c.args.rect g.is_tree.keys r.live r.shown g.fit
     (record { first = g.unmarked.first; specs = g.unmarked.specs; edges = g.unmarked.edges }) g.keeps.offsets (record { at = there; others = f.others })
     (rw c.extent.ensures at (rw same at c.lay_kids.ensures.quiet)) (rw same at c.lay_kids.ensures.others)
-    (record { at = rw all at c.bring_one.ensures.held; others = c.bring_one.ensures.others })
+    (record { at = rw all at c.bring.ensures.held; others = c.bring.ensures.others })
+
+pub lay_open-returns-clause-grew : goal.lay_open-returns-clause-grew
+lay_open-returns-clause-grew t c = λ x y h. c.bring.ensures.grew x y (c.lay_kids.ensures.grew x y (c.follow-inner.ensures.grew x y h))
+
+pub lay_open-returns-clause-sight : goal.lay_open-returns-clause-sight
+lay_open-returns-clause-sight t c =
+    let tree = c.args.tree.now.tree in
+    let view = c.args.view in
+    let old = held_of c.args.tree.now in
+    let a = held_of c.make_fit.new.tree in
+    let b = held_of c.move_to-moved.new.tree in
+    let l = held_of c.lay_kids.new.tree in
+    let n = held_of c.bring.new.tree in
+    let f = c.move_to-moved.ensures in
+    let g = c.make_fit.ensures in
+    let same : c.move_to-moved.new.tree.tree ≡ tree = f.same.tree ∙ g.same.tree in
+    let there = moved_is (a view) (b view) c.args.rect c.move_to-moved.result f.moved f.held in
+    let steps = steps_by view c.args.rect (children_of_first (part_from view tree)) old a b l n g.keeps.bounds g.keeps.offsets (record { at = there; others = f.others })
+    (rw same at c.lay_kids.ensures.others) (ap (λ (h : Held). h.state.bounds) c.bring.ensures.held) c.bring.ensures.others in
+    let was : (old view).state.bounds ≡ c.state-before.result.bounds = sym (ap (λ (state : State). state.bounds) c.state-before.ensures.value ∙ g.keeps.bounds view) in
+    sight_at tree view c.args.rect old b l n c.args.canvas c.follow-inner.result c.follow-inner.new.damage.rect c.lay_kids.new.damage.rect c.bring.new.damage.rect c.state-before.result.bounds c.facts.result.now
+    c.requires.fit.live g.is_tree.keys steps was (rw same at c.facts.ensures.value) c.follow-inner.ensures.follows c.lay_kids.ensures.grew c.bring.ensures.grew (rw same at c.lay_kids.ensures.sight) c.bring.ensures.seen
+
+pub lay_open-returns-clause-within : goal.lay_open-returns-clause-within
+lay_open-returns-clause-within t c =
+    let tree = c.args.tree.now.tree in
+    let view = c.args.view in
+    let old = held_of c.args.tree.now in
+    let a = held_of c.make_fit.new.tree in
+    let b = held_of c.move_to-moved.new.tree in
+    let l = held_of c.lay_kids.new.tree in
+    let n = held_of c.bring.new.tree in
+    let f = c.move_to-moved.ensures in
+    let g = c.make_fit.ensures in
+    let same : c.move_to-moved.new.tree.tree ≡ tree = f.same.tree ∙ g.same.tree in
+    let there = moved_is (a view) (b view) c.args.rect c.move_to-moved.result f.moved f.held in
+    let steps = steps_by view c.args.rect (children_of_first (part_from view tree)) old a b l n g.keeps.bounds g.keeps.offsets (record { at = there; others = f.others })
+    (rw same at c.lay_kids.ensures.others) (ap (λ (h : Held). h.state.bounds) c.bring.ensures.held) c.bring.ensures.others in
+    let was : (old view).state.bounds ≡ c.state-before.result.bounds = sym (ap (λ (state : State). state.bounds) c.state-before.ensures.value ∙ g.keeps.bounds view) in
+    covers_at tree view c.args.rect old b l n c.args.canvas c.follow-inner.result c.follow-inner.new.damage.rect c.lay_kids.new.damage.rect c.bring.new.damage.rect c.state-before.result.bounds c.facts.result.now
+    c.requires.fit.live g.is_tree.keys steps was (rw same at c.facts.ensures.value) c.args.damage.now.rect
+    c.follow-inner.ensures.within c.follow-inner.ensures.unfollowed c.follow-inner.ensures.stays (rw same at c.lay_kids.ensures.within) c.bring.ensures.within
 
 pub lay_open-returns-clause-others : goal.lay_open-returns-clause-others
 lay_open-returns-clause-others t c = λ key none.
@@ -233,8 +313,8 @@ lay_open-returns-clause-others t c = λ key none.
     let f = c.move_to-moved.ensures in
     let same : c.move_to-moved.new.tree.tree ≡ tree = f.same.tree ∙ c.make_fit.ensures.same.tree in
     let there = moved_is (a view) (b view) c.args.rect c.move_to-moved.result f.moved f.held in
-    outside_at tree view a b (held_of c.lay_kids.new.tree) (held_of c.bring_one.new.tree) _ _ c.requires.fit.live (record { at = there; others = f.others })
-    (rw same at c.lay_kids.ensures.others) (record { at = c.bring_one.ensures.held; others = c.bring_one.ensures.others }) key none
+    outside_at tree view a b (held_of c.lay_kids.new.tree) (held_of c.bring.new.tree) _ _ c.requires.fit.live (record { at = there; others = f.others })
+    (rw same at c.lay_kids.ensures.others) (record { at = c.bring.ensures.held; others = c.bring.ensures.others }) key none
     ∙ c.make_fit.ensures.others key none
 
 pub lay_open-returns-clause-measured : goal.lay_open-returns-clause-measured
@@ -261,7 +341,7 @@ lay_open-returns-clause-laid t c =
     let old = held_of c.args.tree.now in
     let b = held_of c.move_to-moved.new.tree in
     let l = held_of c.lay_kids.new.tree in
-    let n = held_of c.bring_one.new.tree in
+    let n = held_of c.bring.new.tree in
     let f = c.move_to-moved.ensures in
     let g = c.make_fit.ensures in
     let same : c.move_to-moved.new.tree.tree ≡ tree = f.same.tree ∙ g.same.tree in
@@ -269,12 +349,12 @@ lay_open-returns-clause-laid t c =
     let d = differ_at tree view old b l n c.args.rect c.move_to-moved.result g.is_tree.keys c.requires.fit.live
     (ap (λ bounds. same_place bounds c.args.rect) (sym (g.keeps.bounds view)) ∙ f.moved)
     (λ key ne. ap (λ (h : Held). h.state.bounds) (f.others key ne) ∙ g.keeps.bounds key) bounds
-    (λ key ne. ap (λ (h : Held). h.state.bounds) (c.bring_one.ensures.others key ne)) in
+    (λ key ne. ap (λ (h : Held). h.state.bounds) (c.bring.ensures.others key ne)) in
     let kids : c.lay_kids.new.tree.counts.laid ≤ c.move_to-moved.new.tree.counts.laid + differ b l (children_of_first (part_from view tree)) = rw same at c.lay_kids.ensures.laid in
     let set = f.laid in
     let fit = g.laid in
-    let last : c.bring_one.new.tree.counts.laid ≡ c.lay_kids.new.tree.counts.laid = ap (λ (counts : Counts). counts.laid) c.bring_one.ensures.counts in
-    sums c.bring_one.new.tree.counts.laid c.lay_kids.new.tree.counts.laid c.move_to-moved.new.tree.counts.laid c.make_fit.new.tree.counts.laid c.args.tree.now.counts.laid
+    let last : c.bring.new.tree.counts.laid ≡ c.lay_kids.new.tree.counts.laid = ap (λ (counts : Counts). counts.laid) c.bring.ensures.counts in
+    sums c.bring.new.tree.counts.laid c.lay_kids.new.tree.counts.laid c.move_to-moved.new.tree.counts.laid c.make_fit.new.tree.counts.laid c.args.tree.now.counts.laid
     (if c.move_to-moved.result then 1 else 0) (differ b l (children_of_first (part_from view tree))) (differ old n (first_tree (part_from view tree))) last kids set fit d
   where
     sums : (e d c b a m k w : ℕ) → e ≡ d → d ≤ c + k → c ≤ b + m → b ≡ a → m + k ≤ w → e ≤ a + w
@@ -285,7 +365,7 @@ lay_open-returns-clause-counted t c =
     counted_then c.make_fit.ensures.counted
     (counted_then (counted_still c.make_fit.new.tree c.move_to-moved.new.tree c.make_fit.new.work c.move_to-moved.ensures.measures)
     (counted_then c.lay_kids.ensures.counted
-    (counted_still c.lay_kids.new.tree c.bring_one.new.tree c.lay_kids.new.work (ap (λ (counts : Counts). counts.measures) c.bring_one.ensures.counts))))
+    (counted_still c.lay_kids.new.tree c.bring.new.tree c.lay_kids.new.work (ap (λ (counts : Counts). counts.measures) c.bring.ensures.counts))))
 
 pub lay_open-returns-then-is_calm-clause-still : goal.lay_open-returns-then-is_calm-clause-still
 lay_open-returns-then-is_calm-clause-still t c = λ place.
@@ -319,14 +399,14 @@ lay_open-returns-clause-caches t c =
     let a = held_of c.make_fit.new.tree in
     let b = held_of c.move_to-moved.new.tree in
     let l = held_of c.lay_kids.new.tree in
-    let n = held_of c.bring_one.new.tree in
+    let n = held_of c.bring.new.tree in
     let f = c.move_to-moved.ensures in
     let g = c.make_fit.ensures in
     let same : c.move_to-moved.new.tree.tree ≡ tree = f.same.tree ∙ g.same.tree in
     let there = moved_is (a view) (b view) c.args.rect c.move_to-moved.result f.moved f.held in
     let asks = kids_asked c.args.tree.now view a g.is_tree r.live r.shown g.fit.sized g.unmarked.first in
     let laid = grown_view tree view (specs_of (a view).state) a b l n (moved_to (a view) c.args.rect) (n view) g.is_tree.keys r.live (record { at = there; others = f.others }) refl
-    (record { at = refl; others = c.bring_one.ensures.others }) (ap (λ (h : Held). h.cache) c.bring_one.ensures.held)
+    (record { at = refl; others = c.bring.ensures.others }) (ap (λ (h : Held). h.cache) c.bring.ensures.held)
     (rw same at c.lay_kids.ensures.others) asks (rw same at c.lay_kids.ensures.caches) in
     let ok : Specs → ℕ → Specs → Type 0 = λ specs place other. other ≡ specs in
     Grown-trans (ok (specs_of (old view).state)) old a n (first_tree (part_from view tree)) g.caches
@@ -348,6 +428,23 @@ lay-returns-clause-put t c =
     let new = held_of c.settle.new.tree in
     put_same (held_of c.args.tree.now) (settled_at c.args.view mid) new c.args.view (part_from c.args.view c.args.tree.now.tree) c.args.rect
     (settled_is c.args.view mid new c.settle.ensures.held c.settle.ensures.others) c.lay_open.ensures.put
+
+pub lay-returns-clause-sight : goal.lay-returns-clause-sight
+lay-returns-clause-sight t c =
+    let old = held_of c.args.tree.now in
+    let mid = held_of c.lay_open.new.tree in
+    let new = held_of c.settle.new.tree in
+    let list = first_tree (part_from c.args.view c.args.tree.now.tree) in
+    sight_along c.args.canvas c.lay_open.new.damage.rect old old mid new list (λ key here. (refl, refl)) (settled_places c.args.view mid new list c.settle.ensures.held c.settle.ensures.others) c.lay_open.ensures.sight
+
+pub lay-returns-clause-within : goal.lay-returns-clause-within
+lay-returns-clause-within t c = λ box lies covered.
+    let old = held_of c.args.tree.now in
+    let mid = held_of c.lay_open.new.tree in
+    let new = held_of c.settle.new.tree in
+    let list = first_tree (part_from c.args.view c.args.tree.now.tree) in
+    let same = settled_places c.args.view mid new list c.settle.ensures.held c.settle.ensures.others in
+    c.lay_open.ensures.within box lies (covers_along c.args.canvas box old old new mid list (λ key here. (refl, refl)) (λ key here. let s = same key here in (sym s.0, sym s.1)) covered)
 
 pub lay-returns-clause-others : goal.lay-returns-clause-others
 lay-returns-clause-others t c = λ key none.

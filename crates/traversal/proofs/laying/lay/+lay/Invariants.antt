@@ -1,9 +1,11 @@
 use Rattle.std.proofs.Common.{◌+◌, ◌*◌}
+use Rattle.damage_rect.specs.Within.{LiesIn}
 use Rattle.kept_views.specs.Laying.{spot_of}
 use Rattle.view_model.specs.Forest.{count_of}
 use Rattle.view_tree.specs.Rows.{first_tree, children_of_first, part_from, rest_from}
 use Rattle.view_tree.specs.Views.{SameTree, held_of}
 use Rattle.traversal.specs.Counting.{IsCounted}
+use Rattle.traversal.proofs.FollowedViews.{CoverWalks, Walks}
 use Rattle.traversal.proofs.LaidWalk.{LaidWalk}
 use Rattle.traversal.proofs.laying.lay.+lay.Given as goal
 
@@ -23,6 +25,9 @@ abbrev pub invariant-lay_kids-loop-next : goal.invariant-lay_kids-loop-next
 invariant-lay_kids-loop-next l = let tree = l.fn.tree.tree in record {
   same : SameTree l.fn.tree l.tree;
   counted : IsCounted l.fn.tree l.tree l.fn.work l.work;
+  grew : LiesIn l.fn.damage.rect l.damage.rect;
+  sight : Walks l.canvas l.damage.rect tree (children_of_first (part_from l.view tree)) (held_of l.fn.tree) l.next (held_of l.tree);
+  cover : CoverWalks l.canvas l.fn.damage.rect l.damage.rect tree (children_of_first (part_from l.view tree)) (held_of l.fn.tree) l.next (held_of l.tree);
   walked : LaidWalk tree (children_of_first (part_from l.view tree)) l.placer (spot_of (part_from l.view tree) (held_of l.fn.tree l.view) l.fn.size) (held_of l.fn.tree)
       l.fn.work.measured l.fn.tree.counts.laid l.next (held_of l.tree) l.work.measured l.tree.counts.laid;
 }

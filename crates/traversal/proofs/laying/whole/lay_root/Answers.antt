@@ -25,6 +25,7 @@ use Rattle.view_tree.proofs.values.KeptLaws.{is_tree-same}
 use Rattle.traversal.proofs.CountedLaws.{counted_then}
 use Rattle.traversal.proofs.LaidAt.{brought_settled, settled_bounds, settled_measured, settled_specs}
 use Rattle.traversal.proofs.LaidWhole.{at_narrow, calls_whole, laid_whole, owed_none, ready_whole, root_alone, root_from, root_live, root_sized}
+use Rattle.traversal.proofs.SightLaws.{sight_whole, within_whole}
 use Rattle.traversal.proofs.Ranging.{cleared_firm, plain_brought}
 use Rattle.traversal.specs.Resting.{IsAtPlace}
 use Rattle.traversal.proofs.laying.whole.lay_root.Goals as goal
@@ -54,7 +55,24 @@ lay_open-requires c =
         sized = m.measured.sized;
       };
       narrow = rw c.rect_at.ensures (at_narrow (pos 0) (pos 0) c.measure-size.result m.width m.height);
+      near = c.window_canvas.ensures.near;
     }
+
+pub returns-clause-sight : goal.returns-clause-sight
+returns-clause-sight c =
+    let m = c.measure-size.ensures in
+    sight_whole c.args.window c.window_canvas.result c.lay_open.new.damage.rect (held_of c.args.tree.now) (held_of c.measure-size.new.tree) (held_of c.lay_open.new.tree) c.args.tree.now.tree
+    (first_tree (part_from c.args.root c.measure-size.new.tree.tree)) c.window_canvas.ensures.value
+    (ap (λ tree. first_tree (part_from c.args.root tree)) m.same.tree ∙ root_alone c.args.tree.now.tree c.args.root c.requires.root c.facts.ensures.is_tree.root)
+    (λ key here. (m.keeps.bounds key, m.keeps.offsets key)) c.lay_open.ensures.sight
+
+pub returns-clause-within : goal.returns-clause-within
+returns-clause-within c =
+    let m = c.measure-size.ensures in
+    within_whole c.args.window c.window_canvas.result c.args.damage.now.rect c.lay_open.new.damage.rect (held_of c.args.tree.now) (held_of c.measure-size.new.tree) (held_of c.lay_open.new.tree) c.args.tree.now.tree
+    (first_tree (part_from c.args.root c.measure-size.new.tree.tree)) c.window_canvas.ensures.value
+    (ap (λ tree. first_tree (part_from c.args.root tree)) m.same.tree ∙ root_alone c.args.tree.now.tree c.args.root c.requires.root c.facts.ensures.is_tree.root)
+    (λ key here. (m.keeps.bounds key, m.keeps.offsets key)) c.lay_open.ensures.within
 
 pub returns-clause-geometry : goal.returns-clause-geometry
 returns-clause-geometry c =

@@ -46,10 +46,10 @@ returns-clause-keeps c =
     let new : KeyedScreen = record old { hooks = c.arm.new.self } in
     let number = c.number.result in
     let size : c.size_at-reported.result ≡ size_in (geometry_in old.stage old.views) number = c.size_at-reported.ensures ∙ ap (size_in (geometry_in old.stage old.views)) (sym c.number.ensures.value) in
-    let P : Result Response StepFault → Type 0 = λ result. OnOk result (KeepsBut Leaves [] [] c.args.self.now new) in
+    let P : Result Response StepFault → Type 0 = λ result. OnOk result (KeepsBut Leaves [] [] [] c.args.self.now new) in
     elim c.match-arm.branch [
       | in-Ok w ↦
-          subst P (sym w.result-is) (subst (λ (s : KeyedScreen). KeepsBut Leaves [] [] s new) c.self.view_is
+          subst P (sym w.result-is) (subst (λ (s : KeyedScreen). KeepsBut Leaves [] [] [] s new) c.self.view_is
           (armed_keeps old c.arm.new.self (record { view = number; reported = c.size_at-reported.result; edits = c.args.edits.now.items }) c.tell_tree.ensures w.in-Ok.ensures.hooks size))
       | in-Err w ↦ subst P (sym w.result-is) tt
     ]

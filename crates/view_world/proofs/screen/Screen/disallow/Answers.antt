@@ -41,6 +41,7 @@ invariant_of-self c =
       down = c.self.invariant.down;
       narrow = c.self.invariant.narrow;
       offsets = c.self.invariant.offsets;
+      shows = c.self.invariant.shows;
     }
 
 pub returns-clause-changed : goal.returns-clause-changed

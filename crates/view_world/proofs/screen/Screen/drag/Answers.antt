@@ -4,6 +4,7 @@ use Rattle.touch_event.specs.declared.event.Action.TheVariants.{Move}
 use Rattle.touch_event.specs.declared.event.Point.{Point}
 use Rattle.view_world.specs.KeyedScreen.{KeyedScreen}
 use Rattle.view_world.specs.Pointers.{event_of, is_pressed, with_point}
+use Rattle.view_world.proofs.RestLaws.{touch_keeps}
 use Rattle.view_world.proofs.TouchLaws.{Changed-move}
 use Rattle.view_world.proofs.screen.Screen.drag.Goals as goal
 
@@ -18,3 +19,13 @@ returns-clause-changed c =
     (points ∙ ap (with_point point) (c.as_slice-2.ensures.value ∙ held))
     (c.event_of-event.ensures ∙ ap (event_of Move c.args.id) c.as_slice-3.ensures.value)
     c.hand.ensures.changed
+
+pub returns-clause-keeps : goal.returns-clause-keeps
+returns-clause-keeps c =
+    let now = c.args.self.now in
+    let point : Point = record { id = c.args.id; x = c.args.x; y = c.args.y } in
+    let held : c.self.inside.pointers.items ≡ now.pointers = ap (λ (w : KeyedScreen). w.pointers) c.self.view_is in
+    let points = simp (to_z-of_z, c.ranges.x, c.ranges.y) at c.with_point-pointers.ensures.points in
+    touch_keeps now c.hand.new.self c.event_of-event.result _
+    (c.event_of-event.ensures ∙ ap (event_of Move c.args.id) (c.as_slice-3.ensures.value ∙ points ∙ ap (with_point point) (c.as_slice-2.ensures.value ∙ held)))
+    c.hand.ensures.keeps

@@ -1,4 +1,4 @@
-use Rattle.std.proofs.Common.{◌≡◌, ◌∙◌, ℕ, [], arith, length, sym, subst}
+use Rattle.std.proofs.Common.{◌≡◌, ◌∙◌, ℕ, [], arith, length, refl, sym, subst}
 use Rattle.std.specs.Prelude.{Option, None, Result, Ok, Err}
 use Rattle.std.specs.Option.{option_map}
 use Rattle.view_model.specs.Cycles.{graft_cycle}
@@ -107,5 +107,5 @@ returns-in-Ok-clause-keeps c =
     let old : KeyedScreen = keyed c.self.inside in
     let now : KeyedScreen = record old { views = c.graft.new.tree; gesture = c.open_all.new.gesture; told = c.reserve.new.self.entries.items } in
     let live = subst (λ (w : KeyedScreen). IfSome c.args.place (λ (view : ℕ). IsLive w.views view)) (sym c.self.view_is) c.requires.live in
-    subst (λ (w : KeyedScreen). KeepsBut Asks (listed (option_map (number_of w.views) c.args.place)) [] w now) c.self.view_is
-    (graft_keeps old now c.args.place c.tell_tree.ensures live c.in-Ok.ensures.asked c.graft.ensures.counts)
+    subst (λ (w : KeyedScreen). KeepsBut Asks (listed (option_map (number_of w.views) c.args.place)) [] [] w now) c.self.view_is
+    (graft_keeps old now c.args.place c.tell_tree.ensures live c.in-Ok.ensures.asked c.graft.ensures.counts refl refl refl)

@@ -6,12 +6,15 @@ use mir.Val.{of_z, to_z}
 use Rattle.std.specs.Option.{option_map}
 use Rattle.touch_dispatch.specs.Kept.{is_open}
 use Rattle.tree_edits.specs.Applied.{IsAddable}
-use Rattle.tree_edits.specs.Editing.{Add}
+use Rattle.tree_edits.specs.Editing.{Add, new_view}
 use Rattle.tree_edits.specs.Keeping.{KeepsViews}
 use Rattle.tree_edits.specs.declared.edits.Edit.TheVariants as edit
 use Rattle.view_tree.specs.Views.{number_of}
 use Rattle.view_world.proofs.FitLaws.{fits_applied}
-use Rattle.view_world.proofs.GrowingLaws.{carried_with, failed, grown_as, made_well, on_err, place_back, refused_still, same_world, sound_grown, sound_same}
+use Rattle.view_world.proofs.GrownShown.{nowhere_next, shown_come}
+use Rattle.pixel_raster.specs.Raster.{size_of}
+use Rattle.view_model.specs.PlainTree.{single}
+use Rattle.view_world.proofs.GrowingLaws.{addable_root, carried_with, failed, grown_as, grown_nowhere, plain_root, made_well, on_err, place_back, refused_still, same_world, sound_grown, sound_same}
 use Rattle.view_world.proofs.OpeningLaws.{done}
 use Rattle.view_world.proofs.WorldLaws.{Changed-edit, at_stage}
 use Rattle.view_world.specs.Changed.{CarriesOut}
@@ -61,6 +64,10 @@ invariant_of-self-else-is_err c =
     c.open.ensures.gesture opened (omega (arith, room, len))
     (fits_applied a.tree c.apply-made.new.tree (Add (option_map (number_of a.tree) c.args.parent) c.args.class width height) c.apply-made.result c.apply-made.ensures.applied c.apply-made.ensures.unchanged sound.narrow)
     (offsets_edited a.tree c.apply-made.new.tree (edit.Add c.args.parent c.args.class width height) c.apply-made.result tt c.apply-made.ensures.applied c.apply-made.ensures.unchanged sound.offsets)
+    (shown_come (size_of a.surface) a.damage.rect a.tree c.apply-made.new.tree (option_map (number_of a.tree) c.args.parent) (single (new_view a.tree.next c.args.class width height))
+    (nowhere_next a.tree a.tree.next c.tell_tree.ensures (omega arith), tt, tt) (plain_root a.tree c.args.parent (addable_root a.tree c.args.parent addable))
+    (grown_as a.tree c.apply-made.new.tree c.args.parent c.args.class width height c.apply-made.result ok c.apply-made.ensures.applied)
+    (grown_nowhere a.tree c.apply-made.new.tree c.args.parent c.args.class width height c.apply-made.result ok c.apply-made.ensures.applied))
 
 pub returns-clause-unchanged : goal.returns-clause-unchanged
 returns-clause-unchanged c =
@@ -110,9 +117,9 @@ returns-clause-keeps c =
       | then-is_err w ↦
           let new : KeyedScreen = record old { views = c.apply-made.new.tree; gesture = w.close.new.self; told = c.reserve.new.self.entries.items } in
           subst (P old) (sym w.self-is)
-          (ok_any c.respond.result (loud_keeps old new a.tree made refl c.tell_tree.ensures addable (scrolls_none a.tree) c.apply-made.ensures.asked c.apply-made.ensures.measures))
+          (ok_any c.respond.result (loud_keeps old new a.tree made refl c.tell_tree.ensures addable (scrolls_none a.tree) c.apply-made.ensures.asked c.apply-made.ensures.measures (λ box lies seen. lies) refl refl))
       | else-is_err w ↦
           let new : KeyedScreen = record old { views = c.apply-made.new.tree; gesture = c.open.new.self; told = c.reserve.new.self.entries.items } in
           subst (P old) (sym w.self-is)
-          (ok_any c.respond.result (loud_keeps old new a.tree made refl c.tell_tree.ensures addable (scrolls_none a.tree) c.apply-made.ensures.asked c.apply-made.ensures.measures))
+          (ok_any c.respond.result (loud_keeps old new a.tree made refl c.tell_tree.ensures addable (scrolls_none a.tree) c.apply-made.ensures.asked c.apply-made.ensures.measures (λ box lies seen. lies) refl refl))
     ])

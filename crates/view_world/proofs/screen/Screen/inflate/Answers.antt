@@ -54,4 +54,4 @@ returns-clause-keeps g c =
     let asked : asked_views (world_of old) (Inflate name c.args.into) ≡ listed (option_map (number_of old.views) c.in_ok-place.place) =
     place_asked (world_of old) name c.args.into place.0 place.1 ∙ ap listed (place_number old.views place.0 c.in_ok-place.place place.2) in
     let now = subst (λ (w : KeyedScreen). asked_views (world_of w) (Inflate name c.args.into) ≡ listed (option_map (number_of w.views) c.in_ok-place.place)) c.self.view_is asked in
-    subst (λ (numbers : List ℕ). OnOk c.graft.result (KeepsBut Asks numbers [] c.args.self.now c.graft.new.self)) (sym now) c.graft.ensures.keeps
+    subst (λ (numbers : List ℕ). OnOk c.graft.result (KeepsBut Asks numbers [] [] c.args.self.now c.graft.new.self)) (sym now) c.graft.ensures.keeps

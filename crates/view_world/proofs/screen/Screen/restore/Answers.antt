@@ -2,6 +2,7 @@ use Rattle.std.proofs.Common.{ap, sym, subst, ◌∙◌, ℕ, List, Bor, Option}
 use Rattle.std.specs.Option.{option_map}
 use Rattle.saved_state.specs.State.{decoded}
 use Rattle.view_tree.specs.Views.{plain_of}
+use Rattle.view_world.proofs.SoundLaws.{sound_restored}
 use Rattle.view_world.proofs.StateLaws.{kept_taken, offsets_taken, rooted, text_taken}
 use Rattle.view_world.specs.Changed.{CarriesOut}
 use Rattle.view_world.specs.KeyedScreen.{KeyedScreen, world_of}
@@ -40,17 +41,32 @@ returns-clause-changed c =
 pub returns-in_default-clause-keeps : goal.returns-in_default-clause-keeps
 returns-in_default-clause-keeps c =
     let old = keyed c.self.inside in
-    let new : KeyedScreen = record old { views = c.take_up.new.tree } in
-    let told = ok_any c.take_up.result (kept_keeps old c.take_up.new.tree c.tell_tree.ensures c.take_up.ensures.counts c.take_up.ensures.asked) in
+    let new : KeyedScreen = record old { views = c.take_up.new.tree; damage = c.take_up.new.damage.rect } in
+    let told =
+    ok_any c.take_up.result (kept_keeps old c.take_up.new.tree c.take_up.new.damage.rect c.tell_tree.ensures c.take_up.ensures.counts c.take_up.ensures.asked c.take_up.ensures.same (rw c.size-window.ensures.value at c.take_up.ensures.within)) in
     subst (λ (w : KeyedScreen). OnOk c.take_up.result (KeepsLine (Restore (option_map (λ (text : Bor (List ℕ)). text.now) c.args.text)) w new)) c.self.view_is
     (subst (λ (text : Option (Bor (List ℕ))). OnOk c.take_up.result (KeepsLine (Restore (option_map (λ (text : Bor (List ℕ)). text.now) text)) old new)) (sym c.in_default.is) told)
 
 pub returns-clause-keeps : goal.returns-clause-keeps
 returns-clause-keeps c =
     let old = keyed c.self.inside in
-    let new : KeyedScreen = record old { views = c.take_up-2.new.tree } in
+    let new : KeyedScreen = record old { views = c.take_up-2.new.tree; damage = c.take_up-2.new.damage.rect } in
     let entries = c.in_ok-states.states in
     let read = ap decoded (sym c.in_ok-bytes.ensures.bytes ∙ sym c.as_slice.ensures.value) ∙ c.in_ok-states.ensures in
-    let told = ok_any c.take_up-2.result (text_keeps old c.take_up-2.new.tree entries c.in-Some.digits.now read c.tell_tree.ensures c.take_up-2.ensures.counts c.take_up-2.ensures.asked) in
+    let told =
+    ok_any c.take_up-2.result (text_keeps old c.take_up-2.new.tree c.take_up-2.new.damage.rect entries c.in-Some.digits.now read c.tell_tree.ensures c.take_up-2.ensures.counts c.take_up-2.ensures.asked c.take_up-2.ensures.same
+    (rw c.size-window.ensures.value at c.take_up-2.ensures.within)) in
     subst (λ (w : KeyedScreen). OnOk c.take_up-2.result (KeepsLine (Restore (option_map (λ (text : Bor (List ℕ)). text.now) c.args.text)) w new)) c.self.view_is
     (subst (λ (text : Option (Bor (List ℕ))). OnOk c.take_up-2.result (KeepsLine (Restore (option_map (λ (text : Bor (List ℕ)). text.now) text)) old new)) (sym c.in-Some.is) told)
+
+pub invariant_of-self : goal.invariant_of-self
+invariant_of-self c =
+    let ens = c.take_up.ensures in
+    sound_restored c.self.inside c.take_up.new.tree c.take_up.new.damage (rw c.size-window.ensures.value at ens.shown) c.self.invariant ens.same ens.geometry (ens.consistent c.self.invariant.consistent)
+    (ens.fits c.self.invariant.offsets)
+
+pub invariant_of-self-2 : goal.invariant_of-self-2
+invariant_of-self-2 c =
+    let ens = c.take_up-2.ensures in
+    sound_restored c.self.inside c.take_up-2.new.tree c.take_up-2.new.damage (rw c.size-window.ensures.value at ens.shown) c.self.invariant ens.same ens.geometry (ens.consistent c.self.invariant.consistent)
+    (ens.fits c.self.invariant.offsets)

@@ -1,20 +1,32 @@
 use Rattle.std.proofs.Common.{◌≡◌, sym, ◌∙◌, ap, subst}
 use Rattle.touch_dispatch.specs.Handling.{Progress}
-use Rattle.view_tree.specs.Views.{IsLive, number_of}
+use Rattle.view_tree.specs.Views.{IsLive, number_of, plain_of}
 use Rattle.view_world.specs.KeyedScreen.{KeyedScreen, world_of}
 use Rattle.view_world.specs.Sound.{keyed}
 use Rattle.view_world.specs.Touching.{after_progress, leaving}
 use Rattle.view_world.proofs.EventLaws.{sound_scrolled}
-use Rattle.view_world.proofs.LeaveLaws.{leaving_silent, leaving_told, scrolls_none, world_told}
+use Rattle.view_world.proofs.LeaveLaws.{leaving_silent, leaving_told, plain_cancelled, scrolls_none, world_told}
+use Rattle.view_world.proofs.SceneLaws.{scrolls_geometry}
+use Rattle.view_world.proofs.GrownShown.{shows_alike}
 use Rattle.view_world.proofs.OffsetLaws.{offsets_scrolled}
 use Rattle.touch_dispatch.specs.TreeEvents.{OnlyScrolls}
 use Rattle.view_world.proofs.screen.Screen.tell_leaving.Goals as goal
 
 pub invariant_of-self-then-is_told : goal.invariant_of-self-then-is_told
 invariant_of-self-then-is_told c =
-    sound_scrolled c.self.inside (record c.self.inside { tree = c.cancel_view.new.tree; gesture = c.cancel_view.new.gesture; log = c.cancel_view.new.log }) c.self.invariant
-    c.cancel_view.ensures.scrolls c.cancel_view.ensures.caught c.cancel_view.ensures.opened (c.cancel_view.ensures.room ∙ c.clear.ensures.room) c.self.invariant.down
-    (offsets_scrolled c.self.inside.tree c.cancel_view.new.tree c.cancel_view.ensures.scrolls c.self.invariant.offsets)
+    let old = c.self.inside.tree in
+    let new = c.cancel_view.new.tree in
+    let cancel = c.cancel_view.ensures in
+    let plain = plain_cancelled old new c.self.inside.gesture c.cancel_view.new.gesture c.clear.new.self c.cancel_view.new.log _ _ _ _ c.is_told.ensures.is_tree cancel.scrolls cancel.cancelled in
+    sound_scrolled c.self.inside (record c.self.inside { tree = new; gesture = c.cancel_view.new.gesture; log = c.cancel_view.new.log }) c.self.invariant cancel.scrolls cancel.caught cancel.opened
+    (cancel.room ∙ c.clear.ensures.room) c.self.invariant.down (offsets_scrolled old new cancel.scrolls c.self.invariant.offsets)
+    (shows_alike c.self.inside.surface c.self.inside.damage.rect old new plain (scrolls_geometry old new cancel.scrolls) c.self.invariant.shows)
+
+pub returns-then-is_told-clause-plain : goal.returns-then-is_told-clause-plain
+returns-then-is_told-clause-plain c =
+    let cancel = c.cancel_view.ensures in
+    plain_cancelled c.self.inside.tree c.cancel_view.new.tree c.self.inside.gesture c.cancel_view.new.gesture c.clear.new.self c.cancel_view.new.log _ _ _ _ c.is_told.ensures.is_tree cancel.scrolls cancel.cancelled
+    ∙ ap (λ (w : KeyedScreen). plain_of w.views) c.self.view_is
 
 pub returns-then-is_told-clause-world : goal.returns-then-is_told-clause-world
 returns-then-is_told-clause-world c =

@@ -1,6 +1,13 @@
-use Rattle.std.proofs.Common.{◌≡◌, ◌+◌, ◌≤◌, ap, subst, ◌∙◌}
+use Rattle.std.proofs.Common.{◌≡◌, true, ◌+◌, ◌≤◌, inl, inr, ap, sym, subst, ◌∙◌}
 use Rattle.script_lines.specs.PlainCommands.{plain_command}
-use Rattle.view_world.proofs.MarkLaws.{bounded, leaves_all, marks_line, measures_same, unchanged_all, world_same}
+use Rattle.geom_core.specs.declared.geometry.Rect.{Rect}
+use Rattle.script_lines.specs.PlainCommands.{Frame, PlainCommand}
+use Rattle.view_world.proofs.WorthLaws.{after_framed, box_kept, done_reply, shows_after, watched_line, worth_frame, worth_other}
+use Rattle.view_world.specs.Counting.{FillsAlike}
+use Rattle.view_world.specs.Marked.{keyed}
+use Rattle.view_world.specs.Watched.{HasBox, IsWatched, IsWorth, box_after, costs_of, watched_after, watched_in}
+use Rattle.view_world.specs.declared.marks.Marks.{Marks}
+use Rattle.view_world.proofs.MarkLaws.{bounded, frame_or_not, leaves_all, marks_are, marks_line, measures_same, unchanged_all, world_same}
 use Rattle.view_world.specs.Asked.{LeavesUnasked}
 use Rattle.view_world.specs.Carried.{AreAtHand, IsDone, WritesReply}
 use Rattle.view_world.specs.Inflating.{asked_file}
@@ -11,7 +18,7 @@ use Rattle.std.specs.Prelude.{◌⊎◌, [], None, Some}
 use Rattle.geom_core.specs.declared.geometry.Size.{Size}
 use Rattle.view_world.specs.KeyedScreen.{window_of, world_of as world_on}
 use Rattle.view_world.specs.KeyedWorld.{KeyedWorld, world_of}
-use Rattle.view_world.specs.Marks.{effect_of, has_settled, marked, measure_bound}
+use Rattle.view_world.specs.Marks.{marks_after, measure_bound}
 use Rattle.view_world.specs.Resting.{CountsMeasures, LaysOut}
 use Rattle.view_world.specs.declared.world.World.TheInside.{Inside}
 use Rattle.view_world.proofs.world.World.line.Goals as goal
@@ -22,12 +29,13 @@ invariant_of-self g c =
     let new : Inside = record { screen = c.line-outcome.new.self; marks = c.marks_after-self-inside.result } in
     marks_line line c.line-outcome.result c.self.inside new c.args.work.now c.line-outcome.new.work
     (unchanged_all c.line-outcome.result c.self.inside.screen c.line-outcome.new.self c.args.sink.now c.line-outcome.new.sink c.line-outcome.ensures.unchanged)
-    (λ is. c.marks_after-self-inside.ensures.done is ∙ ap (λ effect. marked effect c.self.inside.marks c.has_settled.result) c.effect_of-effect.ensures
-    ∙ ap (marked (effect_of line) c.self.inside.marks) c.has_settled.ensures)
+    (λ is. c.marks_after-self-inside.ensures.done is
+    ∙ marks_are line c.effect_of-effect.result c.self.inside.marks c.self.inside.screen c.line-outcome.new.self c.has_settled-settled.result c.has_scrolled-scrolled.result c.effect_of-effect.ensures c.has_settled-settled.ensures
+    c.has_scrolled-scrolled.ensures (λ ne. c.line-outcome.ensures.keeps ne is))
     c.marks_after-self-inside.ensures.stays (λ ne is. c.line-outcome.ensures.keeps ne is) (λ e is. c.line-outcome.ensures.framed e is) c.self.invariant
 
 pub returns-clause-still : goal.returns-clause-still
-returns-clause-still g c frame shown = c.line-outcome.ensures.still frame (ap (λ (w : KeyedWorld). w.marks.shown) c.self.view_is ∙ shown)
+returns-clause-still g c frame idle = c.line-outcome.ensures.still frame (c.self.invariant.idle (ap (λ (w : KeyedWorld). w.marks.idle) c.self.view_is ∙ idle))
 
 pub returns-clause-unchanged : goal.returns-clause-unchanged
 returns-clause-unchanged g c =
@@ -38,9 +46,10 @@ returns-clause-unchanged g c =
 pub returns-clause-marks : goal.returns-clause-marks
 returns-clause-marks g c is =
     let line = plain_command c.args.command in
-    let same = ap (λ (w : KeyedWorld). w.marks) c.self.view_is in
-    c.marks_after-self-inside.ensures.done is ∙ ap (λ effect. marked effect c.self.inside.marks c.has_settled.result) c.effect_of-effect.ensures
-    ∙ ap (marked (effect_of line) c.self.inside.marks) c.has_settled.ensures ∙ ap (λ marks. marked (effect_of line) marks (has_settled (world_on c.line-outcome.new.self).stage)) same
+    subst (λ (w : KeyedWorld). c.marks_after-self-inside.result ≡ marks_after (world_of w) line (world_on c.line-outcome.new.self) w.marks) c.self.view_is
+    (c.marks_after-self-inside.ensures.done is
+    ∙ marks_are line c.effect_of-effect.result c.self.inside.marks c.self.inside.screen c.line-outcome.new.self c.has_settled-settled.result c.has_scrolled-scrolled.result c.effect_of-effect.ensures c.has_settled-settled.ensures
+    c.has_scrolled-scrolled.ensures (λ ne. c.line-outcome.ensures.keeps ne is))
 
 pub returns-clause-measured : goal.returns-clause-measured
 returns-clause-measured g c frame is =
@@ -85,3 +94,43 @@ returns-clause-silent g c =
 pub returns-clause-unasked : goal.returns-clause-unasked
 returns-clause-unasked g c =
     subst (λ (w : KeyedWorld). asked_file (world_of w) (plain_command c.args.command) ≡ None → c.line-outcome.new.shelf ≡ c.args.shelf.now) c.self.view_is c.line-outcome.ensures.unasked
+
+pub returns-clause-watched : goal.returns-clause-watched
+returns-clause-watched g c is box has =
+    let line = plain_command c.args.command in
+    let old = keyed c.self.inside in
+    let new : KeyedWorld = record { screen = c.line-outcome.new.self; marks = c.marks_after-self-inside.result } in
+    let ens = c.line-outcome.ensures in
+    let marks : new.marks ≡ marks_after (world_of old) line (world_of new) old.marks =
+    c.marks_after-self-inside.ensures.done is
+    ∙ marks_are line c.effect_of-effect.result c.self.inside.marks c.self.inside.screen c.line-outcome.new.self c.has_settled-settled.result c.has_scrolled-scrolled.result c.effect_of-effect.ensures c.has_settled-settled.ensures
+    c.has_scrolled-scrolled.ensures (λ ne. ens.keeps ne is) in
+    let shown = shows_after line old.screen new.screen c.args.work.now c.line-outcome.new.work (λ ne. ens.keeps ne is) (λ e. (ens.framed e is).paints) in
+    let held : HasBox old box = subst (λ (w : KeyedWorld). HasBox w box) (sym c.self.view_is) has in
+    let kept : HasBox new (box_after (world_of old) line (world_of new) old.marks.based box) = λ based.
+    box_kept line old.marks old.screen new.screen box (λ ne. ens.keeps ne is) (λ e settled. ((ens.framed e is).shows settled).clean) c.self.invariant.based held (subst (λ (m : Marks). m.based ≡ true) marks based) in
+    subst (λ (w : KeyedWorld). IsWatched new (watched_after (watched_in w box) line (world_of new))) c.self.view_is (watched_line line old new box marks shown kept)
+
+pub returns-clause-worth : goal.returns-clause-worth
+returns-clause-worth g c is box has =
+    let line = plain_command c.args.command in
+    let old = keyed c.self.inside in
+    let ens = c.line-outcome.ensures in
+    let before = c.args.work.now in
+    let after = c.line-outcome.new.work in
+    let held : HasBox old box = subst (λ (w : KeyedWorld). HasBox w box) (sym c.self.view_is) has in
+    subst (λ (w : KeyedWorld). IsWorth (costs_of (watched_in w box) line) before after) c.self.view_is (elim (frame_or_not line) [
+      | inl e ↦
+          let carried = subst (λ (line : PlainCommand). WritesReply (step [] (world_of old) line) (world_on c.line-outcome.new.self) (g.K.Sink.state c.args.sink.now) (g.K.Sink.state c.line-outcome.new.sink) c.line-outcome.result) e
+          (ens.carried [] (inr (ap (asked_file (world_of old)) e))) in
+          let reply = done_reply (step [] (world_of old) Frame) (world_on c.line-outcome.new.self) (g.K.Sink.state c.args.sink.now) (g.K.Sink.state c.line-outcome.new.sink) c.line-outcome.result carried is in
+          let framed = ens.framed e is in
+          subst (λ (line : PlainCommand). IsWorth (costs_of (watched_in old box) line) before after) (sym e)
+          (worth_frame old.screen c.line-outcome.new.self old.marks box before after (after_framed old.screen c.line-outcome.new.self reply.0 reply.1) framed c.self.invariant.based
+          (λ idle. ens.still e (c.self.invariant.idle idle)) held ens.painted (bounded old.marks old.screen c.line-outcome.new.self before after c.self.invariant.rest framed))
+      | inr ne ↦ worth_other (watched_in old box) line before after ne (ens.work ne)
+    ])
+
+pub returns-clause-filled : goal.returns-clause-filled
+returns-clause-filled g c frame is =
+    subst (λ (w : KeyedWorld). FillsAlike w.screen.surface.filled c.line-outcome.new.self.surface.filled c.args.work.now.painted c.line-outcome.new.work.painted) c.self.view_is (c.line-outcome.ensures.framed frame is).paints.filled

@@ -1,0 +1,8 @@
+-- Rectangles that lie in one another.
+use Rattle.std.specs.Prelude.{◌≡◌, ℤ, true}
+use Rattle.geom_core.specs.declared.geometry.Rect.{Rect}
+use Rattle.geom_core.specs.Rects.{holds}
+
+-- each point of the first rectangle lies in the second
+abbrev pub LiesIn : Rect → Rect → Type 0
+LiesIn inner outer = (x y : ℤ) → holds inner x y ≡ true → holds outer x y ≡ true

@@ -1,0 +1,6 @@
+//! What has to be painted anew: the bounding box of rectangles, in `bounding`. Nothing takes memory.
+#![tactic(auto)]
+
+mod bounding;
+
+pub use bounding::Damage;

@@ -1,0 +1,156 @@
+//! Edits of a tree, and what has to be painted anew after them.
+ghost use Rattle.std.specs.Prelude.{◌≡◌, ◌^◌, ◌<◌, ◌≢◌, pos, true, Err, OnErr, OnOk, Ok, None};
+ghost use Rattle.damage_rect.specs.Within.{LiesIn};
+ghost use Rattle.geom_core.specs.declared.geometry.Rect.{Rect};
+ghost use Rattle.kept_views.specs.Kept.{IsConsistent};
+ghost use Rattle.seen_edits.specs.Shown.{GrowsWithin, IsChange, KeepsShown, edited, is_unseen, act_is_unseen, seen_of};
+ghost use Rattle.tree_edits.specs.Applied.{AppliesEdit, IsEdit, MayWantMemory, numbered};
+ghost use Rattle.tree_edits.specs.Asking.{LeavesUnasked};
+ghost use Rattle.tree_edits.specs.Editing.{outcome_of_edit};
+ghost use Rattle.tree_edits.specs.Keeping.{KeepsViews};
+ghost use Rattle.tree_edits.specs.Scene.{scene_of};
+ghost use Rattle.view_model.specs.Geometry.{rect_at};
+ghost use Rattle.view_tree.specs.Views.{IsLive};
+
+use crate::trees::note_tree;
+use damage_rect::Damage;
+use geom_core::{Rect, Size};
+use seen_parts::seen;
+use std::alloc::Global;
+use tree_edits::{Edit, EditFault, apply};
+use view_model::{Act, Flag};
+use view_tree::{Key, ViewTree};
+
+/// Makes an edit by which no view comes or goes. What was seen of its view in the window, and what is seen of it after, is
+/// damage, unless the edit shows in no picture. A refused edit damages nothing.
+pub fn change(
+    alloc: Global,
+    tree: &mut ViewTree,
+    window: Size,
+    edit: Edit<'_>,
+    damage: &mut Damage,
+) -> Result<Option<u64>, EditFault>
+    requires edit { IsEdit tree.old edit }
+    requires leaves { IsChange edit }
+    ensures shown { KeepsShown window damage.old.rect damage.new.rect tree.old tree.new }
+    ensures within { GrowsWithin window (edited edit.entry) tree.old tree.new damage.old.rect damage.new.rect }
+    ensures unseen { is_unseen edit.entry ≡ true → damage.new ≡ damage.old }
+    ensures undamaged { OnErr result (damage.new ≡ damage.old) }
+    ensures applied { AppliesEdit (outcome_of_edit (scene_of tree.old) (numbered tree.old edit.entry)) (scene_of tree.new) result }
+    ensures kept { OnOk result (KeepsViews tree.old tree.new edit.entry) }
+    ensures unchanged { OnErr result (tree.new ≡ tree.old) }
+    ensures memory { result ≡ Err EditFault.NoMemory → MayWantMemory edit.entry }
+    ensures consistent { IsConsistent tree.old → IsConsistent tree.new }
+    ensures asked { LeavesUnasked tree.old tree.new edit.entry }
+    ensures measures { tree.new.counts.measures ≡ tree.old.counts.measures }
+{
+    note_tree(tree);
+    if is_unseen(&edit) {
+        let made = apply(alloc, tree, edit);
+        note_tree(tree);
+        return made;
+    }
+    let view = edited(&edit);
+    let before = seen(tree, window, view);
+    match apply(alloc, tree, edit) {
+        Ok(made) => {
+            note_tree(tree);
+            damage.add(before);
+            damage.add(seen(tree, window, view));
+            Ok(made)
+        }
+        Err(fault) => Err(fault),
+    }
+}
+
+/// The view that an edit changes.
+fn edited(edit: &Edit<'_>) -> Key
+    requires { IsChange edit.now }
+    ensures { result ≡ edited edit.now }
+{
+    match edit {
+        Edit::Act { view, .. } => *view,
+        Edit::Text { view, .. } => *view,
+        Edit::Add { .. } | Edit::Remove(_) => unreachable!(),
+    }
+}
+
+/// Whether an edit shows in no picture.
+fn is_unseen(edit: &Edit<'_>) -> bool
+    ensures { result ≡ is_unseen edit.now }
+{
+    match edit {
+        Edit::Act { act, .. } => act_is_unseen(*act),
+        Edit::Add { .. } | Edit::Remove(_) | Edit::Text { .. } => false,
+    }
+}
+
+/// Whether an act sets an id, or who gets events.
+fn act_is_unseen(act: Act) -> bool
+    ensures { result ≡ act_is_unseen act }
+{
+    match act {
+        Act::Flag { flag, .. } => matches!(flag, Flag::Split),
+        Act::Id(_) | Act::Answer(_) | Act::Intercept(_) => true,
+        Act::Change(_)
+        | Act::WeightSum(_)
+        | Act::Orient { .. }
+        | Act::Visible(_)
+        | Act::Ink(_)
+        | Act::Rule { .. }
+        | Act::Scroll(_) => false,
+    }
+}
+
+/// Takes a view and all below it away. What was seen of it in the window is damage.
+pub fn take(
+    alloc: Global,
+    tree: &mut ViewTree,
+    window: Size,
+    view: Key,
+    damage: &mut Damage,
+) -> Result<Option<u64>, EditFault>
+    requires { IsLive tree.old view }
+    ensures shown { KeepsShown window damage.old.rect damage.new.rect tree.old tree.new }
+    ensures within { (box : Rect) → LiesIn damage.old.rect box → LiesIn (seen_of window tree.old view) box → LiesIn damage.new.rect box }
+    ensures undamaged { OnErr result (damage.new ≡ damage.old) }
+    ensures applied { AppliesEdit (outcome_of_edit (scene_of tree.old) (numbered tree.old (Edit.Remove view))) (scene_of tree.new) result }
+    ensures kept { OnOk result (KeepsViews tree.old tree.new (Edit.Remove view)) }
+    ensures unchanged { OnErr result (tree.new ≡ tree.old) }
+    ensures memory { result ≢ Err EditFault.NoMemory }
+    ensures consistent { IsConsistent tree.old → IsConsistent tree.new }
+    ensures asked { LeavesUnasked tree.old tree.new (Edit.Remove view) }
+    ensures measures { tree.new.counts.measures ≡ tree.old.counts.measures }
+{
+    note_tree(tree);
+    let part = seen(tree, window, view);
+    match apply(alloc, tree, Edit::Remove(view)) {
+        Ok(made) => {
+            note_tree(tree);
+            damage.add(part);
+            Ok(made)
+        }
+        Err(refused) => Err(refused),
+    }
+}
+
+/// All of the window is damage.
+pub fn damage_all(damage: &mut Damage, window: Size)
+    ensures grew { LiesIn damage.old.rect damage.new.rect }
+    ensures whole { LiesIn (rect_at (pos 0) (pos 0) window) damage.new.rect }
+    ensures within { (box : Rect) → LiesIn damage.old.rect box → LiesIn (rect_at (pos 0) (pos 0) window) box → LiesIn damage.new.rect box }
+{
+    damage.add(whole(window));
+}
+
+/// The rectangle of a window of this size.
+fn whole(window: Size) -> Rect
+    ensures { result ≡ rect_at (pos 0) (pos 0) window }
+{
+    Rect {
+        left: 0,
+        top: 0,
+        right: window.w,
+        bottom: window.h,
+    }
+}

@@ -1,0 +1,11 @@
+//! What every tree keeps.
+ghost use Rattle.view_tree.specs.Views.{IsTree};
+
+use view_tree::ViewTree;
+
+/// Every tree is one. This is for contracts alone.
+pub fn note_tree(tree: &ViewTree)
+    ensures { IsTree tree.now }
+{
+    let _root = tree.root();
+}

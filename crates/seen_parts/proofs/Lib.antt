@@ -1,0 +1,9 @@
+pub mod ChangeLaws
+mod ClimbLaws
+pub mod MeetingLaws
+pub mod PartLaws
+pub mod PlacedLaws
+pub mod SeeingLaws
+pub mod SeenLaws
+pub mod SightLaws
+pub mod VisibleLaws

@@ -1,0 +1,21 @@
+use Rattle.std.proofs.Common.{◌≡◌, List, false, sym, ◌∙◌, ap}
+use Rattle.std.proofs.lemmas.Int.{to_z-of_z}
+use Rattle.touch_event.specs.declared.event.Action.{Action}
+use Rattle.touch_event.specs.declared.event.Point.{Point}
+use Rattle.view_world.specs.KeyedScreen.{KeyedScreen}
+use Rattle.view_world.specs.Pointers.{down_action, event_of, is_pressed, with_point}
+use Rattle.view_world.proofs.TouchLaws.{Changed-down}
+use Rattle.view_world.proofs.screen.Screen.down.Goals as goal
+
+pub returns-clause-changed : goal.returns-clause-changed
+returns-clause-changed c =
+    let now = c.args.self.now in
+    let point : Point = record { id = c.args.id; x = c.args.x; y = c.args.y } in
+    let held : c.self.inside.pointers.items ≡ now.pointers = ap (λ (w : KeyedScreen). w.pointers) c.self.view_is in
+    let pressed : is_pressed c.args.id now.pointers ≡ false = sym (sym c.if-is_pressed.false ∙ c.is_pressed.ensures ∙ ap (is_pressed c.args.id) (c.as_slice.ensures.value ∙ held)) in
+    let action : c.down_action-action.result ≡ down_action now.pointers = c.down_action-action.ensures ∙ ap down_action (c.as_slice-2.ensures.value ∙ held) in
+    let points = simp (to_z-of_z, c.ranges.x, c.ranges.y) at c.with_point-pointers.ensures.points in
+    Changed-down now c.hand.new.self point c.with_point-pointers.result.items c.event_of-event.result c.hand.result c.in_ok-touchable.ensures.1 pressed
+    (points ∙ ap (with_point point) (c.as_slice-3.ensures.value ∙ held))
+    (c.event_of-event.ensures ∙ ap (λ (action : Action). event_of action c.args.id c.as_slice-4.result.now) action ∙ ap (event_of (down_action now.pointers) c.args.id) c.as_slice-4.ensures.value)
+    c.hand.ensures.changed
