@@ -343,6 +343,10 @@ const SHOWN: &[u8] = b"v1\nv2\nv3\nv4\nv5\nv6\nv7\nv8\nv9\nv10\nv11\nv12\nsettle
     v11 0 0 100 48\nv12 100 0 200 48\n";
 
 /// The same as for blending, with a colour that changes, and then nothing.
+const RECOLORING: &[u8] =
+    b"window 4 3\nadd root FrameLayout match match\nbg v1 #ff0000ff\npadding v1 1 1 1 1\nadd v1 View 10 10\nmargins v2 -1 -1 0 0\nbg v2 #80ff0000\nframe\nbg v2 #ff00ff00\nframe\n";
+
+/// The same, and a frame after no change.
 const COLORING: &[u8] =
     b"window 4 3\nadd root FrameLayout match match\nbg v1 #ff0000ff\npadding v1 1 1 1 1\nadd v1 View 10 10\nmargins v2 -1 -1 0 0\nbg v2 #80ff0000\nframe\nbg v2 #ff00ff00\nframe\nframe\n";
 
@@ -422,15 +426,15 @@ fn ended(
     Ok((status, Vec::from_slice(alloc, sink.gone())?))
 }
 
-/// How often a script's run measures a view.
-fn measured(alloc: Global, script: &[u8]) -> Result<u64, AllocError> {
+/// What a script's run measures and paints.
+fn work_of(alloc: Global, script: &[u8]) -> Result<Work, AllocError> {
     let words = [String::from_str(alloc, "run")?];
     let mut source = MemorySource::new(Vec::from_slice(alloc, script)?, 4096, Vec::new(alloc));
     let mut shelf = MemoryShelf::new(Vec::new(alloc), Vec::new(alloc));
     let mut sink = MemorySink::new(alloc, 4096, Vec::new(alloc));
     let mut work = NO_WORK;
     tool(alloc, &words, &mut shelf, &mut source, &mut sink, &mut work);
-    Ok(work.measured)
+    Ok(work)
 }
 
 fn run_ended(
@@ -576,9 +580,29 @@ fn views_are_laid_out_again(rt: HostRuntime) -> Result<(), Fail> {
 fn measurings_are_counted(rt: HostRuntime) -> Result<(), Fail> {
     let alloc = rt.alloc();
     for count in &COUNTS {
-        let measured = measured(alloc, count.script)?;
+        let measured = work_of(alloc, count.script)?.measured;
         assert!(rt; count.least <= measured && measured <= count.most);
     }
+    Ok(())
+}
+
+#[test]
+fn what_changes_is_painted(rt: HostRuntime) -> Result<(), Fail> {
+    let alloc = rt.alloc();
+    // A window of 12 pixels with two views: black, and each view once or twice.
+    let first = work_of(alloc, BLENDING)?;
+    assert!(rt; 12 <= first.painted && first.painted <= 60);
+    // A view of which two pixels are seen gets another colour.
+    let second = work_of(alloc, RECOLORING)?;
+    assert_eq!(rt; second.measured, first.measured);
+    let more = second.painted.saturating_sub(first.painted);
+    assert!(rt; 2 <= more && more <= 10);
+    // A frame after no change.
+    let third = work_of(alloc, COLORING)?;
+    assert_eq!(rt;
+        (third.measured, third.painted),
+        (second.measured, second.painted)
+    );
     Ok(())
 }
 
