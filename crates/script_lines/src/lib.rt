@@ -36,4 +36,5 @@ pub use escapes::Unescaped;
 pub use fault::LineFault;
 pub use file_name::is_file_name;
 pub use naming::Name;
+pub use number::natural;
 pub use reading::line;

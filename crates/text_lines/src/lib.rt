@@ -7,4 +7,5 @@ mod digits;
 mod writing;
 
 pub use buffer::TextBuffer;
+pub use digits::hex_digits;
 pub use writing::{hex, number, put};

@@ -1,0 +1,2 @@
+mod LengthLaws
+mod MakerLaws
