@@ -22,9 +22,9 @@ case $1 in
 esac
 """
 SENTENCES = {3: "read", 4: "written", 5: "memory", 6: "file", 7: "16777216 bytes"}
-WRONG = [[], ["gen", "3"], ["Run"], ["run", "x"], ["dump"], ["dump", "../README.md"], ["dump", ".a"],
-         ["dump", "a" * 65], ["dump", "a", "b"], ["dump", "é"], ["dump", ""], ["--help", "x"],
-         ["explain"], ["explain", "x"]]
+WRONG = [[], ["gen"], ["gen", "0"], ["gen", "101"], ["gen", "01"], ["gen", "1", "2"], ["gen", "x"], ["Run"],
+         ["run", "x"], ["dump"], ["dump", "../README.md"], ["dump", ".a"], ["dump", "a" * 65], ["dump", "a", "b"],
+         ["dump", "é"], ["dump", ""], ["--help", "x"], ["explain"], ["explain", "x"]]
 
 
 class Ended:

@@ -1,3 +1,4 @@
+mod LoadLaws
 pub mod LongScriptLaws
 pub mod DumpLaws
 pub mod NameLaws

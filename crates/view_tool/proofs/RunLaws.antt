@@ -112,7 +112,7 @@ pub passed_line : (files : Files) (first now : Option (List ℕ)) (runner : Line
     → HasCarriedOut first now (record runner { lines = number }) (after_line files progress line)
 passed_line files first now runner progress line number passed counted at =
     let reply = passed_reply files progress.world line passed in
-    rw reply (record { lines = counted; world = at.world; refused = at.refused; gone = subst (Appends first now) (sym (append-nil progress.text)) at.gone })
+    rw reply (record { lines = counted; world = at.world; refused = at.refused; few = omega (arith, at.few); gone = subst (Appends first now) (sym (append-nil progress.text)) at.gone })
 
 -- a line that can be read is carried out
 pub taken_line : (files : Files) (world : World) (bytes : List ℕ) (command : PlainCommand) (result : Result PlainCommand LineFault) → is_passed_over bytes ≡ false → result ≡ command_of bytes → result ≡ Ok command
@@ -162,15 +162,16 @@ refused_prefix files first mid now runner lines line number refusal at refused c
     (prefix_of_second first mid now so_far.text (refused_line number refusal) at.gone part)
 
 -- a line was refused, and that was told
-pub refused_at : (files : Files) (first mid now : Option (List ℕ)) (runner : LineRunner) (world : KeyedWorld) (text : BufferedText) (progress : Progress) (line : Line) (number : ℕ) (refusal : PlainRefusal)
-    → HasCarriedOut first mid runner progress → world ≡ runner.world → reply_to_line files (world_of runner.world) line ≡ Refused refusal → number ≡ progress.lines + 1 → Appends mid now (refused_line number refusal)
-    → HasCarriedOut first now (record { world = world; lines = number; refused = true; text = text }) (after_line files progress line)
-refused_at files first mid now runner world text progress line number refusal at same refused counted plain_refusal =
+pub refused_at : (files : Files) (first mid now : Option (List ℕ)) (runner : LineRunner) (world : KeyedWorld) (text : BufferedText) (progress : Progress) (line : Line) (number count : ℕ) (refusal : PlainRefusal)
+    → HasCarriedOut first mid runner progress → world ≡ runner.world → reply_to_line files (world_of runner.world) line ≡ Refused refusal → number ≡ progress.lines + 1 → count ≡ progress.refused + 1
+    → Appends mid now (refused_line number refusal) → HasCarriedOut first now (record { world = world; lines = number; refused = count; text = text }) (after_line files progress line)
+refused_at files first mid now runner world text progress line number count refusal at same refused counted told plain_refusal =
     let reply : reply_to_line files progress.world line ≡ Refused refusal = ap (λ (w : World). reply_to_line files w line) (sym at.world) ∙ refused in
     rw reply (record {
       lines = counted;
       world = ap world_of same ∙ at.world;
-      refused = refl;
+      refused = told;
+      few = omega (arith, at.few);
       gone = appends_both first mid now progress.text (refused_line (progress.lines + 1) refusal) at.gone (subst (λ (n : ℕ). Appends mid now (refused_line n refusal)) counted plain_refusal);
     })
 

@@ -1,6 +1,6 @@
 -- What was taken of a script, and how its run ends.
 use Rattle.std.proofs.Common.{◌≡◌, ℕ, ◌+◌, ◌-◌, ◌<◌, ◌≤◌, length, take, drop, List, [], ◌++◌, refl, ap, sym, subst, ◌∙◌, arith, append_assoc, length-append, length-take}
-use Rattle.std.specs.Prelude.{Option, Some, None, Ok, Err}
+use Rattle.std.specs.Prelude.{nat_lt, Option, Some, None, Ok, Err}
 use Rattle.std.specs.Io.KnownBytes.{Appends, Consumes, IsAtEnd, Keeps}
 use Rattle.std.proofs.lemmas.List.{append-nil, take-append-drop, take-append-le}
 use Rattle.std.proofs.Math.Seq.{take-append-add}
@@ -122,10 +122,10 @@ ends_last files first last old new script taken stop told lost end short stops =
 
 -- the run came to the end of its script
 pub ends_well : (files : Files) (first last old new : Option (List ℕ)) (script taken : List ℕ) (runner : LineRunner) → old ≡ Some script → Consumes old new taken → IsAtEnd new → length taken ≤ max_script
-    → HasCarriedOut first last runner (after_lines files (lines_of taken)) → RunsTo files script new first last (Ok runner.refused)
+    → HasCarriedOut first last runner (after_lines files (lines_of taken)) → RunsTo files script new first last (Ok (nat_lt 0 runner.refused))
 ends_well files first last old new script taken runner told lost end short at =
     let all = taken_whole new script taken (subst (λ l. Consumes l new taken) told lost) end in (
       subst (λ (l : List ℕ). length l ≤ max_script) all short,
       subst (λ (l : List ℕ). Appends first last (after_lines files (lines_of l)).text) all at.gone,
-      at.refused ∙ ap (λ (l : List ℕ). (after_lines files (lines_of l)).refused) all,
+      ap (nat_lt 0) (at.refused ∙ ap (λ (l : List ℕ). (after_lines files (lines_of l)).refused) all),
     )

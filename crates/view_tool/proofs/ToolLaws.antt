@@ -1,6 +1,6 @@
 -- How a run ends with a status.
 use Rattle.std.proofs.Common.{◌≡◌, ℕ, ◌≤◌, cond, length, List, [], ◌∷◌, refl, ap, sym, subst, arith, inl, inr, ◌∙◌}
-use Rattle.std.specs.Prelude.{◌⊎◌, Bool, true, false, ◌==◌, if◌then◌else◌, Option, Result, Ok, Err}
+use Rattle.std.specs.Prelude.{◌⊎◌, nat_lt, Bool, true, false, ◌==◌, if◌then◌else◌, Option, Result, Ok, Err}
 use Rattle.std.specs.Io.KnownBytes.{Appends}
 use Rattle.std.specs.List.{list_any}
 use Rattle.std.proofs.lemmas.Bool.{cases_Bool}
@@ -34,7 +34,7 @@ not_ended status big (inr e) = omega arith
 
 -- a run that came to the end of its script
 ended_with : (files : Files) (script : List ℕ) (left first last : Option (List ℕ)) (status : ℕ) → status ≤ 1 → IsComplete status → length script ≤ max_script
-    → Appends first last (after_lines files (lines_of script)).text → status ≡ (if (after_lines files (lines_of script)).refused then 1 else 0) → RunsWith files script left first last status
+    → Appends first last (after_lines files (lines_of script)).text → status ≡ (if nat_lt 0 (after_lines files (lines_of script)).refused then 1 else 0) → RunsWith files script left first last status
 ended_with files script left first last status small ended short gone told =
     let text = subst (λ (l : List Line). Appends first last (after_lines files l).text) (sym (carried_short script short)) gone in
     record {

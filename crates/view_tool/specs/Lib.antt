@@ -1,4 +1,5 @@
 pub mod Dump
+pub mod Gen
 pub mod Names
 pub mod Refusals
 pub mod Run

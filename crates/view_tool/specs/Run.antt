@@ -33,6 +33,7 @@ pub record HasCarriedOut (first now : Option (List ℕ)) (runner : LineRunner) (
   pub lines : runner.lines ≡ progress.lines
   pub world : world_of runner.world ≡ progress.world
   pub refused : runner.refused ≡ progress.refused
+  pub few : progress.refused ≤ progress.lines
   pub gone : Appends first now progress.text
 
 -- what holds with the files that a shelf tells, if it tells them

@@ -1,5 +1,5 @@
 -- A script that is read in pieces while it is carried out.
-use Rattle.std.specs.Prelude.{◌≡◌, ℕ, ◌+◌, ◌<◌, ◌≤◌, Bool, List, [], ◌++◌, length, take, Option, Some, Result, Ok, Err, IfOk}
+use Rattle.std.specs.Prelude.{◌≡◌, ℕ, ◌+◌, ◌<◌, ◌≤◌, nat_lt, Bool, List, [], ◌++◌, length, take, Option, Some, Result, Ok, Err, IfOk}
 use Rattle.std.specs.Io.KnownBytes.{Appends, Consumes, IsAtEnd}
 use Rattle.script_lines.specs.Lines.{cut_of, lines_of}
 use Rattle.tool_io.specs.Counts.{raised}
@@ -43,7 +43,7 @@ pub record ReadsPiece (shelf : Option Files) (first : Option (List ℕ)) (before
 -- of the script.
 abbrev pub RunsTo : Files → List ℕ → Option (List ℕ) → Option (List ℕ) → Option (List ℕ) → Result Bool End → Type 0
 RunsTo files script left first last (Ok refused) =
-    (length script ≤ max_script) × Appends first last (after_lines files (lines_of script)).text × (refused ≡ (after_lines files (lines_of script)).refused)
+    (length script ≤ max_script) × Appends first last (after_lines files (lines_of script)).text × (refused ≡ nat_lt 0 (after_lines files (lines_of script)).refused)
 RunsTo files script left first last (Err ends.Source) = WritesTaken files script left first last
 RunsTo files script left first last (Err ends.Long) = (max_script < length script) × Appends first last (after_lines files (carried_lines script)).text
 RunsTo files script left first last (Err (ends.Stopped stop)) = StopsIn files first last (carried_lines script) stop

@@ -1,5 +1,5 @@
 -- What a call of the tool is and how it ends.
-use Rattle.std.specs.Prelude.{◌≡◌, ◌⊎◌, ℕ, ◌<◌, ◌≤◌, Bool, true, ◌==◌, if◌then◌else◌, List, length, Option, Some, Result, Ok, Err}
+use Rattle.std.specs.Prelude.{◌≡◌, ◌⊎◌, ℕ, ◌<◌, ◌≤◌, nat_lt, Bool, true, ◌==◌, if◌then◌else◌, List, length, Option, Some, Result, Ok, Err}
 use Rattle.std.specs.List.{list_any}
 use Rattle.std.specs.Io.KnownBytes.{Appends}
 use Rattle.script_lines.specs.Lines.{lines_of}
@@ -50,7 +50,7 @@ pub record Writes (status : ℕ) (old new : Option (List ℕ)) (text : List ℕ)
 -- how a run of a script ended with a status
 pub record RunsWith (files : Files) (script : List ℕ) (left first last : Option (List ℕ)) (status : ℕ) : Type 0 where
   pub writes : Writes status first last (after_lines files (carried_lines script)).text
-  pub ended : IsComplete status → (length script ≤ max_script) × (status ≡ (if (after_lines files (lines_of script)).refused then 1 else 0))
+  pub ended : IsComplete status → (length script ≤ max_script) × (status ≡ (if nat_lt 0 (after_lines files (lines_of script)).refused then 1 else 0))
   pub taken : status ≡ 3 → WritesTaken files script left first last
   pub no_memory : status ≡ 5 → StopsBefore files first last (carried_lines script)
   pub failed_fetch : status ≡ 6 → StopsAtFetch files first last (carried_lines script)

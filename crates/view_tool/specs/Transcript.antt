@@ -42,21 +42,21 @@ asked_by_line world (Text bytes) = if is_passed_over bytes then None else asked_
 abbrev pub Asks : World → Line → Type 0
 Asks world line = asked_by_line world line ≢ None
 
--- the lines so far: how many they are, the world they made, what was written for them, and whether one was refused
+-- the lines so far: how many they are, the world they made, what was written for them, and how many were refused
 pub record Progress : Type 0 where
   pub lines : ℕ
   pub world : World
   pub text : List ℕ
-  pub refused : Bool
+  pub refused : ℕ
 
 abbrev pub at_start : Progress
-at_start = record { lines = 0; world = empty_world; text = []; refused = false }
+at_start = record { lines = 0; world = empty_world; text = []; refused = 0 }
 
 -- a refused line leaves the world as it was
 abbrev pub after_reply : Progress → Reply → Progress
 after_reply progress (Done world text) = record { lines = progress.lines + 1; world = world; text = progress.text ++ text; refused = progress.refused }
 after_reply progress (Refused refusal) =
-    record { lines = progress.lines + 1; world = progress.world; text = progress.text ++ refused_line (progress.lines + 1) refusal; refused = true }
+    record { lines = progress.lines + 1; world = progress.world; text = progress.text ++ refused_line (progress.lines + 1) refusal; refused = progress.refused + 1 }
 
 abbrev pub after_line : Files → Progress → Line → Progress
 after_line files progress line = after_reply progress (reply_to_line files progress.world line)
@@ -71,7 +71,7 @@ transcript script files = (after_lines files (lines_of script)).text
 
 -- whether a line of the script is refused
 abbrev pub has_refusal : List ℕ → Files → Bool
-has_refusal script files = (after_lines files (lines_of script)).refused
+has_refusal script files = nat_lt 0 (after_lines files (lines_of script)).refused
 
 -- the most bytes that a script may have
 abbrev pub max_script : ℕ

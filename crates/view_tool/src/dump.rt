@@ -72,7 +72,7 @@ fn dump_bytes<K: Sink>(alloc: Global, bytes: &[u8], sink: &mut K) -> u8
 }
 
 /// The status where a text was delivered so; `done` where the whole of it was.
-fn status_of(done: u8, outcome: Result<(), Failed>) -> u8
+pub fn status_of(done: u8, outcome: Result<(), Failed>) -> u8
     ensures { result ≡ status_of_text done outcome }
 {
     match outcome {

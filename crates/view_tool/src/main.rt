@@ -8,6 +8,7 @@
 
 mod dump;
 mod file_replies;
+mod loading;
 mod names;
 mod refusals;
 mod run;

@@ -1,6 +1,6 @@
 //! A script that is carried out as its bytes come.
 
-ghost use Rattle.std.specs.Prelude.{◌≡◌, ◌⊎◌, ℕ, ◌+◌, ◌-◌, ◌*◌, ◌<◌, ◌≤◌, ◌^◌, min, false, List, ◌∷◌, [], ◌++◌, Option, Some, Err, OnOk, IfOk, IfErr, IfSome, length, take};
+ghost use Rattle.std.specs.Prelude.{nat_lt, ◌≡◌, ◌⊎◌, ℕ, ◌+◌, ◌-◌, ◌*◌, ◌<◌, ◌≤◌, ◌^◌, min, false, List, ◌∷◌, [], ◌++◌, Option, Some, Err, OnOk, IfOk, IfErr, IfSome, length, take};
 ghost use Rattle.script_lines.specs.LineBuffer.{IsLent, lines_at};
 ghost use Rattle.script_lines.specs.Lines.{Line, cut_of, lines_of, max_line};
 ghost use Rattle.tool_io.specs.Fetched.{Files};
@@ -34,8 +34,8 @@ pub struct LineRunner {
     world: World,
     /// How many lines were taken, those that are passed over too.
     lines: u64,
-    /// Whether a line was refused.
-    refused: bool,
+    /// How many of them were refused.
+    refused: u64,
     /// What gathers the texts that tell of refusals.
     text: TextBuffer,
 }
@@ -77,7 +77,7 @@ impl LineRunner {
         match carry_out(&mut self.world, alloc, line, shelf, sink, work) {
             Ok(()) => Ok(()),
             Err(StepFault::Refused(refusal)) => {
-                self.refused = true;
+                self.refused = self.refused.saturating_add(1);
                 match write_refusal(&mut self.text, sink, self.lines, &refusal) {
                     Ok(()) => Ok(()),
                     Err(_) => Err(Stop::Sink),
@@ -171,7 +171,7 @@ impl Run {
             runner: LineRunner {
                 world: World::new(alloc),
                 lines: 0,
-                refused: false,
+                refused: 0,
                 text: TextBuffer::new(),
             },
         }
@@ -179,9 +179,16 @@ impl Run {
 
     /// Whether a line was refused so far.
     pub fn refused(&self) -> bool
-        ensures { result ≡ self.now.runner.refused }
+        ensures { result ≡ nat_lt 0 self.now.runner.refused }
     {
-        self.runner.refused
+        self.runner.refused > 0
+    }
+
+    /// How many lines were taken so far, and how many of them were refused.
+    pub fn counts(&self) -> (u64, u64)
+        ensures { result ≡ (self.now.runner.lines, self.now.runner.refused) }
+    {
+        (self.runner.lines, self.runner.refused)
     }
 
     /// Takes the bytes of a piece up to its first line feed, or all of them, and carries out the line that they end.

@@ -9,9 +9,11 @@ ghost use Rattle.view_tool.specs.Run.{StopsAtFetch, StopsBefore};
 ghost use Rattle.view_tool.specs.Script.{WritesTaken};
 ghost use Rattle.view_tool.specs.Tool.{IsComplete, IsDumpOf, IsOneOf, IsRunOf, RunsWith, Writes, status_of};
 ghost use Rattle.view_tool.specs.Transcript.{carried_lines, cut_transcript, has_refusal, max_script, transcript};
-ghost use Rattle.view_tool.specs.Usage.{Run, Dump, Unknown, usage};
+ghost use Rattle.view_tool.specs.Gen.{gen_page};
+ghost use Rattle.view_tool.specs.Usage.{Run, Dump, Gen, Unknown, usage};
 
 use crate::dump::dump;
+use crate::loading::run_load;
 use crate::run::Stop;
 use crate::script::{End, run_source};
 use crate::status::{
@@ -136,10 +138,22 @@ pub fn tool<S: Source, K: Sink, F: Shelf>(
     ensures painted_later { work.old.painted ≤ work.new.painted }
     ensures measured_later { min work.old.measured (2 ^ 64 - 1) ≤ work.new.measured }
     ensures dump_measures_nothing { (name : List ℕ) → usage words.now ≡ Dump name → work.new ≡ work.old }
+
+    // The load of a size, in a world of its own: what came of it. Neither the source nor the shelf is asked.
+    ensures load { (n : ℕ) → usage words.now ≡ Gen n → Writes result (K.state sink.old).gone (K.state sink.new).gone (gen_page n) }
+    ensures gen_accepts { (n : ℕ) → usage words.now ≡ Gen n → IsComplete result → result ≡ 0 }
+    ensures gen_alone { (n : ℕ) → usage words.now ≡ Gen n → (source.new ≡ source.old) × (shelf.new ≡ shelf.old) }
+    ensures gen_no_memory { (n : ℕ) → usage words.now ≡ Gen n → result ≡ 5 → sink.new ≡ sink.old }
+    ensures gen_statuses { (n : ℕ) → usage words.now ≡ Gen n → IsOneOf result (0 ∷ 4 ∷ 5 ∷ []) }
+    ensures gen_complete { (n : ℕ)
+        → usage words.now ≡ Gen n
+        → (Rose (K.state sink.old).faults (K.state sink.new).faults → ⊥)
+        → (result ≡ 0) ⊎ (result ≡ 5) }
 {
     match form_of(words) {
         Some(Form::Run) => run(alloc, shelf, source, sink, work),
         Some(Form::Dump(name)) => dump(alloc, name, shelf, sink),
+        Some(Form::Gen(n)) => run_load(alloc, n, sink, work),
         None => USAGE,
     }
 }

@@ -1,7 +1,8 @@
-use Rattle.std.proofs.Common.{List, subst, arith}
+use Rattle.std.proofs.Common.{◌≡◌, List, subst, arith, ◌∙◌}
 use Rattle.std.specs.Io.KnownBytes.{Appends}
 use Rattle.script_lines.specs.Lines.{Line}
 use Rattle.view_tool.specs.Tool.{Writes}
+use Rattle.view_tool.specs.Usage.{Run, Unknown}
 use Rattle.view_tool.specs.Transcript.{after_lines}
 use Rattle.view_tool.proofs.LongScriptLaws.{carried_long, carried_short}
 use Rattle.view_tool.proofs.tool.tool.Goals as goal
@@ -33,3 +34,9 @@ returns-in-Some-Run-clause-complete g c = λ script files run short no_read no_w
     (λ e. no_write (let failed = rw e at c.run.ensures.sink_failed in omega (arith, failed)))
     (λ e. no_fetch (let failed = rw e at c.run.ensures.shelf_failed (λ five. omega (arith, five)) in omega (arith, failed)))
     (λ e. (let long = (runs.long e).0 in omega (arith, short, long)))
+
+pub returns-in-None-clause-long : goal.returns-in-None-clause-long
+returns-in-None-clause-long g c = λ script files run long.
+    let none = rw c.in-None.is at c.form_of.ensures.form in
+    let clash : Unknown ≡ Run = none ∙ run.words in
+    absurd (cc)

@@ -18,8 +18,8 @@ returns-in-Ok-write_refusal-clause-done g c files first progress told short at =
     let told_of =
     subst (λ (gone : Option (List ℕ)). Appends gone (g.K.Sink.state c.write_refusal.new.sink).gone (refused_line c.saturating_add-self.result (plain_refusal refusal)))
     (ap (λ sink. (g.K.Sink.state sink).gone) same.1) c.in-Ok-write_refusal.ensures.whole in
-    refused_at files first (g.K.Sink.state c.args.sink.now).gone _ c.args.self.now c.carry_out.new.world c.write_refusal.new.reply progress (line_now c.args.line) c.saturating_add-self.result (plain_refusal refusal) at
-    same.0 (carried_refused _ _ _ _ c.in-Err-Refused.field-0 refusal c.in-Err-Refused.field-0-is (c.in-Err-Refused.ensures.carried files told)) (omega (arith, c.saturating_add-self.ensures, at.lines, short)) told_of
+    refused_at files first (g.K.Sink.state c.args.sink.now).gone _ c.args.self.now c.carry_out.new.world c.write_refusal.new.reply progress (line_now c.args.line) c.saturating_add-self.result c.saturating_add-self-in-Err-Refused.result (plain_refusal refusal) at
+    same.0 (carried_refused _ _ _ _ c.in-Err-Refused.field-0 refusal c.in-Err-Refused.field-0-is (c.in-Err-Refused.ensures.carried files told)) (omega (arith, c.saturating_add-self.ensures, at.lines, short)) (omega (arith, c.saturating_add-self-in-Err-Refused.ensures, at.refused, at.few, short)) told_of
 
 pub returns-in-Err-NoMemory-clause-done : goal.returns-in-Err-NoMemory-clause-done
 returns-in-Err-NoMemory-clause-done g c files first progress told short at = tt
