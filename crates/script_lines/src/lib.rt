@@ -35,6 +35,6 @@ pub use cutting::{Ended, LinePlace, Lines, passes_over};
 pub use escapes::Unescaped;
 pub use fault::LineFault;
 pub use file_name::is_file_name;
-pub use naming::Name;
+pub use naming::{Name, hex};
 pub use number::natural;
 pub use reading::line;
