@@ -24,7 +24,9 @@ esac
 SENTENCES = {3: "read", 4: "written", 5: "memory", 6: "file", 7: "16777216 bytes"}
 WRONG = [[], ["gen"], ["gen", "0"], ["gen", "101"], ["gen", "01"], ["gen", "1", "2"], ["gen", "x"], ["Run"],
          ["run", "x"], ["dump"], ["dump", "../README.md"], ["dump", ".a"], ["dump", "a" * 65], ["dump", "a", "b"],
-         ["dump", "é"], ["dump", ""], ["--help", "x"], ["explain"], ["explain", "x"]]
+         ["dump", "é"], ["dump", ""], ["lookup"], ["lookup", "a"], ["lookup", "a", "7f05000"], ["lookup", "a", "7f05000g"],
+         ["lookup", "a", "7f0500000"], ["lookup", ".a", "7f050000"], ["lookup", "a", *["7f050000"] * 65],
+         ["lookup", "a", "7f050000", ""], ["--help", "x"], ["explain"], ["explain", "x"]]
 
 
 class Ended:
@@ -100,8 +102,8 @@ def refusals():
         names = re.findall(r'^    b"(\w*)",$', file.read(), re.M)
     with open(os.path.join(TOP, "crates/view_model/src/refusals.rt")) as file:
         numbers = re.findall(r"^pub const \w+: u8 = (\d+);$", file.read(), re.M)
-    # a file's faults are the first eleven
-    return {(str(number), names[number]) for number in [*range(1, 12), *map(int, numbers)]}
+    # a file's faults are the first eleven, and that of a file that is no table the last
+    return {(str(number), names[number]) for number in [*range(1, 12), *map(int, numbers), len(names) - 1]}
 
 
 def explains():

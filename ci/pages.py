@@ -5,6 +5,7 @@ A block stands between two lines of three backticks, the first of which names it
     script, then answer      a script, and what `./vindaesk run` writes over it
     command, then answer     shell commands at the top of the repository, and what they write
     hex, then answer         the bytes of a layout file, and what `dump` writes of it; what follows a # is a remark
+    table ID .., then answer the same of a resource table, and what `lookup` writes of these ids
     dialogue                 the lines of a script, each with its replies after an arrow, further replies on lines of
                              their own: what the script writes up to each line is what stands up to there
     source NAME              the source of the layout file NAME of examples/: `dump` has its elements and attributes
@@ -57,11 +58,25 @@ def command(lines, answer, status):
     return difference(answer, status, *run(["bash", "-c", "\n".join(lines)], b"", TOP))
 
 
-def layout_file(lines, answer, status):
+def bytes_of(lines):
+    """The bytes of lines with remarks; `00*9` stands for nine bytes 00."""
+    words = " ".join(line.partition("#")[0] for line in lines).split()
+    return b"".join(bytes.fromhex(digits) * int(count or 1) for digits, _, count in (it.partition("*") for it in words))
+
+
+def over_file(form, name, ids, lines, answer, status):
     with tempfile.TemporaryDirectory() as folder:
-        with open(os.path.join(folder, "file.xml"), "wb") as file:
-            file.write(bytes.fromhex(" ".join(line.partition("#")[0] for line in lines)))
-        return difference(answer, status, *run([PROGRAM, "dump", "file.xml"], b"", folder))
+        with open(os.path.join(folder, name), "wb") as file:
+            file.write(bytes_of(lines))
+        return difference(answer, status, *run([PROGRAM, form, name, *ids], b"", folder))
+
+
+def layout_file(lines, answer, status):
+    return over_file("dump", "file.xml", [], lines, answer, status)
+
+
+def table(ids, lines, answer, status):
+    return over_file("lookup", "file.arsc", ids, lines, answer, status)
 
 
 def compiled(value):
@@ -142,6 +157,9 @@ def checks_of(page):
             yield page, number, partial(dialogue, lines, status_of(words))
         elif form == "source" and len(words) == 2:
             yield page, number, partial(source, lines, words[1])
+        elif form == "table" and next_words[:1] == ["answer"]:
+            is_answered = True
+            yield page, number, partial(table, words[1:], lines, text(next_lines), status_of(next_words))
         elif form in FORMS and next_words[:1] == ["answer"]:
             is_answered = True
             yield page, number, partial(FORMS[form], lines, text(next_lines), status_of(next_words))

@@ -1,4 +1,5 @@
 mod LoadLaws
+mod LookupLaws
 pub mod LongScriptLaws
 pub mod DumpLaws
 pub mod NameLaws

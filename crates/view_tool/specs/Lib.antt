@@ -1,5 +1,6 @@
 pub mod Dump
 pub mod Gen
+pub mod Lookup
 pub mod Names
 pub mod Refusals
 pub mod Run

@@ -5,15 +5,17 @@ ghost use Rattle.std.specs.Io.KnownBytes.{Appends, Consumes, IsAtEnd};
 ghost use Rattle.tool_io.specs.Counts.{Rose, raised};
 ghost use Rattle.tool_io.specs.Fetched.{Files};
 ghost use Rattle.view_tool.specs.Dump.{dump_page, refuses_file};
+ghost use Rattle.view_tool.specs.Gen.{gen_page};
+ghost use Rattle.view_tool.specs.Lookup.{lookup_page, refuses_table};
 ghost use Rattle.view_tool.specs.Run.{StopsAtFetch, StopsBefore};
 ghost use Rattle.view_tool.specs.Script.{WritesTaken};
-ghost use Rattle.view_tool.specs.Tool.{IsComplete, IsDumpOf, IsOneOf, IsRunOf, RunsWith, Writes, status_of};
+ghost use Rattle.view_tool.specs.Tool.{IsComplete, IsDumpOf, IsLookupOf, IsOneOf, IsRunOf, RunsWith, Writes, status_of};
 ghost use Rattle.view_tool.specs.Transcript.{carried_lines, cut_transcript, has_refusal, max_script, transcript};
-ghost use Rattle.view_tool.specs.Gen.{gen_page};
-ghost use Rattle.view_tool.specs.Usage.{Run, Dump, Gen, Unknown, usage};
+ghost use Rattle.view_tool.specs.Usage.{Run, Dump, Gen, Lookup, Unknown, usage};
 
 use crate::dump::dump;
 use crate::loading::run_load;
+use crate::lookup::lookup;
 use crate::run::Stop;
 use crate::script::{End, run_source};
 use crate::status::{
@@ -149,11 +151,37 @@ pub fn tool<S: Source, K: Sink, F: Shelf>(
         → usage words.now ≡ Gen n
         → (Rose (K.state sink.old).faults (K.state sink.new).faults → ⊥)
         → (result ≡ 0) ⊎ (result ≡ 5) }
+
+    // What resources hold in a compiled table: a line an id, or why the file is refused. The source is not asked, and
+    // nothing is measured or painted.
+    ensures lookup { (name ids : List ℕ) (files : Files)
+        → IsLookupOf (usage words.now) (F.files shelf.old) name ids files
+        → Writes result (K.state sink.old).gone (K.state sink.new).gone (lookup_page files name ids) }
+    ensures lookup_refused { (name ids : List ℕ) (files : Files)
+        → IsLookupOf (usage words.now) (F.files shelf.old) name ids files
+        → IsComplete result
+        → result ≡ (if refuses_table files name then 1 else 0) }
+    ensures lookup_alone { (name ids : List ℕ)
+        → usage words.now ≡ Lookup name ids
+        → (source.new ≡ source.old) × (work.new ≡ work.old) }
+    ensures lookup_stops { (name ids : List ℕ)
+        → usage words.now ≡ Lookup name ids
+        → (result ≡ 5) ⊎ (result ≡ 6)
+        → sink.new ≡ sink.old }
+    ensures lookup_statuses { (name ids : List ℕ)
+        → usage words.now ≡ Lookup name ids
+        → IsOneOf result (0 ∷ 1 ∷ 4 ∷ 5 ∷ 6 ∷ []) }
+    ensures lookup_complete { (name ids : List ℕ)
+        → usage words.now ≡ Lookup name ids
+        → (Rose (K.state sink.old).faults (K.state sink.new).faults → ⊥)
+        → (Rose (F.faults shelf.old) (F.faults shelf.new) → ⊥)
+        → IsComplete result ⊎ (result ≡ 5) }
 {
     match form_of(words) {
         Some(Form::Run) => run(alloc, shelf, source, sink, work),
         Some(Form::Dump(name)) => dump(alloc, name, shelf, sink),
         Some(Form::Gen(n)) => run_load(alloc, n, sink, work),
+        Some(Form::Lookup { name, ids }) => lookup(alloc, name, ids, shelf, sink),
         None => USAGE,
     }
 }
