@@ -1,5 +1,7 @@
--- The picture that a surface stands for.
-use Rattle.pixel_raster.specs.Raster.{Raster}
+-- The picture that a surface stands for, and what a surface keeps.
+use Rattle.std.specs.Prelude.{◌≡◌, IfSome}
+use Rattle.pixel_raster.specs.Bytes.{digest_of}
+use Rattle.pixel_raster.specs.Raster.{IsRaster, Raster}
 use Rattle.pixel_raster.specs.declared.surface.Surface.TheInside.{Inside}
 
 abbrev pub raster_of : Inside → Raster
@@ -9,3 +11,8 @@ raster_of surface = record {
   pixels = surface.pixels.items;
   filled = surface.filled;
 }
+
+-- a picture, and its digest where that is kept
+pub record IsSurface (surface : Inside) : Type 0 where
+  pub raster : IsRaster (raster_of surface)
+  pub digest : IfSome surface.digest (λ digest. digest ≡ digest_of surface.pixels.items)

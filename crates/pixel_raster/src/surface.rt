@@ -21,18 +21,20 @@ pub struct Surface {
     /// Row by row, from the top.
     pixels: Vec<Argb>,
     filled: u64,
+    /// The digest of the pixels, where it was taken since the last of them was painted.
+    digest: Option<[u8; 32]>,
 }
 
 impl Model for Surface {
-    ghost use Rattle.pixel_raster.specs.Raster.{IsRaster, Raster};
+    ghost use Rattle.pixel_raster.specs.Raster.{Raster};
 
     ghost Value = { Raster };
 
-    ghost use Rattle.pixel_raster.specs.Surfaces.{raster_of};
+    ghost use Rattle.pixel_raster.specs.Surfaces.{IsSurface, raster_of};
 
     ghost view = { raster_of };
 
-    ghost invariant = { λ s. IsRaster (raster_of s) };
+    ghost invariant = { IsSurface };
 }
 
 impl Surface {
@@ -49,6 +51,7 @@ impl Surface {
             height,
             pixels,
             filled: 0,
+            digest: None,
         })
     }
 
@@ -61,6 +64,7 @@ impl Surface {
             height: 0,
             pixels: Vec::new(alloc),
             filled: 0,
+            digest: None,
         }
     }
 
@@ -93,6 +97,7 @@ impl Surface {
         if color.alpha() == 0 {
             return;
         }
+        self.digest = None;
         fill_rows(&mut self.pixels, self.width, cut, color);
     }
 
@@ -130,10 +135,21 @@ impl Surface {
         from_zero(y) * self.width + from_zero(x)
     }
 
-    /// The SHA-256 of the red, green and blue of each pixel, row by row from the top.
+    /// The SHA-256 of the red, green and blue of each pixel, row by row from the top. It is computed only where pixels were
+    /// painted since it was kept.
     pub fn digest(&self) -> [u8; 32]
         ensures { result ≡ digest_of self.now.pixels }
     {
-        digest_of(&self.pixels)
+        match self.digest {
+            Some(digest) => digest,
+            None => digest_of(&self.pixels),
+        }
+    }
+
+    /// Keeps the digest until a pixel is painted.
+    pub fn keep_digest(&mut self)
+        ensures { self.new ≡ self.old }
+    {
+        self.digest = Some(self.digest());
     }
 }

@@ -27,7 +27,7 @@ returns-then-alpha-eq0-clause-fills c = rw (← c.self.view_is) (record {
   colors = λ x y column row.
       stays (holds c.args.rect (pos x) (pos y)) c.args.color (pixel_at c.self.inside.width c.self.inside.pixels.items x y)
       (blend_of-clear c.args.color (pixel_at c.self.inside.width c.self.inside.pixels.items x y) (sym c.alpha.ensures ∙ c.if-alpha-eq0.true)
-      (c.self.invariant.opaque (y * c.self.inside.width + x)));
+      (c.self.invariant.raster.opaque (y * c.self.inside.width + x)));
   filled = search rules;
   grew = omega arith;
 })
