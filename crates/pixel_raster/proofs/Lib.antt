@@ -1,6 +1,7 @@
 mod BlackLaws
 mod CutLaws
 mod Examples
+mod MixLaws
 pub mod PictureLaws
 mod PieceLaws
 mod RowLaws

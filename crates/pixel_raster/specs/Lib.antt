@@ -1,4 +1,5 @@
 pub mod Bytes
 pub mod Cuts
 pub mod Raster
+pub mod Shares
 pub mod Surfaces

@@ -1,5 +1,6 @@
 -- The picture that a surface stands for, and what a surface keeps.
-use Rattle.std.specs.Prelude.{◌≡◌, IfSome}
+use Rattle.std.specs.Prelude.{◌≡◌, ◌*◌, IfSome, replicate, true}
+use Rattle.geom_core.specs.declared.color.TheConstants.{BLACK}
 use Rattle.pixel_raster.specs.Bytes.{digest_of}
 use Rattle.pixel_raster.specs.Raster.{IsRaster, Raster}
 use Rattle.pixel_raster.specs.declared.surface.Surface.TheInside.{Inside}
@@ -12,7 +13,8 @@ raster_of surface = record {
   filled = surface.filled;
 }
 
--- a picture, and its digest where that is kept
+-- a picture, its digest where that is kept, and whether no pixel was painted since all were made black
 pub record IsSurface (surface : Inside) : Type 0 where
   pub raster : IsRaster (raster_of surface)
   pub digest : IfSome surface.digest (λ digest. digest ≡ digest_of surface.pixels.items)
+  pub black : surface.black ≡ true → surface.pixels.items ≡ replicate (surface.width * surface.height) BLACK

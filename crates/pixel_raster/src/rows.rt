@@ -1,11 +1,26 @@
 //! How a colour comes over the rows of a part of a picture.
-ghost use Rattle.std.specs.Prelude.{◌≡◌, ◌<◌, ◌≤◌, ◌*◌, ℕ, length, map, if◌then◌else◌};
+ghost use Rattle.std.specs.Prelude.{◌≡◌, ◌<◌, ◌≤◌, ◌*◌, ℕ, IsOk, OnErr, OnOk, length, map, replicate, if◌then◌else◌};
+ghost use Rattle.geom_core.specs.declared.color.TheConstants.{BLACK};
 ghost use Rattle.geom_core.specs.Color.{blend_of};
 ghost use Rattle.pixel_raster.specs.Cuts.{has_pixel};
 ghost use Rattle.pixel_raster.specs.Raster.{AllOpaque, pixel_at};
 
+use crate::blending::blend;
 use crate::cut::Cut;
-use geom_core::{Argb, blend};
+use geom_core::{Argb, BLACK};
+use std::alloc::AllocError;
+
+/// Makes this many black pixels of what is there. It takes memory only where there are more of them than before.
+pub fn cover_black(pixels: &mut Vec<Argb>, count: usize) -> Result<(), AllocError>
+    ensures black { OnOk result (pixels.new.items ≡ replicate count BLACK) }
+    ensures unchanged { OnErr result (pixels.new.items ≡ pixels.old.items) }
+    ensures fits { count ≤ length pixels.old.items → IsOk result }
+{
+    pixels.reserve_exact(count.saturating_sub(pixels.len()))?;
+    pixels.clear();
+    let _fits = pixels.resize(count, BLACK);
+    Ok(())
+}
 
 /// Puts a colour in the place of each pixel of a run.
 fn cover_run(run: &mut [Argb], color: Argb)

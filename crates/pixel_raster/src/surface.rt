@@ -1,12 +1,13 @@
 //! A picture in memory.
-ghost use Rattle.std.specs.Prelude.{◌≡◌, ◌<◌, ◌≤◌, ◌+◌, ◌-◌, ◌*◌, ◌^◌, IfOk, length, min};
+ghost use Rattle.std.specs.Prelude.{◌≡◌, ◌<◌, ◌≤◌, ◌+◌, ◌-◌, ◌*◌, ◌^◌, IfOk, IsOk, OnErr, OnOk, length, min, replicate, true};
+ghost use Rattle.geom_core.specs.declared.color.TheConstants.{BLACK};
 ghost use Rattle.pixel_raster.specs.Bytes.{digest_of};
 ghost use Rattle.pixel_raster.specs.Cuts.{area_within, from_zero};
 ghost use Rattle.pixel_raster.specs.Raster.{Fills, IsInside, IsRaster, black_raster, color_at, empty_raster, size_of};
 
 use crate::cut::{Cut, from_zero};
 use crate::digest::digest_of;
-use crate::rows::fill_rows;
+use crate::rows::{cover_black, fill_rows};
 use geom_core::{Argb, BLACK, Rect, Size};
 use std::alloc::{AllocError, Global};
 use std::marker::Model;
@@ -23,6 +24,8 @@ pub struct Surface {
     filled: u64,
     /// The digest of the pixels, where it was taken since the last of them was painted.
     digest: Option<[u8; 32]>,
+    /// Set where no pixel was painted since all were made black.
+    black: bool,
 }
 
 impl Model for Surface {
@@ -43,16 +46,9 @@ impl Surface {
         ensures value { IfOk result (λ s. s ≡ black_raster size) }
         ensures raster { IfOk result IsRaster }
     {
-        let width = from_zero(size.w);
-        let height = from_zero(size.h);
-        let pixels = vec![in alloc; BLACK; width * height]?;
-        Ok(Surface {
-            width,
-            height,
-            pixels,
-            filled: 0,
-            digest: None,
-        })
+        let mut surface = Surface::empty(alloc);
+        surface.reset(size)?;
+        Ok(surface)
     }
 
     /// A picture without a pixel, for a window that is not there yet.
@@ -65,7 +61,36 @@ impl Surface {
             pixels: Vec::new(alloc),
             filled: 0,
             digest: None,
+            black: true,
         }
+    }
+
+    /// Makes the picture black again, as a new one of this size is. It takes memory only where there are more pixels than
+    /// before, and no time where they are as many and still black.
+    pub fn reset(&mut self, size: Size) -> Result<(), AllocError>
+        ensures value { OnOk result (self.new ≡ black_raster size) }
+        ensures unchanged { OnErr result (self.new ≡ self.old) }
+        ensures fits { from_zero size.w * from_zero size.h ≤ length self.old.pixels → IsOk result }
+        ensures raster { IsRaster self.new }
+    {
+        let width = from_zero(size.w);
+        let height = from_zero(size.h);
+        if !self.is_black(width * height) {
+            cover_black(&mut self.pixels, width * height)?;
+            self.digest = None;
+            self.black = true;
+        }
+        self.width = width;
+        self.height = height;
+        self.filled = 0;
+        Ok(())
+    }
+
+    /// Whether there are this many pixels, and none was painted since all were made black.
+    fn is_black(&self, count: usize) -> bool
+        ensures { result ≡ true → self.now.pixels ≡ replicate count BLACK }
+    {
+        self.black && self.pixels.len() == count
     }
 
     /// The size of the window whose picture it is, in pixels.
@@ -98,6 +123,7 @@ impl Surface {
             return;
         }
         self.digest = None;
+        self.black = false;
         fill_rows(&mut self.pixels, self.width, cut, color);
     }
 
