@@ -6,4 +6,5 @@ pub mod PictureLaws
 mod PieceLaws
 mod RowLaws
 mod RunLaws
+pub mod StripLaws
 mod TestLaws

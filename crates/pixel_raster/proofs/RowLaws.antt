@@ -25,7 +25,7 @@ column_is : (width left right x y z : ℕ) → y ≡ z → z * width + left ≤ 
 column_is width left right x y z is low high = let rows : y * width ≡ z * width = ap (λ (n : ℕ). n * width) is in (omega arith, omega arith)
 
 -- a pixel lies in a run of row `z` where its row is that one and its column lies between the edges
-place_in_run : (width left right x y z : ℕ) → right ≤ width → x < width
+pub place_in_run : (width left right x y z : ℕ) → right ≤ width → x < width
     → is_between (z * width + left) (z * width + right) (y * width + x) ≡ (is_between left right x && is_between z (z + 1) y)
 place_in_run width left right x y z fits column =
     same_test _ _
@@ -51,10 +51,10 @@ one_row_more f true false true next start old new apart is e g = rw is (g ∙ ap
 one_row_more f true false false next start old new apart is e g = rw is (g ∙ e)
 one_row_more f false was now next start old new apart is e g = g ∙ e
 
-rows_more : (top z y : ℕ) → top ≤ z → is_between top (z + 1) y ≡ (is_between top z y || is_between z (z + 1) y)
+pub rows_more : (top z y : ℕ) → top ≤ z → is_between top (z + 1) y ≡ (is_between top z y || is_between z (z + 1) y)
 rows_more top z y le = grind (arith, nat_tests)
 
-rows_apart : (top z y : ℕ) → is_between z (z + 1) y ≡ true → is_between top z y ≡ false
+pub rows_apart : (top z y : ℕ) → is_between z (z + 1) y ≡ true → is_between top z y ≡ false
 rows_apart top z y is = let at = between_from z (z + 1) y is in grind (arith, nat_tests)
 
 pub pixel_at-next_row : (f : Argb → Argb) (start now : List Argb) (width left right top z x y : ℕ)

@@ -2,4 +2,5 @@ pub mod Bytes
 pub mod Cuts
 pub mod Raster
 pub mod Shares
+pub mod Strips
 pub mod Surfaces

@@ -4,10 +4,12 @@ ghost use Rattle.geom_core.specs.declared.color.TheConstants.{BLACK};
 ghost use Rattle.pixel_raster.specs.Bytes.{digest_of};
 ghost use Rattle.pixel_raster.specs.Cuts.{area_within, from_zero};
 ghost use Rattle.pixel_raster.specs.Raster.{Fills, IsInside, IsRaster, black_raster, color_at, empty_raster, size_of};
+ghost use Rattle.pixel_raster.specs.Strips.{InksStrip, set_bits};
 
 use crate::cut::{Cut, from_zero};
 use crate::digest::digest_of;
 use crate::rows::{cover_black, fill_rows};
+use crate::strip::{Strip, ink_strip};
 use geom_core::{Argb, BLACK, Rect, Size};
 use std::alloc::{AllocError, Global};
 use std::marker::Model;
@@ -104,6 +106,22 @@ impl Surface {
         }
     }
 
+    /// How many columns of pixels there are.
+    pub fn columns(&self) -> usize
+        ensures value { result ≡ self.now.width }
+        ensures bound { result < 2 ^ 31 }
+    {
+        self.width
+    }
+
+    /// How many rows of pixels there are.
+    pub fn rows(&self) -> usize
+        ensures value { result ≡ self.now.height }
+        ensures bound { result < 2 ^ 31 }
+    {
+        self.height
+    }
+
     /// Blends a colour over the pixels of a rectangle, in window coordinates, as far as they are in the picture. Both
     /// counts rise by the number of these pixels, also where the colour covers nothing of them.
     pub fn fill(&mut self, rect: Rect, color: Argb, work: &mut Work)
@@ -125,6 +143,25 @@ impl Surface {
         self.digest = None;
         self.black = false;
         fill_rows(&mut self.pixels, self.width, cut, color);
+    }
+
+    /// Blends a colour over those pixels of a strip whose bits are set; the lowest bit is that of its top row. Both counts
+    /// rise by the number of these pixels.
+    pub fn ink(&mut self, strip: Strip, bits: u8, color: Argb, work: &mut Work)
+        requires column { strip.column < self.old.width }
+        requires down { strip.top ≤ strip.bottom }
+        requires rows { strip.bottom ≤ self.old.height }
+        requires few { strip.bottom ≤ strip.top + 8 }
+        ensures inks { InksStrip strip bits color self.old self.new }
+        ensures raster { IsRaster self.new }
+        ensures counted { work.new ≡ record work.old { painted = min (work.old.painted + set_bits bits (strip.bottom - strip.top)) (2 ^ 64 - 1) } }
+        ensures grew { work.old.painted ≤ work.new.painted }
+    {
+        self.digest = None;
+        self.black = false;
+        let count = ink_strip(&mut self.pixels, self.width, strip, bits, color);
+        self.filled = self.filled.saturating_add(count);
+        work.painted = work.painted.saturating_add(count);
     }
 
     /// How many pixels were filled since the picture was made, one that was filled twice counting twice. It stays at the

@@ -1,6 +1,5 @@
-use Rattle.std.proofs.Common.{rules, ◌≡◌, ◌+◌, ◌-◌, ◌*◌, ◌≤◌, ◌<◌, ◌^◌, ◌∙◌, ap, arith}
+use Rattle.std.proofs.Common.{◌-◌, arith}
 use Rattle.geom_core.specs.Color.{blue_of, red_of}
-use Rattle.pixel_raster.specs.Shares.{share_of}
 use Rattle.pixel_raster.proofs.MixLaws.{blue-bound, channels, pair-fits, pair_of-shares, red-bound}
 use Rattle.pixel_raster.proofs.blending.pair_shares.Goals as goal
 

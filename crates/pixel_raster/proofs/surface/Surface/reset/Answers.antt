@@ -1,6 +1,6 @@
-use Rattle.std.proofs.Common.{rules, ◌≡◌, ◌*◌, replicate, refl, ap, sym, ◌∙◌, arith}
+use Rattle.std.proofs.Common.{rules, ◌≡◌, ◌*◌, replicate, ap, ◌∙◌, arith}
 use Rattle.geom_core.specs.declared.color.TheConstants.{BLACK}
-use Rattle.pixel_raster.specs.Raster.{IsRaster, Raster}
+use Rattle.pixel_raster.specs.Raster.{Raster}
 use Rattle.pixel_raster.specs.declared.surface.Surface.TheInside.{Inside}
 use Rattle.pixel_raster.proofs.BlackLaws.{black-is_raster}
 use Rattle.pixel_raster.proofs.surface.Surface.reset.Goals.{then-not-is_black+in_ok-cover_black, else-not-is_black}

@@ -1,0 +1,67 @@
+//! The part of a column of a picture, whose pixels are set or not as the bits of a number are.
+ghost use Rattle.std.specs.Prelude.{◌≡◌, ◌<◌, ◌≤◌, ◌+◌, ◌-◌, ◌*◌, ◌^◌, ℕ, length, if◌then◌else◌};
+ghost use Rattle.geom_core.specs.Color.{blend_of};
+ghost use Rattle.view_model.specs.Glyphs.{has_bit};
+ghost use Rattle.pixel_raster.specs.Raster.{AllOpaque, pixel_at};
+ghost use Rattle.pixel_raster.specs.Strips.{is_set, set_bits};
+
+use crate::blending::blend;
+use geom_core::Argb;
+
+/// The pixels of a column from its row `top` on and before its row `bottom`.
+#[derive(Clone, Copy)]
+pub struct Strip {
+    pub column: usize,
+    pub top: usize,
+    pub bottom: usize,
+}
+
+/// Whether a bit is set, the lowest being the bit 0.
+fn has_bit(bits: u8, k: u8) -> bool
+    requires { k < 8 }
+    ensures { result ≡ has_bit bits k }
+{
+    (bits >> k) % 2 == 1
+}
+
+/// 1 for what is so, 0 for what isn't.
+#[inline(always)]
+fn one_if(set: bool) -> u64
+    ensures value { result ≡ (if set then 1 else 0) }
+    ensures bound { result ≤ 1 }
+{
+    if set { 1 } else { 0 }
+}
+
+/// What is seen of a pixel over which a colour is blended where it is set. An opaque colour needn't look at what was there.
+#[inline(always)]
+fn inked(set: bool, color: Argb, under: Argb) -> Argb
+    ensures { result ≡ (if set then blend_of color under else under) }
+{
+    if !set {
+        return under;
+    }
+    blend(color, under)
+}
+
+/// Blends a colour over the set pixels of a strip of a picture whose rows have this many pixels. The answer is how many
+/// they are.
+pub fn ink_strip(pixels: &mut [Argb], width: usize, strip: Strip, bits: u8, color: Argb) -> u64
+    requires column { strip.column < width }
+    requires down { strip.top ≤ strip.bottom }
+    requires rows { strip.bottom * width ≤ length pixels.old }
+    requires few { strip.bottom ≤ strip.top + 8 }
+    ensures count { result ≡ set_bits bits (strip.bottom - strip.top) }
+    ensures opaque { AllOpaque pixels.old → AllOpaque pixels.new }
+    ensures colors { (x y : ℕ) → x < width
+        → pixel_at width pixels.new x y ≡ (if is_set strip bits x y then blend_of color (pixel_at width pixels.old x y) else pixel_at width pixels.old x y) }
+{
+    let mut count = 0;
+    for y in strip.top..strip.bottom {
+        let set = has_bit(bits, (y - strip.top) as u8);
+        let place = y * width + strip.column;
+        pixels[place] = inked(set, color, pixels[place]);
+        count += one_if(set);
+    }
+    count
+}
