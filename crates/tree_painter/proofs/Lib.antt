@@ -1,4 +1,5 @@
 mod AreaLaws
+mod ColumnLaws
 mod InkLaws
 mod OwnLaws
 mod PainterLaws

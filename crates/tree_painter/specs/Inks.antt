@@ -14,9 +14,6 @@ use Rattle.view_model.specs.PlainTree.{PlainView}
 abbrev pub ink_where : (ℤ → ℤ → Bool) → Argb → Painter
 ink_where passes ink x y under = if passes x y then blend_of ink under else under
 
-abbrev pub rect_ink : Rect → Argb → Painter
-rect_ink rect color = ink_where (holds rect) color
-
 -- whether a point is a set pixel of a column of a cell, in this row or below it
 abbrev pub in_column : ℕ → ℕ → ℤ → ℤ → Bool
 in_column bits row (pos x) (pos y) = (x == 0) && (not (nat_lt y row) && (nat_lt y CELL_HEIGHT && has_bit bits y))

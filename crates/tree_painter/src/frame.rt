@@ -15,12 +15,6 @@ pub struct Frame {
     pub bottom: i64,
 }
 
-/// A number of pixels, which may be negative.
-#[derive(Clone, Copy)]
-pub struct Length {
-    pub pixels: i64,
-}
-
 /// Where in a window something is painted: the origin of its coordinates, and the rectangle that it may touch, both in
 /// window coordinates.
 #[derive(Clone, Copy)]

@@ -1,9 +1,10 @@
 //! Painting of a tree of views into a picture, over black and within a rectangle. Nothing here takes memory.
 //!
 //! `painting` walks over the tree, `own` paints what one view shows itself, `text` and `ink` its characters; `frame`
-//! has the arithmetic of rectangles that may lie far outside.
+//! and `edges` have the arithmetic of rectangles and edges that may lie far outside.
 #![tactic(auto)]
 
+mod edges;
 mod frame;
 mod ink;
 mod own;
