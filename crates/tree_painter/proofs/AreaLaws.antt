@@ -1,21 +1,19 @@
 -- Areas of parts of a picture, and counts that rise by them.
-use Rattle.std.proofs.Common.{◌≡◌, ℕ, ◌+◌, ◌-◌, ◌*◌, ◌<◌, ◌≤◌, ◌^◌, min, ℤ, pos, negsuc, ◌≤ℤ◌, ◌<ℤ◌, ◌+ℤ◌, ◌-ℤ◌, inl, inr, refl, sym, ◌∙◌, ap, subst, arith}
+use Rattle.std.proofs.Common.{◌≡◌, ℕ, ◌+◌, ◌-◌, ◌*◌, ◌<◌, ◌≤◌, ◌^◌, min, ℤ, pos, negsuc, ◌≤ℤ◌, ◌<ℤ◌, ◌+ℤ◌, ◌-ℤ◌, inl, inr, refl, ◌∙◌, ap, subst, arith}
 use Rattle.std.specs.Int.{int_max, int_min}
 use Rattle.std.specs.Prelude.{Bool, true, false, int_lt, IfSome, Option, Some, None}
 use Rattle.std.proofs.lemmas.Bool.{cases_lt}
 use Rattle.std.proofs.lemmas.Int.{ints}
 use Rattle.std.proofs.lemmas.Nat.{mul-le}
 use Rattle.std.proofs.Math.Nat.{mul-add}
-use Rattle.geom_core.specs.Rects.{larger_of, smaller_of}
 use Rattle.geom_core.specs.declared.color.Argb.{Argb}
 use Rattle.geom_core.specs.declared.geometry.Rect.{Rect}
 use Rattle.pixel_raster.specs.Cuts.{cut_of, edge_within, from_zero}
 use Rattle.pixel_raster.specs.Raster.{Fills, Raster}
 use Rattle.view_model.specs.declared.work.Work.{Work}
 use Rattle.tree_painter.specs.declared.frame.Canvas.{Canvas}
-use Rattle.tree_painter.specs.declared.frame.Frame.{Frame}
 use Rattle.tree_painter.specs.Areas.{area_between, column_at, edge_at, row_at, strip_between}
-use Rattle.tree_painter.specs.Frames.{IsInside, IsPart}
+use Rattle.tree_painter.specs.Frames.{IsInside}
 use Rattle.tree_painter.specs.Painted.{IsCounted, area_in}
 
 edge_grows : (limit : ℕ) (a b : ℤ) → a ≤ℤ b → edge_within limit a ≤ edge_within limit b

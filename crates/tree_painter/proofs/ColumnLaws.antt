@@ -1,5 +1,5 @@
 -- The pixels of a column of a cell that are seen in a clip and in a picture.
-use Rattle.std.proofs.Common.{◌≡◌, ℕ, zero, suc, ◌+◌, ◌-◌, ◌*◌, ◌/◌, ◌%◌, ◌<◌, ◌≤◌, ◌^◌, min, ℤ, pos, negsuc, ◌≤ℤ◌, ◌<ℤ◌, ◌+ℤ◌, ◌-ℤ◌, Bool, true, false, nat_lt, if◌then◌else◌, refl, sym, ◌∙◌, ap, arith}
+use Rattle.std.proofs.Common.{◌≡◌, ℕ, ◌+◌, ◌-◌, ◌*◌, ◌/◌, ◌%◌, ◌<◌, ◌≤◌, ◌^◌, min, ℤ, pos, negsuc, ◌≤ℤ◌, ◌<ℤ◌, ◌+ℤ◌, ◌-ℤ◌, Bool, true, false, nat_lt, if◌then◌else◌, refl, sym, ◌∙◌, ap, arith}
 use Rattle.std.specs.Int.{int_max, int_min}
 use Rattle.std.specs.Prelude.{◌&&◌, ◌==◌, not, int_lt}
 use Rattle.std.proofs.lemmas.Bool.Decides.{nat_tests}
@@ -10,7 +10,7 @@ use Rattle.geom_core.specs.Color.{blend_of}
 use Rattle.geom_core.specs.Rects.{holds}
 use Rattle.geom_core.specs.declared.color.Argb.{Argb}
 use Rattle.geom_core.specs.declared.geometry.Rect.{Rect}
-use Rattle.pixel_raster.specs.Cuts.{edge_within, from_zero, is_between}
+use Rattle.pixel_raster.specs.Cuts.{edge_within, from_zero}
 use Rattle.pixel_raster.specs.Raster.{Raster, color_at}
 use Rattle.pixel_raster.specs.Strips.{InksStrip, is_set, set_bits}
 use Rattle.pixel_raster.specs.declared.strip.Strip.{Strip}

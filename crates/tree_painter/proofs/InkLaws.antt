@@ -1,5 +1,5 @@
 -- Painters of ink, piece by piece.
-use Rattle.std.proofs.Common.{◌≡◌, ℕ, ◌+◌, ◌-◌, ◌*◌, ◌/◌, ◌%◌, ◌<◌, ◌≤◌, min, ℤ, pos, negsuc, ◌-ℤ◌, ◌+ℤ◌, ◌≤ℤ◌, ◌<ℤ◌, Bool, true, false, nat_lt, if◌then◌else◌, List, [], length, inl, inr, Option, Some, None, refl, sym, ap, ◌∙◌, arith}
+use Rattle.std.proofs.Common.{◌≡◌, ℕ, ◌+◌, ◌-◌, ◌*◌, ◌/◌, ◌%◌, ◌<◌, ◌≤◌, ℤ, pos, negsuc, ◌-ℤ◌, ◌+ℤ◌, ◌≤ℤ◌, ◌<ℤ◌, Bool, true, false, nat_lt, if◌then◌else◌, List, [], length, inl, inr, Option, Some, None, refl, sym, ap, ◌∙◌, arith}
 use Rattle.std.specs.Prelude.{◌&&◌, ◌==◌, ◌⊎◌, not, slice_get}
 use Rattle.std.proofs.lemmas.Int.{ints}
 use Rattle.std.proofs.lemmas.Bool.{cases_Bool, cases_order}
@@ -9,16 +9,10 @@ use Rattle.geom_core.specs.Color.{blend_of}
 use Rattle.geom_core.specs.Rects.{holds}
 use Rattle.geom_core.specs.declared.color.Argb.{Argb}
 use Rattle.geom_core.specs.declared.geometry.Rect.{Rect}
-use Rattle.pixel_raster.specs.Raster.{Fills, Raster, color_at}
 use Rattle.view_model.specs.CellText.{cell_in, cell_of, lines_for}
 use Rattle.view_model.specs.Glyphs.{glyph_of, has_bit}
 use Rattle.view_model.specs.Painting.{cell_pixel}
-use Rattle.tree_painter.specs.declared.frame.Canvas.{Canvas}
-use Rattle.tree_painter.specs.declared.frame.Frame.{Frame}
-use Rattle.tree_painter.specs.Frames.{IsMoved, frame_holds}
 use Rattle.tree_painter.specs.Inks.{column_ink, in_column, line_ink, text_ink}
-use Rattle.tree_painter.specs.Painted.{PaintedIn}
-use Rattle.tree_painter.proofs.PainterLaws.{moved_holds, painted_nothing, right_of}
 
 lt_of : (y end : ℕ) → nat_lt y end ≡ true → y < end
 lt_of y end h = grind (arith, nat_tests)

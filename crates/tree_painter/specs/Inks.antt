@@ -1,9 +1,7 @@
 -- Painters of ink.
 use Rattle.std.specs.Prelude.{ℕ, ◌/◌, ◌%◌, ◌==◌, ℤ, pos, negsuc, Bool, false, ◌&&◌, not, nat_lt, if◌then◌else◌, List, slice_get}
 use Rattle.geom_core.specs.Color.{blend_of}
-use Rattle.geom_core.specs.Rects.{holds}
 use Rattle.geom_core.specs.declared.color.Argb.{Argb}
-use Rattle.geom_core.specs.declared.geometry.Rect.{Rect}
 use Rattle.geom_core.specs.declared.geometry.Size.{Size}
 use Rattle.view_model.specs.declared.limits.TheConstants.{CELL_HEIGHT, CELL_WIDTH}
 use Rattle.view_model.specs.Glyphs.{has_bit}

@@ -1,7 +1,6 @@
-use Rattle.std.proofs.Common.{◌≤ℤ◌, ◌<ℤ◌, ◌<◌, pos, ◌+ℤ◌, arith}
+use Rattle.std.proofs.Common.{arith}
 use Rattle.std.proofs.lemmas.Int.{ints}
-use Rattle.tree_painter.specs.Areas.{column_at, row_at}
-use Rattle.tree_painter.proofs.ColumnLaws.{IsSpanned, column_inked, column_unseen, counted_strip, last_spanned, row_spanned}
+use Rattle.tree_painter.proofs.ColumnLaws.{column_inked, column_unseen, counted_strip, last_spanned, row_spanned}
 use Rattle.tree_painter.proofs.ink.ink_column.Goals as goal
 
 pub returns-then-seen-clause-painted : goal.returns-then-seen-clause-painted
