@@ -97,39 +97,52 @@ def frames_of_texts(n):
     return b"".join(lines) + b"".join(b"size v%d %d wrap\nframe\n" % (2 + k % 4000, 90 + k % 9) for k in range(n))
 
 
-def filled(color, n):
-    """A window of 2048 by 2048 that one view fills with a colour."""
-    return b"window 2048 2048\nadd root View match match\nbg v1 #%s\n" % color + b"frame\n" * n
+def filled(alpha, n):
+    """A window of 2048 by 2048 that one view fills with another colour in each frame."""
+    lines = [b"window 2048 2048\nadd root View match match\n"]
+    return b"".join(lines) + b"".join(b"bg v1 #%s%06x\nframe\n" % (alpha, 0x336699 + k) for k in range(n))
 
 
 def opaque_frames(n):
-    return filled(b"ff336699", n)
+    return filled(b"ff", n)
 
 
 def blended_frames(n):
-    return filled(b"80336699", n)
+    return filled(b"80", n)
+
+
+def frames_of_a_dot(n):
+    """A view of 8 by 8 pixels in a window of 1024 by 768, which gets another colour before each frame."""
+    lines = [b"window 1024 768\nadd root FrameLayout match match\nbg v1 #ff336699\nadd v1 View 8 8\n"]
+    return b"".join(lines) + b"".join(b"bg v2 #ff%06x\nframe\n" % k for k in range(n))
 
 
 def frames_of_small_views(n):
-    """4000 views of 12 by 9 pixels, each with a background of its own."""
+    """4000 views of 12 by 9 pixels, each with a background of its own, over one that changes before each frame."""
     lines = [b"window 1000 1000\nadd root FrameLayout match match\n"]
     for number in range(2, 4002):
         at = number - 2
         lines.append(b"add v1 View 12 9\nmargins v%d %d %d 0 0\n" % (number, at % 80 * 12, at // 80 * 18))
         lines.append(b"bg v%d #ff%06x\n" % (number, at * 4099 % 0x1000000))
-    return b"".join(lines) + b"frame\n" * n
+    return b"".join(lines) + b"".join(b"bg v1 #ff%06x\nframe\n" % k for k in range(n))
 
 
 def frames_of_a_page(n):
-    """A page of text that fills the window."""
+    """A page of text that fills the window, over a colour that changes before each frame."""
     text = b"The quick brown fox jumps over the lazy dog. " * 21
     lines = [b"window 540 960\nadd root LinearLayout match match\norient v1 vertical\n"]
     for number in range(2, 12):
         lines.append(b"add v1 TextView match wrap\ntext v%d %s\n" % (number, text))
-    return b"".join(lines) + b"frame\n" * n
+    return b"".join(lines) + b"".join(b"bg v1 #ff%06x\nframe\n" % k for k in range(n))
 
 
 def digests(n):
+    """Digests of pictures of 1024 by 1024 pixels, each of another colour."""
+    lines = [b"window 1024 1024\nadd root View match match\n"]
+    return b"".join(lines) + b"".join(b"bg v1 #ff%06x\nframe\ndigest\n" % k for k in range(n))
+
+
+def digests_of_a_picture(n):
     return b"window 1024 1024\nadd root View match match\nbg v1 #ff336699\nframe\n" + b"digest\n" * n
 
 
