@@ -27,7 +27,7 @@ pub enum Phase {
 }
 
 /// The measuring of one linear layout. In each phase the children that take part in layout are handed in in order:
-/// `ask`, measuring, `take`; `turn` ends it.
+/// `ask`, measuring, `take`; `turn` ends it. What these three work with leaves the stack before what is below is measured.
 #[derive(Clone, Copy, Debug)]
 pub struct LinearPlan {
     line: Line,
@@ -55,6 +55,7 @@ impl LinearPlan {
 
     /// The specs of a child in this phase, or None where it is not measured in it. The size is the child's present
     /// measured size, at which the first phase does not look.
+    #[inline(never)]
     pub fn ask(&self, kid: &Facts, size: Size) -> Option<(Spec, Spec)>
         ensures { (own : FactsValue) (specs : Specs) (past : List (List Measured)) (taken : List Measured)
             → StandsLinear self.now own specs past taken
@@ -69,6 +70,7 @@ impl LinearPlan {
     }
 
     /// Takes the size that a child has got; where `ask` answered None, the one that was handed to it.
+    #[inline(never)]
     pub fn take(&mut self, kid: &Facts, size: Size)
         ensures { (own : FactsValue) (specs : Specs) (past : List (List Measured)) (taken : List Measured)
             → StandsLinear self.old own specs past taken
@@ -87,6 +89,7 @@ impl LinearPlan {
     }
 
     /// Ends a phase: true where another follows.
+    #[inline(never)]
     pub fn turn(&mut self) -> bool
         ensures { (own : FactsValue) (specs : Specs) (past : List (List Measured)) (taken : List Measured)
             → StandsLinear self.old own specs past taken

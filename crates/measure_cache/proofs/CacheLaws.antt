@@ -1,5 +1,6 @@
 -- What a cache has once a size is put in.
-use Rattle.std.proofs.Common.{◌≡◌, Bool, true, false, Option, Some, None, List, [], ◌∷◌, ◌++◌, length, ap, ◌∙◌, sym, refl, ◌⊎◌, inl, inr}
+use Rattle.std.proofs.Common.{◌≡◌, ◌<◌, ◌+◌, ℕ, Bool, true, false, Option, Some, None, List, [], ◌∷◌, ◌++◌, length, map, take, get_or, ap, ◌∙◌, sym, refl, ◌⊎◌, inl, inr}
+use Rattle.std.proofs.lemmas.List.{map-append, take_more}
 use Rattle.std.specs.Prelude.{if◌then◌else◌, ◌==◌, ℤ}
 use Rattle.std.specs.Ordering.{int_eq}
 use Rattle.std.proofs.lemmas.Bool.{cases_Bool}
@@ -9,7 +10,9 @@ use Rattle.geom_core.specs.declared.measuring.Mode.{Mode}
 use Rattle.geom_core.specs.declared.measuring.Mode.TheVariants.{Unspecified, Exactly, AtMost}
 use Rattle.geom_core.specs.declared.measuring.Spec.{Spec}
 use Rattle.measure_cache.specs.declared.cache.Entry.{Entry}
+use Rattle.measure_cache.specs.declared.cache.Kept.{Kept}
 use Rattle.measure_cache.specs.Entries.{found, found_after, is_of, put_in, same_mode, same_spec, with_room}
+use Rattle.measure_cache.specs.Kept.{entry_of}
 use Rattle.view_model.specs.Measuring.{Specs}
 
 no_true : {A : Type 0} → false ≡ true → A
@@ -106,3 +109,19 @@ found-put_in cache entry specs size h =
   where
     some_is : {A : Type 0} {x y : A} → Some x ≡ Some y → x ≡ y
     some_is e = cc
+
+-- the last of the first entries decides, and else the ones before it
+found-last_kept : (kept : List Kept) (place : ℕ) (unused : Kept) (specs : Specs) → place < length kept
+    → found (map entry_of (take (place + 1) kept)) specs ≡ (if is_of (entry_of (get_or kept place unused)) specs then Some (get_or kept place unused).size else found (map entry_of (take place kept)) specs)
+found-last_kept kept place unused specs there =
+    ap (λ list. found (map entry_of list) specs) (take_more kept place unused there)
+    ∙ ap (λ list. found list specs) (map-append entry_of (take place kept) (get_or kept place unused ∷ []))
+    ∙ found_after-end None (map entry_of (take place kept)) (entry_of (get_or kept place unused)) specs
+
+pub found-last_is : (kept : List Kept) (place : ℕ) (unused : Kept) (specs : Specs) → place < length kept → is_of (entry_of (get_or kept place unused)) specs ≡ true
+    → found (map entry_of (take (place + 1) kept)) specs ≡ Some (get_or kept place unused).size
+found-last_is kept place unused specs there is = rw is at (found-last_kept kept place unused specs there)
+
+pub found-last_not : (kept : List Kept) (place : ℕ) (unused : Kept) (specs : Specs) → place < length kept → is_of (entry_of (get_or kept place unused)) specs ≡ false
+    → found (map entry_of (take (place + 1) kept)) specs ≡ found (map entry_of (take place kept)) specs
+found-last_not kept place unused specs there not = rw not at (found-last_kept kept place unused specs there)

@@ -72,13 +72,14 @@ impl Cache {
     pub fn find(&self, ws: Spec, hs: Spec) -> Option<Size>
         ensures { result ≡ found self.now (record { across = ws; down = hs }) }
     {
-        let mut answer = None;
-        for kept in self.entries.as_slice() {
-            if is_for(kept, ws, hs) {
-                answer = Some(kept.size);
+        let entries = self.entries.as_slice();
+        for newer in 0..entries.len() {
+            let kept = entries[entries.len() - 1 - newer];
+            if is_for(&kept, ws, hs) {
+                return Some(kept.size);
             }
         }
-        answer
+        None
     }
 
     /// Keeps a size for these specs, as the newest; where eight are kept already, the oldest of them goes.

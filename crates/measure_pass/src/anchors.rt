@@ -13,7 +13,9 @@ use crate::siblings::turns;
 use view_model::{Anchor, Anchors, Axis, Tie, Tied};
 use view_tree::{Key, ViewTree};
 
-/// The anchors of a child on an axis, with the sides that are kept of them.
+/// The anchors of a child on an axis, with the sides that are kept of them. What the search works with leaves the stack
+/// before the child is measured.
+#[inline(never)]
 pub fn anchors_of(tree: &ViewTree, view: Key, kid: Key, axis: Axis) -> Anchors
     requires live { IsLive tree.now view }
     requires siblings { class_of tree.now view ≡ RelativeLayout }

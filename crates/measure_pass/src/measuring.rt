@@ -195,8 +195,9 @@ fn finish(tree: &mut ViewTree, view: Key, ws: Spec, hs: Spec, outcome: Outcome, 
 }
 
 /// Measures what is below a view that is measured under these specs, and says what that comes to. A view without
-/// children comes to its size at once.
+/// children comes to its size at once. It has no frame of its own on the stack.
 #[cycle(measure)]
+#[inline(always)]
 fn measure_below(tree: &mut ViewTree, view: Key, ws: Spec, hs: Spec, work: &mut Work) -> Outcome
     requires live { IsLive tree.old view }
     requires ready { Ready (held_of tree.old) (children_of_first (part_from view tree.old.tree)) }

@@ -93,6 +93,7 @@ pub fn keep_edges(tree: &mut ViewTree, kid: Key, edges: Edges)
 
 /// Moves the children of a relative layout to where they lie in the end, once its own size is known: those in its
 /// middle and those at its far sides.
+#[inline(never)]
 pub fn settle(tree: &mut ViewTree, view: Key, plan: &RelativePlan)
     requires live { IsLive tree.old view }
     requires siblings { class_of tree.old view ≡ RelativeLayout }

@@ -1,5 +1,5 @@
 -- Ids that children have and name.
-use Rattle.std.proofs.Common.{◌≡◌, ◌≢◌, ◌⊎◌, ℕ, zero, suc, ◌+◌, ◌<◌, Bool, true, false, cond, ◌&&◌, not, List, [], ◌∷◌, ◌++◌, length, get_or, set, Option, Some, None, refl, sym, ap, ◌∙◌, arith, inl, inr, length-append, get_or-set_same, get_or-set_other}
+use Rattle.std.proofs.Common.{◌≡◌, ◌≢◌, ◌⊎◌, ℕ, zero, suc, ◌+◌, ◌<◌, ◌≤◌, Bool, true, false, cond, ◌&&◌, not, List, [], ◌∷◌, ◌++◌, length, get_or, set, Option, Some, None, refl, sym, ap, ◌∙◌, arith, inl, inr, length-append, get_or-set_same, get_or-set_other}
 use Rattle.std.proofs.Math.ListN.{length-set}
 use Rattle.std.specs.Prelude.{IfSome, replicate, Vec}
 use Rattle.std.specs.declared.alloc.Global.{Global}
@@ -9,7 +9,7 @@ use Rattle.std.specs.Prelude.{◌==◌, if◌then◌else◌}
 use Rattle.std.specs.List.{list_any}
 use Rattle.std.proofs.lemmas.Grind.{common_steps}
 use Rattle.std.proofs.lemmas.Bool.Decides.{nat_tests}
-use Rattle.relative_layout.specs.Naming.{AreNamers, Has, NamesId, id_at, link_at, lists_of, padded_ids, row_at, with_last, with_place}
+use Rattle.relative_layout.specs.Naming.{AreNamers, Has, NamesBack, NamesId, id_at, link_at, lists_of, padded_ids, row_at, with_last, with_place}
 use Rattle.view_model.specs.declared.facts.Rules.{Rules}
 use Rattle.view_model.specs.declared.relative.Axis.{Axis}
 use Rattle.view_model.specs.declared.relative.Axis.TheVariants.{Horizontal, Vertical}
@@ -282,3 +282,45 @@ AddsName-with_place axis kids place id (Some last) rows small found named are =
 pub last_in_rows : (kids : List Link) (id count : ℕ) (last : Option ℕ) → count ≡ length kids → last ≡ last_with_id kids id → IfSome last (λ q. q < count)
 last_in_rows kids id count None size e = tt
 last_in_rows kids id count (Some q) size e = let is = last_is kids id q (sym e) in omega (arith, is.inside)
+
+-- no place after the last that passes a test passes it
+last_case_of : (test : ℕ → Bool) (n j : ℕ) (b : Bool) → test n ≡ b → cond b (Some n) (last_below test n) ≡ Some j → (n ≡ j) ⊎ ((test n ≡ false) × (last_below test n ≡ Some j))
+last_case_of test n j true t h = let same : n ≡ j = cc in inl same
+last_case_of test n j false t h = inr (t, h)
+
+last_below-most : (test : ℕ → Bool) (n i j : ℕ) → last_below test n ≡ Some j → i < n → test i ≡ true → i ≤ j
+last_below-most test zero i j h l p = absurd (omega arith)
+last_below-most test (suc n) i j h l p = elim (last_case_of test n j (test n) refl h) [
+  | inl same ↦ omega arith
+  | inr w ↦ elim (cases_lt i n) [
+    | inl lt ↦ last_below-most test n i j w.1 lt p
+    | inr le ↦
+        let same : i ≡ n = omega arith in
+        let bad : false ≡ true = sym w.0 ∙ ap test (sym same) ∙ p in
+        absurd (cc)
+  ]
+]
+
+last_most_case : (kids : List Link) (id place last : ℕ) (b : Bool) → (id == 0) ≡ b → cond b None (last_below (λ place. id_at kids place == id) (length kids)) ≡ Some last
+    → place < length kids → (id_at kids place == id) ≡ true → place ≤ last
+last_most_case kids id place last true t h l e = absurd (cc)
+last_most_case kids id place last false t h l e = last_below-most (λ place. id_at kids place == id) (length kids) place last h l e
+
+id_same : (a : ℕ) → (a == a) ≡ true
+id_same a = grind (arith, nat_tests)
+
+-- a child stands at the last with its id, or before it
+last_most : (kids : List Link) (place : ℕ) (last : Option ℕ) (end : ℕ) → last ≡ last_with_id kids (id_at kids place) → place < length kids → id_at kids place ≢ 0 → IfSome last (λ last. last < end) → place < end
+last_most kids place None end e l some before = absurd (none_is kids (id_at kids place) place (sym e) some l refl)
+last_most kids place (Some last) end e l some before =
+    let most = last_most_case kids (id_at kids place) place last (id_at kids place == 0) refl (sym e) l (id_same (id_at kids place)) in
+    omega arith
+
+-- who names only children before it leads to such alone
+pub leads_before : (axis : Axis) (kids : List Link) → ((place : ℕ) → place < length kids → NamesBack axis kids place) → (a b : ℕ) → leads axis kids a b ≡ true → b < a
+leads_before axis kids back a b led =
+    let parts = leads_parts axis kids a b led in
+    let k = names-some axis (link_at kids a).rules (id_at kids b) parts.1 in
+    let before = back a (leads_from axis kids a b led) k.0 k.1 in
+    let at_id : IfSome (last_with_id kids (id_at kids b)) (λ last. last < a) = rw k.2 at before in
+    last_most kids b (last_with_id kids (id_at kids b)) a refl (leads_inside axis kids a b led) k.3 at_id

@@ -168,3 +168,19 @@ AreMembers-next r count place marks members marked small are = by_mark (is_marke
     by_mark : (mark : Bool) → is_marked marks place ≡ mark → AreMembers r (place + 1) (cond mark (members ++ place ∷ []) members)
     by_mark true t = AreMembers-push r place members (marked.sound place t) are
     by_mark false f = AreMembers-skip r place members (λ way. let t = marked.whole place small way in let bad : true ≡ false = sym t ∙ f in cc) are
+
+-- the order of the list is one where nobody leads to a place behind it
+pub IsOrder-listed : (r : ℕ → ℕ → Bool) (count : ℕ) (order : List ℕ) → length order ≡ count → ((place : ℕ) → place < count → get_or order place 0 ≡ place) → ((a b : ℕ) → r a b ≡ true → b < a)
+    → IsOrder r count order
+IsOrder-listed r count order size each back = record {
+  size = size;
+  inside = λ p h. let at = each p (omega arith) in omega arith;
+  each = λ place h. (place, omega arith, each place h);
+  anchors = record {
+    once = λ p q hp hq e. sym (each p (omega arith)) ∙ e ∙ each q (omega arith);
+    first = λ p anchor h led.
+        let before = back (get_or order p 0) anchor led in
+        let at = each p (omega arith) in
+        (anchor, omega arith, each anchor (omega arith));
+  };
+}

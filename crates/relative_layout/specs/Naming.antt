@@ -1,5 +1,5 @@
 -- Which children name which ids on an axis, as lists by the last child with an id.
-use Rattle.std.specs.Prelude.{◌≡◌, ℕ, ◌<◌, ◌==◌, true, if◌then◌else◌, List, [], ◌∷◌, length, map, nat_eq, Option, Some, slice_index, slice_index_or, Vec, ◌++◌, None, slice_set}
+use Rattle.std.specs.Prelude.{◌≡◌, ℕ, ◌<◌, ◌==◌, true, if◌then◌else◌, List, [], ◌∷◌, length, map, nat_eq, Option, Some, IfSome, slice_index, slice_index_or, Vec, ◌++◌, None, slice_set}
 use Rattle.std.specs.declared.alloc.Global.{Global}
 use Rattle.indexmap.specs.IndexMap.{get as place_in}
 use Rattle.relative_layout.specs.declared.naming.Naming.{Naming}
@@ -47,6 +47,10 @@ with_last id place before i = if id == 0 then before else if id == i then Some p
 -- a child that names the id of another
 abbrev pub NamesId : Axis → List Link → ℕ → ℕ → Type 0
 NamesId axis kids named place = names axis (link_at kids place).rules (id_at kids named) ≡ true
+
+-- the ids that a child names on an axis are of children before it alone
+abbrev pub NamesBack : Axis → List Link → ℕ → Type 0
+NamesBack axis kids place = (k : ℕ) → k < 8 → IfSome (last_with_id kids (slice_index (padded_ids axis (link_at kids place).rules) k)) (λ last. last < place)
 
 -- for the last child with an id the children below a number that name it; no other children stand in any list
 pub record AreNamers (axis : Axis) (kids : List Link) (below : ℕ) (rows : List (List ℕ)) : Type 0 where

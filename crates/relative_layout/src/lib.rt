@@ -8,6 +8,7 @@
 
 mod extent;
 mod ids;
+mod listing;
 mod marks;
 mod naming;
 mod ordering;

@@ -1,5 +1,5 @@
 //! Which children name which ids.
-ghost use Rattle.std.specs.Prelude.{◌≡◌, ◌≢◌, ◌<◌, ◌≤◌, ◌+◌, ◌++◌, ◌∷◌, [], IfOk, IfSome, OnOk, Some, length, nat_eq, replicate, slice_set, true, vec_len, ℕ};
+ghost use Rattle.std.specs.Prelude.{◌≡◌, ◌≢◌, ◌<◌, ◌≤◌, ◌+◌, ◌++◌, ◌∷◌, [], IfOk, IfSome, None, OnOk, Some, length, nat_eq, replicate, slice_set, true, vec_len, ℕ};
 ghost use Rattle.indexmap.specs.IndexMap.{get as place_in};
 ghost use Rattle.relative_layout.specs.Naming.{AreNamers, Has, id_at, link_at, lists_of, row_at, with_place};
 ghost use Rattle.view_model.specs.SiblingRules.{last_with_id, names};
@@ -38,6 +38,7 @@ impl Naming {
 
     /// The last child with an id.
     pub fn last(&self, id: u32) -> Option<usize>
+        requires { place_in nat_eq self.now.lasts 0 ≡ None }
         ensures { result ≡ place_in nat_eq self.now.lasts id }
     {
         last_in(&self.lasts, id)
@@ -89,10 +90,15 @@ fn add_names(
     Ok(())
 }
 
-/// The last child with an id, by the table of them.
-fn last_in(lasts: &IndexMap<u32, u32>, id: u32) -> Option<usize>
+/// The last child with an id, by the table of them. Most rules name 0, which nobody has: that is known without a
+/// look-up.
+pub fn last_in(lasts: &IndexMap<u32, u32>, id: u32) -> Option<usize>
+    requires { place_in nat_eq lasts.now 0 ≡ None }
     ensures { result ≡ place_in nat_eq lasts.now id }
 {
+    if id == 0 {
+        return None;
+    }
     match lasts.get(&id) {
         None => None,
         Some(last) => Some(*last as usize),

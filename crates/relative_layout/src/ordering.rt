@@ -1,16 +1,20 @@
 //! The orders in which the children of a relative layout are measured.
-ghost use Rattle.std.specs.Prelude.{◌≡◌, ◌<◌, ◌≤◌, ◌+◌, ℕ, IfErr, IfOk, List, Bool, OnOk, length};
+ghost use Rattle.std.specs.Prelude.{◌≡◌, ◌<◌, ◌≤◌, ◌+◌, ℕ, IfErr, IfOk, List, Bool, OnOk, length, nat_eq};
+ghost use Rattle.indexmap.specs.IndexMap.{get as place_in};
 ghost use Rattle.relative_layout.specs.Naming.{IsNaming};
 ghost use Rattle.relative_layout.specs.Parts.{members_with};
 ghost use Rattle.relative_layout.specs.Sorting.{IsFaultOf, IsLongest, IsSorting};
 ghost use Rattle.view_model.specs.declared.relative.Axis.TheVariants.{Horizontal, Vertical};
 ghost use Rattle.view_model.specs.Orders.{AreMembers, IsAcyclic, IsOrder};
-ghost use Rattle.view_model.specs.SiblingRules.{leads};
+ghost use Rattle.view_model.specs.SiblingRules.{last_with_id, leads};
 ghost use Rattle.view_model.specs.declared.limits.TheConstants.{MAX_VIEWS};
 
+use crate::ids::last_places;
+use crate::listing::{leads_back, listed_places};
 use crate::naming::Naming;
 use crate::parts::marks_of_members;
 use crate::taking::Taking;
+use indexmap::IndexMap;
 use std::alloc::{AllocError, Global};
 use view_model::{Axis, Link};
 
@@ -45,7 +49,10 @@ pub fn order(alloc: Global, kids: &[Link]) -> Result<Orders, OrderFault>
     ensures acyclic_down { IfOk result (λ orders. IsAcyclic (leads Vertical kids.now)) }
     ensures fault { IfErr result (λ fault. IsFaultOf kids.now fault) }
 {
-    let across = match sorted_on(alloc, Axis::Horizontal, kids) {
+    let Ok(lasts) = last_places(alloc, kids) else {
+        return Err(OrderFault::NoMemory);
+    };
+    let across = match sorted_on(alloc, Axis::Horizontal, kids, &lasts) {
         Ok(Sorting::Order(across)) => across,
         Ok(Sorting::Cycle(members)) => {
             return Err(OrderFault::Cycle {
@@ -55,7 +62,7 @@ pub fn order(alloc: Global, kids: &[Link]) -> Result<Orders, OrderFault>
         }
         Err(_) => return Err(OrderFault::NoMemory),
     };
-    match sorted_on(alloc, Axis::Vertical, kids) {
+    match sorted_on(alloc, Axis::Vertical, kids, &lasts) {
         Ok(Sorting::Order(down)) => Ok(Orders { across, down }),
         Ok(Sorting::Cycle(members)) => Err(OrderFault::Cycle {
             down: true,
@@ -65,8 +72,26 @@ pub fn order(alloc: Global, kids: &[Link]) -> Result<Orders, OrderFault>
     }
 }
 
-/// The order of the children on an axis, or the members of its cycles.
-fn sorted_on(alloc: Global, axis: Axis, kids: &[Link]) -> Result<Sorting, AllocError>
+/// The order of the children on an axis, or the members of its cycles: the order of the list, where that is seen to do.
+fn sorted_on(
+    alloc: Global,
+    axis: Axis,
+    kids: &[Link],
+    lasts: &IndexMap<u32, u32>,
+) -> Result<Sorting, AllocError>
+    requires few { length kids.now ≤ MAX_VIEWS }
+    requires table { (id : ℕ) → place_in nat_eq lasts.now id ≡ last_with_id kids.now id }
+    ensures { IfOk result (λ sorting. IsSorting axis kids.now sorting) }
+{
+    if leads_back(axis, kids, lasts) {
+        let order = listed_places(alloc, kids.len())?;
+        return Ok(Sorting::Order(order));
+    }
+    sorted_by_names(alloc, axis, kids)
+}
+
+/// The same for any children.
+fn sorted_by_names(alloc: Global, axis: Axis, kids: &[Link]) -> Result<Sorting, AllocError>
     requires few { length kids.now ≤ MAX_VIEWS }
     ensures { IfOk result (λ sorting. IsSorting axis kids.now sorting) }
 {

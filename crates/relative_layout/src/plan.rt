@@ -38,6 +38,7 @@ impl RelativePlan {
     }
 
     /// The specs of a child in this phase.
+    #[inline(never)]
     pub fn ask(&self, kid: &Facts, edges: Edges, anchors: &Anchors) -> (Spec, Spec)
         ensures { (own : FactsValue) (specs : Specs) (past : List (List Spanned)) (taken : List Spanned)
             → StandsRelative self.now own specs past taken
@@ -50,6 +51,7 @@ impl RelativePlan {
     }
 
     /// Takes the size that a child has got, and answers its sides as far as they are known then.
+    #[inline(never)]
     pub fn take(&mut self, kid: &Facts, edges: Edges, anchors: &Anchors, size: Size) -> Edges
         requires width { IsSide size.w }
         requires height { IsSide size.h }

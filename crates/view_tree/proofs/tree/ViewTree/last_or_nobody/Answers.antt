@@ -1,6 +1,6 @@
 use Rattle.std.proofs.Common.{sym}
 use Rattle.view_tree.proofs.orders.IdPlaces.{no_child}
-use Rattle.view_tree.proofs.tree.ViewTree.last_child_with_id.Goals as goal
+use Rattle.view_tree.proofs.tree.ViewTree.last_or_nobody.Goals as goal
 
 pub returns-then-is_nobodys-clause-value : goal.returns-then-is_nobodys-clause-value
 returns-then-is_nobodys-clause-value c =
