@@ -6,8 +6,8 @@ use Rattle.std.proofs.lemmas.Int.{ints}
 use Rattle.geom_core.specs.declared.geometry.Rect.{Rect}
 use Rattle.damage_rect.specs.Areas.{extent, rect_area}
 use Rattle.geom_core.specs.Rects.{is_empty}
-use Rattle.damage_rect.specs.Within.{LiesIn}
-use Rattle.damage_rect.proofs.RectLaws.{Inside, inside, wide}
+use Rattle.damage_rect.specs.Within.{IsInside, LiesIn}
+use Rattle.damage_rect.proofs.RectLaws.{inside, wide}
 
 at_most_zero : (n : ℕ) → int_max (pos 0) (negsuc n) ≡ pos 0
 at_most_zero n = grind (arith, ints)
@@ -44,7 +44,7 @@ area_none rect e = no_product (extent rect.left rect.right) (extent rect.top rec
   | inr down ↦ inr (extent_none rect.top rect.bottom down)
 ])
 
-area_inside : (inner outer : Rect) → Inside outer inner → rect_area inner ≤ rect_area outer
+area_inside : (inner outer : Rect) → IsInside outer inner → rect_area inner ≤ rect_area outer
 area_inside inner outer within =
     mul-le-mul (extent_grows inner.left inner.right outer.left outer.right within.left within.right) (extent_grows inner.top inner.bottom outer.top outer.bottom within.top within.bottom)
 

@@ -4,7 +4,7 @@ use Rattle.std.specs.Prelude.{◌&&◌, ◌||◌, not, int_lt, if◌then◌else�
 use Rattle.std.proofs.lemmas.Int.{ints}
 use Rattle.geom_core.specs.declared.geometry.Rect.{Rect}
 use Rattle.geom_core.specs.Rects.{around_of, holds, hull_of, is_empty, larger_of, meet_of, overlap_of, smaller_of}
-use Rattle.damage_rect.specs.Within.{LiesIn}
+use Rattle.damage_rect.specs.Within.{IsInside, LiesIn}
 
 abbrev pub no_rect : Rect
 no_rect = record { left = pos 0; top = pos 0; right = pos 0; bottom = pos 0 }
@@ -111,10 +111,7 @@ absurd_test false e f = absurd (cc)
 pub empty_within : (inner outer : Rect) → is_empty inner ≡ true → LiesIn inner outer
 empty_within inner outer e x y h = absurd_test (holds inner x y) h (empty_none inner x y e)
 
--- what two have in common lies in both
-pub meet_within_first : (a b : Rect) → LiesIn (meet_of a b) a
-meet_within_first a b x y h = (both (holds a x y) (holds b x y) (sym (meet_holds a b x y) ∙ h)).0
-
+-- what two have in common lies in the second
 pub meet_within_second : (a b : Rect) → LiesIn (meet_of a b) b
 meet_within_second a b x y h = (both (holds a x y) (holds b x y) (sym (meet_holds a b x y) ∙ h)).1
 
@@ -175,13 +172,7 @@ unfolding hull_of
 in_hull_second a b = hull_second a b (is_empty a) (is_empty b) refl refl
 
 -- the edges of a rectangle with a point that lies in another
-pub record Inside (outer inner : Rect) : Type 0 where
-  pub left : outer.left ≤ℤ inner.left
-  pub top : outer.top ≤ℤ inner.top
-  pub right : inner.right ≤ℤ outer.right
-  pub bottom : inner.bottom ≤ℤ outer.bottom
-
-pub inside : (inner outer : Rect) → Wide inner → LiesIn inner outer → Inside outer inner
+pub inside : (inner outer : Rect) → Wide inner → LiesIn inner outer → IsInside outer inner
 inside inner outer w lies =
     let across = w.across in
     let down = w.down in
@@ -194,7 +185,7 @@ inside inner outer w lies =
     let bottom = last.bottom in
     record { left = first.left; top = first.top; right = omega (arith, ints); bottom = omega (arith, ints) }
 
-around_least : (a b box : Rect) → Inside box a → Inside box b → LiesIn (around_of a b) box
+around_least : (a b box : Rect) → IsInside box a → IsInside box b → LiesIn (around_of a b) box
 unfolding smaller_of larger_of
 around_least a b box p q x y h =
     let e = between (around_of a b) x y h in

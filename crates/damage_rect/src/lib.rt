@@ -1,4 +1,4 @@
-//! What has to be painted anew: the bounding box of rectangles, in `bounding`. Nothing takes memory.
+//! What has to be painted again: the bounding box of rectangles, in `bounding`. Nothing takes memory.
 #![tactic(auto)]
 
 mod bounding;

@@ -1,4 +1,4 @@
--- The picture that a surface stands for, and what a surface keeps.
+-- The picture that a surface is for contracts, and what a surface keeps.
 use Rattle.std.specs.Prelude.{◌≡◌, ◌*◌, IfSome, replicate, true}
 use Rattle.geom_core.specs.declared.color.TheConstants.{BLACK}
 use Rattle.pixel_raster.specs.Bytes.{digest_of}

@@ -7,7 +7,7 @@ ghost use Rattle.pixel_raster.specs.Bytes.{bytes_of};
 use geom_core::Argb;
 use sha2::{Digest, Sha256};
 
-/// How many pixels are handed to the hasher at once.
+/// How many pixels the hasher gets at once.
 const PIECE: usize = 1024;
 
 /// The SHA-256 of the red, green and blue of each pixel.
@@ -34,7 +34,7 @@ fn absorb(hasher: &mut Sha256, run: &[Argb])
     hasher.update(&bytes[..3 * run.len()]);
 }
 
-/// Puts the red, green and blue of each pixel of a run where the bytes begin; what is behind them stays no matter.
+/// Puts the red, green and blue of each pixel of a run where the bytes begin; what follows them may be anything.
 fn put_bytes(run: &[Argb], bytes: &mut [u8])
     requires { 3 * length run.now ≤ length bytes.old }
     ensures { take (3 * length run.now) bytes.new ≡ bytes_of run.now }

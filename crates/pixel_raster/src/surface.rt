@@ -122,6 +122,13 @@ impl Surface {
         self.height
     }
 
+    /// Whether a colour leaves each pixel as it is: it is black, and so are they all.
+    fn stays_black(&self, color: Argb) -> bool
+        ensures { result ≡ true → (color ≡ BLACK) × (self.now.pixels ≡ replicate (self.now.width * self.now.height) BLACK) }
+    {
+        self.black && color.0 == BLACK.0
+    }
+
     /// Blends a colour over the pixels of a rectangle, in window coordinates, as far as they are in the picture. Both
     /// counts rise by the number of these pixels, also where the colour covers nothing of them.
     pub fn fill(&mut self, rect: Rect, color: Argb, work: &mut Work)
@@ -130,6 +137,7 @@ impl Surface {
         ensures counted { work.new ≡ record work.old { painted = min (work.old.painted + area_within self.old.width self.old.height rect) (2 ^ 64 - 1) } }
         ensures grew { work.old.painted ≤ work.new.painted }
     {
+        let stays = self.stays_black(color);
         let cut = Cut::of(self.width, self.height, rect);
         let area = cut.area();
         self.filled = self.filled.saturating_add(area);
@@ -138,6 +146,9 @@ impl Surface {
             return;
         }
         if color.alpha() == 0 {
+            return;
+        }
+        if stays {
             return;
         }
         self.digest = None;
@@ -189,7 +200,7 @@ impl Surface {
         self.pixels[row * self.width + column]
     }
 
-    /// Where a pixel stands in the rows, by its window coordinates.
+    /// The place of a pixel in the rows, by its window coordinates.
     fn place(&self, x: i32, y: i32) -> usize
         requires { IsInside self.now x y }
         ensures value { result ≡ from_zero y * self.now.width + from_zero x }

@@ -62,7 +62,7 @@ offset_too_great : decoded (86 ∷ 83 ∷ 1 ∷ 1 ∷ 0 ∷ 1 ∷ 0 ∷ 0 ∷ 0 
 unfolding decoded entry_count entry_of
 offset_too_great = refl
 
--- two views of one id, of which the second begins behind the first
+-- two views of one id, of which the second begins after the first
 abbrev twins : Forest PlainView
 twins = Branch (view 1 class.ScrollView 7 (pos 5)) (Branch (view 2 class.ScrollView 7 (pos 9)) Nothing Nothing) (Branch (view 3 class.ScrollView 3 (pos 4)) Nothing Nothing)
 

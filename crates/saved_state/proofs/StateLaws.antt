@@ -54,12 +54,12 @@ read_over done before place bytes count counter none over =
     let some : 0 < length (drop place bytes) = rw length-drop (omega arith) in
     rw (zero_left, lt-ltb 0 (length (drop place bytes)) some) refl
 
--- a fault is told as it was, whatever stood before it
+-- a fault is reported as it was, whatever was before it
 pub told_on : {A B : Type 0} (fault : StateFault) (first : Result A ℕ) (all : Result B ℕ) → ((wrong : ℕ) → first ≡ Err wrong → all ≡ Err wrong) → FailsAs first fault → FailsAs all fault
 told_on (faults.Refused refusal) first all goes says = (says.0, goes says.0 says.1, says.2)
 told_on faults.NoMemory first all goes says = tt
 
--- a fault that tells the first wrong place
+-- a fault that reports the first wrong place
 pub told_at : {A : Type 0} (fault : StateFault) (read : Result A ℕ) (place : ℕ) → read ≡ Err place → is_bad_at place fault → FailsAs read fault
 told_at (faults.Refused refusal) read place wrong bad = (place, wrong, bad)
 told_at faults.NoMemory read place wrong bad = absurd bad

@@ -5,17 +5,17 @@ use Rattle.view_model.specs.declared.refusals.TheConstants.{BAD_STATE, STATE_CLA
 use Rattle.saved_state.specs.declared.fault.StateFault.{StateFault}
 use Rattle.saved_state.specs.declared.fault.StateFault.TheVariants as fault
 
--- a fault tells that what stands at this place is wrong
+-- a fault says that what is at this place is wrong
 abbrev pub is_bad_at : ℕ → StateFault → Type 0
 is_bad_at place (fault.Refused refusal) = plain_refusal refusal ≡ record { number = BAD_STATE; reason = AtPlace place }
 is_bad_at place fault.NoMemory = ⊥
 
--- a fault tells that a view of another class has the id of an entry
+-- a fault says that a view of another class has the id of an entry
 abbrev pub is_other_class : StateFault → Type 0
 is_other_class (fault.Refused refusal) = plain_refusal refusal ≡ refusal_numbered STATE_CLASS
 is_other_class fault.NoMemory = ⊥
 
--- a fault tells the first wrong place of what is read, or memory was wanting
+-- a fault reports the first wrong place of what is read, or there was no memory
 abbrev pub FailsAs : {A : Type 0} → Result A ℕ → StateFault → Type 0
 FailsAs read (fault.Refused refusal) = (place : ℕ) × (read ≡ Err place) × is_bad_at place (fault.Refused refusal)
 FailsAs read fault.NoMemory = Unit {0}

@@ -49,6 +49,6 @@ pub record IsEntry (entries : List (ℕ × ℕ)) (id place : ℕ) : Type 0 where
 abbrev pub FindsEntry : List (ℕ × ℕ) → ℕ → Option ℕ → Type 0
 FindsEntry entries id place = MatchOption place (offset_for entries id ≡ None) (IsEntry entries id)
 
--- of each entry, a mark tells whether a scroll view of a list has its id
+-- of each entry, a mark says whether a scroll view of a list has its id
 abbrev pub AreMarks : List (ℕ × ℕ) → List PlainView → List Bool → Type 0
 AreMarks entries views marks = (place : ℕ) → place < length entries → slice_index_or marks place false ≡ scroll_has (entry_at entries place).0 views

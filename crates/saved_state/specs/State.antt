@@ -1,4 +1,4 @@
--- Saved states: the offsets of scroll views by the ids of these, the bytes that stand for them, and what bytes stand for.
+-- Saved states: the offsets of scroll views by the ids of these, the bytes of a state, and the state of bytes.
 use Rattle.std.specs.Prelude.{ℕ, zero, suc, ◌+◌, ◌<◌, ◌≤◌, ◌==◌, ◌||◌, not, if◌then◌else◌, nat_lt, List, [], ◌∷◌, ◌++◌, length, drop, slice_index, Result, Ok, Err}
 use Rattle.std.specs.List.{flat_map}
 use Rattle.byteorder.specs.Endian.{little_bytes, little_number}
@@ -27,7 +27,7 @@ abbrev pub ◌>>=◌ : {A B : Type 0} → Result A ℕ → (A → Result B ℕ) 
 (Ok read) >>= next = next read
 (Err place) >>= next = Err place
 
--- how many entries a head tells, or the place of its first field that is cut short or wrong
+-- the number of entries by a head, or the place of its first field that is cut short or wrong
 unfoldable pub entry_count : List ℕ → Result ℕ ℕ
 entry_count bytes =
     if nat_lt (length bytes) 2 || not (slice_index bytes 0 == 86) || not (slice_index bytes 1 == 83) then Err 0
@@ -45,13 +45,13 @@ entry_of before place rest =
     else (if nat_lt MAX_OFFSET (little_number 4 (drop 5 rest)) then Err (place + 5)
     else Ok (little_number 4 rest, little_number 4 (drop 5 rest))))))
 
--- so many entries, and nothing behind them
+-- a number of entries, and nothing after them
 abbrev pub entries_of : ℕ → ℕ → ℕ → List ℕ → Result (List (ℕ × ℕ)) ℕ
 entries_of zero before place rest = if nat_lt 0 (length rest) then Err place else Ok []
 entries_of (suc n) before place rest =
     entry_of before place rest >>= λ (entry : ℕ × ℕ).
     (entries_of n entry.0 (place + ENTRY_BYTES) (drop ENTRY_BYTES rest) >>= λ (entries : List (ℕ × ℕ)). Ok (entry ∷ entries))
 
--- the state that bytes stand for, or the place of the first field that is cut short or wrong, or that follows the state
+-- the state of bytes, or the place of the first field that is cut short or wrong, or that follows the state
 unfoldable pub decoded : List ℕ → Result (List (ℕ × ℕ)) ℕ
 decoded bytes = entry_count bytes >>= λ (count : ℕ). entries_of count 0 HEAD_BYTES (drop HEAD_BYTES bytes)

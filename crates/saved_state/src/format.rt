@@ -2,7 +2,7 @@
 
 /// The version that is written and read.
 pub const VERSION: u8 = 1;
-/// How many bytes stand before the first entry.
+/// How many bytes there are before the first entry.
 pub const HEAD_BYTES: usize = 5;
 /// The kind of an entry that has an offset.
 pub const OFFSET_KIND: u8 = 1;

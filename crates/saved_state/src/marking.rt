@@ -9,8 +9,34 @@ use crate::format::MAX_ENTRIES;
 use crate::states::States;
 use view_tree::{Key, ViewTree};
 
+/// The most entries of a state for which marks are few.
+const FEW_ENTRIES: usize = 64;
+
 /// Whether some view has the id of an entry, and no scroll view has it.
 pub fn is_for_other_class(tree: &ViewTree, states: &States) -> bool
+    ensures { result ≡ is_for_other_class states.now (rows (plain_of tree.now)) }
+{
+    if states.count() <= FEW_ENTRIES {
+        few_are_for_other_class(tree, states)
+    } else {
+        many_are_for_other_class(tree, states)
+    }
+}
+
+/// The same of a state of few entries.
+fn few_are_for_other_class(tree: &ViewTree, states: &States) -> bool
+    requires { length states.now ≤ FEW_ENTRIES }
+    ensures { result ≡ is_for_other_class states.now (rows (plain_of tree.now)) }
+{
+    let mut marks = [false; FEW_ENTRIES];
+    mark_all(&mut marks, tree, states);
+    has_unmarked(&marks, tree, states)
+}
+
+/// The same of any state. Its marks are many, and clearing them takes time.
+#[inline(never)]
+fn many_are_for_other_class(tree: &ViewTree, states: &States) -> bool
+    requires { length states.now ≤ MAX_ENTRIES }
     ensures { result ≡ is_for_other_class states.now (rows (plain_of tree.now)) }
 {
     let mut marks = [false; MAX_ENTRIES];
@@ -20,9 +46,9 @@ pub fn is_for_other_class(tree: &ViewTree, states: &States) -> bool
 
 /// Marks each entry whose id a scroll view has.
 fn mark_all(marks: &mut [bool], tree: &ViewTree, states: &States)
-    requires sized { length marks.old ≡ MAX_ENTRIES }
+    requires sized { length states.now ≤ length marks.old }
     requires none { (place : ℕ) → slice_index_or marks.old place false ≡ false }
-    ensures sized { length marks.new ≡ MAX_ENTRIES }
+    ensures sized { length states.now ≤ length marks.new }
     ensures marks { AreMarks states.now (rows (plain_of tree.now)) marks.new }
 {
     let mut next = tree.root();
@@ -35,8 +61,8 @@ fn mark_all(marks: &mut [bool], tree: &ViewTree, states: &States)
 /// Marks the entry whose id a view has, if that is a scroll view.
 fn mark_one(marks: &mut [bool], tree: &ViewTree, states: &States, view: Key)
     requires live { IsLive tree.now view }
-    requires sized { length marks.old ≡ MAX_ENTRIES }
-    ensures sized { length marks.new ≡ MAX_ENTRIES }
+    requires sized { length states.now ≤ length marks.old }
+    ensures sized { length states.now ≤ length marks.new }
     ensures marks { (place : ℕ) → place < length states.now → slice_index_or marks.new place false ≡ (slice_index_or marks.old place false || scrolls_as (entry_at states.now place).0 (view_at tree.now view)) }
 {
     if !tree.class(view).scrolls() {
@@ -49,7 +75,7 @@ fn mark_one(marks: &mut [bool], tree: &ViewTree, states: &States, view: Key)
 
 /// Whether some view has the id of an entry that is not marked.
 fn has_unmarked(marks: &[bool], tree: &ViewTree, states: &States) -> bool
-    requires sized { length marks.now ≡ MAX_ENTRIES }
+    requires sized { length states.now ≤ length marks.now }
     requires marks { AreMarks states.now (rows (plain_of tree.now)) marks.now }
     ensures { result ≡ is_for_other_class states.now (rows (plain_of tree.now)) }
 {
@@ -66,7 +92,7 @@ fn has_unmarked(marks: &[bool], tree: &ViewTree, states: &States) -> bool
 /// Whether a view has the id of an entry that is not marked.
 fn is_unmarked(marks: &[bool], tree: &ViewTree, states: &States, view: Key) -> bool
     requires live { IsLive tree.now view }
-    requires sized { length marks.now ≡ MAX_ENTRIES }
+    requires sized { length states.now ≤ length marks.now }
     requires marks { AreMarks states.now (rows (plain_of tree.now)) marks.now }
     ensures { result ≡ (is_some (offset_for states.now (view_at tree.now view).facts.id) && not (scroll_has (view_at tree.now view).facts.id (rows (plain_of tree.now)))) }
 {

@@ -9,7 +9,7 @@ use crate::states::States;
 use byteorder::{ByteOrder, LittleEndian};
 use std::alloc::Global;
 
-/// Reads a state, or tells the first byte of the first field that is cut short or wrong, or of what follows the state.
+/// Reads a state, or reports the first byte of the first field that is cut short or wrong, or of what follows the state.
 #[tactic(auto, unfolding(crate::specs::State::decoded))]
 pub fn read(alloc: Global, bytes: &[u8]) -> Result<States, StateFault>
     ensures read { ReadAs (decoded bytes.now) result }
@@ -21,7 +21,7 @@ pub fn read(alloc: Global, bytes: &[u8]) -> Result<States, StateFault>
     entries_of(alloc, bytes, count)
 }
 
-/// The state of so many entries, which stand behind the head and end with the bytes.
+/// The state of `count` entries, which follow the head and end with the bytes.
 fn entries_of(alloc: Global, bytes: &[u8], count: u16) -> Result<States, StateFault>
     requires { HEAD_BYTES ≤ length bytes.now }
     ensures read { ReadAs (entries_of count 0 HEAD_BYTES (drop HEAD_BYTES bytes.now)) result }
@@ -42,7 +42,7 @@ fn entries_of(alloc: Global, bytes: &[u8], count: u16) -> Result<States, StateFa
     Ok(States { entries })
 }
 
-/// The number of entries that the head of a state tells.
+/// The number of entries by the head of a state.
 #[tactic(auto, unfolding(crate::specs::State::entry_count))]
 fn entry_count(bytes: &[u8]) -> Result<u16, StateFault>
     ensures value { ReadAs (entry_count bytes.now) result }
@@ -60,7 +60,7 @@ fn entry_count(bytes: &[u8]) -> Result<u16, StateFault>
     Ok(LittleEndian::read_u16(&bytes[3..]))
 }
 
-/// The entry at the start of these bytes, which begin at this place, behind an entry of the id `before`.
+/// The entry at the start of these bytes, which begin at this place, after an entry of the id `before`.
 #[tactic(auto, unfolding(crate::specs::State::entry_of))]
 fn entry_at(rest: &[u8], place: usize, before: u32) -> Result<(u32, u32), StateFault>
     requires { place + length rest.now ≤ 9223372036854775807 }

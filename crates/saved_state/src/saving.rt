@@ -82,7 +82,7 @@ fn encode(alloc: Global, saved: &BTreeMap<u32, u32>) -> Result<Vec<u8>, AllocErr
     Ok(bytes)
 }
 
-/// Adds what stands before so many entries.
+/// Adds the head of a state of `count` entries.
 fn put_head(bytes: &mut Vec<u8>, count: u16) -> Result<(), AllocError>
     ensures { OnOk result (bytes.new.items ≡ bytes.old.items ++ (86 ∷ 83 ∷ VERSION ∷ little_bytes 2 count)) }
 {

@@ -42,6 +42,14 @@ impl States {
         let _count = self.entries.len();
     }
 
+    /// How many entries there are.
+    pub(crate) fn count(&self) -> usize
+        ensures value { result ≡ length self.now }
+        ensures few { result ≤ MAX_ENTRIES }
+    {
+        self.entries.len()
+    }
+
     /// The place of the entry of an id.
     pub(crate) fn place_of(&self, id: u32) -> Option<usize>
         ensures entry { FindsEntry self.now id result }

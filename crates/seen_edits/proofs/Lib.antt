@@ -1,3 +1,4 @@
+mod AroundLaws
 mod DifferingLaws
 mod GivenLaws
 pub mod StillLaws

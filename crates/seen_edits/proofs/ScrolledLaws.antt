@@ -1,5 +1,5 @@
 -- Scroll views that a log has as scrolled, and what is seen of these.
-use Rattle.std.proofs.Common.{◌≡◌, ◌≢◌, ℕ, zero, suc, arith, ◌+◌, ◌<◌, ◌≤◌, ℤ, Bool, true, false, Option, Some, None, List, [], ◌∷◌, ◌++◌, length, take, get_or, refl, sym, ap, ◌∙◌, subst, inl, inr, ◌⊎◌, eqb-true}
+use Rattle.std.proofs.Common.{◌≡◌, ℕ, zero, suc, arith, ◌+◌, ◌<◌, ◌≤◌, ℤ, Bool, true, false, Some, None, List, [], ◌∷◌, ◌++◌, length, take, get_or, refl, sym, ap, ◌∙◌, subst, inl, inr, ◌⊎◌, eqb-true}
 use Rattle.std.specs.Prelude.{◌==◌, ◌&&◌, ◌||◌}
 use Rattle.std.proofs.lemmas.Bool.{eq-eqb}
 use Rattle.std.proofs.lemmas.List.{take_more, take_all}
@@ -14,12 +14,11 @@ use Rattle.seen_edits.specs.Shown.{KeepsShown}
 use Rattle.seen_parts.proofs.ChangeLaws.{met_scrolled}
 use Rattle.seen_parts.specs.Meeting.{met_at, placed_rows, seen_at}
 use Rattle.touch_dispatch.proofs.SceneLaws.{offset_live}
-use Rattle.touch_dispatch.proofs.ScrollLaws.{LogsScrolls, cancel_logs, dispatch_logs, scrolled_differs}
-use Rattle.touch_dispatch.specs.Dispatch.{Scene, cancelled, dispatched}
+use Rattle.touch_dispatch.proofs.ScrollLaws.{LogsScrolls, dispatch_logs}
+use Rattle.touch_dispatch.specs.Dispatch.{dispatched}
 use Rattle.touch_dispatch.specs.Handling.{Reached}
 use Rattle.touch_event.specs.declared.event.Event.{Event}
 use Rattle.touch_dispatch.specs.Kept.{Kept}
-use Rattle.touch_dispatch.specs.Once.{total, touches}
 use Rattle.touch_dispatch.specs.Scrolled.{has_scrolled, is_scroll}
 use Rattle.touch_dispatch.specs.TreeEvents.{OnlyScrolls, offsets_in, progress_of, scene_of}
 use Rattle.touch_dispatch.specs.declared.log.Entry.{Entry}
@@ -30,7 +29,7 @@ use Rattle.view_model.specs.Visible.{whole_window}
 use Rattle.view_tree.proofs.forest.PlainLaws.{agree_live, key_where_number}
 use Rattle.view_tree.proofs.values.KeptLaws.{is_tree-same}
 use Rattle.view_tree.specs.Rows.{Row, count_of_key, head_view, key_where, part_from, views_of}
-use Rattle.view_tree.specs.Views.{Held, IsLive, IsTree, Views, held_of, number_of, offset_of}
+use Rattle.view_tree.specs.Views.{Held, IsLive, IsTree, Views, held_of, number_of}
 
 either : (s t : Bool) → (s || t) ≡ true → (s ≡ true) ⊎ (t ≡ true)
 either true t e = inl refl
@@ -140,33 +139,10 @@ shown_scrolled window less more old new before after log new_log is scrolls grew
               ∙ noted key live' (ap (λ (n : ℕ). has_scrolled n new_log.entries.items) number ∙ some) x y out)
         ]
 
--- what the log of an event has, and that of a cancel
+-- what the log of an event has
 pub logs_by : (old new : Views) (before after : Kept) (log new_log : Log) (slop : ℤ) (event : Event) (yes_ : Bool)
     → (let reached : Reached = record { yes = yes_; progress = progress_of new after new_log } in
     dispatched (scene_of old slop) (views_of old.tree) event (progress_of old before log) ≡ reached)
     → LogsScrolls (progress_of old before log) (progress_of new after new_log)
 logs_by old new before after log new_log slop event yes_ is =
     subst (λ (r : Reached). LogsScrolls (progress_of old before log) r.progress) is (dispatch_logs (scene_of old slop) (views_of old.tree) event (progress_of old before log))
-
-pub logs_cancel : (old new : Views) (before after : Kept) (log new_log : Log) (scene : Scene) (parent : Option ℕ) (number : ℕ) (part : Forest PlainView)
-    → progress_of new after new_log ≡ cancelled scene parent number part (progress_of old before log)
-    → LogsScrolls (progress_of old before log) (progress_of new after new_log)
-logs_cancel old new before after log new_log scene parent number part is =
-    subst (LogsScrolls (progress_of old before log)) (sym is) (cancel_logs scene parent number part (progress_of old before log))
-
--- a view that the log of an event has as scrolled has another offset after the event
-pub logged_differs : (old new : Views) (before after : Kept) (log new_log : Log) → IsTree new → OnlyScrolls old new → LogsScrolls (progress_of old before log) (progress_of new after new_log)
-    → log.entries.items ≡ [] → ((n : ℕ) → total (touches n) new_log.entries.items ≤ total (touches n) log.entries.items + 1)
-    → (key : ℕ) → IsLive new key → has_scrolled (number_of new key) new_log.entries.items ≡ true → offset_of new key ≢ offset_of old key
-logged_differs old new before after log new_log is scrolls logs empty once key live has same =
-    scrolled_differs (number_of new key) (progress_of old before log) (progress_of new after new_log) logs (once (number_of new key)) (ap (has_scrolled (number_of new key)) empty) has
-    (offset_live new key is live ∙ same ∙ sym (ap (offsets_in old) number ∙ offset_live old key was live'))
-  where
-    was : IsTree old
-    was = is_tree-same new old is (sym scrolls.same.tree) (sym scrolls.same.next)
-
-    number : number_of new key ≡ number_of old key
-    number = ap (λ (tree : Forest Row). (head_view (part_from key tree)).number) scrolls.same.tree
-
-    live' : IsLive old key
-    live' = subst (λ (tree : Forest Row). 0 < count_of_key key tree) scrolls.same.tree live

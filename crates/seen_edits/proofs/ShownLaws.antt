@@ -4,19 +4,20 @@ use Rattle.std.specs.Prelude.{◌==◌, if◌then◌else◌, chars}
 use Rattle.std.proofs.lemmas.Bool.{eq-eqb, ne_eqb}
 use Rattle.std.proofs.lemmas.Int.{ints}
 use Rattle.damage_rect.specs.Within.{LiesIn}
-use Rattle.damage_rect.proofs.RectLaws.{hull_least, in_hull_first, is_between, outside_first, outside_second}
+use Rattle.damage_rect.proofs.RectLaws.{hull_least, is_between, outside_first, outside_second}
 use Rattle.geom_core.specs.Rects.{holds, hull_of}
 use Rattle.geom_core.specs.declared.geometry.Rect.{Rect}
 use Rattle.geom_core.specs.declared.geometry.Size.{Size}
 use Rattle.pixel_raster.proofs.PictureLaws.{pixels-picture}
 use Rattle.pixel_raster.specs.Cuts.{area_within, cut_of, edge_within, from_zero}
 use Rattle.pixel_raster.specs.Raster.{IsRaster, Raster, color_at, size_of}
+use Rattle.seen_edits.proofs.AroundLaws.{seen_less}
 use Rattle.seen_edits.proofs.StillLaws.{AreStill, IsStill, met_beside, placed_still, whole_is}
 use Rattle.seen_parts.proofs.PlacedLaws.{placed_is}
 use Rattle.seen_edits.specs.Shown.{GrowsWithin, IsChange, KeepsShown, Shows, edited, seen_of}
 use Rattle.seen_parts.proofs.ChangeLaws.{cut_changed, met_cut}
 use Rattle.seen_parts.proofs.MeetingLaws.{same_color}
-use Rattle.seen_parts.specs.Meeting.{met_at, placed_rows, seen_at}
+use Rattle.seen_parts.specs.Meeting.{met_at, placed_rows}
 use Rattle.tree_edits.proofs.UnaskedLaws.{stays_bounds, stays_offset}
 use Rattle.tree_edits.specs.Applied.{IsEdit}
 use Rattle.tree_edits.specs.Asking.{goes_out, is_in_part}
@@ -60,16 +61,6 @@ shown_same window damage views new same = record {
   grew = λ x y h. h;
   colors = λ x y inside out. rw same refl;
 }
-
--- a point outside of what two rectangles were added to
-pub added : (damage one other more : Rect) → more ≡ hull_of (hull_of damage one) other → (x y : ℤ) → holds more x y ≡ false → (holds one x y ≡ false) × (holds other x y ≡ false)
-added damage one other more is x y out =
-    let late : holds (hull_of (hull_of damage one) other) x y ≡ false = ap (λ (rect : Rect). holds rect x y) (sym is) ∙ out in
-    (outside_second damage one x y (outside_first (hull_of damage one) other x y late), outside_second (hull_of damage one) other x y late)
-
-pub grew_twice : (damage one other more : Rect) → more ≡ hull_of (hull_of damage one) other → LiesIn damage more
-grew_twice damage one other more is x y h =
-    ap (λ (rect : Rect). holds rect x y) is ∙ in_hull_first (hull_of damage one) other x y (in_hull_first damage one x y h)
 
 -- what an edit leaves beside its view
 cut_after : (old new : Views) (e : Edit) → IsChange e → KeepsViews old new e → pruned_at_key (edited e) new.tree ≡ pruned_at_key (edited e) old.tree
@@ -119,19 +110,17 @@ still_beside old new e is keeps key live ne none =
       offset = stays_offset old new e keeps key live now ∙ offset_beside old e is key ne;
     }
 
--- a view was changed, and what was seen of it and what is seen of it is damage
-pub shown_changed : (window : Size) (less more one other : Rect) (old new : Views) (e : Edit) → IsChange e → IsTree old → IsTree new → IsLive old (edited e) → KeepsViews old new e
-    → more ≡ hull_of (hull_of less one) other
-    → ((x y : ℤ) → holds one x y ≡ holds (seen_at (held_of old) (whole_window window) (edited e) old.tree) x y)
-    → ((x y : ℤ) → holds other x y ≡ holds (seen_at (held_of new) (whole_window window) (edited e) new.tree) x y)
-    → KeepsShown window less more old new
-shown_changed window less more one other old new e change was is live keeps damage before after = record {
-  grew = grew_twice less one other more damage;
+-- a view was changed, and what was seen of it is damage
+pub shown_changed : (window : Size) (less more : Rect) (old new : Views) (e : Edit) → IsChange e → IsTree old → IsTree new → IsLive old (edited e) → KeepsViews old new e
+    → LiesIn less more → LiesIn (seen_of window old (edited e)) more → KeepsShown window less more old new
+shown_changed window less more old new e change was is live keeps grew lies = record {
+  grew = grew;
   colors = λ x y inside out.
-      let unseen = added less one other more damage x y out in
+      let before = outside (seen_of window old (edited e)) more lies x y out in
       colors_same window old new x y was is inside
-      (met_beside x y (held_of old) (held_of new) (whole_window window) (edited e) old.tree new.tree (was.keys (edited e)) (is.keys (edited e)) (sym (before x y) ∙ unseen.0) (sym (after x y) ∙ unseen.1)
-      (cut_after old new e change keeps) (λ key some. beside key some));
+      (met_beside x y (held_of old) (held_of new) (whole_window window) (edited e) old.tree new.tree (was.keys (edited e)) (is.keys (edited e)) before
+      (seen_less window old new e change keeps live (live_after old new e change keeps (edited e) live) beside x y before)
+      (cut_after old new e change keeps) beside);
 }
   where
     beside : AreStill (held_of old) (held_of new) (pruned_at_key (edited e) old.tree)
@@ -143,17 +132,15 @@ shown_changed window less more one other old new e change was is live keeps dama
         still_beside old new e change keeps key (omega arith) (λ same. absurd (let none = subst (λ (k : ℕ). count_of_key k (pruned_at_key (edited e) old.tree) ≡ 0) (sym same) own in omega arith)) (omega arith)
 
 -- a view was taken away
-pub shown_taken : (window : Size) (less more one : Rect) (old new : Views) (view : ℕ) → IsTree old → IsTree new → KeepsViews old new (edit.Remove view)
-    → more ≡ hull_of less one → ((x y : ℤ) → holds one x y ≡ holds (seen_at (held_of old) (whole_window window) view old.tree) x y)
-    → KeepsShown window less more old new
-shown_taken window less more one old new view was is keeps damage before = record {
-  grew = λ x y h. ap (λ (rect : Rect). holds rect x y) damage ∙ in_hull_first less one x y h;
+pub shown_taken : (window : Size) (less more : Rect) (old new : Views) (view : ℕ) → IsTree old → IsTree new → KeepsViews old new (edit.Remove view)
+    → LiesIn less more → LiesIn (seen_of window old view) more → KeepsShown window less more old new
+shown_taken window less more old new view was is keeps grew lies = record {
+  grew = grew;
   colors = λ x y inside out.
-      let unseen : holds one x y ≡ false = outside_second less one x y (ap (λ (rect : Rect). holds rect x y) (sym damage) ∙ out) in
       colors_same window old new x y was is inside
       (ap (λ (tree : Forest Row). met_at x y (whole_window window) (placed_rows (held_of new) tree)) keeps.tree
       ∙ ap (met_at x y (whole_window window)) (placed_still (held_of old) (held_of new) (pruned_at_key view old.tree) beside)
-      ∙ sym (met_cut x y (held_of old) (whole_window window) view old.tree (was.keys view) (sym (before x y) ∙ unseen)));
+      ∙ sym (met_cut x y (held_of old) (whole_window window) view old.tree (was.keys view) (outside (seen_of window old view) more lies x y out)));
 }
   where
     beside : AreStill (held_of old) (held_of new) (pruned_at_key view old.tree)
@@ -226,15 +213,14 @@ pub area_most : (width height : ℕ) (rect : Rect) → area_within width height 
 unfolding cut_of
 area_most width height rect = mul-le-mul (side_most width rect.left rect.right) (side_most height rect.top rect.bottom)
 
--- damage to which what was seen of a view was added, and what is seen of it now
-pub within_twice : (window : Size) (old new : Views) (view : ℕ) (less one other more : Rect) → more ≡ hull_of (hull_of less one) other
-    → ((x y : ℤ) → holds one x y ≡ holds (seen_of window old view) x y) → ((x y : ℤ) → holds other x y ≡ holds (seen_of window new view) x y)
-    → GrowsWithin window view old new less more
-within_twice window old new view less one other more is before after box first was now =
-    subst (λ (rect : Rect). LiesIn rect box) (sym is)
-    (hull_least (hull_of less one) other box
-    (hull_least less one box first (λ x y h. was x y (sym (before x y) ∙ h)))
-    (λ x y h. now x y (sym (after x y) ∙ h)))
+-- damage to which a part of what was seen of a view was added
+pub within_part : (window : Size) (old new : Views) (view : ℕ) (less part more : Rect) → more ≡ hull_of less part → LiesIn part (seen_of window old view) → GrowsWithin window view old new less more
+within_part window old new view less part more is seen box first was now =
+    subst (λ (rect : Rect). LiesIn rect box) (sym is) (hull_least less part box first (λ x y h. was x y (seen x y h)))
+
+-- what lies in damage lies in more of it
+pub within_more : (less part more inner : Rect) → more ≡ hull_of less part → LiesIn inner (hull_of less part) → LiesIn inner more
+within_more less part more inner is lies = subst (LiesIn inner) (sym is) lies
 
 pub within_once : (less one more seen box : Rect) → more ≡ hull_of less one → ((x y : ℤ) → holds one x y ≡ holds seen x y) → LiesIn less box → LiesIn seen box → LiesIn more box
 within_once less one more seen box is same first was =

@@ -1,6 +1,7 @@
-//! Edits of a tree, and what has to be painted anew after them.
+//! Edits of a tree, and what has to be painted again after them.
 ghost use Rattle.std.specs.Prelude.{◌≡◌, ◌^◌, ◌<◌, ◌≢◌, pos, true, Err, OnErr, OnOk, Ok, None};
 ghost use Rattle.damage_rect.specs.Within.{LiesIn};
+ghost use Rattle.geom_core.specs.Rects.{hull_of};
 ghost use Rattle.geom_core.specs.declared.geometry.Rect.{Rect};
 ghost use Rattle.kept_views.specs.Kept.{IsConsistent};
 ghost use Rattle.seen_edits.specs.Shown.{GrowsWithin, IsChange, KeepsShown, edited, is_unseen, act_is_unseen, seen_of};
@@ -10,6 +11,7 @@ ghost use Rattle.tree_edits.specs.Editing.{outcome_of_edit};
 ghost use Rattle.tree_edits.specs.Keeping.{KeepsViews};
 ghost use Rattle.tree_edits.specs.Scene.{scene_of};
 ghost use Rattle.view_model.specs.Geometry.{rect_at};
+ghost use Rattle.view_model.specs.Visible.{whole_window};
 ghost use Rattle.view_tree.specs.Views.{IsLive};
 
 use crate::trees::note_tree;
@@ -21,8 +23,8 @@ use tree_edits::{Edit, EditFault, apply};
 use view_model::{Act, Flag};
 use view_tree::{Key, ViewTree};
 
-/// Makes an edit by which no view comes or goes. What was seen of its view in the window, and what is seen of it after, is
-/// damage, unless the edit shows in no picture. A refused edit damages nothing.
+/// Makes an edit by which no view comes or goes. What was seen of its view in the window is damage, unless the edit shows
+/// in no picture; no more is seen of it after. A refused edit damages nothing.
 pub fn change(
     alloc: Global,
     tree: &mut ViewTree,
@@ -51,12 +53,11 @@ pub fn change(
         return made;
     }
     let view = edited(&edit);
-    let before = seen(tree, window, view);
+    let before = part_left(tree, window, view, damage.rect());
     match apply(alloc, tree, edit) {
         Ok(made) => {
             note_tree(tree);
             damage.add(before);
-            damage.add(seen(tree, window, view));
             Ok(made)
         }
         Err(fault) => Err(fault),
@@ -123,7 +124,7 @@ pub fn take(
     ensures measures { tree.new.counts.measures ≡ tree.old.counts.measures }
 {
     note_tree(tree);
-    let part = seen(tree, window, view);
+    let part = part_left(tree, window, view, damage.rect());
     match apply(alloc, tree, Edit::Remove(view)) {
         Ok(made) => {
             note_tree(tree);
@@ -132,6 +133,34 @@ pub fn take(
         }
         Err(refused) => Err(refused),
     }
+}
+
+/// What of a view has yet to be damage: what is seen of it, or nothing where all of the window is damage.
+fn part_left(tree: &ViewTree, window: Size, view: Key, damage: Rect) -> Rect
+    requires { IsLive tree.now view }
+    ensures seen { LiesIn result (seen_of window tree.now view) }
+    ensures enough { LiesIn (seen_of window tree.now view) (hull_of damage result) }
+{
+    if covers(damage, window) {
+        return Damage::new().rect();
+    }
+    seen(tree, window, view)
+}
+
+/// Whether all of a window of this size lies in a rectangle.
+fn covers(rect: Rect, window: Size) -> bool
+    ensures { result ≡ true → LiesIn (whole_window window).clip rect }
+{
+    if rect.left > 0 {
+        return false;
+    }
+    if rect.top > 0 {
+        return false;
+    }
+    if rect.right < window.w {
+        return false;
+    }
+    rect.bottom >= window.h
 }
 
 /// All of the window is damage.

@@ -1,4 +1,4 @@
-//! Edits of a tree of views whose picture was painted, and what of the window has to be painted anew after them.
+//! Edits of a tree of views whose picture was painted, and what of the window has to be painted again after them.
 //!
 //! `damaging` makes edits, `restoring` restores offsets, `scrolling` looks for what an event has scrolled, and `painting`
 //! paints the damage that these have left.

@@ -1,4 +1,4 @@
-//! Painting what has to be painted anew.
+//! Painting what has to be painted again.
 ghost use Rattle.std.specs.Prelude.{◌≡◌, ◌+◌, ◌-◌, ◌*◌, ◌^◌, ◌<◌, ◌≤◌, min};
 ghost use Rattle.damage_rect.specs.Damages.{no_damage};
 ghost use Rattle.pixel_raster.specs.Raster.{size_of};

@@ -1,4 +1,4 @@
-//! What has to be painted anew once offsets are restored.
+//! What has to be painted again once offsets are restored.
 ghost use Rattle.std.specs.Prelude.{◌≡◌, ℕ, true, false, is_some, OnErr, OnOk};
 ghost use Rattle.damage_rect.specs.Within.{LiesIn};
 ghost use Rattle.geom_core.specs.declared.geometry.Rect.{Rect};

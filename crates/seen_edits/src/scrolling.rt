@@ -1,4 +1,4 @@
-//! What has to be painted anew once an event has moved the children of scroll views.
+//! What has to be painted again once an event has moved the children of scroll views.
 ghost use Rattle.std.specs.Prelude.{◌≡◌};
 ghost use Rattle.damage_rect.specs.Within.{LiesIn};
 ghost use Rattle.geom_core.specs.declared.geometry.Rect.{Rect};

@@ -1,17 +1,16 @@
 -- What is seen at a point where nothing is seen of the view that changes.
-use Rattle.std.proofs.Common.{◌≡◌, ◌≢◌, ℕ, ◌+◌, ◌<◌, ◌≤◌, ℤ, false, refl, sym, ap, ◌∙◌, arith, inl, inr, ◌⊎◌}
+use Rattle.std.proofs.Common.{◌≡◌, ◌≢◌, ℕ, ◌+◌, ◌<◌, ◌≤◌, ℤ, false, refl, ap, ◌∙◌, arith, inl, inr, ◌⊎◌}
 use Rattle.std.proofs.lemmas.Bool.{cases_Bool, cases_eq, eq-eqb, ne_eqb}
 use Rattle.std.specs.Prelude.{◌==◌, if◌then◌else◌}
 use Rattle.geom_core.specs.Rects.{holds}
 use Rattle.seen_parts.proofs.ClimbLaws.{own_more}
-use Rattle.seen_parts.proofs.SightLaws.{placed_along}
 use Rattle.seen_parts.specs.Meeting.{met_at, placed_rows, seen_at}
 use Rattle.view_model.specs.Forest.{Forest, Nothing, Branch}
 use Rattle.view_model.specs.Painting.{PlacedView}
 use Rattle.view_model.specs.PlainTree.{PlainView}
 use Rattle.view_model.specs.Visible.{Canvas, canvas_below, seen_in}
 use Rattle.view_tree.specs.Rows.{Row, changed_at_key, count_of_key, pruned_at_key}
-use Rattle.view_tree.specs.Views.{Held, KeepsInside, scrolled}
+use Rattle.view_tree.specs.Views.{Held, scrolled}
 use Rattle.view_tree.proofs.forest.NumberLaws.{cut_absent}
 use Rattle.view_tree.proofs.forest.KeyLaws.{times_self}
 
@@ -65,17 +64,6 @@ cut_changed key change (Branch row kids siblings) = elim (cases_Bool (row.key ==
   | inl e ↦ rw (e, e) refl
   | inr e ↦ rw (e, e, cut_changed key change kids, cut_changed key change siblings) refl
 ]
-
--- a view changes, and what is seen of it before and after is seen elsewhere
-pub met_changed : (x y : ℤ) (old new : ℕ → Held) (canvas : Canvas) (key : ℕ) (before after : Forest Row) → count_of_key key before ≤ 1 → count_of_key key after ≤ 1
-    → holds (seen_at old canvas key before) x y ≡ false → holds (seen_at new canvas key after) x y ≡ false
-    → pruned_at_key key after ≡ pruned_at_key key before → KeepsInside old new (pruned_at_key key before)
-    → met_at x y canvas (placed_rows new after) ≡ met_at x y canvas (placed_rows old before)
-met_changed x y old new canvas key before after once once' was is same kept =
-    met_cut x y new canvas key after once' is
-    ∙ ap (λ (tree : Forest Row). met_at x y canvas (placed_rows new tree)) same
-    ∙ ap (met_at x y canvas) (placed_along old new (pruned_at_key key before) kept)
-    ∙ sym (met_cut x y old canvas key before once was)
 
 -- views are scrolled, and where that is so nothing is seen of them
 pub met_scrolled : (x y : ℤ) (old new : ℕ → Held) (canvas : Canvas) (list : Forest Row) → ((key : ℕ) → count_of_key key list ≤ 1)

@@ -6,7 +6,8 @@ use Rattle.damage_rect.proofs.RectLaws.{among, and_none, overlap_holds}
 use Rattle.geom_core.specs.declared.geometry.Rect.{Rect}
 use Rattle.geom_core.specs.Rects.{holds, larger_of, smaller_of}
 use Rattle.seen_parts.specs.declared.frame.Frame.{Frame}
-use Rattle.seen_parts.specs.Frames.{IsInside, IsPart, frame_holds}
+use Rattle.damage_rect.specs.Within.{IsInside}
+use Rattle.seen_parts.specs.Frames.{IsPart, frame_holds}
 
 -- the rectangle of the edges of a frame
 abbrev edges_of : Frame → Rect

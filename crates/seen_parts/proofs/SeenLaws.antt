@@ -1,21 +1,19 @@
--- What is seen of the view of a key: by the number of the view, and within what is seen of the views around it.
-use Rattle.std.proofs.Common.{◌≡◌, ◌≢◌, ℕ, ◌<◌, ◌≤◌, Bool, true, false, Option, Some, None, refl, sym, ap, ◌∙◌, arith, inl, inr}
+-- What is seen of the view of a key: by the number of the view, and within the canvas of the list that it is in.
+use Rattle.std.proofs.Common.{◌≡◌, ℕ, ◌<◌, ◌≤◌, Bool, true, false, Option, Some, None, refl, ap, ◌∙◌, arith, inl, inr}
 use Rattle.std.proofs.lemmas.Bool.{cases_Bool, cases_eq, eq-eqb, ne_eqb}
 use Rattle.std.specs.Prelude.{◌==◌, if◌then◌else◌, unwrap_or}
-use Rattle.geom_core.specs.Rects.{holds}
 use Rattle.damage_rect.specs.Within.{LiesIn}
 use Rattle.geom_core.specs.declared.geometry.Rect.{Rect}
 use Rattle.geom_core.specs.declared.geometry.Size.{Size}
-use Rattle.seen_parts.proofs.ClimbLaws.{own_more}
 use Rattle.seen_parts.proofs.PlacedLaws.{placed_is}
 use Rattle.seen_parts.specs.Meeting.{canvas_around, placed_rows, seen_at}
 use Rattle.view_model.specs.Forest.{Forest, Nothing, Branch}
 use Rattle.view_model.specs.Painting.{PlacedView}
 use Rattle.view_model.specs.Visible.{Canvas, canvas_below, no_rect, seen_in, visible_in, visible_rect, whole_window}
 use Rattle.seen_parts.proofs.VisibleLaws.{below_within, seen_within}
-use Rattle.view_tree.specs.Rows.{Row, children_of_first, count_of_key, part_from}
+use Rattle.view_tree.specs.Rows.{Row, count_of_key}
 use Rattle.view_tree.specs.Views.{Held, IsLive, IsTree, Views, geometry_of, held_of, number_of, plain_of, scrolled}
-use Rattle.view_tree.proofs.forest.KeyLaws.{Agree, absent, count_of_key-within, located, or_else_live, zero_or_more}
+use Rattle.view_tree.proofs.forest.KeyLaws.{Agree}
 use Rattle.view_tree.proofs.forest.PlainLaws.{agree_live}
 
 -- the canvas of the children of the first view of a list
@@ -74,44 +72,3 @@ clip_within held canvas key (Branch row kids siblings) =
 pub seen_inside : (held : ℕ → Held) (canvas : Canvas) (key : ℕ) (list : Forest Row) → LiesIn (seen_at held canvas key list) canvas.clip
 seen_inside held canvas key list x y h =
     clip_within held canvas key list x y (seen_within (held key).state.bounds (canvas_around held canvas key list) x y h)
-
-kids_few : (outer key : ℕ) (tree : Forest Row) → count_of_key key (children_of_first (part_from outer tree)) ≤ count_of_key key tree
-kids_few outer key tree = elim (zero_or_more (count_of_key outer tree)) [
-  | inl z ↦ rw (absent outer tree z) (omega arith)
-  | inr live ↦
-      let f = located outer tree live in
-      let few = count_of_key-within key f.within in
-      rw f.is (omega arith)
-]
-
--- what is seen of a view below another lies in what is seen of that one
-pub seen_below : (held : ℕ → Held) (canvas : Canvas) (outer key : ℕ) (tree : Forest Row) → ((k : ℕ) → count_of_key k tree ≤ 1) → 0 < count_of_key key (children_of_first (part_from outer tree))
-    → LiesIn (seen_at held canvas key tree) (seen_at held canvas outer tree)
-seen_below held canvas outer key Nothing once live = absurd (omega arith)
-seen_below held canvas outer key (Branch row kids siblings) once live = elim (cases_eq row.key outer) [
-  | inl e ↦
-      let live : 0 < count_of_key key kids = rw (eq-eqb row.key outer e) at live in
-      let ne : row.key ≢ key = λ i. let o = once key in let more = own_more row kids siblings key i in absurd (omega arith) in
-      let nz : count_of_key key kids ≡ 0 → ⊥ = λ z. absurd (omega arith) in
-      rw (ne_eqb row.key key ne, ne_eqb (count_of_key key kids) 0 nz, eq-eqb row.key outer e) (λ x y h.
-      ap (λ (k : ℕ). holds (seen_in (held k).state.bounds canvas) x y) (sym e)
-      ∙ below_within (held row.key).state.bounds (scrolled held row).facts canvas x y (seen_inside held (inner_of held canvas row) key kids x y h))
-  | inr other ↦ elim (zero_or_more (count_of_key outer kids)) [
-    | inl z ↦
-        let live : 0 < count_of_key key (children_of_first (part_from outer siblings)) = rw (absent outer kids z) at (rw (ne_eqb row.key outer other) at live) in
-        let few = kids_few outer key siblings in
-        let ne : row.key ≢ key = λ i. let o = once key in let more = own_more row kids siblings key i in absurd (omega arith) in
-        let none : count_of_key key kids ≡ 0 = let o = once key in omega arith in
-        rw (ne_eqb row.key key ne, eq-eqb (count_of_key key kids) 0 none, ne_eqb row.key outer other, eq-eqb (count_of_key outer kids) 0 z)
-        (seen_below held canvas outer key siblings (λ k. let o = once k in omega arith) live)
-    | inr some ↦
-        let live : 0 < count_of_key key (children_of_first (part_from outer kids)) =
-        rw (or_else_live outer kids (part_from outer siblings) some) at (rw (ne_eqb row.key outer other) at live) in
-        let few = kids_few outer key kids in
-        let ne : row.key ≢ key = λ i. let o = once key in let more = own_more row kids siblings key i in absurd (omega arith) in
-        let nz : count_of_key key kids ≡ 0 → ⊥ = λ z. absurd (omega arith) in
-        let oz : count_of_key outer kids ≡ 0 → ⊥ = λ z. absurd (omega arith) in
-        rw (ne_eqb row.key key ne, ne_eqb (count_of_key key kids) 0 nz, ne_eqb row.key outer other, ne_eqb (count_of_key outer kids) 0 oz)
-        (seen_below held (inner_of held canvas row) outer key kids (λ k. let o = once k in omega arith) live)
-  ]
-]

@@ -116,26 +116,3 @@ sight_own canvas damage old new row kids before rect facts inner was lies offset
         met_none x y (canvas_below (Some rect) (scrolled old row).facts canvas) (placed_rows new kids) none
         ∙ sym (met_none x y (canvas_below (Some rect) (scrolled old row).facts canvas) (placed_rows old kids) none)
     children (Some inner) below is = subst (λ (c : Canvas). met_at x y c (placed_rows new kids) ≡ met_at x y c (placed_rows old kids)) is (below x y out)
-
--- what is seen of the children of a list is as it was, once what is left of them is
-abbrev pub RestSight : Canvas → Rect → Forest Row → Forest Row → (ℕ → Held) → (ℕ → Held) → Option ℕ → Type 0
-RestSight canvas damage tree kids old new next =
-    (x y : ℤ) → holds damage x y ≡ false
-    → met_at x y canvas (placed_rows new (rest_from next tree)) ≡ met_at x y canvas (placed_rows old (rest_from next tree))
-    → met_at x y canvas (placed_rows new kids) ≡ met_at x y canvas (placed_rows old kids)
-
-pub rest_start : (canvas : Canvas) (damage : Rect) (tree kids : Forest Row) (old new : ℕ → Held) (next : Option ℕ) → rest_from next tree ≡ kids → RestSight canvas damage tree kids old new next
-rest_start canvas damage tree kids old new next is x y out same = rw is at same
-
-pub rest_on : (canvas : Canvas) (damage later : Rect) (tree kids : Forest Row) (old new : ℕ → Held) (kid : ℕ) (next : Option ℕ) → RestSight canvas damage tree kids old new (Some kid)
-    → ((x y : ℤ) → holds later x y ≡ false → holds damage x y ≡ false) → KeepsSight canvas later old new (first_tree (part_from kid tree))
-    → rest_from next tree ≡ later_siblings (part_from kid tree) → RestSight canvas later tree kids old new next
-rest_on canvas damage later tree kids old new kid next sight grew step is x y out same =
-    sight x y (grew x y out)
-    (met_parts x y canvas new part
-    ∙ ap (λ (list : Forest PlacedView). joined list (met_at x y canvas (placed_rows new (later_siblings part)))) (step x y out)
-    ∙ ap (λ (list : Forest PlacedView). joined (met_at x y canvas (placed_rows old (first_tree part))) list) (rw is at same)
-    ∙ sym (met_parts x y canvas old part))
-  where
-    part : Forest Row
-    part = part_from kid tree

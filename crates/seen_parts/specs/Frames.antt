@@ -67,13 +67,6 @@ pub record IsSeen (frame : Frame) : Type 0 where
   pub top : frame.top ≤ℤ pos 2147483647
   pub bottom : negsuc 2147483647 ≤ℤ frame.bottom
 
--- a rectangle no edge of which lies outside another
-pub record IsInside (outer inner : Rect) : Type 0 where
-  pub left : outer.left ≤ℤ inner.left
-  pub top : outer.top ≤ℤ inner.top
-  pub right : inner.right ≤ℤ outer.right
-  pub bottom : inner.bottom ≤ℤ outer.bottom
-
 -- the padding of a view
 abbrev pub padding_of : Facts → Insets
 padding_of facts = record { left = padding_left facts; top = facts.padding.top; right = padding_right facts; bottom = facts.padding.bottom }

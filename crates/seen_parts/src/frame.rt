@@ -1,7 +1,8 @@
 //! Rectangles in window coordinates whose edges may lie far outside, and what of them is seen.
 ghost use Rattle.std.specs.Prelude.{◌≡◌, ℤ, pos, negsuc, ◌+ℤ◌, ◌-ℤ◌, ◌≤ℤ◌, ◌<ℤ◌, ◌&&◌, ◌^◌, OnSome, IfSome};
+ghost use Rattle.damage_rect.specs.Within.{IsInside};
 ghost use Rattle.geom_core.specs.Rects.{holds, larger_of, smaller_of};
-ghost use Rattle.seen_parts.specs.Frames.{IsCanvas, IsEdge, IsInReach, IsInside, IsMoved, IsPart, IsSeen, IsWithin, IsWithout, frame_holds, padding_of, part_holds};
+ghost use Rattle.seen_parts.specs.Frames.{IsCanvas, IsEdge, IsInReach, IsMoved, IsPart, IsSeen, IsWithin, IsWithout, frame_holds, padding_of, part_holds};
 
 use geom_core::{Insets, Rect};
 use view_model::Facts;

@@ -63,7 +63,7 @@ module _ (tree kids : Forest Row) (placer next_placer : Placer) (spot : Spot) (s
   as_started : KeepsInside start old (first_tree (part_from kid tree))
   as_started = still_first tree kids start kid old walk.walked
 
-  -- the first child of the rest stands at the end as it was left, and the others are as they were
+  -- the first child of the rest is at the end as it was left, and the others are as they were
   kid_laid : (end : ℕ → Held) → KeepsOutside mid end (later_siblings (part_from kid tree)) → IsQuiet end spot walk.before start (first_tree (part_from kid tree))
   kid_laid end same =
       IsQuiet-start end spot walk.before start old (first_tree (part_from kid tree)) as_started

@@ -77,7 +77,7 @@ pub record Framed : Type 0 where
   -- where the views lie, if it has settled, and otherwise nothing
   pub geometry : List Laid
 
--- a frame with this last pass, before which so many hooks had fired, has settled where that fired none
+-- a frame with this last pass, before which this number of hooks had fired, has settled where that fired none
 abbrev pub ended : ℕ → Pass → Framed
 ended before pass =
     if pass.fired

@@ -68,7 +68,7 @@ pub fn frame(tree: &mut ViewTree, hooks: &mut Hooks, window: Size, work: &mut Wo
     }
 }
 
-/// Ends a frame whose last pass fired no hook, after so many that were fired before; this has to be painted.
+/// Ends a frame whose last pass fired no hook, after `fired` that were fired before; `damage` has to be painted.
 fn settle(tree: &ViewTree, hooks: &mut Hooks, damage: Rect, fired: u8) -> Frame
     ensures hooks { hooks.new ≡ told_in (geometry_of tree.now) hooks.old }
     ensures is_tree { IsTree tree.now }

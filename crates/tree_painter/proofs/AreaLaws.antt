@@ -1,21 +1,19 @@
 -- Areas of parts of a picture, and counts that rise by them.
-use Rattle.std.proofs.Common.{◌≡◌, ℕ, ◌+◌, ◌-◌, ◌*◌, ◌<◌, ◌≤◌, ◌^◌, min, ℤ, pos, negsuc, ◌≤ℤ◌, ◌<ℤ◌, ◌+ℤ◌, ◌-ℤ◌, inl, inr, refl, sym, ◌∙◌, ap, subst, arith}
+use Rattle.std.proofs.Common.{◌≡◌, ℕ, ◌+◌, ◌-◌, ◌*◌, ◌<◌, ◌≤◌, ◌^◌, min, ℤ, pos, negsuc, ◌≤ℤ◌, ◌<ℤ◌, ◌+ℤ◌, ◌-ℤ◌, inl, inr, refl, ◌∙◌, ap, subst, arith}
 use Rattle.std.specs.Int.{int_max, int_min}
 use Rattle.std.specs.Prelude.{Bool, true, false, int_lt, IfSome, Option, Some, None}
 use Rattle.std.proofs.lemmas.Bool.{cases_lt}
 use Rattle.std.proofs.lemmas.Int.{ints}
 use Rattle.std.proofs.lemmas.Nat.{mul-le}
 use Rattle.std.proofs.Math.Nat.{mul-add}
-use Rattle.geom_core.specs.Rects.{larger_of, smaller_of}
 use Rattle.geom_core.specs.declared.color.Argb.{Argb}
 use Rattle.geom_core.specs.declared.geometry.Rect.{Rect}
 use Rattle.pixel_raster.specs.Cuts.{cut_of, edge_within, from_zero}
 use Rattle.pixel_raster.specs.Raster.{Fills, Raster}
 use Rattle.view_model.specs.declared.work.Work.{Work}
 use Rattle.seen_parts.specs.declared.frame.Canvas.{Canvas}
-use Rattle.seen_parts.specs.declared.frame.Frame.{Frame}
 use Rattle.tree_painter.specs.Areas.{area_between, column_at, edge_at, row_at, strip_between}
-use Rattle.seen_parts.specs.Frames.{IsInside, IsPart}
+use Rattle.damage_rect.specs.Within.{IsInside}
 use Rattle.tree_painter.specs.Painted.{IsCounted, area_in}
 
 edge_grows : (limit : ℕ) (a b : ℤ) → a ≤ℤ b → edge_within limit a ≤ edge_within limit b
@@ -45,32 +43,6 @@ edge_at-high limit low high a = edge_grows limit _ _ (at_high low high a)
 pub edge_at-low : (limit : ℕ) (low high a : ℤ) → edge_at limit low high low ≤ edge_at limit low high a
 unfolding edge_at
 edge_at-low limit low high a = edge_grows limit _ _ (at_low low high a)
-
--- the edges of a part are those of the frame, brought into the clip
-part_low : (cl cr fl fr : ℤ) → larger_of cl fl <ℤ smaller_of cr fr → int_max cl (int_min cr fl) ≡ larger_of cl fl
-unfolding larger_of smaller_of
-part_low cl cr fl fr lt = grind (arith, ints)
-
-part_high : (cl cr fl fr : ℤ) → larger_of cl fl <ℤ smaller_of cr fr → int_max cl (int_min cr fr) ≡ smaller_of cr fr
-unfolding larger_of smaller_of
-part_high cl cr fl fr lt = grind (arith, ints)
-
-pub part_area : (picture : Raster) (clip : Rect) (frame : Frame) (part : Rect) → IsPart clip frame part
-    → area_in picture part ≡ area_between picture clip frame.left frame.top frame.right frame.bottom
-unfolding edge_at cut_of
-part_area picture clip frame part p =
-    let across : larger_of clip.left frame.left <ℤ smaller_of clip.right frame.right = rw (sym p.left, sym p.right) p.across in
-    let down : larger_of clip.top frame.top <ℤ smaller_of clip.bottom frame.bottom = rw (sym p.top, sym p.bottom) p.down in
-    rw (
-      part_low clip.left clip.right frame.left frame.right across,
-      part_high clip.left clip.right frame.left frame.right across,
-      part_low clip.top clip.bottom frame.top frame.bottom down,
-      part_high clip.top clip.bottom frame.top frame.bottom down,
-      p.left,
-      p.top,
-      p.right,
-      p.bottom,
-    ) refl
 
 -- a rectangle in another one has no greater area
 pub inside_area : (picture : Raster) (outer inner : Rect) → IsInside outer inner → area_in picture inner ≤ area_in picture outer
@@ -137,20 +109,6 @@ counted_within one most a b u v le x = record {
   alike = x.alike;
   measured = x.measured;
 }
-
--- a run of a column, and what is left below it
-pub column_area : (picture : Raster) (clip : Rect) (left top : ℤ) (row end next : ℕ) → row ≤ end → end ≤ 8 → next ≡ min (end + 1) 8
-    → area_between picture clip (pos 0 +ℤ left) (pos row +ℤ top) (pos 1 +ℤ left) (pos end +ℤ top) + area_between picture clip left (top +ℤ pos next) (left +ℤ pos 1) (top +ℤ pos 8)
-    ≤ area_between picture clip left (top +ℤ pos row) (left +ℤ pos 1) (top +ℤ pos 8)
-column_area picture clip left top row end next le high is =
-    let low : pos 0 +ℤ left ≡ left = omega (arith, ints) in
-    let right : pos 1 +ℤ left ≡ left +ℤ pos 1 = omega (arith, ints) in
-    let from : pos row +ℤ top ≡ top +ℤ pos row = omega (arith, ints) in
-    let to : pos end +ℤ top ≡ top +ℤ pos end = omega (arith, ints) in
-    let a : row_at picture clip (top +ℤ pos row) ≤ row_at picture clip (top +ℤ pos end) = edge_at-grows picture.height clip.top clip.bottom _ _ (omega (arith, ints)) in
-    let b : row_at picture clip (top +ℤ pos end) ≤ row_at picture clip (top +ℤ pos next) = edge_at-grows picture.height clip.top clip.bottom _ _ (omega (arith, ints)) in
-    let c : row_at picture clip (top +ℤ pos next) ≤ row_at picture clip (top +ℤ pos 8) = edge_at-grows picture.height clip.top clip.bottom _ _ (omega (arith, ints)) in
-    rw (low, right, from, to) (beneath (column_at picture clip (left +ℤ pos 1) - column_at picture clip left) _ _ _ (omega arith))
 
 -- a column of pixels in a line, and what is left right of it
 pub line_area : (picture : Raster) (clip : Rect) (left top : ℤ) (x : ℕ)

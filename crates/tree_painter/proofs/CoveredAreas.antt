@@ -1,5 +1,5 @@
 -- A rectangle covers no more pixels of a picture than it has points, and no more than one that it lies in.
-use Rattle.std.proofs.Common.{◌≡◌, ℕ, ◌-◌, ◌*◌, ◌<◌, ◌≤◌, ◌⊎◌, inl, inr, ℤ, ◌≤ℤ◌, pos, negsuc, ◌-ℤ◌, arith, mul-le-mul}
+use Rattle.std.proofs.Common.{ℕ, ◌-◌, ◌<◌, ◌≤◌, inl, inr, ℤ, ◌≤ℤ◌, pos, negsuc, ◌-ℤ◌, arith, mul-le-mul}
 use Rattle.std.specs.Int.{int_max}
 use Rattle.std.specs.Prelude.{unsigned_abs}
 use Rattle.std.proofs.lemmas.Bool.{cases_lt}

@@ -1,5 +1,5 @@
 -- Painters of ink, piece by piece.
-use Rattle.std.proofs.Common.{◌≡◌, ℕ, ◌+◌, ◌-◌, ◌*◌, ◌/◌, ◌%◌, ◌<◌, ◌≤◌, min, ℤ, pos, negsuc, ◌-ℤ◌, ◌+ℤ◌, ◌≤ℤ◌, ◌<ℤ◌, Bool, true, false, nat_lt, if◌then◌else◌, List, [], length, inl, inr, Option, Some, None, refl, sym, ap, ◌∙◌, arith}
+use Rattle.std.proofs.Common.{◌≡◌, ℕ, ◌+◌, ◌-◌, ◌*◌, ◌/◌, ◌%◌, ◌<◌, ◌≤◌, ℤ, pos, negsuc, ◌-ℤ◌, ◌+ℤ◌, ◌≤ℤ◌, ◌<ℤ◌, Bool, true, false, nat_lt, if◌then◌else◌, List, [], length, inl, inr, Option, Some, None, refl, sym, ap, ◌∙◌, arith}
 use Rattle.std.specs.Prelude.{◌&&◌, ◌==◌, ◌⊎◌, not, slice_get}
 use Rattle.std.proofs.lemmas.Int.{ints}
 use Rattle.std.proofs.lemmas.Bool.{cases_Bool, cases_order}
@@ -9,55 +9,10 @@ use Rattle.geom_core.specs.Color.{blend_of}
 use Rattle.geom_core.specs.Rects.{holds}
 use Rattle.geom_core.specs.declared.color.Argb.{Argb}
 use Rattle.geom_core.specs.declared.geometry.Rect.{Rect}
-use Rattle.pixel_raster.specs.Raster.{Fills, Raster, color_at}
 use Rattle.view_model.specs.CellText.{cell_in, cell_of, lines_for}
 use Rattle.view_model.specs.Glyphs.{glyph_of, has_bit}
 use Rattle.view_model.specs.Painting.{cell_pixel}
-use Rattle.seen_parts.specs.declared.frame.Canvas.{Canvas}
-use Rattle.seen_parts.specs.declared.frame.Frame.{Frame}
-use Rattle.seen_parts.specs.Frames.{IsMoved, frame_holds}
-use Rattle.tree_painter.specs.Inks.{column_ink, in_column, line_ink, rect_ink, text_ink}
-use Rattle.tree_painter.specs.Painted.{PaintedIn}
-use Rattle.tree_painter.proofs.PainterLaws.{moved_holds, painted_nothing, right_of}
-
-split_if : (a b : Bool) (p u : Argb) → (if a && b then p else u) ≡ (if a then (if b then p else u) else u)
-split_if true b p u = refl
-split_if false b p u = refl
-
-pub filled_part : (rect : Rect) (canvas : Canvas) (frame : Frame) (part : Rect) (color : Argb) (start new : Raster) → IsMoved rect canvas frame
-    → ((x y : ℤ) → holds part x y ≡ (holds canvas.clip x y && frame_holds frame x y)) → Fills part color start new → PaintedIn canvas (rect_ink rect color) start new
-filled_part rect canvas frame part color start new m points fills = record {
-  width = fills.width;
-  height = fills.height;
-  colors = λ x y xw yh.
-      let old = color_at start x y in
-      fills.colors x y xw yh
-      ∙ ap (λ (t : Bool). if t then blend_of color old else old) (points (pos x) (pos y) ∙ ap (λ (t : Bool). holds canvas.clip (pos x) (pos y) && t) (moved_holds rect canvas frame m (pos x) (pos y)))
-      ∙ split_if (holds canvas.clip (pos x) (pos y)) (holds rect (pos x -ℤ canvas.left) (pos y -ℤ canvas.top)) (blend_of color old) old;
-}
-
-pub filled_none : (rect : Rect) (canvas : Canvas) (frame : Frame) (color : Argb) (at : Raster) → IsMoved rect canvas frame
-    → ((x y : ℤ) → false ≡ (holds canvas.clip x y && frame_holds frame x y)) → PaintedIn canvas (rect_ink rect color) at at
-filled_none rect canvas frame color at m points = painted_nothing _ canvas.clip at (λ x y under h.
-    ap (λ (t : Bool). if t then blend_of color under else under)
-    (sym (moved_holds rect canvas frame m x y) ∙ right_of (holds canvas.clip x y) (frame_holds frame x y) h (points x y)))
-
--- a pixel of a column: what a run inks, and what is left of the column below it
-run_pixel : (z p q r b : Bool) (ink : Argb → Argb) (u : Argb) → (p ≡ true → q ≡ true → b ≡ true) → (q ≡ true → r ≡ false) → (r ≡ true → p ≡ true) → (p ≡ true → q ≡ false → r ≡ false → b ≡ false)
-    → (if z && (p && b) then ink u else u)
-    ≡ (if z && (r && b) then ink (if z && (p && q) then ink u else u) else (if z && (p && q) then ink u else u))
-run_pixel false p q r b ink u set apart from_it unset = refl
-run_pixel true true true true b ink u set apart from_it unset = absurd (let h = apart refl in cc)
-run_pixel true true true false true ink u set apart from_it unset = refl
-run_pixel true true true false false ink u set apart from_it unset = absurd (let h = set refl refl in cc)
-run_pixel true true false true b ink u set apart from_it unset = refl
-run_pixel true true false false true ink u set apart from_it unset = absurd (let h = unset refl refl refl in cc)
-run_pixel true true false false false ink u set apart from_it unset = refl
-run_pixel true false q true b ink u set apart from_it unset = absurd (let h = from_it refl in cc)
-run_pixel true false q false b ink u set apart from_it unset = refl
-
-in_run : (row end x y : ℕ) → holds (record { left = pos 0; top = pos row; right = pos 1; bottom = pos end }) (pos x) (pos y) ≡ ((x == 0) && (not (nat_lt y row) && nat_lt y end))
-in_run row end x y = grind (arith, ints, nat_tests)
+use Rattle.tree_painter.specs.Inks.{column_ink, in_column, line_ink, text_ink}
 
 lt_of : (y end : ℕ) → nat_lt y end ≡ true → y < end
 lt_of y end h = grind (arith, nat_tests)
@@ -69,56 +24,11 @@ not_false : (t : Bool) → not t ≡ true → t ≡ false
 not_false true h = absurd (cc)
 not_false false h = refl
 
-not_true : (t : Bool) → not t ≡ false → t ≡ true
-not_true true h = refl
-not_true false h = absurd (cc)
-
 lt_test : (y end : ℕ) → y < end → nat_lt y end ≡ true
 lt_test y end h = grind (arith, nat_tests)
 
 ge_test : (y row : ℕ) → row ≤ y → nat_lt y row ≡ false
 ge_test y row h = grind (arith, nat_tests)
-
-both_true : (a b : Bool) → a ≡ true → b ≡ true → (a && b) ≡ true
-both_true true b x y = y
-both_true false b x y = x
-
-right_false : (a b : Bool) → b ≡ false → (a && b) ≡ false
-right_false true b h = h
-right_false false b h = refl
-
-module _ (ink : Argb) (bits row end next : ℕ) (le : row ≤ end) (high : end ≤ 8)
-    (set : (k : ℕ) → row ≤ k → k < end → has_bit bits k ≡ true) (unset : end < 8 → has_bit bits end ≡ false) (is : next ≡ min (end + 1) 8) where
-  pub column_parts : (x y : ℤ) (u : Argb) → column_ink ink bits row x y u
-      ≡ column_ink ink bits next x y (rect_ink (record { left = pos 0; top = pos row; right = pos 1; bottom = pos end }) ink x y u)
-  column_parts (pos x) (pos y) u =
-      let p = not (nat_lt y row) in
-      let q = nat_lt y end in
-      let r = not (nat_lt y next) in
-      let b = nat_lt y 8 && has_bit bits y in
-      run_pixel (x == 0) p q r b (blend_of ink) u
-      (λ hp hq. let ge = ge_of y row (not_false (nat_lt y row) hp) in let lt = lt_of y end hq in
-      both_true (nat_lt y 8) (has_bit bits y) (lt_test y 8 (omega arith)) (set y ge lt))
-      (λ hq. let lt = lt_of y end hq in ap not (lt_test y next (omega arith)))
-      (λ hr. let ge = ge_of y next (not_false (nat_lt y next) hr) in ap not (ge_test y row (omega arith)))
-      (λ hp hq hr. let lt = lt_of y next (not_true (nat_lt y next) hr) in let ge = ge_of y end hq in
-      let same : y ≡ end = omega arith in
-      right_false (nat_lt y 8) (has_bit bits y) (ap (λ (k : ℕ). has_bit bits k) same ∙ unset (omega arith)))
-      ∙ ap (λ (t : Bool). if (x == 0) && (r && b) then blend_of ink (if t then blend_of ink u else u) else (if t then blend_of ink u else u)) (sym (in_run row end x y))
-  column_parts (pos x) (negsuc y) u = grind (arith, ints)
-  column_parts (negsuc x) y u = grind (arith, ints)
-
-pub column_over : (ink : Argb) (bits row : ℕ) (x y : ℤ) (u : Argb) → 8 ≤ row → column_ink ink bits row x y u ≡ u
-column_over ink bits row (pos x) (pos y) u le = none (x == 0) (not (nat_lt y row)) (nat_lt y 8) (has_bit bits y)
-    (λ h. let ge = ge_of y row (not_false (nat_lt y row) h) in ge_test y 8 (omega arith))
-  where
-    none : (z p e b : Bool) → (p ≡ true → e ≡ false) → (if z && (p && (e && b)) then blend_of ink u else u) ≡ u
-    none true true true b h = absurd (let k = h refl in cc)
-    none true true false b h = refl
-    none true false e b h = refl
-    none false p e b h = refl
-column_over ink bits row (pos x) (negsuc y) u le = refl
-column_over ink bits row (negsuc x) y u le = refl
 
 -- a column of pixels of a line, in the line's coordinates
 column_here : (bits c x y : ℕ) → in_column bits 0 (pos x -ℤ pos c) (pos y) ≡ ((x == c) && (nat_lt y 8 && has_bit bits y))

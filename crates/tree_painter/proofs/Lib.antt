@@ -1,4 +1,5 @@
 mod AreaLaws
+mod ColumnLaws
 pub mod CoveredAreas
 mod InkLaws
 mod OwnLaws

@@ -1,6 +1,7 @@
 -- What one view paints: its background, its ink, and its children.
-use Rattle.std.proofs.Common.{◌≡◌, ℕ, ◌<◌, ℤ, pos, ◌+ℤ◌, ◌-ℤ◌, Bool, true, false, Option, Some, None, if◌then◌else◌, refl, sym, ap, ◌∙◌, arith}
+use Rattle.std.proofs.Common.{inl, inr, ◌≡◌, ℕ, ◌<◌, ℤ, pos, ◌+ℤ◌, ◌-ℤ◌, Bool, true, false, Option, Some, None, if◌then◌else◌, refl, sym, ap, ◌∙◌, arith}
 use Rattle.std.specs.Prelude.{◌&&◌, ◌||◌, not, int_lt, IfSome}
+use Rattle.std.proofs.lemmas.Bool.{cases_Bool}
 use Rattle.std.proofs.lemmas.Int.{ints}
 use Rattle.geom_core.specs.Color.{blend_of}
 use Rattle.geom_core.specs.Rects.{holds}
@@ -18,7 +19,7 @@ use Rattle.seen_parts.specs.declared.frame.Canvas.{Canvas}
 use Rattle.seen_parts.specs.declared.frame.Frame.{Frame}
 use Rattle.seen_parts.specs.Frames.{IsBelow, IsMoved, IsWithout, canvas_holds, frame_holds, frame_size, padding_of}
 use Rattle.tree_painter.specs.Inks.{own_ink, text_ink}
-use Rattle.tree_painter.specs.Painted.{ChildrenPainted, IsPainted, PaintedIn, from_origin}
+use Rattle.tree_painter.specs.Painted.{ChildrenPainted, IsPainted, PaintedIn, PaintsNothing, from_origin}
 use Rattle.tree_painter.proofs.PainterLaws.{moved_holds, painted_nothing, right_of}
 
 inner_lt : (x edge at : ℤ) → int_lt (x -ℤ edge) at ≡ int_lt x (edge +ℤ at)
@@ -165,15 +166,14 @@ module _ (view : PlainView) (bounds : Rect) (canvas : Canvas) (children : Painte
       (right_of (holds canvas.clip x y) (frame_holds frame x y) h (points x y)))
 
   -- a view whose background, ink and children were painted where they are seen
-  pub seen : (part : Rect) (result : Option Canvas) (start mid inked end : Raster)
+  seen_by : (part : Rect) (shown : ℤ → ℤ → Bool) (start mid inked end : Raster)
       → ((x y : ℤ) → holds part x y ≡ (holds canvas.clip x y && frame_holds frame x y))
       → Fills part view.facts.background start mid
       → IsPainted (from_origin frame.left frame.top (own_ink view (frame_size frame))) part mid inked
-      → ((x y : ℤ) → canvas_holds result x y ≡ (holds part x y && reaches_children view.facts (frame_size frame) (x -ℤ frame.left) (y -ℤ frame.top)))
-      → IfSome result (IsBelow frame view.facts.offset) → ChildrenPainted result children inked end
+      → ((x y : ℤ) → shown x y ≡ (holds part x y && reaches_children view.facts (frame_size frame) (x -ℤ frame.left) (y -ℤ frame.top)))
+      → IsShown (λ x y u. children (x -ℤ frame.left) (y -ℤ frame.top +ℤ view.facts.offset) u) shown inked end
       → PaintedIn canvas (drawn_in (Some bounds) view children) start end
-  seen part result start mid inked end points back ink reach below rest =
-      let kids = children_shown frame view.facts.offset result children inked end below rest in
+  seen_by part shown start mid inked end points back ink reach kids =
       record {
         width = kids.width ∙ ink.width ∙ back.width;
         height = kids.height ∙ ink.height ∙ back.height;
@@ -199,3 +199,48 @@ module _ (view : PlainView) (bounds : Rect) (canvas : Canvas) (children : Painte
             pixel_of a b i c (children at (down +ℤ view.facts.offset)) (blend_of view.facts.ink) (blend_of view.facts.background) old over now (color_at end x y) m n e
             ∙ ap (λ (v : Argb). if a then v else old) (sym (point (pos x) (pos y) old));
       }
+
+  pub seen : (part : Rect) (result : Option Canvas) (start mid inked end : Raster)
+      → ((x y : ℤ) → holds part x y ≡ (holds canvas.clip x y && frame_holds frame x y))
+      → Fills part view.facts.background start mid
+      → IsPainted (from_origin frame.left frame.top (own_ink view (frame_size frame))) part mid inked
+      → ((x y : ℤ) → canvas_holds result x y ≡ (holds part x y && reaches_children view.facts (frame_size frame) (x -ℤ frame.left) (y -ℤ frame.top)))
+      → IfSome result (IsBelow frame view.facts.offset) → ChildrenPainted result children inked end
+      → PaintedIn canvas (drawn_in (Some bounds) view children) start end
+  seen part result start mid inked end points back ink reach below rest =
+      seen_by part (canvas_holds result) start mid inked end points back ink reach (children_shown frame view.facts.offset result children inked end below rest)
+
+  -- the same of a view without children
+  pub seen_leaf : (part : Rect) (start mid inked : Raster)
+      → ((x y : ℤ) → holds part x y ≡ (holds canvas.clip x y && frame_holds frame x y))
+      → Fills part view.facts.background start mid
+      → IsPainted (from_origin frame.left frame.top (own_ink view (frame_size frame))) part mid inked
+      → PaintsNothing children
+      → PaintedIn canvas (drawn_in (Some bounds) view children) start inked
+  seen_leaf part start mid inked points back ink none =
+      seen_by part shown start mid inked inked points back ink (λ x y. refl)
+      (record { width = refl; height = refl; colors = λ x y xw yh. stays (shown (pos x) (pos y)) _ (color_at inked x y) (none _ _ (color_at inked x y)) })
+    where
+      shown : ℤ → ℤ → Bool
+      shown x y = holds part x y && reaches_children view.facts (frame_size frame) (x -ℤ frame.left) (y -ℤ frame.top)
+
+      stays : (t : Bool) (v u : Argb) → v ≡ u → u ≡ (if t then v else u)
+      stays true v u e = sym e
+      stays false v u e = refl
+
+-- a view that is not drawn
+pub hidden : (view : PlainView) (bounds : Rect) (canvas : Canvas) (children : Painter) (at : Raster) → is_drawn view.facts.visibility ≡ false
+    → PaintedIn canvas (drawn_in (Some bounds) view children) at at
+hidden view bounds canvas children at off = painted_nothing _ canvas.clip at (λ x y u h. not_drawn (is_drawn view.facts.visibility) _ _ u off)
+  where
+    not_drawn : (d t : Bool) (v u : Argb) → d ≡ false → (if d && t then v else u) ≡ u
+    not_drawn true t v u e = absurd (cc)
+    not_drawn false t v u e = refl
+
+-- a view of which nothing would be seen if it were drawn
+pub outside : (view : PlainView) (bounds : Rect) (canvas : Canvas) (children : Painter) (frame : Frame) → IsMoved bounds canvas frame → (at : Raster)
+    → ((x y : ℤ) → false ≡ (holds canvas.clip x y && frame_holds frame x y)) → PaintedIn canvas (drawn_in (Some bounds) view children) at at
+outside view bounds canvas children frame moved at points = elim (cases_Bool (is_drawn view.facts.visibility)) [
+  | inl drawn ↦ unseen view bounds canvas children frame moved drawn at points
+  | inr off ↦ hidden view bounds canvas children at off
+]

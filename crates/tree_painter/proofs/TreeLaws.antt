@@ -1,6 +1,5 @@
 -- What the views of a tree paint, and what a whole tree does.
 use Rattle.std.proofs.Common.{◌≡◌, ℕ, ◌+◌, ◌*◌, ◌<◌, ◌≤◌, ℤ, pos, ◌-ℤ◌, Bool, true, false, Option, Some, None, if◌then◌else◌, refl, sym, ap, ◌∙◌, arith}
-use Rattle.std.specs.Prelude.{◌&&◌}
 use Rattle.std.proofs.lemmas.Int.{ints}
 use Rattle.geom_core.specs.Color.{alpha_of, blend_of}
 use Rattle.geom_core.specs.Rects.{holds}
@@ -10,10 +9,10 @@ use Rattle.geom_core.specs.declared.geometry.Rect.{Rect}
 use Rattle.geom_core.proofs.ColorLaws.{blend_of-covering}
 use Rattle.pixel_raster.specs.Raster.{Fills, Raster, color_at}
 use Rattle.view_model.specs.Forest.{Forest, Nothing, Branch, count_of}
-use Rattle.view_model.specs.Painting.{Painter, drawn_in, is_drawn, painted, pixel_color, placed_by}
+use Rattle.view_model.specs.Painting.{Painter, drawn_in, painted, pixel_color, placed_by}
 use Rattle.view_model.specs.declared.work.Work.{Work}
 use Rattle.view_tree.specs.Rows.{Row, children_of_first, count_of_key, first_tree, later_siblings, part_from}
-use Rattle.view_tree.specs.Views.{Held, IsLive, IsTree, Views, facts_of, geometry_of, held_of, plain_of, state_of, view_at}
+use Rattle.view_tree.specs.Views.{Held, IsLive, IsTree, Views, geometry_of, held_of, plain_of, state_of, view_at}
 use Rattle.view_tree.proofs.forest.KeyLaws.{located}
 use Rattle.seen_parts.specs.declared.frame.Canvas.{Canvas}
 use Rattle.seen_parts.proofs.PlacedLaws.{placed_is}
@@ -73,14 +72,6 @@ module _ (views : Views) (view : ℕ) (live : IsLive views view) (canvas : Canva
 
   pub own_nowhere : (at : Raster) → (state_of views view).bounds ≡ None → Own at at
   own_nowhere at none = painted_nothing _ canvas.clip at (λ x y u h. own_at x y u None none)
-
-  pub own_hidden : (at : Raster) (bounds : Rect) → (state_of views view).bounds ≡ Some bounds → is_drawn (facts_of views view).visibility ≡ false → Own at at
-  own_hidden at bounds some hidden = painted_nothing _ canvas.clip at (λ x y u h.
-      own_at x y u (Some bounds) some ∙ not_drawn (is_drawn (facts_of views view).visibility) _ _ u hidden)
-    where
-      not_drawn : (d t : Bool) (v u : Argb) → d ≡ false → (if d && t then v else u) ≡ u
-      not_drawn true t v u e = absurd (cc)
-      not_drawn false t v u e = refl
 
   pub own_drawn : (old new : Raster) (bounds : Rect) → (state_of views view).bounds ≡ Some bounds
       → PaintedIn canvas (drawn_in (Some bounds) (view_at views view) children_painter) old new → Own old new

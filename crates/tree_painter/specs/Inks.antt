@@ -1,9 +1,7 @@
 -- Painters of ink.
 use Rattle.std.specs.Prelude.{ℕ, ◌/◌, ◌%◌, ◌==◌, ℤ, pos, negsuc, Bool, false, ◌&&◌, not, nat_lt, if◌then◌else◌, List, slice_get}
 use Rattle.geom_core.specs.Color.{blend_of}
-use Rattle.geom_core.specs.Rects.{holds}
 use Rattle.geom_core.specs.declared.color.Argb.{Argb}
-use Rattle.geom_core.specs.declared.geometry.Rect.{Rect}
 use Rattle.geom_core.specs.declared.geometry.Size.{Size}
 use Rattle.view_model.specs.declared.limits.TheConstants.{CELL_HEIGHT, CELL_WIDTH}
 use Rattle.view_model.specs.Glyphs.{has_bit}
@@ -13,9 +11,6 @@ use Rattle.view_model.specs.PlainTree.{PlainView}
 -- a colour over the points that pass a test
 abbrev pub ink_where : (ℤ → ℤ → Bool) → Argb → Painter
 ink_where passes ink x y under = if passes x y then blend_of ink under else under
-
-abbrev pub rect_ink : Rect → Argb → Painter
-rect_ink rect color = ink_where (holds rect) color
 
 -- whether a point is a set pixel of a column of a cell, in this row or below it
 abbrev pub in_column : ℕ → ℕ → ℤ → ℤ → Bool

@@ -1,6 +1,7 @@
 -- What painting leaves of a picture, and of the counts.
 use Rattle.std.specs.Prelude.{◌≡◌, Some, None, ℕ, ◌+◌, ◌-◌, ◌<◌, ◌≤◌, ◌^◌, ℤ, pos, ◌-ℤ◌, if◌then◌else◌, Option}
 use Rattle.geom_core.specs.Rects.{holds}
+use Rattle.geom_core.specs.declared.color.Argb.{Argb}
 use Rattle.geom_core.specs.declared.geometry.Rect.{Rect}
 use Rattle.pixel_raster.specs.Cuts.{area_within}
 use Rattle.pixel_raster.specs.Raster.{Raster, color_at}
@@ -24,12 +25,16 @@ from_origin left top paint x y under = paint (x -ℤ left) (y -ℤ top) under
 abbrev pub PaintedIn : Canvas → Painter → Raster → Raster → Type 0
 PaintedIn canvas paint old new = IsPainted (from_origin canvas.left canvas.top paint) canvas.clip old new
 
+-- a painter that leaves each colour as it is
+abbrev pub PaintsNothing : Painter → Type 0
+PaintsNothing paint = (x y : ℤ) (under : Argb) → paint x y under ≡ under
+
 -- the area of a rectangle within a picture
 abbrev pub area_in : Raster → Rect → ℕ
 area_in picture rect = area_within picture.width picture.height rect
 
 -- the count of painted pixels rose, by no more than this, and that of a picture's filled pixels by the same, unless one
--- of them has come to the greatest number; nothing was measured
+-- of them is at the greatest number; nothing was measured
 pub record IsCounted (most : ℕ) (old new : Raster) (before after : Work) : Type 0 where
   pub grew : before.painted ≤ after.painted
   pub filled_grew : old.filled ≤ new.filled

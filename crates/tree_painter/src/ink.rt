@@ -1,81 +1,112 @@
 //! Ink in the columns of cells.
-ghost use Rattle.std.specs.Prelude.{◌≡◌, min, ◌+◌, ◌<◌, ◌≤◌, ◌^◌, ◌+ℤ◌, ℕ, pos, true, false};
-ghost use Rattle.view_model.specs.Glyphs.{has_bit};
-ghost use Rattle.tree_painter.specs.Areas.{area_between};
+ghost use Rattle.std.specs.Prelude.{◌≡◌, ◌<◌, ◌≤◌, ◌^◌, ◌+ℤ◌, ◌≤ℤ◌, ◌<ℤ◌, pos};
+ghost use Rattle.tree_painter.specs.Areas.{area_between, column_at, row_at};
 ghost use Rattle.seen_parts.specs.Frames.{IsCanvas};
-ghost use Rattle.tree_painter.specs.Inks.{column_ink, rect_ink};
+ghost use Rattle.tree_painter.specs.Inks.{column_ink};
 ghost use Rattle.tree_painter.specs.Painted.{IsCounted, PaintedIn};
 
-use geom_core::{Argb, Rect};
-use pixel_raster::Surface;
-use seen_parts::{Canvas, moved, part_in};
+use crate::edges::{Length, edge_at};
+use geom_core::Argb;
+use pixel_raster::{Strip, Surface};
+use seen_parts::Canvas;
 use view_model::Work;
+use view_model::limits::CELL_HEIGHT;
 
-/// Blends a colour over a rectangle of a canvas.
-fn fill_in(rect: Rect, surface: &mut Surface, canvas: Canvas, color: Argb, work: &mut Work)
+/// The columns and the rows of a picture between these edges; right and bottom are exclusive.
+#[derive(Clone, Copy)]
+struct Edges {
+    left: usize,
+    top: usize,
+    right: usize,
+    bottom: usize,
+}
+
+/// The left edge of a column of a cell at the origin of a canvas.
+fn column_begin(canvas: Canvas) -> Length
+    ensures { result.pixels ≡ canvas.left }
+{
+    Length {
+        pixels: canvas.left,
+    }
+}
+
+/// Its right edge, which is exclusive.
+fn column_end(canvas: Canvas) -> Length
     requires { IsCanvas (2 ^ 37) canvas }
-    ensures painted { PaintedIn canvas (rect_ink rect color) surface.old surface.new }
-    ensures counted { IsCounted (area_between surface.old canvas.clip (rect.left +ℤ canvas.left) (rect.top +ℤ canvas.top) (rect.right +ℤ canvas.left) (rect.bottom +ℤ canvas.top)) surface.old surface.new work.old work.new }
+    ensures { result.pixels ≡ canvas.left +ℤ pos 1 }
 {
-    if let Some(part) = part_in(canvas.clip, moved(rect, canvas)) {
-        surface.fill(part, color, work);
+    Length {
+        pixels: canvas.left + 1,
     }
 }
 
-/// Whether a bit is set, the lowest being the bit 0.
-fn has_bit(bits: u8, k: u8) -> bool
-    requires { k < 8 }
-    ensures { result ≡ has_bit bits k }
+/// Its top edge.
+fn row_begin(canvas: Canvas) -> Length
+    ensures { result.pixels ≡ canvas.top }
 {
-    (bits >> k) % 2 == 1
+    Length { pixels: canvas.top }
 }
 
-/// The first row from this one on whose pixel is not set, or 8.
-fn run_end(bits: u8, row: u8) -> u8
-    requires { row ≤ 8 }
-    ensures low { row ≤ result }
-    ensures high { result ≤ 8 }
-    ensures set { (k : ℕ) → row ≤ k → k < result → has_bit bits k ≡ true }
-    ensures end { result < 8 → has_bit bits result ≡ false }
+/// Its bottom edge, which is exclusive.
+fn row_end(canvas: Canvas) -> Length
+    requires { IsCanvas (2 ^ 37) canvas }
+    ensures { result.pixels ≡ canvas.top +ℤ pos 8 }
 {
-    let mut end = row;
-    while end < 8 && has_bit(bits, end) {
-        end += 1;
+    Length {
+        pixels: canvas.top + i64::from(CELL_HEIGHT),
     }
-    end
 }
 
-/// Blends ink over the set pixels of a column of a cell, one run of them at a time. Its corner is the origin of the
-/// canvas.
+/// The edges of a column of a cell, as far as it is seen. Its corner is the origin of the canvas.
+fn column_edges(surface: &Surface, canvas: Canvas) -> Edges
+    requires { IsCanvas (2 ^ 37) canvas }
+    ensures left { result.left ≡ column_at surface.now canvas.clip canvas.left }
+    ensures top { result.top ≡ row_at surface.now canvas.clip canvas.top }
+    ensures right { result.right ≡ column_at surface.now canvas.clip (canvas.left +ℤ pos 1) }
+    ensures bottom { result.bottom ≡ row_at surface.now canvas.clip (canvas.top +ℤ pos 8) }
+    ensures across { result.right ≤ surface.now.width }
+    ensures down { result.bottom ≤ surface.now.height }
+    ensures bound { result.bottom < 2 ^ 31 }
+{
+    let columns = surface.columns();
+    let rows = surface.rows();
+    let clip = canvas.clip;
+    Edges {
+        left: edge_at(columns, clip.left, clip.right, column_begin(canvas)),
+        top: edge_at(rows, clip.top, clip.bottom, row_begin(canvas)),
+        right: edge_at(columns, clip.left, clip.right, column_end(canvas)),
+        bottom: edge_at(rows, clip.top, clip.bottom, row_end(canvas)),
+    }
+}
+
+/// How many rows of a column of a cell at the origin of a canvas lie above one of them.
+fn rows_above(row: usize, canvas: Canvas) -> u8
+    requires small { row < 2 ^ 31 }
+    requires low { canvas.top ≤ℤ pos row }
+    requires high { pos row <ℤ (canvas.top +ℤ pos 8) }
+    ensures value { canvas.top +ℤ pos result ≡ pos row }
+    ensures bound { result < 8 }
+{
+    (row as i64 - canvas.top) as u8
+}
+
+/// Blends ink over the set pixels of a column of a cell. Its corner is the origin of the canvas.
 pub fn ink_column(bits: u8, surface: &mut Surface, canvas: Canvas, ink: Argb, work: &mut Work)
     requires { IsCanvas (2 ^ 37) canvas }
     ensures painted { PaintedIn canvas (column_ink ink bits 0) surface.old surface.new }
     ensures counted { IsCounted (area_between surface.old canvas.clip canvas.left canvas.top (canvas.left +ℤ pos 1) (canvas.top +ℤ pos 8)) surface.old surface.new work.old work.new }
 {
-    let mut row: u8 = 0;
-    while row < 8 {
-        let end = run_end(bits, row);
-        fill_in(rows(row, end), surface, canvas, ink, work);
-        row = behind(end);
+    let seen = column_edges(surface, canvas);
+    if seen.right <= seen.left {
+        return;
     }
-}
-
-/// The pixels of a column from one row to another.
-fn rows(row: u8, end: u8) -> Rect
-    ensures { result ≡ record { left = pos 0; top = pos row; right = pos 1; bottom = pos end } }
-{
-    Rect {
-        left: 0,
-        top: i32::from(row),
-        right: 1,
-        bottom: i32::from(end),
+    if seen.bottom <= seen.top {
+        return;
     }
-}
-
-/// The row behind one that is not set.
-fn behind(end: u8) -> u8
-    requires { end ≤ 8 }
-    ensures { result ≡ min (end + 1) 8 }
-{
-    if end < 8 { end + 1 } else { 8 }
+    let strip = Strip {
+        column: seen.left,
+        top: seen.top,
+        bottom: seen.bottom,
+    };
+    surface.ink(strip, bits >> rows_above(seen.top, canvas), ink, work);
 }

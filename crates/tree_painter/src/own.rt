@@ -1,24 +1,27 @@
 //! What one view shows itself.
-ghost use Rattle.std.specs.Prelude.{◌≡◌, ℤ, ◌+◌, ◌≤◌, ◌^◌, ◌+ℤ◌, ◌-ℤ◌, ◌≤ℤ◌, ◌&&◌, pos, true, IfSome, Some};
+ghost use Rattle.std.specs.Prelude.{◌≡◌, ℤ, ◌+◌, ◌≤◌, ◌^◌, ◌+ℤ◌, ◌-ℤ◌, ◌≤ℤ◌, ◌&&◌, pos, true, false, IfSome, Some};
+ghost use Rattle.damage_rect.specs.Within.{IsInside};
 ghost use Rattle.geom_core.specs.Rects.{holds};
 ghost use Rattle.pixel_raster.specs.Raster.{Raster};
 ghost use Rattle.view_model.specs.Facts.{padding_across, padding_left};
 ghost use Rattle.view_model.specs.Painting.{Painter, drawn_in, is_drawn, reaches_children, shows_text};
-ghost use Rattle.view_tree.specs.Views.{IsLive, facts_of, view_at};
-ghost use Rattle.seen_parts.specs.Frames.{IsBelow, IsCanvas, IsInReach, IsInside, IsSeen, canvas_holds, frame_size};
+ghost use Rattle.view_model.specs.Forest.{Nothing};
+ghost use Rattle.view_tree.specs.Rows.{children_of_first, part_from};
+ghost use Rattle.view_tree.specs.Views.{IsLive, view_at};
+ghost use Rattle.seen_parts.specs.Frames.{IsBelow, IsCanvas, IsInReach, IsSeen, canvas_holds, frame_size};
 ghost use Rattle.tree_painter.specs.Inks.{own_ink};
-ghost use Rattle.tree_painter.specs.Painted.{ChildrenPainted, IsCounted, IsPainted, PaintedIn, area_in, from_origin};
+ghost use Rattle.tree_painter.specs.Painted.{ChildrenPainted, IsCounted, IsPainted, PaintedIn, PaintsNothing, area_in, from_origin};
 
 use crate::text::ink_text;
 use cell_text::cells_in;
 use geom_core::Rect;
 use pixel_raster::Surface;
 use seen_parts::{Canvas, Frame, before, inner_frame, moved, part_in, past};
-use view_model::{Class, Facts, Work};
+use view_model::{Class, Facts, Visibility, Work};
 use view_tree::{Key, ViewTree};
 
-/// Paints what a visible view shows itself where it lies so in a canvas. The answer is where its children are to be
-/// painted, if they are seen anywhere.
+/// Paints what a view shows itself where it lies so in a canvas. The answer is where its children are to be painted, if it
+/// has any and they are seen anywhere. What lies elsewhere is seen by its bounds alone, so that these come first.
 pub fn paint_own(
     tree: &ViewTree,
     view: Key,
@@ -28,9 +31,8 @@ pub fn paint_own(
     work: &mut Work,
 ) -> Option<Canvas>
     requires live { IsLive tree.now view }
-    requires drawn { is_drawn (facts_of tree.now view).visibility ≡ true }
     requires canvas { IsCanvas (2 ^ 37) canvas }
-    ensures painted { (children : Painter) (end : Raster) → ChildrenPainted result children surface.new end
+    ensures painted { (children : Painter) (end : Raster) → (children_of_first (part_from view tree.now.tree) ≡ Nothing → PaintsNothing children) → ChildrenPainted result children surface.new end
         → PaintedIn canvas (drawn_in (Some bounds) (view_at tree.now view) children) surface.old end }
     ensures size { (surface.new.width ≡ surface.old.width) × (surface.new.height ≡ surface.old.height) }
     ensures canvas { IfSome result (IsCanvas (2 ^ 37)) }
@@ -41,9 +43,36 @@ pub fn paint_own(
     let Some(part) = part_in(canvas.clip, frame) else {
         return None;
     };
+    if !is_drawn(tree.facts(view).visibility) {
+        return None;
+    }
     surface.fill(part, tree.facts(view).background, work);
     paint_ink(tree, view, frame, part, surface, work);
+    if !has_children(tree, view) {
+        return None;
+    }
     children_canvas(tree.facts(view), frame, part)
+}
+
+/// Whether a view of this visibility is drawn.
+fn is_drawn(visibility: Visibility) -> bool
+    ensures { result ≡ is_drawn visibility }
+{
+    match visibility {
+        Visibility::Visible => true,
+        Visibility::Invisible | Visibility::Gone => false,
+    }
+}
+
+/// Whether anything lies in a view.
+fn has_children(tree: &ViewTree, view: Key) -> bool
+    requires { IsLive tree.now view }
+    ensures { result ≡ false → children_of_first (part_from view tree.now.tree) ≡ Nothing }
+{
+    match tree.first(view) {
+        None => false,
+        Some(_) => true,
+    }
 }
 
 /// Blends the ink of a view that lies in this frame, as far as it is seen in a part of it.

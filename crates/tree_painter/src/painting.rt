@@ -1,7 +1,7 @@
 //! The walk over a tree of views that paints each of them.
-ghost use Rattle.std.specs.Prelude.{◌≡◌, ◌+◌, ◌-◌, ◌*◌, ◌≤◌, ◌^◌, min};
+ghost use Rattle.std.specs.Prelude.{◌+◌, ◌-◌, ◌*◌, ◌≤◌, ◌^◌, min};
 ghost use Rattle.view_model.specs.Forest.{count_of};
-ghost use Rattle.view_model.specs.Painting.{is_drawn, painted, pixel_color};
+ghost use Rattle.view_model.specs.Painting.{painted, pixel_color};
 ghost use Rattle.view_tree.specs.Rows.{children_of_first, first_tree, part_from};
 ghost use Rattle.view_tree.specs.Views.{IsLive, geometry_of, held_of, plain_of};
 ghost use Rattle.seen_parts.specs.Frames.{IsCanvas};
@@ -12,10 +12,10 @@ use crate::own::paint_own;
 use geom_core::{BLACK, Rect};
 use pixel_raster::Surface;
 use seen_parts::Canvas;
-use view_model::{Visibility, Work};
+use view_model::Work;
 use view_tree::{Key, ViewTree};
 
-/// Paints a whole tree anew, over black, in a rectangle of the window; the rest of the picture stays. The views lie
+/// Paints a whole tree, over black, in a rectangle of the window; the rest of the picture stays. The views lie
 /// where their last layout left them.
 pub fn paint(tree: &ViewTree, surface: &mut Surface, damage: Rect, work: &mut Work)
     ensures painted { IsPainted (λ x y under. pixel_color (geometry_of tree.now) (plain_of tree.now) x y) damage surface.old surface.new }
@@ -44,9 +44,6 @@ fn paint_view(tree: &ViewTree, view: Key, surface: &mut Surface, canvas: Canvas,
     let Some(bounds) = tree.state(view).bounds else {
         return;
     };
-    if !is_drawn(tree.facts(view).visibility) {
-        return;
-    }
     if let Some(inner) = paint_own(tree, view, bounds, surface, canvas, work) {
         paint_children(tree, view, surface, inner, work);
     }
@@ -70,15 +67,5 @@ fn paint_children(
     while let Some(child) = next {
         paint_view(tree, child, surface, canvas, work);
         next = tree.next(child);
-    }
-}
-
-/// Whether a view of this visibility is drawn.
-fn is_drawn(visibility: Visibility) -> bool
-    ensures { result ≡ is_drawn visibility }
-{
-    match visibility {
-        Visibility::Visible => true,
-        Visibility::Invisible | Visibility::Gone => false,
     }
 }

@@ -1,11 +1,12 @@
 //! Texts, line by line.
 ghost use Rattle.std.specs.Prelude.{◌≡◌, pos, ◌+◌, ◌*◌, ◌<◌, ◌≤◌, ◌^◌, ◌+ℤ◌, ◌-ℤ◌, not, int_lt, length};
-ghost use Rattle.pixel_raster.specs.Cuts.{edge_within, from_zero};
+ghost use Rattle.pixel_raster.specs.Cuts.{edge_within};
 ghost use Rattle.tree_painter.specs.Areas.{strip_between};
 ghost use Rattle.seen_parts.specs.Frames.{IsCanvas};
 ghost use Rattle.tree_painter.specs.Inks.{line_ink, text_ink};
 ghost use Rattle.tree_painter.specs.Painted.{IsCounted, PaintedIn, area_in};
 
+use crate::edges::{Length, from_zero};
 use crate::ink::ink_column;
 use cell_text::{first_line, glyph};
 use geom_core::Argb;
@@ -13,12 +14,6 @@ use pixel_raster::Surface;
 use seen_parts::Canvas;
 use view_model::Work;
 use view_model::limits::{CELL_HEIGHT, CELL_WIDTH};
-
-/// A number of pixels, which may be negative.
-#[derive(Clone, Copy)]
-struct Length {
-    pixels: i64,
-}
 
 /// Columns of pixels from one on and before another.
 #[derive(Clone, Copy)]
@@ -116,18 +111,6 @@ fn clip_end(canvas: Canvas) -> Length
 {
     Length {
         pixels: i64::from(canvas.clip.right) - canvas.left,
-    }
-}
-
-/// A number of pixels, and 0 where it is negative.
-#[tactic(auto, unfolding(pixel_raster::specs::Cuts::from_zero))]
-fn from_zero(length: Length) -> usize
-    ensures { result ≡ from_zero length.pixels }
-{
-    if length.pixels < 0 {
-        0
-    } else {
-        length.pixels as usize
     }
 }
 

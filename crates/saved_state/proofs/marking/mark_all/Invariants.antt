@@ -1,16 +1,15 @@
-use Rattle.std.proofs.Common.{◌≡◌, ℕ, ◌<◌, ◌||◌, false, length, slice_index_or}
+use Rattle.std.proofs.Common.{◌≡◌, ℕ, ◌<◌, ◌≤◌, ◌||◌, false, length, slice_index_or}
 use Rattle.std.specs.Prelude.{IfSome}
 use Rattle.view_model.specs.Forest.{rows}
 use Rattle.view_tree.specs.Preorder.{rows_from, views_from}
 use Rattle.view_tree.specs.Views.{IsLive, plain_of}
-use Rattle.saved_state.specs.declared.format.TheConstants.{MAX_ENTRIES}
 use Rattle.saved_state.specs.Restoring.{entry_at, scroll_has}
 use Rattle.saved_state.proofs.marking.mark_all.Given as goal
 
 abbrev pub invariant-loop-next : goal.invariant-loop-next
 invariant-loop-next l = record {
   live : IfSome l.next (λ view. IsLive l.tree view);
-  sized : length l.marks ≡ MAX_ENTRIES;
+  sized : length l.states ≤ length l.marks;
   left : (place : ℕ) → place < length l.states
       → (slice_index_or l.marks place false || scroll_has (entry_at l.states place).0 (views_from l.tree l.next)) ≡ scroll_has (entry_at l.states place).0 (rows (plain_of l.tree));
 }

@@ -9,7 +9,7 @@ use Rattle.traversal.proofs.reporting.+report_from.Given as goal
 abbrev pub decreases-report_from : goal.decreases-report_from
 decreases-report_from l = count_of (first_tree (part_from l.view l.tree.now.tree))
 
--- with what is left to be told, all will have been told
+-- with what is left to be reported, all will have been reported
 abbrev pub invariant-loop-next : goal.invariant-loop-next
 invariant-loop-next l = let part = part_from l.view l.tree.tree in record {
   walk : Walk l.tree.tree (children_of_first part) l.next;

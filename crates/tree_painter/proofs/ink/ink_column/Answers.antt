@@ -1,36 +1,54 @@
-use Rattle.std.proofs.Common.{pos, ◌+ℤ◌, ◌-ℤ◌, arith}
-use Rattle.tree_painter.specs.Areas.{area_between}
-use Rattle.tree_painter.specs.Inks.{column_ink, rect_ink}
-use Rattle.tree_painter.specs.Painted.{IsCounted, PaintedIn, from_origin}
-use Rattle.tree_painter.proofs.AreaLaws.{area_same, column_area, counted_same}
-use Rattle.tree_painter.proofs.InkLaws.{column_over, column_parts}
-use Rattle.tree_painter.proofs.UnderWay.{way_end, way_on}
+use Rattle.std.proofs.Common.{arith}
+use Rattle.std.proofs.lemmas.Int.{ints}
+use Rattle.tree_painter.proofs.ColumnLaws.{column_inked, column_unseen, counted_strip, last_spanned, row_spanned}
 use Rattle.tree_painter.proofs.ink.ink_column.Goals as goal
 
-pub loop-row-preserved : goal.loop-row-preserved
-loop-row-preserved c =
-    let canvas = c.args.canvas in
-    let row = c.loop-row.row in
-    let end = c.run_end-end.result in
-    let next = c.behind-row.result in
-    let run = c.run_end-end.ensures in
-    let start = c.args.surface.now in
-    let filled : PaintedIn canvas (rect_ink (record { left = pos 0; top = pos row; right = pos 1; bottom = pos end }) c.args.ink)
-    c.loop-row.surface c.fill_in.new.surface = rw c.rows.ensures at c.fill_in.ensures.painted in
-    let counted : IsCounted (area_between c.loop-row.surface canvas.clip (pos 0 +ℤ canvas.left) (pos row +ℤ canvas.top) (pos 1 +ℤ canvas.left) (pos end +ℤ canvas.top))
-    c.loop-row.surface c.fill_in.new.surface c.loop-row.work c.fill_in.new.work = rw c.rows.ensures at c.fill_in.ensures.counted in
-    let way = c.loop-row.invariant.way in
-    let counted = counted_same _ _ _ _ _ _ (area_same c.loop-row.surface start canvas.clip (pos 0 +ℤ canvas.left) (pos row +ℤ canvas.top) (pos 1 +ℤ canvas.left) (pos end +ℤ canvas.top) way.width way.height) counted in
-    record {
-      high = omega (arith, c.behind-row.ensures);
-      way = way_on (from_origin canvas.left canvas.top (column_ink c.args.ink c.args.bits row)) (from_origin canvas.left canvas.top (column_ink c.args.ink c.args.bits next))
-          (from_origin canvas.left canvas.top (rect_ink (record { left = pos 0; top = pos row; right = pos 1; bottom = pos end }) c.args.ink)) _ canvas.clip _ _ _ _
-          start c.loop-row.surface c.fill_in.new.surface c.args.work.now c.loop-row.work c.fill_in.new.work way filled counted
-          (λ x y u. column_parts c.args.ink c.args.bits row end next run.low run.high run.set run.end c.behind-row.ensures (x -ℤ canvas.left) (y -ℤ canvas.top) u)
-          (column_area start canvas.clip canvas.left canvas.top row end next run.low run.high c.behind-row.ensures);
-    }
+pub returns-then-seen-clause-painted : goal.returns-then-seen-clause-painted
+returns-then-seen-clause-painted c =
+    let r = c.column_edges-seen.result in
+    let e = c.column_edges-seen.ensures in
+    column_unseen c.args.bits c.args.canvas c.args.ink c.args.surface.now r.left r.right r.top r.bottom e.left e.right e.top e.bottom
+    (λ across down. omega (arith, across, c.if-seen.true))
+
+pub returns-then-seen-2-clause-painted : goal.returns-then-seen-2-clause-painted
+returns-then-seen-2-clause-painted c =
+    let r = c.column_edges-seen.result in
+    let e = c.column_edges-seen.ensures in
+    column_unseen c.args.bits c.args.canvas c.args.ink c.args.surface.now r.left r.right r.top r.bottom e.left e.right e.top e.bottom
+    (λ across down. omega (arith, down, c.if-seen-2.true))
+
+pub rows_above-requires-clause-low : goal.rows_above-requires-clause-low
+rows_above-requires-clause-low c =
+    let r = c.column_edges-seen.result in
+    let e = c.column_edges-seen.ensures in
+    (row_spanned c.args.surface.now.height c.args.canvas r.top r.bottom e.top e.bottom r.top (omega arith) (omega (arith, c.if-seen-2.false))).begin
+
+pub rows_above-requires-clause-high : goal.rows_above-requires-clause-high
+rows_above-requires-clause-high c =
+    let r = c.column_edges-seen.result in
+    let e = c.column_edges-seen.ensures in
+    (row_spanned c.args.surface.now.height c.args.canvas r.top r.bottom e.top e.bottom r.top (omega arith) (omega (arith, c.if-seen-2.false))).end
+
+pub ink-requires-clause-few : goal.ink-requires-clause-few
+ink-requires-clause-few c =
+    let r = c.column_edges-seen.result in
+    let e = c.column_edges-seen.ensures in
+    let first = row_spanned c.args.surface.now.height c.args.canvas r.top r.bottom e.top e.bottom r.top (omega arith) (omega (arith, c.if-seen-2.false)) in
+    let from = first.begin in
+    let to = last_spanned c.args.surface.now.height c.args.canvas r.top r.bottom e.top e.bottom (omega (arith, c.if-seen-2.false)) in
+    omega (arith, ints, from, to)
 
 pub returns-clause-painted : goal.returns-clause-painted
 returns-clause-painted c =
-    way_end _ _ c.args.canvas.clip _ _ c.args.surface.now c.loop-row.surface c.args.work.now c.loop-row.work c.loop-row.invariant.way
-    (λ x y u h. column_over c.args.ink c.args.bits c.loop-row.row (x -ℤ c.args.canvas.left) (y -ℤ c.args.canvas.top) u (omega arith))
+    let r = c.column_edges-seen.result in
+    let e = c.column_edges-seen.ensures in
+    column_inked c.args.bits c.args.canvas c.args.ink c.args.surface.now r.left r.right r.top r.bottom e.left e.right e.top e.bottom
+    c.rows_above.result c.ink.new.self (omega (arith, c.if-seen.false)) c.rows_above.ensures.value c.ink.ensures.inks
+
+pub returns-clause-counted : goal.returns-clause-counted
+returns-clause-counted c =
+    let r = c.column_edges-seen.result in
+    let e = c.column_edges-seen.ensures in
+    rw (← e.left, ← e.right, ← e.top, ← e.bottom)
+    (counted_strip r.left r.right (record { column = r.left; top = r.top; bottom = r.bottom }) _ c.args.ink c.args.surface.now c.ink.new.self
+    c.args.work.now c.ink.new.work (omega (arith, c.if-seen.false)) c.ink.ensures.inks c.ink.ensures.counted c.ink.ensures.grew)

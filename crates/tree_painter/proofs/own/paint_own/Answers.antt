@@ -1,34 +1,53 @@
-use Rattle.std.proofs.Common.{◌≡◌, ◌+◌, ◌≤◌, ◌-ℤ◌, subst, arith}
+use Rattle.std.proofs.Common.{ap, sym, ◌∙◌, ◌≡◌, ◌+◌, ◌≤◌, ◌-ℤ◌, subst, arith}
 use Rattle.std.specs.Prelude.{◌&&◌, IfSome}
 use Rattle.geom_core.specs.Rects.{holds}
 use Rattle.pixel_raster.specs.Raster.{Fills}
 use Rattle.view_model.specs.declared.facts.Facts.{Facts}
-use Rattle.view_model.specs.Painting.{reaches_children}
+use Rattle.view_model.specs.Painting.{is_drawn, reaches_children}
 use Rattle.view_tree.specs.Views.{view_at}
 use Rattle.seen_parts.specs.Frames.{IsBelow, canvas_holds, frame_size}
 use Rattle.tree_painter.specs.Painted.{IsCounted, area_in}
 use Rattle.tree_painter.proofs.AreaLaws.{area_in-same, counted_fill, counted_then, counted_within, inside_area, narrower}
-use Rattle.tree_painter.proofs.OwnLaws.{seen, unseen}
+use Rattle.tree_painter.proofs.OwnLaws.{hidden, outside, seen, seen_leaf}
 use Rattle.tree_painter.proofs.own.paint_own.Goals as goal
 
 pub returns-in_default-clause-painted : goal.returns-in_default-clause-painted
-returns-in_default-clause-painted c = λ children end same.
-    rw same (unseen (view_at c.args.tree.now c.args.view) c.args.bounds c.args.canvas children c.moved-frame.result c.moved-frame.ensures.moved c.requires.drawn c.args.surface.now c.in_default.ensures.points)
+returns-in_default-clause-painted c = λ children end none same.
+    rw same (outside (view_at c.args.tree.now c.args.view) c.args.bounds c.args.canvas children c.moved-frame.result c.moved-frame.ensures.moved c.args.surface.now c.in_default.ensures.points)
+
+pub returns-then-not-is_drawn-clause-painted : goal.returns-then-not-is_drawn-clause-painted
+returns-then-not-is_drawn-clause-painted c = λ children end none same.
+    rw same (hidden (view_at c.args.tree.now c.args.view) c.args.bounds c.args.canvas children c.args.surface.now
+    (ap (λ (facts : Facts). is_drawn facts.visibility) (sym c.facts.ensures.value) ∙ sym c.is_drawn.ensures ∙ c.if-not-is_drawn.true))
+
+pub returns-then-not-has_children-clause-painted : goal.returns-then-not-has_children-clause-painted
+returns-then-not-has_children-clause-painted c = λ children end none same.
+    let view = view_at c.args.tree.now c.args.view in
+    let frame = c.moved-frame.result in
+    let part = c.in-Some.part in
+    let start = c.args.surface.now in
+    let mid = c.fill.new.self in
+    let fills : Fills part view.facts.background start mid = subst (λ (facts : Facts). Fills part facts.background start mid) c.facts-2.ensures.value c.fill.ensures.fills in
+    rw same (seen_leaf view c.args.bounds c.args.canvas children frame c.moved-frame.ensures.moved
+    (ap (λ (facts : Facts). is_drawn facts.visibility) (sym c.facts.ensures.value) ∙ sym c.is_drawn.ensures ∙ c.if-not-is_drawn.false)
+    part start mid c.paint_ink.new.surface c.in-Some.ensures.points fills c.paint_ink.ensures.painted (none (c.has_children.ensures c.if-not-has_children.true)))
 
 pub returns-clause-painted : goal.returns-clause-painted
-returns-clause-painted c = λ children end rest.
+returns-clause-painted c = λ children end none rest.
     let view = view_at c.args.tree.now c.args.view in
     let frame = c.moved-frame.result in
     let part = c.in-Some.part in
     let result = c.children_canvas.result in
     let start = c.args.surface.now in
     let mid = c.fill.new.self in
-    let fills : Fills part view.facts.background start mid = subst (λ (facts : Facts). Fills part facts.background start mid) c.facts.ensures.value c.fill.ensures.fills in
-    let below : IfSome result (IsBelow frame view.facts.offset) = subst (λ (facts : Facts). IfSome result (IsBelow frame facts.offset)) c.facts-2.ensures.value c.children_canvas.ensures.below in
-    seen view c.args.bounds c.args.canvas children frame c.moved-frame.ensures.moved c.requires.drawn part result start mid c.paint_ink.new.surface end
+    let fills : Fills part view.facts.background start mid = subst (λ (facts : Facts). Fills part facts.background start mid) c.facts-2.ensures.value c.fill.ensures.fills in
+    let below : IfSome result (IsBelow frame view.facts.offset) = subst (λ (facts : Facts). IfSome result (IsBelow frame facts.offset)) c.facts-3.ensures.value c.children_canvas.ensures.below in
+    seen view c.args.bounds c.args.canvas children frame c.moved-frame.ensures.moved
+    (ap (λ (facts : Facts). is_drawn facts.visibility) (sym c.facts.ensures.value) ∙ sym c.is_drawn.ensures ∙ c.if-not-is_drawn.false)
+    part result start mid c.paint_ink.new.surface end
     c.in-Some.ensures.points fills c.paint_ink.ensures.painted
     (λ x y. subst (λ (facts : Facts). canvas_holds result x y ≡ (holds part x y && reaches_children facts (frame_size frame) (x -ℤ frame.left) (y -ℤ frame.top)))
-    c.facts-2.ensures.value (c.children_canvas.ensures.points x y)) below rest
+    c.facts-3.ensures.value (c.children_canvas.ensures.points x y)) below rest
 
 pub returns-clause-narrower : goal.returns-clause-narrower
 returns-clause-narrower c =
@@ -37,6 +56,20 @@ returns-clause-narrower c =
 
 pub returns-clause-counted : goal.returns-clause-counted
 returns-clause-counted c =
+    let start = c.args.surface.now in
+    let mid = c.fill.new.self in
+    let part = c.in-Some.part in
+    let area = area_in start c.args.canvas.clip in
+    let less : area_in start part ≤ area = inside_area start c.args.canvas.clip part c.in-Some.ensures.inside in
+    let same : area_in mid part ≡ area_in start part = area_in-same mid start part c.fill.ensures.fills.width c.fill.ensures.fills.height in
+    let fill : IsCounted area start mid c.args.work.now c.fill.new.work =
+    counted_fill area part _ start mid c.args.work.now c.fill.new.work c.fill.ensures.fills c.fill.ensures.counted c.fill.ensures.grew less in
+    let ink : IsCounted area mid c.paint_ink.new.surface c.fill.new.work c.paint_ink.new.work =
+    counted_within (area_in mid part) area mid c.paint_ink.new.surface c.fill.new.work c.paint_ink.new.work (rw same less) c.paint_ink.ensures.counted in
+    counted_then area area (area + area) start mid c.paint_ink.new.surface c.args.work.now c.fill.new.work c.paint_ink.new.work (omega arith) fill ink
+
+pub returns-then-not-has_children-clause-counted : goal.returns-then-not-has_children-clause-counted
+returns-then-not-has_children-clause-counted c =
     let start = c.args.surface.now in
     let mid = c.fill.new.self in
     let part = c.in-Some.part in

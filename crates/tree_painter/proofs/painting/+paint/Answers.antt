@@ -1,14 +1,14 @@
 use Rattle.std.proofs.Common.{sym, ap, ◌∙◌, refl, ◌-ℤ◌, arith}
-use Rattle.view_model.specs.declared.facts.Facts.{Facts}
-use Rattle.view_model.specs.Painting.{is_drawn, painted}
+use Rattle.view_model.specs.Forest.{Forest}
+use Rattle.view_model.specs.Painting.{painted}
 use Rattle.view_tree.specs.declared.state.State.{State}
-use Rattle.view_tree.specs.Rows.{children_of_first, first_tree, later_siblings, part_from}
+use Rattle.view_tree.specs.Rows.{Row, children_of_first, first_tree, later_siblings, part_from}
 use Rattle.view_tree.specs.Views.{held_of}
 use Rattle.view_tree.proofs.forest.Walks.{fewer_below, walk_falls, walk_on}
 use Rattle.seen_parts.specs.Meeting.{placed_rows}
 use Rattle.tree_painter.specs.Painted.{IsCounted, area_in, from_origin, share_of}
 use Rattle.tree_painter.proofs.AreaLaws.{area_in-same, counted_same}
-use Rattle.tree_painter.proofs.TreeLaws.{counted_children, counted_own, own_drawn, own_hidden, own_nowhere, painted_parts, share_parts}
+use Rattle.tree_painter.proofs.TreeLaws.{counted_children, counted_own, own_drawn, own_nowhere, painted_parts, share_parts}
 use Rattle.tree_painter.proofs.UnderWay.{way_on}
 use Rattle.tree_painter.proofs.painting.+paint.Goals as goal
 
@@ -48,23 +48,19 @@ pub paint_view-returns-in_default-clause-painted : goal.paint_view-returns-in_de
 paint_view-returns-in_default-clause-painted t c =
     own_nowhere c.args.tree.now c.args.view c.requires.live c.args.canvas c.args.surface.now (ap (λ (s : State). s.bounds) (sym c.state.ensures.value) ∙ c.in_default.is)
 
-pub paint_view-returns-then-not-is_drawn-clause-painted : goal.paint_view-returns-then-not-is_drawn-clause-painted
-paint_view-returns-then-not-is_drawn-clause-painted t c =
-    own_hidden c.args.tree.now c.args.view c.requires.live c.args.canvas c.args.surface.now c.in-Some.bounds
-    (ap (λ (s : State). s.bounds) (sym c.state.ensures.value) ∙ c.in-Some.is)
-    (ap (λ (f : Facts). is_drawn f.visibility) (sym c.facts.ensures.value) ∙ sym c.is_drawn.ensures ∙ c.if-not-is_drawn.true)
-
 pub paint_view-returns-in-Some-paint_own-clause-painted : goal.paint_view-returns-in-Some-paint_own-clause-painted
 paint_view-returns-in-Some-paint_own-clause-painted t c =
     own_drawn c.args.tree.now c.args.view c.requires.live c.args.canvas c.args.surface.now c.paint_children.new.surface c.in-Some.bounds
     (ap (λ (s : State). s.bounds) (sym c.state.ensures.value) ∙ c.in-Some.is)
-    (c.in-Some-paint_own.ensures.painted (painted (placed_rows (held_of c.args.tree.now) (children_of_first (part_from c.args.view c.args.tree.now.tree)))) c.paint_children.new.surface c.paint_children.ensures.painted)
+    (c.in-Some-paint_own.ensures.painted (painted (placed_rows (held_of c.args.tree.now) (children_of_first (part_from c.args.view c.args.tree.now.tree)))) c.paint_children.new.surface
+    (λ none x y u. ap (λ (kids : Forest Row). painted (placed_rows (held_of c.args.tree.now) kids) x y u) none) c.paint_children.ensures.painted)
 
 pub paint_view-returns-in_default-paint_own-clause-painted : goal.paint_view-returns-in_default-paint_own-clause-painted
 paint_view-returns-in_default-paint_own-clause-painted t c =
     own_drawn c.args.tree.now c.args.view c.requires.live c.args.canvas c.args.surface.now c.paint_own.new.surface c.in-Some.bounds
     (ap (λ (s : State). s.bounds) (sym c.state.ensures.value) ∙ c.in-Some.is)
-    (c.in_default-paint_own.ensures.painted (painted (placed_rows (held_of c.args.tree.now) (children_of_first (part_from c.args.view c.args.tree.now.tree)))) c.paint_own.new.surface refl)
+    (c.in_default-paint_own.ensures.painted (painted (placed_rows (held_of c.args.tree.now) (children_of_first (part_from c.args.view c.args.tree.now.tree)))) c.paint_own.new.surface
+    (λ none x y u. ap (λ (kids : Forest Row). painted (placed_rows (held_of c.args.tree.now) kids) x y u) none) refl)
 
 pub paint_view-returns-in-Some-paint_own-clause-counted : goal.paint_view-returns-in-Some-paint_own-clause-counted
 paint_view-returns-in-Some-paint_own-clause-counted t c =
