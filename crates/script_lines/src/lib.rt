@@ -35,6 +35,15 @@ pub use cutting::{Ended, LinePlace, Lines, passes_over};
 pub use escapes::Unescaped;
 pub use fault::LineFault;
 pub use file_name::is_file_name;
-pub use naming::Name;
+pub use naming::{Name, hex};
 pub use number::natural;
 pub use reading::line;
+
+/// What reads the words of a line, for lines of other scripts.
+pub mod readers {
+    pub use crate::commands::{MAX_POINT, MAX_WINDOW};
+    pub use crate::number::{integer, natural_within, number, within};
+    pub use crate::pixels::is_small;
+    pub use crate::touches::{Touch, read_pointer, read_touch};
+    pub use crate::words::{end, is, is_text, word};
+}

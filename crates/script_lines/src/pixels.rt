@@ -15,7 +15,7 @@ use crate::words::end;
 
 /// Whether a part of this width and height has no more pixels than may be told at once.
 #[tactic(auto, unfolding(crate::specs::Pixels::is_small))]
-fn is_small(w: i32, h: i32) -> bool
+pub fn is_small(w: i32, h: i32) -> bool
     requires width { IsWithin (pos 1) MAX_WINDOW w }
     requires height { IsWithin (pos 1) MAX_WINDOW h }
     ensures value { result ≡ is_small w h }

@@ -14,15 +14,15 @@ use crate::words::end;
 
 /// A pointer, and where it is.
 #[derive(Clone, Copy, Debug, PartialEq, Eq)]
-struct Touch {
-    pointer: u8,
-    x: i32,
-    y: i32,
+pub struct Touch {
+    pub pointer: u8,
+    pub x: i32,
+    pub y: i32,
 }
 
 /// The pointer of this id.
 #[tactic(auto, unfolding(crate::specs::Touches::pointer_of))]
-fn read_pointer(id: i64) -> Result<u8, LineFault>
+pub fn read_pointer(id: i64) -> Result<u8, LineFault>
     ensures value { result ≡ pointer_of id }
     ensures bounds { IfOk result (λ pointer. pointer ≤ MAX_POINTER) }
 {
@@ -32,7 +32,7 @@ fn read_pointer(id: i64) -> Result<u8, LineFault>
 
 /// The pointer and the point that end a line.
 #[tactic(auto, unfolding(crate::specs::Touches::touch_of))]
-fn read_touch(bytes: &[u8]) -> Result<Touch, LineFault>
+pub fn read_touch(bytes: &[u8]) -> Result<Touch, LineFault>
     ensures value { result ≡ touch_of (words bytes.now) }
     ensures bounds { IfOk result (λ touch. IsTouchInBounds touch.pointer touch.x touch.y) }
 {

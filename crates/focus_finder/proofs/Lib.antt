@@ -1,0 +1,4 @@
+mod Examples
+mod LeastLaws
+mod PlainLaws
+mod SightLaws

@@ -1,0 +1,4 @@
+mod Examples
+mod PaneLaws
+mod PassedLaws
+mod TextLaws

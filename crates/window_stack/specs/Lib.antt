@@ -1,0 +1,3 @@
+pub mod KeptPanes
+pub mod PlainPanes
+pub mod StackLines
