@@ -127,3 +127,30 @@ def views_file(kib, views, words_of, kind=0x05):
         inner.append(begin_with(lengths(len(words), kind, words), 1) + end(1))
     first = begin_with(lengths(2, 0x10, [NONE, NONE]))
     return layout_file(kib, pool(VIEW_NAMES), b"".join(inner), first)
+
+
+def entries_type(number, count, kind):
+    """A type of this number with so many entries, each a value of a kind whose word is the entry's number."""
+    header = struct.pack("<BBHII", number, 0, 0, count, 76 - 20 + 4 * count) + struct.pack("<I", 36) + bytes(32)
+    offsets = struct.pack("<%dI" % count, *range(0, 16 * count, 16))
+    entries = b"".join(struct.pack("<HHIHBBI", 8, 0, k, 8, 0, kind, k) for k in range(count))
+    return chunk(0x0201, header, offsets + entries)
+
+
+def resource_table(strings, types):
+    """A resource table of a pool, if there is one, and one package with these types."""
+    package = chunk(0x0200, struct.pack("<I", 0x7f) + bytes(272), b"".join(types))
+    return chunk(0x0002, struct.pack("<I", 1), strings + package)
+
+
+def falling_table(thousands):
+    """A resource table of so many times 1024 numbers, whose types come by falling numbers."""
+    numbers = range(thousands // 32, 0, -1)
+    return resource_table(b"", [entries_type(number, 32 * 1024, 0x10) for number in numbers])
+
+
+def string_table(thousands):
+    """A resource table of so many times 1024 strings."""
+    count = 1024 * thousands
+    strings = pool([b"string number %06d" % k for k in range(count)])
+    return resource_table(strings, [entries_type(1, count, 0x03)])

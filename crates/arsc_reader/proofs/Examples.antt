@@ -4,28 +4,31 @@ use Rattle.std.specs.Prelude.{codes}
 use Rattle.std.specs.Str.{is_utf8, chars}
 use lib.Utf8.{encode}
 use Rattle.axml_chunks.specs.Chunks.{chunk_of}
-use Rattle.axml_chunks.specs.Faults.{truncated, bad_chunk}
+use Rattle.axml_chunks.specs.Faults.{truncated, bad_chunk, not_table}
 use Rattle.axml_chunks.specs.Numbers.{number16, number32}
 use Rattle.axml_chunks.specs.Pool.{header_of, string_at, gathered, pool_in}
 use Rattle.axml_chunks.specs.Steps.{upto}
 use Rattle.axml_chunks.specs.Strings.{utf8_text, utf8_length, ended_bytes, text_of_bytes}
-use Rattle.arsc_reader.specs.declared.fault.TableFault.TheVariants as faults
+use Rattle.axml_reader.specs.Dump.{escaped}
+use Rattle.text_lines.specs.Hex.{hex_text, eight_digits}
+use Rattle.text_lines.specs.Joined.{◌⧺◌, texts_of}
 use Rattle.arsc_reader.specs.declared.held.Held.TheVariants as held
 use Rattle.arsc_reader.specs.Entries.{listing_of, plain_at, entry_at, held_at, entry_after}
 use Rattle.arsc_reader.specs.Reading.{listed, type_read, in_package, one_chunk, chunks_from, package_of, package_read, pool_read, in_table}
 use Rattle.arsc_reader.specs.Contents.{Contents}
+use Rattle.arsc_reader.specs.Lines.{plain_text, value_line, value_lines}
 use Rattle.arsc_reader.specs.Table.{whole_of, inside_of, table_of, latest_after, followed, value_of, text_of}
 
 -- a file of seven bytes, one that begins with another chunk, and one whose header has no count of packages
-cut_short : table_of (2 ∷ 0 ∷ 12 ∷ 0 ∷ 12 ∷ 0 ∷ 0 ∷ []) ≡ Err (faults.Bad (truncated 0))
+cut_short : table_of (2 ∷ 0 ∷ 12 ∷ 0 ∷ 12 ∷ 0 ∷ 0 ∷ []) ≡ Err (truncated 0)
 unfolding table_of
 cut_short = refl
 
-no_table : table_of (3 ∷ 0 ∷ 8 ∷ 0 ∷ 8 ∷ 0 ∷ 0 ∷ 0 ∷ []) ≡ Err faults.NotTable
+no_table : table_of (3 ∷ 0 ∷ 8 ∷ 0 ∷ 8 ∷ 0 ∷ 0 ∷ 0 ∷ []) ≡ Err (not_table 0)
 unfolding table_of number16
 no_table = refl
 
-short_header : table_of (2 ∷ 0 ∷ 8 ∷ 0 ∷ 8 ∷ 0 ∷ 0 ∷ 0 ∷ []) ≡ Err (faults.Bad (bad_chunk 0))
+short_header : table_of (2 ∷ 0 ∷ 8 ∷ 0 ∷ 8 ∷ 0 ∷ 0 ∷ 0 ∷ []) ≡ Err (bad_chunk 0)
 unfolding table_of number16 number32 inside_of whole_of chunk_of
 short_header = refl
 
@@ -93,6 +96,11 @@ last_value = refl
 its_text : text_of four.pool 0 ≡ Some (codes "Hi")
 unfolding four
 its_text = refl
+
+its_lines : value_lines four (0x7f050000 ∷ 0x7f050001 ∷ 0x7f050002 ∷ 0x7f050003 ∷ [])
+    ≡ codes "7f050000 dimen 00001001\n7f050001 dimen 00001001\n7f050002 none\n7f050003 text \"Hi\"\n"
+unfolding four followed latest_after value_line plain_text hex_text eight_digits texts_of ◌⧺◌ escaped
+its_lines = refl
 
 -- of two pairs with one id the last one counts
 later_pair : value_of (record { id = 1; held = held.Complex } ∷ record { id = 1; held = held.Plain 0x12 7 } ∷ []) 1 ≡ held.Plain 0x12 7

@@ -4,4 +4,5 @@ pub mod Entries
 pub mod Reading
 pub mod Meaning
 pub mod Table
+pub mod Lines
 pub mod Answers

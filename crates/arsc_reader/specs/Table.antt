@@ -3,22 +3,15 @@ use Rattle.std.specs.Prelude.{ℕ, zero, suc, not, ◌&&◌, List, [], ◌∷◌
 use Rattle.axml_chunks.specs.declared.chunk.Chunk.{Chunk}
 use Rattle.axml_chunks.specs.declared.fault.Fault.{Fault}
 use Rattle.axml_chunks.specs.Chunks.{chunk_of}
-use Rattle.axml_chunks.specs.Faults.{truncated, bad_chunk}
+use Rattle.axml_chunks.specs.Faults.{truncated, bad_chunk, not_table}
 use Rattle.axml_chunks.specs.Numbers.{number16}
 use Rattle.axml_chunks.specs.Pool.{StringPool}
 use Rattle.axml_chunks.specs.Steps.{◌>>=◌}
-use Rattle.arsc_reader.specs.declared.fault.TableFault.{TableFault}
-use Rattle.arsc_reader.specs.declared.fault.TableFault.TheVariants as faults
 use Rattle.arsc_reader.specs.declared.held.Entry.{Entry}
 use Rattle.arsc_reader.specs.declared.held.Held.{Held}
 use Rattle.arsc_reader.specs.declared.held.Held.TheVariants as held
 use Rattle.arsc_reader.specs.Contents.{Contents}
 use Rattle.arsc_reader.specs.Reading.{start, in_table, all_chunks}
-
--- what a reading of the inside of a table gives, as one of the table
-abbrev pub in_file : {A : Type 0} → Result A Fault → Result A TableFault
-in_file (Ok x) = Ok x
-in_file (Err f) = Err (faults.Bad f)
 
 -- the chunk that holds the table; what stands after it is not looked at
 unfoldable pub whole_of : List ℕ → Result Chunk Fault
@@ -34,11 +27,11 @@ inside_of bytes = do
   Ok (record { pool = s.pool; entries = s.entries })
 
 -- the table of a file, its entries in the order of the file, or the first fault
-unfoldable pub table_of : List ℕ → Result Contents TableFault
+unfoldable pub table_of : List ℕ → Result Contents Fault
 table_of bytes =
-    if nat_lt (length bytes) 8 then Err (faults.Bad (truncated 0))
-    else (if not (number16 bytes 0 == 2) then Err faults.NotTable
-    else in_file (inside_of bytes))
+    if nat_lt (length bytes) 8 then Err (truncated 0)
+    else (if not (number16 bytes 0 == 2) then Err (not_table 0)
+    else inside_of bytes)
 
 -- what an entry holds where it has an id, and otherwise what was found before it
 abbrev pub newer : Held → Entry → ℕ → Held

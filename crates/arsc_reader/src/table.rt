@@ -9,7 +9,6 @@ ghost use Rattle.arsc_reader.specs.Order.{AreOrdered, Splits};
 ghost use Rattle.arsc_reader.specs.Answers.{ReadsTable};
 ghost use Rattle.arsc_reader.specs.Table.{whole_of, inside_of, table_of, newer, latest, named_by, value_of, text_of};
 
-use crate::fault::{TableFault, fault_of};
 use crate::held::{Entry, Held};
 use crate::reading::Reading;
 use axml_chunks::{Cause, Chunk, Fault, Pool, ReadFault, chunk_at, u16_at};
@@ -80,14 +79,14 @@ fn sort(entries: &mut Vec<Entry>) -> Result<(), AllocError>
 }
 
 /// A table of what was read.
-fn table_with(reading: Reading) -> Result<Table, TableFault>
+fn table_with(reading: Reading) -> Result<Table, ReadFault>
     ensures { ReadsTable result (Ok (contents reading)) }
 {
     let Reading { pool, entries, .. } = reading;
     let mut entries = entries;
     match sort(&mut entries) {
         Ok(()) => Ok(Table { pool, entries }),
-        Err(_) => Err(TableFault::NoMemory),
+        Err(_) => Err(ReadFault::NoMemory),
     }
 }
 
@@ -139,22 +138,23 @@ fn named_by(held: Held) -> Option<u32>
 impl Table {
     /// Reads a table from the bytes of its file.
     #[tactic(auto, unfolding(crate::specs::Table::table_of))]
-    pub fn read(alloc: Global, bytes: &[u8]) -> Result<Table, TableFault>
+    pub fn read(alloc: Global, bytes: &[u8]) -> Result<Table, ReadFault>
         ensures value { ReadsTable result (table_of bytes.now) }
     {
         if bytes.len() < 8 {
-            return Err(TableFault::Bad(Fault {
+            return Err(ReadFault::Bad(Fault {
                 cause: Cause::Truncated,
                 at: 0,
             }));
         }
         if u16_at(bytes, 0) != TABLE {
-            return Err(TableFault::NotTable);
+            return Err(ReadFault::Bad(Fault {
+                cause: Cause::NotTable,
+                at: 0,
+            }));
         }
-        match inside_of(alloc, bytes) {
-            Ok(reading) => table_with(reading),
-            Err(fault) => Err(fault_of(fault)),
-        }
+        let reading = inside_of(alloc, bytes)?;
+        table_with(reading)
     }
 
     /// What a resource holds, through at most sixteen references.

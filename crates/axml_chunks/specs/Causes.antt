@@ -15,3 +15,4 @@ cause_number cause.NoElement = 8
 cause_number cause.TwoRoots = 9
 cause_number cause.SecondPool = 10
 cause_number cause.TooBig = 11
+cause_number cause.NotTable = 42

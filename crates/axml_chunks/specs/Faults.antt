@@ -46,3 +46,7 @@ second_pool place = record { cause = cause.SecondPool; at = place }
 -- more of something than is taken
 abbrev pub too_big : ℕ → Fault
 too_big place = record { cause = cause.TooBig; at = place }
+
+-- the file is no resource table
+abbrev pub not_table : ℕ → Fault
+not_table place = record { cause = cause.NotTable; at = place }

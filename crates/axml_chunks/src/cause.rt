@@ -25,8 +25,10 @@ pub enum Cause {
     TwoRoots,
     /// A second string pool.
     SecondPool,
-    /// More strings, bytes of text, elements or attributes than are taken.
+    /// More strings, bytes of text, elements, attributes or entries than are taken.
     TooBig,
+    /// The first chunk is no resource table.
+    NotTable,
 }
 
 impl Cause {
@@ -34,7 +36,7 @@ impl Cause {
     pub fn number(self) -> u8
         ensures value { result ≡ cause_number self }
         ensures first { 1 ≤ result }
-        ensures last { result ≤ 11 }
+        ensures last { result ≤ 42 }
     {
         match self {
             Cause::Truncated => 1,
@@ -48,6 +50,7 @@ impl Cause {
             Cause::TwoRoots => 9,
             Cause::SecondPool => 10,
             Cause::TooBig => 11,
+            Cause::NotTable => 42,
         }
     }
 }

@@ -112,7 +112,7 @@ fn put_escaped_bytes<K: Sink>(text: &mut TextBuffer, sink: &mut K, string: &[u8]
 }
 
 /// Sends a string with its escapes.
-fn put_string<K: Sink>(text: &mut TextBuffer, sink: &mut K, string: &str)
+pub fn put_string<K: Sink>(text: &mut TextBuffer, sink: &mut K, string: &str)
     ensures { Sends (K.state sink.old) (K.state sink.new) text.old text.new (texts_of escaped string.now) }
 {
     put_escaped_bytes(text, sink, string.as_bytes());

@@ -12,4 +12,4 @@ mod reading;
 
 pub use decode::read;
 pub use doc::{Attr, Doc, NO_STRING, Node};
-pub use dump::print;
+pub use dump::{print, put_string};

@@ -28,7 +28,7 @@ pub(crate) struct ElementView {
 /// A refusal that is told of an element.
 fn refused_in(element: u32, number: u8) -> Refusal
     requires first { 1 ≤ number }
-    requires last { number ≤ 41 }
+    requires last { number ≤ 43 }
     ensures { plain_refusal result ≡ refused_in element number }
 {
     Refusal {

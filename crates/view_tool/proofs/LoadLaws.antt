@@ -4,13 +4,15 @@ use Rattle.std.specs.Prelude.{Some}
 use Rattle.load_maker.specs.Load.{load}
 use Rattle.script_lines.specs.Lines.{lines_of}
 use Rattle.sha2.specs.Sha256.{sha256}
+use Rattle.view_model.specs.declared.work.Work.{Work}
 use Rattle.view_tool.specs.declared.loading.Outcome.{Outcome}
 use Rattle.view_tool.specs.declared.run.LineRunner.{LineRunner}
 use Rattle.view_tool.specs.Gen.{gen_outcome}
 use Rattle.view_tool.specs.Run.{HasCarriedOut}
+use Rattle.view_tool.specs.Tally.{tally_of}
 use Rattle.view_tool.specs.Transcript.{after_lines}
 
-pub outcome_is : (n : ℕ) (script page : List ℕ) (runner : LineRunner) (outcome : Outcome) → outcome ≡ record { lines = runner.lines; refused = runner.refused; digest = sha256 page } → script ≡ load n
-    → HasCarriedOut (Some []) (Some page) runner (after_lines [] (lines_of script)) → outcome ≡ gen_outcome n
+pub outcome_is : (n : ℕ) (script page : List ℕ) (old new : Work) (runner : LineRunner) (outcome : Outcome) → outcome ≡ record { lines = runner.lines; refused = runner.refused; digest = sha256 page } → script ≡ load n
+    → HasCarriedOut (record { gone = Some []; work = old }) (record { gone = Some page; work = new }) runner (after_lines [] (lines_of script)) (tally_of [] (lines_of script)) → outcome ≡ gen_outcome n
 unfolding gen_outcome
-outcome_is n script page runner outcome value made at = rw (value, at.lines, at.refused, at.gone, made) refl
+outcome_is n script page old new runner outcome value made at = rw (value, at.lines, at.refused, at.gone, made) refl

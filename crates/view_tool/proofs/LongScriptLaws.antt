@@ -30,7 +30,7 @@ pub carried_long : (script : List ℕ) → max_script < length script → carrie
 unfolding carried_lines
 carried_long script long = ap (λ b. cond b (cut_of (take max_script script)).lines (lines_of script)) (lt-ltb max_script (length script) long)
 
-lines_of-cut : (taken rest : List ℕ) → (more : List Line) × ((cut_of taken).lines ++ more ≡ lines_of (taken ++ rest))
+pub lines_of-cut : (taken rest : List ℕ) → (more : List Line) × ((cut_of taken).lines ++ more ≡ lines_of (taken ++ rest))
 unfolding lines_of
 lines_of-cut taken rest =
     let more = cut_lines-append taken rest in (

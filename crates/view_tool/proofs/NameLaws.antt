@@ -25,11 +25,11 @@ bounds : (text : List ℕ) → is_short_name text ≡ true → (0 < length text)
 unfolding is_short_name
 bounds text e = grind (arith, nat_tests)
 
-count_of_names : length refusal_names ≡ 41
+count_of_names : length refusal_names ≡ 43
 unfolding refusal_names
 count_of_names = refl
 
-pub short_name : (number : ℕ) → 1 ≤ number → number ≤ 41 → (0 < length (refusal_name number)) × (length (refusal_name number) ≤ 16)
+pub short_name : (number : ℕ) → 1 ≤ number → number ≤ 43 → (0 < length (refusal_name number)) × (length (refusal_name number) ≤ 16)
 unfolding refusal_name
 short_name zero first last = absurd (omega arith)
 short_name (suc k) first last =

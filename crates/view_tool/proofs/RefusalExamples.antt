@@ -1,7 +1,7 @@
 -- Worked lines that tell of refusals, by computation.
 use Rattle.std.specs.Fmt.{digits}
 use Rattle.std.specs.Prelude.{◌≡◌, [], codes, refl}
-use Rattle.axml_chunks.specs.Faults.{truncated}
+use Rattle.axml_chunks.specs.Faults.{not_table, truncated}
 use Rattle.text_lines.specs.Joined.{◌⧺◌}
 use Rattle.view_model.specs.Refusals.{AtPlace, Element, refusal_numbered}
 use Rattle.view_tool.specs.Dump.{fault_text, refused_file_text}
@@ -32,11 +32,15 @@ tells_of_a_file_that_is_cut_short : fault_text (truncated 324) ≡ codes "file: 
 unfolding digits fault_text refused_text ◌⧺◌ refusal_name refusal_names
 tells_of_a_file_that_is_cut_short = refl
 
-the_table_ends : refusal_name 41 ≡ codes "DpiLate"
+tells_of_a_file_that_is_no_table : fault_text (not_table 0) ≡ codes "file: refused 42 NotTable at 0\n"
+unfolding digits fault_text refused_text ◌⧺◌ refusal_name refusal_names
+tells_of_a_file_that_is_no_table = refl
+
+the_table_ends : refusal_name 43 ≡ codes "NoPane"
 unfolding refusal_name refusal_names
 the_table_ends = refl
 
-no_name_past_it : refusal_name 42 ≡ []
+no_name_past_it : refusal_name 44 ≡ []
 unfolding refusal_name refusal_names
 no_name_past_it = refl
 

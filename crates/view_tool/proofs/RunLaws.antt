@@ -11,14 +11,16 @@ use Rattle.script_lines.specs.declared.fault.LineFault.{LineFault}
 use Rattle.script_lines.specs.Commands.{command_of}
 use Rattle.text_lines.specs.BufferedText.{BufferedText as BufferedText}
 use Rattle.text_lines.specs.Prefix.{AppendsPrefix}
-use Rattle.text_lines.proofs.Prefixes.{appends_both, prefix_of_first, prefix_of_second}
+use Rattle.text_lines.proofs.Prefixes.{appends_both, prefix_of_first}
 use Rattle.tool_io.specs.Fetched.{Files}
 use Rattle.view_tool.specs.declared.run.LineRunner.{LineRunner}
 use Rattle.view_tool.specs.declared.run.Stop.{Stop}
 use Rattle.view_tool.specs.declared.run.Stop.TheVariants as stop
 use Rattle.view_tool.specs.Refusals.{refused_line}
-use Rattle.view_tool.specs.Run.{HasCarriedOut, HasReadUpTo, StopsIn, WithFiles}
-use Rattle.view_tool.specs.Transcript.{Progress, after_line, after_lines, after_reply, asked_by_line, at_start, is_idle, reply_to_command, reply_to_line}
+use Rattle.view_tool.specs.Run.{HasCarriedOut, HasReadUpTo, HasTallied, StopsIn, WithFiles}
+use Rattle.view_tool.specs.Tally.{Tally, tally_of, with_cost}
+use Rattle.view_tool.specs.Transcript.{Progress, after_line, after_lines, after_reply, asked_by_line, at_start, is_idle, line_text, reply_text, reply_to_command, reply_to_line}
+use Rattle.view_tool.specs.Works.{Trace, Works, WorksToWrite}
 use Rattle.tool_io.specs.Counts.{raised}
 use Rattle.tool_io.specs.SinkState.{SinkState}
 use Rattle.view_model.specs.declared.refusal.Refusal.{Refusal}
@@ -30,6 +32,8 @@ use Rattle.view_world.specs.Carried.{WritesReply, IsDone}
 use Rattle.view_world.specs.Inflating.{asked_file}
 use Rattle.view_world.specs.Step.{Reply, Done, Refused, step as step_of}
 use Rattle.view_world.specs.KeyedWorld.{KeyedWorld, world_of}
+use Rattle.view_world.specs.Watched.{IsWatched, IsWorth, Watched}
+use Rattle.view_tool.proofs.TallyLaws.{passed_cost, refused_cost, tally_of-push, worth_same}
 use Rattle.script_lines.proofs.LineLaws.{cut_lines-append, cut_lines-length}
 
 pub after_lines-push : (files : Files) (lines : List Line) (line : Line) → after_lines files (lines ++ line ∷ []) ≡ after_line files (after_lines files lines) line
@@ -58,16 +62,22 @@ counted_short files bytes most short = omega (arith, short, after_lines-lines fi
 pub lines_short : (bytes : List ℕ) (most : ℕ) → length bytes < most → length (cut_of bytes).lines < most
 lines_short bytes most short = omega (arith, short, cut_lines-length bytes)
 
-text_of_reply : (progress : Progress) (reply : Reply) → (more : List ℕ) × ((after_reply progress reply).text ≡ progress.text ++ more)
-text_of_reply progress (Done world text) = (text, refl)
-text_of_reply progress (Refused refusal) = (refused_line (progress.lines + 1) refusal, refl)
+text_after : (progress : Progress) (reply : Reply) → (after_reply progress reply).text ≡ progress.text ++ reply_text progress reply
+text_after progress (Done world text) = refl
+text_after progress (Refused refusal) = refl
+
+-- a line adds its text
+pub line_after : (files : Files) (lines : List Line) (line : Line) → (after_lines files (lines ++ line ∷ [])).text ≡ (after_lines files lines).text ++ line_text files (after_lines files lines) line
+line_after files lines line =
+    let so_far = after_lines files lines in
+    ap (λ (p : Progress). p.text) (after_lines-push files lines line) ∙ text_after so_far (reply_to_line files so_far.world line)
 
 text_from : (files : Files) (progress : Progress) (lines : List Line) → (more : List ℕ) × ((fold (after_line files) progress lines).text ≡ progress.text ++ more)
 text_from files progress [] = ([], sym (append-nil progress.text))
 text_from files progress (line ∷ lines) =
     let rest = text_from files (after_line files progress line) lines in
-    let one = text_of_reply progress (reply_to_line files progress.world line) in
-    (one.0 ++ rest.0, rest.1 ∙ ap (λ l. l ++ rest.0) one.1 ∙ append_assoc progress.text one.0 rest.0)
+    let one = line_text files progress line in
+    (one ++ rest.0, rest.1 ∙ ap (λ l. l ++ rest.0) (text_after progress (reply_to_line files progress.world line)) ∙ append_assoc progress.text one rest.0)
 
 -- more lines only add text
 pub after_lines-text : (files : Files) (before after : List Line) → (more : List ℕ) × ((after_lines files (before ++ after)).text ≡ (after_lines files before).text ++ more)
@@ -83,15 +93,24 @@ prefix_lines files first now lines more all e part =
     subst (AppendsPrefix first now) (sym text.1 ∙ ap (λ (l : List Line). (after_lines files l).text) e) (prefix_of_first first now (after_lines files lines).text text.0 part)
 
 -- a run that stopped in some lines stopped in these and more
-pub stops_further : (files : Files) (first now : Option (List ℕ)) (lines more all : List Line) (stop : Stop) → lines ++ more ≡ all → StopsIn files first now lines stop → StopsIn files first now all stop
-stops_further files first now lines more all stop.Sink e stops = prefix_lines files first now lines more all e stops
+pub stops_further : (files : Files) (first now : Trace) (lines more all : List Line) (stop : Stop) → lines ++ more ≡ all → StopsIn files first now lines stop → StopsIn files first now all stop
+stops_further files first now lines more all stop.Sink e stops = record {
+  done = stops.done;
+  line = stops.line;
+  left = stops.left ++ more;
+  all = sym (append_assoc stops.done (stops.line ∷ stops.left) more) ∙ ap (λ (l : List Line). l ++ more) stops.all ∙ e;
+  between = stops.between;
+  gone = stops.gone;
+  part = stops.part;
+  worth = stops.worth;
+}
 stops_further files first now lines more all stop.Shelf e stops = record {
   done = stops.done;
   line = stops.line;
   left = stops.left ++ more;
   all = sym (append_assoc stops.done (stops.line ∷ stops.left) more) ∙ ap (λ (l : List Line). l ++ more) stops.all ∙ e;
   asks = stops.asks;
-  gone = stops.gone;
+  works = stops.works;
 }
 stops_further files first now lines more all stop.NoMemory e stops = record {
   done = stops.done;
@@ -99,7 +118,7 @@ stops_further files first now lines more all stop.NoMemory e stops = record {
   left = stops.left ++ more;
   all = sym (append_assoc stops.done (stops.line ∷ stops.left) more) ∙ ap (λ (l : List Line). l ++ more) stops.all ∙ e;
   wants = stops.wants;
-  gone = stops.gone;
+  works = stops.works;
 }
 
 -- a line that is passed over
@@ -108,11 +127,18 @@ unfolding reply_to_line
 passed_reply files world LongLine e = absurd (cc)
 passed_reply files world (Text bytes) e = rw e refl
 
-pub passed_line : (files : Files) (first now : Option (List ℕ)) (runner : LineRunner) (progress : Progress) (line : Line) (number : ℕ) → is_idle line ≡ true → number ≡ progress.lines + 1 → HasCarriedOut first now runner progress
-    → HasCarriedOut first now (record runner { lines = number }) (after_line files progress line)
-passed_line files first now runner progress line number passed counted at =
+pub passed_line : (files : Files) (first now : Trace) (runner : LineRunner) (progress : Progress) (tally : Tally) (line : Line) (number : ℕ) → is_idle line ≡ true → number ≡ progress.lines + 1
+    → HasCarriedOut first now runner progress tally → HasCarriedOut first now (record runner { lines = number }) (after_line files progress line) (with_cost files tally line)
+passed_line files first now runner progress tally line number passed counted at =
     let reply = passed_reply files progress.world line passed in
-    rw reply (record { lines = counted; world = at.world; refused = at.refused; few = omega (arith, at.few); gone = subst (Appends first now) (sym (append-nil progress.text)) at.gone })
+    rw (reply, passed_cost files tally line passed) (record {
+      lines = counted;
+      world = at.world;
+      refused = at.refused;
+      few = omega (arith, at.few);
+      gone = subst (Appends first.gone now.gone) (sym (append-nil progress.text)) at.gone;
+      tallied = at.tallied;
+    })
 
 -- a line that can be read is carried out
 pub taken_line : (files : Files) (world : World) (bytes : List ℕ) (command : PlainCommand) (result : Result PlainCommand LineFault) → is_passed_over bytes ≡ false → result ≡ command_of bytes → result ≡ Ok command
@@ -132,10 +158,14 @@ pub faulty_line : (files : Files) (world : World) (bytes : List ℕ) (fault : Li
 unfolding reply_to_line
 faulty_line files world bytes fault result passed read e = rw (passed, sym read ∙ e) refl
 
--- what a refused line leaves
+-- what a line leaves that was refused, or for which there was no memory
 pub not_done : {X : Type 0} (fault : StepFault) (refusal : Refusal) → fault ≡ step.Refused refusal → IsDone (Err fault) ⊎ X → X
 not_done fault refusal e (inl done) = absurd (subst (λ (f : StepFault). IsDone (Err f)) e done)
 not_done fault refusal e (inr same) = same
+
+pub not_done_memory : {X : Type 0} (fault : StepFault) → fault ≡ step.NoMemory → IsDone (Err fault) ⊎ X → X
+not_done_memory fault e (inl done) = absurd (subst (λ (f : StepFault). IsDone (Err f)) e done)
+not_done_memory fault e (inr same) = same
 
 pub carried_refused : (reply : Reply) (new : World) (before after : SinkState) (fault : StepFault) (refusal : Refusal) → fault ≡ step.Refused refusal
     → WritesReply reply new before after (Err fault) → reply ≡ Refused (plain_refusal refusal)
@@ -146,50 +176,98 @@ pub carried_sink : (reply : Reply) (new : World) (before after : SinkState) (fau
     → (text : List ℕ) × (reply ≡ Done new text) × AppendsPrefix before.gone after.gone text × (after.faults ≡ raised before.faults)
 carried_sink reply new before after fault e carried = subst (λ (f : StepFault). WritesReply reply new before after (Err f)) e carried
 
--- a line was refused, and to tell of it failed
-pub refused_prefix : (files : Files) (first mid now : Option (List ℕ)) (runner : LineRunner) (lines : List Line) (line : Line) (number : ℕ) (refusal : PlainRefusal) → HasCarriedOut first mid runner (after_lines files lines)
-    → reply_to_line files (world_of runner.world) line ≡ Refused refusal → number ≡ (after_lines files lines).lines + 1 → AppendsPrefix mid now (refused_line number refusal)
-    → AppendsPrefix first now (after_lines files (lines ++ line ∷ [])).text
-refused_prefix files first mid now runner lines line number refusal at refused counted part =
-    let so_far = after_lines files lines in
-    subst (AppendsPrefix first now) (
-    sym (
-    ap (λ (p : Progress). p.text) (after_lines-push files lines line)
-    ∙ ap (λ (r : Reply). (after_reply so_far r).text) (ap (λ (w : World). reply_to_line files w line) (sym at.world) ∙ refused)
-    ∙ ap (λ (n : ℕ). so_far.text ++ refused_line n refusal) (sym counted)
-    )
-    )
-    (prefix_of_second first mid now so_far.text (refused_line number refusal) at.gone part)
+-- the reply to a line, by the world of the code
+reply_at : (files : Files) (first mid : Trace) (runner : LineRunner) (progress : Progress) (tally : Tally) (line : Line) (reply : Reply) → HasCarriedOut first mid runner progress tally
+    → reply_to_line files (world_of runner.world) line ≡ reply → reply_to_line files progress.world line ≡ reply
+reply_at files first mid runner progress tally line reply at told = ap (λ (w : World). reply_to_line files w line) (sym at.world) ∙ told
 
--- a line was refused, and that was told
-pub refused_at : (files : Files) (first mid now : Option (List ℕ)) (runner : LineRunner) (world : KeyedWorld) (text : BufferedText) (progress : Progress) (line : Line) (number count : ℕ) (refusal : PlainRefusal)
-    → HasCarriedOut first mid runner progress → world ≡ runner.world → reply_to_line files (world_of runner.world) line ≡ Refused refusal → number ≡ progress.lines + 1 → count ≡ progress.refused + 1
-    → Appends mid now (refused_line number refusal) → HasCarriedOut first now (record { world = world; lines = number; refused = count; text = text }) (after_line files progress line)
-refused_at files first mid now runner world text progress line number count refusal at same refused counted told plain_refusal =
-    let reply : reply_to_line files progress.world line ≡ Refused refusal = ap (λ (w : World). reply_to_line files w line) (sym at.world) ∙ refused in
-    rw reply (record {
+tally_reply_at : (files : Files) (first mid : Trace) (runner : LineRunner) (progress : Progress) (tally : Tally) (line : Line) (reply : Reply) → HasCarriedOut first mid runner progress tally
+    → reply_to_line files (world_of runner.world) line ≡ reply → reply_to_line files tally.watched.world line ≡ reply
+tally_reply_at files first mid runner progress tally line reply at told = ap (λ (w : Watched). reply_to_line files w.world line) (sym at.tallied.watched.same) ∙ told
+
+-- a line was refused, and to write that failed
+pub refused_part : (files : Files) (first mid now : Trace) (runner : LineRunner) (lines : List Line) (line : Line) (number : ℕ) (refusal : PlainRefusal)
+    → HasCarriedOut first mid runner (after_lines files lines) (tally_of files lines) → reply_to_line files (world_of runner.world) line ≡ Refused refusal → number ≡ (after_lines files lines).lines + 1
+    → now.work ≡ mid.work → AppendsPrefix mid.gone now.gone (refused_line number refusal) → WorksToWrite files first now (lines ++ line ∷ [])
+refused_part files first mid now runner lines line number refusal at refused counted same part =
+    let so_far = after_lines files lines in
+    let cost = tally_of-push files lines line ∙ refused_cost files (tally_of files lines) refusal line (tally_reply_at files first mid runner so_far (tally_of files lines) line (Refused refusal) at refused) in
+    let text : line_text files so_far line ≡ refused_line number refusal =
+    ap (reply_text so_far) (reply_at files first mid runner so_far (tally_of files lines) line (Refused refusal) at refused) ∙ ap (λ (n : ℕ). refused_line n refusal) (sym counted) in
+    record {
+      done = lines;
+      line = line;
+      left = [];
+      all = refl;
+      between = mid.gone;
+      gone = at.gone;
+      part = subst (AppendsPrefix mid.gone now.gone) (sym text) part;
+      worth = worth_same (tally_of files (lines ++ line ∷ [])).costs first.work mid.work now.work same (subst (λ (t : Tally). IsWorth t.costs first.work mid.work) (sym cost) at.tallied.worth);
+    }
+
+-- a line was refused, and that was written
+pub refused_at : (files : Files) (first mid now : Trace) (runner : LineRunner) (world : KeyedWorld) (text : BufferedText) (progress : Progress) (tally : Tally) (line : Line) (number count : ℕ) (refusal : PlainRefusal)
+    → HasCarriedOut first mid runner progress tally → world ≡ runner.world → now.work ≡ mid.work → reply_to_line files (world_of runner.world) line ≡ Refused refusal → number ≡ progress.lines + 1
+    → count ≡ progress.refused + 1 → Appends mid.gone now.gone (refused_line number refusal)
+    → HasCarriedOut first now (record { world = world; lines = number; refused = count; text = text }) (after_line files progress line) (with_cost files tally line)
+refused_at files first mid now runner world text progress tally line number count refusal at same idle refused counted told gone =
+    let reply = reply_at files first mid runner progress tally line (Refused refusal) at refused in
+    let cost = refused_cost files tally refusal line (tally_reply_at files first mid runner progress tally line (Refused refusal) at refused) in
+    rw (reply, cost) (record {
       lines = counted;
       world = ap world_of same ∙ at.world;
       refused = told;
       few = omega (arith, at.few);
-      gone = appends_both first mid now progress.text (refused_line (progress.lines + 1) refusal) at.gone (subst (λ (n : ℕ). Appends mid now (refused_line n refusal)) counted plain_refusal);
+      gone = appends_both first.gone mid.gone now.gone progress.text (refused_line (progress.lines + 1) refusal) at.gone (subst (λ (n : ℕ). Appends mid.gone now.gone (refused_line n refusal)) counted gone);
+      tallied = record {
+        watched = subst (λ (w : KeyedWorld). IsWatched w tally.watched) (sym same) at.tallied.watched;
+        worth = worth_same tally.costs first.work mid.work now.work idle at.tallied.worth;
+      };
+    })
+
+-- a line was carried out, and its text has gone
+pub done_at : (files : Files) (first mid now : Trace) (runner : LineRunner) (world : KeyedWorld) (progress : Progress) (tally : Tally) (line : Line) (number : ℕ) (text : List ℕ) → HasCarriedOut first mid runner progress tally
+    → reply_to_line files (world_of runner.world) line ≡ Done (world_of world) text → number ≡ progress.lines + 1 → Appends mid.gone now.gone text → HasTallied first.work now.work world (with_cost files tally line)
+    → HasCarriedOut first now (record runner { world = world; lines = number }) (after_line files progress line) (with_cost files tally line)
+done_at files first mid now runner world progress tally line number text at done counted gone tallied =
+    let reply = reply_at files first mid runner progress tally line (Done (world_of world) text) at done in
+    rw reply (record {
+      lines = counted;
+      world = refl;
+      refused = at.refused;
+      few = omega (arith, at.few);
+      gone = appends_both first.gone mid.gone now.gone progress.text text at.gone gone;
+      tallied = tallied;
     })
 
 -- a line was carried out, and to write its text failed
-pub done_prefix : (files : Files) (first mid now : Option (List ℕ)) (runner : LineRunner) (lines : List Line) (line : Line) (world : World) (text : List ℕ) → HasCarriedOut first mid runner (after_lines files lines)
-    → reply_to_line files (world_of runner.world) line ≡ Done world text → AppendsPrefix mid now text → AppendsPrefix first now (after_lines files (lines ++ line ∷ [])).text
-done_prefix files first mid now runner lines line world text at done part =
+pub done_part : (files : Files) (first mid now : Trace) (runner : LineRunner) (lines : List Line) (line : Line) (world : KeyedWorld) (text : List ℕ)
+    → HasCarriedOut first mid runner (after_lines files lines) (tally_of files lines) → reply_to_line files (world_of runner.world) line ≡ Done (world_of world) text → AppendsPrefix mid.gone now.gone text
+    → HasTallied first.work now.work world (with_cost files (tally_of files lines) line) → WorksToWrite files first now (lines ++ line ∷ [])
+done_part files first mid now runner lines line world text at done part tallied =
     let so_far = after_lines files lines in
-    subst (AppendsPrefix first now) (
-    sym (
-    ap (λ (p : Progress). p.text) (after_lines-push files lines line)
-    ∙ ap (λ (r : Reply). (after_reply so_far r).text) (ap (λ (w : World). reply_to_line files w line) (sym at.world) ∙ done)
-    )
-    )
-    (prefix_of_second first mid now so_far.text text at.gone part)
+    let told : line_text files so_far line ≡ text = ap (reply_text so_far) (reply_at files first mid runner so_far (tally_of files lines) line (Done (world_of world) text) at done) in
+    record {
+      done = lines;
+      line = line;
+      left = [];
+      all = refl;
+      between = mid.gone;
+      gone = at.gone;
+      part = subst (AppendsPrefix mid.gone now.gone) (sym told) part;
+      worth = subst (λ (t : Tally). IsWorth t.costs first.work now.work) (sym (tally_of-push files lines line)) tallied.worth;
+    }
+
+-- a line was not carried out: what was written and counted for the lines before it stays
+pub works_same : (files : Files) (first mid now : Trace) (runner : LineRunner) (lines : List Line) → HasCarriedOut first mid runner (after_lines files lines) (tally_of files lines) → now.gone ≡ mid.gone → now.work ≡ mid.work
+    → Works files first now lines
+works_same files first mid now runner lines at gone work = record {
+  gone = subst (λ (g : Option (List ℕ)). Appends first.gone g (after_lines files lines).text) (sym gone) at.gone;
+  worth = worth_same (tally_of files lines).costs first.work mid.work now.work work at.tallied.worth;
+}
 
 -- a run that stopped in the line that a part of a piece ended stopped in the lines of the piece
-pub stops_in_piece : (files : Files) (first now : Option (List ℕ)) (before piece : List ℕ) (n : ℕ) (line : Line) (stop : Stop) → (cut_of (before ++ take n piece)).lines ≡ (cut_of before).lines ++ line ∷ []
+pub stops_in_piece : (files : Files) (first now : Trace) (before piece : List ℕ) (n : ℕ) (line : Line) (stop : Stop) → (cut_of (before ++ take n piece)).lines ≡ (cut_of before).lines ++ line ∷ []
     → StopsIn files first now ((cut_of before).lines ++ line ∷ []) stop → StopsIn files first now (cut_of (before ++ piece)).lines stop
 stops_in_piece files first now before piece n line stop e stops =
     let more = cut_lines-append (before ++ take n piece) (drop n piece) in
@@ -198,21 +276,22 @@ stops_in_piece files first now before piece n line stop e stops =
     (ap (λ (l : List Line). l ++ more.0) (sym e) ∙ sym more.1 ∙ ap (λ (l : List ℕ). (cut_of l).lines) all) stops
 
 -- no line ended
-pub behind_same : (shelf : Option Files) (first now : Option (List ℕ)) (held : LineBuffer) (runner : LineRunner) (before bytes : List ℕ)
-    → WithFiles shelf (λ files. HasCarriedOut first now runner (after_lines files (cut_of before).lines)) → IsAfter held bytes
+pub behind_same : (shelf : Option Files) (first now : Trace) (held : LineBuffer) (runner : LineRunner) (before bytes : List ℕ)
+    → WithFiles shelf (λ files. HasCarriedOut first now runner (after_lines files (cut_of before).lines) (tally_of files (cut_of before).lines)) → IsAfter held bytes
     → (cut_of bytes).lines ≡ (cut_of before).lines ++ [] → HasReadUpTo shelf first now (record { lines = held; runner = runner }) bytes
 behind_same shelf first now held runner before bytes at stands e = record {
   held = stands;
-  runner = λ files told. subst (λ (l : List Line). HasCarriedOut first now runner (after_lines files l)) (sym (e ∙ append-nil (cut_of before).lines)) (at files told);
+  runner = λ files told. subst (λ (l : List Line). HasCarriedOut first now runner (after_lines files l) (tally_of files l)) (sym (e ∙ append-nil (cut_of before).lines)) (at files told);
 }
 
 -- one line ended, and was carried out
-pub behind_more : (shelf : Option Files) (first now : Option (List ℕ)) (held : LineBuffer) (runner : LineRunner) (before bytes : List ℕ) (line : Line)
-    → WithFiles shelf (λ files. HasCarriedOut first now runner (after_line files (after_lines files (cut_of before).lines) line))
+pub behind_more : (shelf : Option Files) (first now : Trace) (held : LineBuffer) (runner : LineRunner) (before bytes : List ℕ) (line : Line)
+    → WithFiles shelf (λ files. HasCarriedOut first now runner (after_line files (after_lines files (cut_of before).lines) line) (with_cost files (tally_of files (cut_of before).lines) line))
     → IsAfter held bytes → (cut_of bytes).lines ≡ (cut_of before).lines ++ line ∷ [] → HasReadUpTo shelf first now (record { lines = held; runner = runner }) bytes
 behind_more shelf first now held runner before bytes line at stands e = record {
   held = stands;
-  runner = λ files told. subst (HasCarriedOut first now runner) (sym (ap (after_lines files) e ∙ after_lines-push files (cut_of before).lines line)) (at files told);
+  runner = λ files told. subst (λ (l : List Line). HasCarriedOut first now runner (after_lines files l) (tally_of files l)) (sym e)
+      (rw (after_lines-push files (cut_of before).lines line, tally_of-push files (cut_of before).lines line) (at files told));
 }
 
 -- the last line, where there is none, and where there is one
@@ -223,3 +302,7 @@ last_none script e = ap (λ l. (cut_of script).lines ++ l) e ∙ append-nil (cut
 pub last_one : (script : List ℕ) (line : Line) → last_of (cut_of script).rest ≡ line ∷ [] → lines_of script ≡ (cut_of script).lines ++ line ∷ []
 unfolding lines_of
 last_one script line e = ap (λ l. (cut_of script).lines ++ l) e
+
+-- what was written and counted in a run that has come so far
+pub works_of : (files : Files) (first now : Trace) (runner : LineRunner) (lines : List Line) → HasCarriedOut first now runner (after_lines files lines) (tally_of files lines) → Works files first now lines
+works_of files first now runner lines at = record { gone = at.gone; worth = at.tallied.worth }

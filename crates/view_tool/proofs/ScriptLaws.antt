@@ -1,7 +1,7 @@
 -- What was taken of a script, and how its run ends.
 use Rattle.std.proofs.Common.{◌≡◌, ℕ, ◌+◌, ◌-◌, ◌<◌, ◌≤◌, length, take, drop, List, [], ◌++◌, refl, ap, sym, subst, ◌∙◌, arith, append_assoc, length-append, length-take}
 use Rattle.std.specs.Prelude.{nat_lt, Option, Some, None, Ok, Err}
-use Rattle.std.specs.Io.KnownBytes.{Appends, Consumes, IsAtEnd, Keeps}
+use Rattle.std.specs.Io.KnownBytes.{Consumes, IsAtEnd, Keeps}
 use Rattle.std.proofs.lemmas.List.{append-nil, take-append-drop, take-append-le}
 use Rattle.std.proofs.Math.Seq.{take-append-add}
 use Rattle.script_lines.specs.Lines.{Line, cut_of, lines_of}
@@ -12,8 +12,10 @@ use Rattle.view_tool.specs.declared.run.Stop.{Stop}
 use Rattle.view_tool.specs.declared.script.End.{End}
 use Rattle.view_tool.specs.declared.script.End.TheVariants as end
 use Rattle.view_tool.specs.Run.{HasCarriedOut, HasReadUpTo, StopsIn}
-use Rattle.view_tool.specs.Script.{ReadsPiece, RunsTo, WritesTaken}
+use Rattle.view_tool.specs.Script.{ReadsPiece, RunsTo, WorksTaken}
+use Rattle.view_tool.specs.Tally.{tally_of}
 use Rattle.view_tool.specs.Transcript.{after_lines, carried_lines, max_script}
+use Rattle.view_tool.specs.Works.{Trace, Works}
 use Rattle.view_tool.proofs.LongScriptLaws.{carried_front, carried_long, carried_short}
 use Rattle.view_tool.proofs.RunLaws.{stops_further}
 
@@ -53,23 +55,23 @@ take_front script taken bytes rest left e count enough =
     ∙ ap (λ l. taken ++ l) (take-append-le left bytes rest enough)
 
 -- a read failed
-pub ends_source : (files : Files) (first last new : Option (List ℕ)) (script taken : List ℕ) → Consumes (Some script) new taken → length taken ≤ max_script → Appends first last (after_lines files (cut_of taken).lines).text
-    → WritesTaken files script new first last
-ends_source files first last new script taken lost within gone =
+pub ends_source : (files : Files) (first last : Trace) (new : Option (List ℕ)) (script taken : List ℕ) → Consumes (Some script) new taken → length taken ≤ max_script → Works files first last (cut_of taken).lines
+    → WorksTaken files script new first last
+ends_source files first last new script taken lost within works =
     let c = consumed new script taken lost in
-    record { taken = taken; takes = record { rest = c.0; front = c.1; left = c.2 }; within = within; text = gone }
+    record { taken = taken; takes = record { rest = c.0; front = c.1; left = c.2 }; within = within; works = works }
 
 -- one byte too many came
-pub ends_long : (files : Files) (first last new : Option (List ℕ)) (script taken bytes : List ℕ) (left : ℕ) → Consumes (Some script) new (taken ++ bytes) → length taken + left ≡ max_script
-    → length bytes ≡ left + 1 → Appends first last (after_lines files (cut_of (taken ++ take left bytes)).lines).text → RunsTo files script new first last (Err end.Long)
-ends_long files first last new script taken bytes left lost count many gone =
+pub ends_long : (files : Files) (first last : Trace) (new : Option (List ℕ)) (script taken bytes : List ℕ) (left : ℕ) → Consumes (Some script) new (taken ++ bytes) → length taken + left ≡ max_script
+    → length bytes ≡ left + 1 → Works files first last (cut_of (taken ++ take left bytes)).lines → RunsTo files script new first last (Err end.Long)
+ends_long files first last new script taken bytes left lost count many works =
     let c = consumed new script (taken ++ bytes) lost in
     let long : max_script < length script = omega (arith, ap length c.1, length-append (taken ++ bytes) c.0, length-append taken bytes, count, many) in
     let front = take_front script taken bytes c.0 left c.1 count (omega (arith, many)) in
-    (long, subst (λ (l : List Line). Appends first last (after_lines files l).text) (sym (carried_long script long ∙ ap (λ (l : List ℕ). (cut_of l).lines) front)) gone)
+    (long, subst (Works files first last) (sym (carried_long script long ∙ ap (λ (l : List ℕ). (cut_of l).lines) front)) works)
 
 -- the run stopped in a line that ended
-pub ends_stopped : (files : Files) (first last new : Option (List ℕ)) (script taken bytes : List ℕ) (left : ℕ) (stop : Stop) → Consumes (Some script) new (taken ++ bytes)
+pub ends_stopped : (files : Files) (first last : Trace) (new : Option (List ℕ)) (script taken bytes : List ℕ) (left : ℕ) (stop : Stop) → Consumes (Some script) new (taken ++ bytes)
     → length taken + left ≡ max_script → StopsIn files first last (cut_of (taken ++ take left bytes)).lines stop → StopsIn files first last (carried_lines script) stop
 ends_stopped files first last new script taken bytes left stop lost count stops =
     let c = consumed new script (taken ++ bytes) lost in
@@ -82,14 +84,14 @@ ends_stopped files first last new script taken bytes left stop lost count stops 
     stops_further files first last (cut_of (taken ++ take left bytes)).lines more.0 (carried_lines script) stop more.1 stops
 
 -- what a run has taken of a source, of which so many bytes more may come
-pub record HasTaken (shelf : Option Files) (before after first now : Option (List ℕ)) (run : Run) (left : ℕ) : Type 0 where
+pub record HasTaken (shelf : Option Files) (before after : Option (List ℕ)) (first now : Trace) (run : Run) (left : ℕ) : Type 0 where
   pub bytes : List ℕ
   pub consumed : Consumes before after bytes
   pub count : length bytes + left ≡ max_script
   pub behind : HasReadUpTo shelf first now run bytes
 
 -- and once one piece more was read and carried out
-pub taken_on : (shelf : Option Files) (before mid new first last now : Option (List ℕ)) (old run : Run) (left n : ℕ) (t : HasTaken shelf before mid first last old left) → n ≤ left
+pub taken_on : (shelf : Option Files) (before mid new : Option (List ℕ)) (first last now : Trace) (old run : Run) (left n : ℕ) (t : HasTaken shelf before mid first last old left) → n ≤ left
     → ReadsPiece shelf first t.bytes left mid new now run (Ok n) → HasTaken shelf before new first now run (left - n)
 taken_on shelf before mid new first last now old run left n t within p = record {
   bytes = t.bytes ++ p.bytes;
@@ -99,7 +101,7 @@ taken_on shelf before mid new first last now old run left n t within p = record 
 }
 
 -- how a run ends that does not come to the end of its script
-pub ends_early : (files : Files) (shelf : Option Files) (first last old mid new : Option (List ℕ)) (run : Run) (script taken : List ℕ) (left : ℕ) (early : End) → shelf ≡ Some files
+pub ends_early : (files : Files) (shelf : Option Files) (first last : Trace) (old mid new : Option (List ℕ)) (run : Run) (script taken : List ℕ) (left : ℕ) (early : End) → shelf ≡ Some files
     → old ≡ Some script → Consumes old mid taken → length taken + left ≡ max_script → ReadsPiece shelf first taken left mid new last run (Err early) → RunsTo files script new first last (Err early)
 ends_early files shelf first last old mid new run script taken left end.Source at_hand told lost count p =
     let all = Consumes-Consumes (Some script) mid new taken p.bytes (subst (λ l. Consumes l mid taken) told lost) p.consumed in
@@ -113,7 +115,7 @@ ends_early files shelf first last old mid new run script taken left (end.Stopped
     ends_stopped files first last new script taken p.bytes left stop all count (p.comes files at_hand)
 
 -- the run came to the end of its script, and stopped in the last line
-pub ends_last : (files : Files) (first last old new : Option (List ℕ)) (script taken : List ℕ) (stop : Stop) → old ≡ Some script → Consumes old new taken → IsAtEnd new → length taken ≤ max_script
+pub ends_last : (files : Files) (first last : Trace) (old new : Option (List ℕ)) (script taken : List ℕ) (stop : Stop) → old ≡ Some script → Consumes old new taken → IsAtEnd new → length taken ≤ max_script
     → StopsIn files first last (lines_of taken) stop → StopsIn files first last (carried_lines script) stop
 ends_last files first last old new script taken stop told lost end short stops =
     let all = taken_whole new script taken (subst (λ l. Consumes l new taken) told lost) end in
@@ -121,11 +123,11 @@ ends_last files first last old new script taken stop told lost end short stops =
     subst (λ (l : List Line). StopsIn files first last l stop) (ap lines_of all ∙ sym (carried_short script fits)) stops
 
 -- the run came to the end of its script
-pub ends_well : (files : Files) (first last old new : Option (List ℕ)) (script taken : List ℕ) (runner : LineRunner) → old ≡ Some script → Consumes old new taken → IsAtEnd new → length taken ≤ max_script
-    → HasCarriedOut first last runner (after_lines files (lines_of taken)) → RunsTo files script new first last (Ok (nat_lt 0 runner.refused))
+pub ends_well : (files : Files) (first last : Trace) (old new : Option (List ℕ)) (script taken : List ℕ) (runner : LineRunner) → old ≡ Some script → Consumes old new taken → IsAtEnd new → length taken ≤ max_script
+    → HasCarriedOut first last runner (after_lines files (lines_of taken)) (tally_of files (lines_of taken)) → RunsTo files script new first last (Ok (nat_lt 0 runner.refused))
 ends_well files first last old new script taken runner told lost end short at =
     let all = taken_whole new script taken (subst (λ l. Consumes l new taken) told lost) end in (
       subst (λ (l : List ℕ). length l ≤ max_script) all short,
-      subst (λ (l : List ℕ). Appends first last (after_lines files (lines_of l)).text) all at.gone,
+      subst (λ (l : List ℕ). Works files first last (lines_of l)) all (record { gone = at.gone; worth = at.tallied.worth }),
       ap (nat_lt 0) (at.refused ∙ ap (λ (l : List ℕ). (after_lines files (lines_of l)).refused) all),
     )

@@ -1,5 +1,5 @@
 -- How a run ends with a status.
-use Rattle.std.proofs.Common.{◌≡◌, ℕ, ◌≤◌, cond, length, List, [], ◌∷◌, refl, ap, sym, subst, arith, inl, inr, ◌∙◌}
+use Rattle.std.proofs.Common.{◌≡◌, ℕ, ◌≤◌, cond, length, List, [], ◌∷◌, ◌++◌, append_assoc, refl, ap, sym, subst, arith, inl, inr, ◌∙◌}
 use Rattle.std.specs.Prelude.{◌⊎◌, nat_lt, Bool, true, false, ◌==◌, if◌then◌else◌, Option, Result, Ok, Err}
 use Rattle.std.specs.Io.KnownBytes.{Appends}
 use Rattle.std.specs.List.{list_any}
@@ -8,11 +8,12 @@ use Rattle.std.proofs.lemmas.Bool.Decides.{nat_tests}
 use Rattle.std.proofs.lemmas.List.{append-nil}
 use Rattle.script_lines.specs.Lines.{Line, cut_of, lines_of}
 use Rattle.text_lines.specs.Prefix.{AppendsPrefix}
+use Rattle.text_lines.proofs.Prefixes.{prefix_of_second}
 use Rattle.view_tool.specs.declared.run.Stop.TheVariants as stop
 use Rattle.view_tool.specs.declared.script.End.{End}
 use Rattle.view_tool.specs.declared.script.End.TheVariants as end
 use Rattle.view_tool.specs.Run.{StopsAtFetch, StopsBefore}
-use Rattle.view_tool.specs.Script.{CountsEnd, RunsTo, WritesTaken, ends_counted, reads_counted}
+use Rattle.view_tool.specs.Script.{CountsEnd, RunsTo, WorksTaken, WritesTaken, ends_counted, reads_counted}
 use Rattle.view_tool.specs.Tool.{IsComplete, IsOneOf, RunsWith, status_of}
 use Rattle.tool_io.specs.Counts.{raised}
 use Rattle.tool_io.specs.Fetched.{CountsFetch, Files}
@@ -21,7 +22,8 @@ use Rattle.tool_io.specs.declared.shelf.ShelfFault.TheVariants as fault
 use Rattle.tool_io.proofs.Counting.{raised_later}
 use Rattle.view_tool.specs.Transcript.{after_lines, carried_lines, max_script}
 use Rattle.view_tool.proofs.LongScriptLaws.{carried_front, carried_short}
-use Rattle.view_tool.proofs.RunLaws.{prefix_lines}
+use Rattle.view_tool.specs.Works.{Trace, WorksBefore, WorksToFetch, WorksToWrite}
+use Rattle.view_tool.proofs.RunLaws.{line_after, prefix_lines}
 
 -- a whole text is a front part of itself
 pub whole_prefix : (old new : Option (List ℕ)) (text : List ℕ) → Appends old new text → AppendsPrefix old new text
@@ -58,49 +60,72 @@ fetch_prefix : (files : Files) (lines : List Line) (first last : Option (List �
 fetch_prefix files lines first last s =
     prefix_lines files first last s.done (s.line ∷ s.left) lines s.all (whole_prefix first last (after_lines files s.done).text s.gone)
 
-pub runs_with : (files : Files) (script : List ℕ) (left first last : Option (List ℕ)) (outcome : Result Bool End) → RunsTo files script left first last outcome → RunsWith files script left first last (status_of outcome)
-runs_with files script left first last (Ok true) r = ended_with files script left first last 1 (omega arith) (inr refl) r.0 r.1 (ap (λ b. cond b 1 0) r.2)
-runs_with files script left first last (Ok false) r = ended_with files script left first last 0 (omega arith) (inl refl) r.0 r.1 (ap (λ b. cond b 1 0) r.2)
-runs_with files script left first last (Err end.Source) r = record {
-  writes = record { whole = λ e. absurd (not_ended 3 (omega arith) e); part = taken_prefix files script left first last r };
-  ended = λ e. absurd (not_ended 3 (omega arith) e);
-  taken = λ _. r;
-  no_memory = λ e. absurd (omega arith);
-  failed_fetch = λ e. absurd (omega arith);
-  long = λ e. absurd (omega arith);
-}
+-- what has gone in a run, by what was also counted in it
+
+written_taken : (files : Files) (script : List ℕ) (left : Option (List ℕ)) (first last : Trace) → WorksTaken files script left first last → WritesTaken files script left first.gone last.gone
+written_taken files script left first last w = record { taken = w.taken; takes = w.takes; within = w.within; text = w.works.gone }
+
+written_before : (files : Files) (lines : List Line) (first last : Trace) → WorksBefore files first last lines → StopsBefore files first.gone last.gone lines
+written_before files lines first last w = record { done = w.done; line = w.line; left = w.left; all = w.all; wants = w.wants; gone = w.works.gone }
+
+written_to_fetch : (files : Files) (lines : List Line) (first last : Trace) → WorksToFetch files first last lines → StopsAtFetch files first.gone last.gone lines
+written_to_fetch files lines first last w = record { done = w.done; line = w.line; left = w.left; all = w.all; asks = w.asks; gone = w.works.gone }
+
+written_part : (files : Files) (lines : List Line) (first last : Trace) → WorksToWrite files first last lines → AppendsPrefix first.gone last.gone (after_lines files lines).text
+written_part files lines first last w =
+    prefix_lines files first.gone last.gone (w.done ++ w.line ∷ []) w.left lines (append_assoc w.done (w.line ∷ []) w.left ∙ w.all)
+    (subst (AppendsPrefix first.gone last.gone) (sym (line_after files w.done w.line)) (prefix_of_second first.gone w.between last.gone (after_lines files w.done).text _ w.gone w.part))
+
+pub runs_with : (files : Files) (script : List ℕ) (left : Option (List ℕ)) (first last : Trace) (outcome : Result Bool End) → RunsTo files script left first last outcome
+    → RunsWith files script left first.gone last.gone (status_of outcome)
+runs_with files script left first last (Ok true) r = ended_with files script left first.gone last.gone 1 (omega arith) (inr refl) r.0 r.1.gone (ap (λ b. cond b 1 0) r.2)
+runs_with files script left first last (Ok false) r = ended_with files script left first.gone last.gone 0 (omega arith) (inl refl) r.0 r.1.gone (ap (λ b. cond b 1 0) r.2)
+runs_with files script left first last (Err end.Source) r =
+    let taken = written_taken files script left first last r in
+    record {
+      writes = record { whole = λ e. absurd (not_ended 3 (omega arith) e); part = taken_prefix files script left first.gone last.gone taken };
+      ended = λ e. absurd (not_ended 3 (omega arith) e);
+      taken = λ _. taken;
+      no_memory = λ e. absurd (omega arith);
+      failed_fetch = λ e. absurd (omega arith);
+      long = λ e. absurd (omega arith);
+    }
 runs_with files script left first last (Err end.Long) r = record {
-  writes = record { whole = λ e. absurd (not_ended 7 (omega arith) e); part = whole_prefix first last (after_lines files (carried_lines script)).text r.1 };
+  writes = record { whole = λ e. absurd (not_ended 7 (omega arith) e); part = whole_prefix first.gone last.gone (after_lines files (carried_lines script)).text r.1.gone };
   ended = λ e. absurd (not_ended 7 (omega arith) e);
   taken = λ e. absurd (omega arith);
   no_memory = λ e. absurd (omega arith);
   failed_fetch = λ e. absurd (omega arith);
-  long = λ _. r;
+  long = λ _. (r.0, r.1.gone);
 }
 runs_with files script left first last (Err (end.Stopped stop.Sink)) r = record {
-  writes = record { whole = λ e. absurd (not_ended 4 (omega arith) e); part = r };
+  writes = record { whole = λ e. absurd (not_ended 4 (omega arith) e); part = written_part files (carried_lines script) first last r };
   ended = λ e. absurd (not_ended 4 (omega arith) e);
   taken = λ e. absurd (omega arith);
   no_memory = λ e. absurd (omega arith);
   failed_fetch = λ e. absurd (omega arith);
   long = λ e. absurd (omega arith);
 }
-runs_with files script left first last (Err (end.Stopped stop.NoMemory)) r = record {
-  writes = record { whole = λ e. absurd (not_ended 5 (omega arith) e); part = stopped_prefix files (carried_lines script) first last r };
-  ended = λ e. absurd (not_ended 5 (omega arith) e);
-  taken = λ e. absurd (omega arith);
-  no_memory = λ _. r;
-  failed_fetch = λ e. absurd (omega arith);
-  long = λ e. absurd (omega arith);
-}
-runs_with files script left first last (Err (end.Stopped stop.Shelf)) r = record {
-  writes = record { whole = λ e. absurd (not_ended 6 (omega arith) e); part = fetch_prefix files (carried_lines script) first last r };
-  ended = λ e. absurd (not_ended 6 (omega arith) e);
-  taken = λ e. absurd (omega arith);
-  no_memory = λ e. absurd (omega arith);
-  failed_fetch = λ _. r;
-  long = λ e. absurd (omega arith);
-}
+runs_with files script left first last (Err (end.Stopped stop.NoMemory)) r =
+    let before = written_before files (carried_lines script) first last r in
+    record {
+      writes = record { whole = λ e. absurd (not_ended 5 (omega arith) e); part = stopped_prefix files (carried_lines script) first.gone last.gone before };
+      ended = λ e. absurd (not_ended 5 (omega arith) e);
+      taken = λ e. absurd (omega arith);
+      no_memory = λ _. before;
+      failed_fetch = λ e. absurd (omega arith);
+      long = λ e. absurd (omega arith);
+    }
+runs_with files script left first last (Err (end.Stopped stop.Shelf)) r =
+    let before = written_to_fetch files (carried_lines script) first last r in
+    record {
+      writes = record { whole = λ e. absurd (not_ended 6 (omega arith) e); part = fetch_prefix files (carried_lines script) first.gone last.gone before };
+      ended = λ e. absurd (not_ended 6 (omega arith) e);
+      taken = λ e. absurd (omega arith);
+      no_memory = λ e. absurd (omega arith);
+      failed_fetch = λ _. before;
+      long = λ e. absurd (omega arith);
+    }
 
 -- the counts of failed calls, by the status
 pub source_by_status : (outcome : Result Bool End) (faults : ℕ) → reads_counted outcome faults ≡ (if status_of outcome == 3 then raised faults else faults)

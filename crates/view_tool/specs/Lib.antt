@@ -1,9 +1,13 @@
 pub mod Dump
 pub mod Gen
+pub mod Lookup
 pub mod Names
 pub mod Refusals
 pub mod Run
 pub mod Script
+pub mod Tally
 pub mod Tool
 pub mod Transcript
 pub mod Usage
+pub mod Works
+pub mod WorksWith

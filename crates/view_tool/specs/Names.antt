@@ -10,7 +10,7 @@ refusal_names =
     ∷ codes "Depth" ∷ codes "NotGroup" ∷ codes "ScrollFull" ∷ codes "UnknownClass" ∷ codes "Hooks" ∷ codes "HookEdit"
     ∷ codes "BadState" ∷ codes "StateClass" ∷ codes "NoView" ∷ codes "WrongClass" ∷ codes "Range" ∷ codes "Syntax"
     ∷ codes "LongLine" ∷ codes "NoWindow" ∷ codes "NoRoot" ∷ codes "HasRoot" ∷ codes "Unsettled" ∷ codes "NoFrame"
-    ∷ codes "Pointer" ∷ codes "Missing" ∷ codes "LongFile" ∷ codes "DpiLate" ∷ []
+    ∷ codes "Pointer" ∷ codes "Missing" ∷ codes "LongFile" ∷ codes "DpiLate" ∷ codes "NotTable" ∷ codes "NoPane" ∷ []
 
 -- the name of a refusal by its number; any other number has the empty text, which is no name
 unfoldable pub refusal_name : ℕ → List ℕ

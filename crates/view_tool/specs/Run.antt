@@ -4,15 +4,18 @@ use Rattle.std.proofs.Common.{Bor}
 use Rattle.std.specs.Io.KnownBytes.{Appends}
 use Rattle.script_lines.specs.LineBuffer.{IsAfter}
 use Rattle.script_lines.specs.Lines.{Line, Text, LongLine, cut_of, max_line}
-use Rattle.text_lines.specs.Prefix.{AppendsPrefix}
 use Rattle.tool_io.specs.Counts.{raised}
 use Rattle.tool_io.specs.Fetched.{Files}
+use Rattle.view_model.specs.declared.work.Work.{Work}
 use Rattle.view_tool.specs.declared.run.LineRunner.{LineRunner}
 use Rattle.view_tool.specs.declared.run.Run.{Run}
 use Rattle.view_tool.specs.declared.run.Stop.{Stop}
 use Rattle.view_tool.specs.declared.run.Stop.TheVariants as stop
+use Rattle.view_tool.specs.Tally.{Tally, tally_of}
 use Rattle.view_tool.specs.Transcript.{Asks, MayWant, Progress, after_lines}
-use Rattle.view_world.specs.KeyedWorld.{world_of}
+use Rattle.view_tool.specs.Works.{Trace, WorksBefore, WorksToFetch, WorksToWrite}
+use Rattle.view_world.specs.KeyedWorld.{KeyedWorld, world_of}
+use Rattle.view_world.specs.Watched.{IsWatched, IsWorth}
 
 -- a line as the code has it: none is too long
 abbrev pub line_now : Option (Bor (List ℕ)) → Line
@@ -28,22 +31,28 @@ abbrev pub lines_now : Option (Option (Bor (List ℕ))) → List Line
 lines_now None = []
 lines_now (Some line) = line_now line ∷ []
 
--- a course has come so far, and since the sink was in the first state its text has gone
-pub record HasCarriedOut (first now : Option (List ℕ)) (runner : LineRunner) (progress : Progress) : Type 0 where
+-- a world is the one that lines have made, and what was counted is worth what they cost
+pub record HasTallied (first now : Work) (world : KeyedWorld) (tally : Tally) : Type 0 where
+  pub watched : IsWatched world tally.watched
+  pub worth : IsWorth tally.costs first now
+
+-- a course has come so far, and since the first moment its text has gone, and what was counted is worth what its lines cost
+pub record HasCarriedOut (first now : Trace) (runner : LineRunner) (progress : Progress) (tally : Tally) : Type 0 where
   pub lines : runner.lines ≡ progress.lines
   pub world : world_of runner.world ≡ progress.world
   pub refused : runner.refused ≡ progress.refused
   pub few : progress.refused ≤ progress.lines
-  pub gone : Appends first now progress.text
+  pub gone : Appends first.gone now.gone progress.text
+  pub tallied : HasTallied first.work now.work runner.world tally
 
 -- what holds with the files that a shelf tells, if it tells them
 abbrev pub WithFiles : Option Files → (Files → Type 0) → Type 0
 WithFiles shelf P = (files : Files) → shelf ≡ Some files → P files
 
 -- a run has carried out the lines whose line feed is among these bytes, and holds what came behind them
-pub record HasReadUpTo (shelf : Option Files) (first now : Option (List ℕ)) (run : Run) (bytes : List ℕ) : Type 0 where
+pub record HasReadUpTo (shelf : Option Files) (first now : Trace) (run : Run) (bytes : List ℕ) : Type 0 where
   pub held : IsAfter run.lines bytes
-  pub runner : WithFiles shelf (λ files. HasCarriedOut first now run.runner (after_lines files (cut_of bytes).lines))
+  pub runner : WithFiles shelf (λ files. HasCarriedOut first now run.runner (after_lines files (cut_of bytes).lines) (tally_of files (cut_of bytes).lines))
 
 -- the texts of the lines before one of these, which may want memory, have gone
 pub record StopsBefore (files : Files) (first now : Option (List ℕ)) (lines : List Line) : Type 0 where
@@ -63,12 +72,11 @@ pub record StopsAtFetch (files : Files) (first now : Option (List ℕ)) (lines :
   pub asks : Asks (after_lines files done).world line
   pub gone : Appends first now (after_lines files done).text
 
--- a run stopped in these lines: a write failed, and a front part of their texts has gone, there was no memory, or a
--- fetch failed
-abbrev pub StopsIn : Files → Option (List ℕ) → Option (List ℕ) → List Line → Stop → Type 0
-StopsIn files first now lines stop.Sink = AppendsPrefix first now (after_lines files lines).text
-StopsIn files first now lines stop.NoMemory = StopsBefore files first now lines
-StopsIn files first now lines stop.Shelf = StopsAtFetch files first now lines
+-- a run stopped in these lines: a write failed, there was no memory, or a fetch failed
+abbrev pub StopsIn : Files → Trace → Trace → List Line → Stop → Type 0
+StopsIn files first now lines stop.Sink = WorksToWrite files first now lines
+StopsIn files first now lines stop.NoMemory = WorksBefore files first now lines
+StopsIn files first now lines stop.Shelf = WorksToFetch files first now lines
 
 -- a sink's count of failed calls once a run stopped so: a failed write raises it by one
 abbrev pub stop_counted : Stop → ℕ → ℕ

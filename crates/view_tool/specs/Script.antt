@@ -9,6 +9,7 @@ use Rattle.view_tool.specs.declared.script.End.{End}
 use Rattle.view_tool.specs.declared.script.End.TheVariants as ends
 use Rattle.view_tool.specs.Run.{CountsStop, HasReadUpTo, StopsIn, WithFiles, stop_counted}
 use Rattle.view_tool.specs.Transcript.{after_lines, carried_lines, max_script}
+use Rattle.view_tool.specs.Works.{Trace, Works}
 
 -- the bytes that were taken of a script are at its front, and the rest is left
 pub record Takes (script : List ℕ) (now : Option (List ℕ)) (taken : List ℕ) : Type 0 where
@@ -23,33 +24,40 @@ pub record WritesTaken (files : Files) (script : List ℕ) (left old new : Optio
   pub within : length taken ≤ max_script
   pub text : Appends old new (after_lines files (cut_of taken).lines).text
 
+-- and these lines were carried out
+pub record WorksTaken (files : Files) (script : List ℕ) (left : Option (List ℕ)) (first now : Trace) : Type 0 where
+  pub taken : List ℕ
+  pub takes : Takes script left taken
+  pub within : length taken ≤ max_script
+  pub works : Works files first now (cut_of taken).lines
+
 -- After some bytes of a script, of which `left` more may come, these were read: they were carried out, or no read gave
 -- them, or they are one too many, or the run stopped in them.
-abbrev pub Comes : Option Files → Option (List ℕ) → List ℕ → ℕ → List ℕ → Option (List ℕ) → Run → Result ℕ End → Type 0
+abbrev pub Comes : Option Files → Trace → List ℕ → ℕ → List ℕ → Trace → Run → Result ℕ End → Type 0
 Comes shelf first before left bytes now run (Ok n) = HasReadUpTo shelf first now run (before ++ bytes)
-Comes shelf first before left bytes now run (Err ends.Source) = (bytes ≡ []) × WithFiles shelf (λ files. Appends first now (after_lines files (cut_of before).lines).text)
-Comes shelf first before left bytes now run (Err ends.Long) = (length bytes ≡ left + 1) × WithFiles shelf (λ files. Appends first now (after_lines files (cut_of (before ++ take left bytes)).lines).text)
+Comes shelf first before left bytes now run (Err ends.Source) = (bytes ≡ []) × WithFiles shelf (λ files. Works files first now (cut_of before).lines)
+Comes shelf first before left bytes now run (Err ends.Long) = (length bytes ≡ left + 1) × WithFiles shelf (λ files. Works files first now (cut_of (before ++ take left bytes)).lines)
 Comes shelf first before left bytes now run (Err (ends.Stopped stop)) = WithFiles shelf (λ files. StopsIn files first now (cut_of (before ++ take left bytes)).lines stop)
 
 -- what a read and the bytes that it gave came to
-pub record ReadsPiece (shelf : Option Files) (first : Option (List ℕ)) (before : List ℕ) (left : ℕ) (old new now : Option (List ℕ)) (run : Run) (result : Result ℕ End) : Type 0 where
+pub record ReadsPiece (shelf : Option Files) (first : Trace) (before : List ℕ) (left : ℕ) (old new : Option (List ℕ)) (now : Trace) (run : Run) (result : Result ℕ End) : Type 0 where
   pub bytes : List ℕ
   pub consumed : Consumes old new bytes
   pub within : length bytes ≤ left + 1
   pub count : IfOk result (λ n. n ≡ length bytes)
   pub comes : Comes shelf first before left bytes now run result
 
--- How the run of a script came to its end, where it has gone from the first state of the sink to the last, and this is left
--- of the script.
-abbrev pub RunsTo : Files → List ℕ → Option (List ℕ) → Option (List ℕ) → Option (List ℕ) → Result Bool End → Type 0
+-- How the run of a script came to its end, where it has gone from the first moment to the last, and this is left of the
+-- script.
+abbrev pub RunsTo : Files → List ℕ → Option (List ℕ) → Trace → Trace → Result Bool End → Type 0
 RunsTo files script left first last (Ok refused) =
-    (length script ≤ max_script) × Appends first last (after_lines files (lines_of script)).text × (refused ≡ nat_lt 0 (after_lines files (lines_of script)).refused)
-RunsTo files script left first last (Err ends.Source) = WritesTaken files script left first last
-RunsTo files script left first last (Err ends.Long) = (max_script < length script) × Appends first last (after_lines files (carried_lines script)).text
+    (length script ≤ max_script) × Works files first last (lines_of script) × (refused ≡ nat_lt 0 (after_lines files (lines_of script)).refused)
+RunsTo files script left first last (Err ends.Source) = WorksTaken files script left first last
+RunsTo files script left first last (Err ends.Long) = (max_script < length script) × Works files first last (carried_lines script)
 RunsTo files script left first last (Err (ends.Stopped stop)) = StopsIn files first last (carried_lines script) stop
 
 -- the run of a source from its first bytes to its end
-pub record RunsFrom (shelf : Option Files) (before after first last : Option (List ℕ)) (outcome : Result Bool End) : Type 0 where
+pub record RunsFrom (shelf : Option Files) (before after : Option (List ℕ)) (first last : Trace) (outcome : Result Bool End) : Type 0 where
   pub runs : (files : Files) (script : List ℕ) → shelf ≡ Some files → before ≡ Some script → RunsTo files script after first last outcome
   pub end : IfOk outcome (λ _. IsAtEnd after)
   pub taken : List ℕ

@@ -11,7 +11,7 @@ use Rattle.tool_io.specs.Fetched.{Files}
 use Rattle.view_tool.specs.Run.{StopsAtFetch, StopsBefore}
 use Rattle.view_tool.specs.Script.{WritesTaken}
 use Rattle.view_tool.specs.Transcript.{after_lines, carried_lines, max_script}
-use Rattle.view_tool.specs.Usage.{Usage, Run, Dump}
+use Rattle.view_tool.specs.Usage.{Usage, Run, Dump, Lookup}
 
 -- a run of this script with these files: the words are those of a run, the source has these bytes left, and the shelf
 -- holds these files
@@ -23,6 +23,11 @@ pub record IsRunOf (usage : Usage) (left : Option (List ℕ)) (held : Option Fil
 -- the print of the file of this name, with these files
 pub record IsDumpOf (usage : Usage) (held : Option Files) (name : List ℕ) (files : Files) : Type 0 where
   pub words : usage ≡ Dump name
+  pub shelf : held ≡ Some files
+
+-- the print of what the resources of these ids hold in the table of the file of this name, with these files
+pub record IsLookupOf (usage : Usage) (held : Option Files) (name ids : List ℕ) (files : Files) : Type 0 where
+  pub words : usage ≡ Lookup name ids
   pub shelf : held ≡ Some files
 
 -- a call that ended by itself: all was done, and nothing or something was refused

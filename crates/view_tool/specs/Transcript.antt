@@ -1,5 +1,5 @@
 -- What the tool writes for a script: the texts of its lines, one after another, from the empty world.
-use Rattle.std.specs.Prelude.{◌≢◌, ℕ, ◌+◌, Bool, true, false, nat_lt, if◌then◌else◌, length, List, [], ◌++◌, Option, None, Result, Ok, Err, fold, take}
+use Rattle.std.specs.Prelude.{◌≢◌, ℕ, ◌+◌, Bool, false, nat_lt, if◌then◌else◌, length, List, [], ◌++◌, Option, None, Result, Ok, Err, fold, take}
 use Rattle.script_lines.specs.PlainCommands.{PlainCommand}
 use Rattle.script_lines.specs.declared.fault.LineFault.{LineFault}
 use Rattle.script_lines.specs.declared.fault.LineFault.TheVariants as fault
@@ -57,6 +57,15 @@ abbrev pub after_reply : Progress → Reply → Progress
 after_reply progress (Done world text) = record { lines = progress.lines + 1; world = world; text = progress.text ++ text; refused = progress.refused }
 after_reply progress (Refused refusal) =
     record { lines = progress.lines + 1; world = progress.world; text = progress.text ++ refused_line (progress.lines + 1) refusal; refused = progress.refused + 1 }
+
+-- the text of a reply to the next line
+abbrev pub reply_text : Progress → Reply → List ℕ
+reply_text progress (Done world text) = text
+reply_text progress (Refused refusal) = refused_line (progress.lines + 1) refusal
+
+-- the text of the next line
+abbrev pub line_text : Files → Progress → Line → List ℕ
+line_text files progress line = reply_text progress (reply_to_line files progress.world line)
 
 abbrev pub after_line : Files → Progress → Line → Progress
 after_line files progress line = after_reply progress (reply_to_line files progress.world line)

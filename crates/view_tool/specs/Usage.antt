@@ -1,18 +1,22 @@
 -- The forms that the tool's words may have.
-use Rattle.std.specs.Prelude.{ℕ, ◌≤◌, ◌&&◌, nat_le, if◌then◌else◌, List, [], ◌∷◌, Option, Some, None, codes, string_bytes}
+use Rattle.std.specs.Prelude.{ℕ, ◌≤◌, ◌==◌, ◌&&◌, nat_le, Bool, if◌then◌else◌, List, [], ◌∷◌, length, map, Option, Some, None, is_some, unwrap_or, codes, string_bytes}
+use Rattle.std.specs.List.{list_all}
 use Rattle.std.specs.Str.{bytes_eq}
 use Rattle.std.specs.declared.alloc.Global.{Global}
 use Rattle.std.specs.declared.string.String.{String}
 use Rattle.script_lines.specs.FileNames.{is_file_name}
+use Rattle.script_lines.specs.Names.{hex_of}
 use Rattle.script_lines.specs.Numbers.{natural_of}
 use Rattle.view_tool.specs.declared.usage.Form.{Form}
 use Rattle.view_tool.specs.declared.usage.Form.TheVariants as form
 
--- a run of the script on the source, the print of a file, a run of the load of a size, or none
+-- a run of the script on the source, the print of a file, a run of the load of a size, the print of what resources hold in
+-- the table of a file, or none
 pub data Usage : Type 0 where
   Run : Usage
   Dump : (name : List ℕ) → Usage
   Gen : (n : ℕ) → Usage
+  Lookup : (name : List ℕ) (ids : List ℕ) → Usage
   Unknown : Usage
 
 abbrev pub run_usage : List ℕ → Usage
@@ -31,12 +35,29 @@ gen_usage number = gen_of (natural_of number)
 abbrev pub pair_usage : List ℕ → List ℕ → Usage
 pair_usage word more = if bytes_eq word (codes "gen") then gen_usage more else dump_usage word more
 
--- the form of some words: `run`, `dump NAME`, or `gen N`
+-- the id of a resource has eight hexadecimal digits
+abbrev pub is_resource_id : List ℕ → Bool
+is_resource_id word = length word == 8 && is_some (hex_of word)
+
+abbrev pub resource_id : List ℕ → ℕ
+resource_id word = unwrap_or (hex_of word) 0
+
+abbrev pub are_ids : List (String Global) → Bool
+are_ids words = list_all (λ word. is_resource_id (string_bytes word)) words
+
+abbrev pub resource_ids : List (String Global) → List ℕ
+resource_ids words = map (λ word. resource_id (string_bytes word)) words
+
+abbrev pub lookup_usage : List ℕ → List ℕ → List (String Global) → Usage
+lookup_usage word name ids =
+    if bytes_eq word (codes "lookup") && is_file_name name && nat_le (length ids) 64 && are_ids ids then Lookup name (resource_ids ids) else Unknown
+
+-- the form of some words: `run`, `dump NAME`, `gen N`, or `lookup NAME ID ..`
 abbrev pub usage : List (String Global) → Usage
 usage [] = Unknown
 usage (word ∷ []) = run_usage (string_bytes word)
 usage (word ∷ more ∷ []) = pair_usage (string_bytes word) (string_bytes more)
-usage (word ∷ more ∷ other ∷ words) = Unknown
+usage (word ∷ name ∷ id ∷ ids) = lookup_usage (string_bytes word) (string_bytes name) (id ∷ ids)
 
 -- a form as the code has it
 abbrev pub form_now : Option Form → Usage
@@ -44,9 +65,11 @@ form_now None = Unknown
 form_now (Some form.Run) = Run
 form_now (Some (form.Dump name)) = Dump name.now
 form_now (Some (form.Gen n)) = Gen n
+form_now (Some (form.Lookup name ids)) = Lookup name.now (resource_ids ids.now)
 
 -- the size of a load is not above the greatest
 abbrev pub HasSize : Form → Type 0
 HasSize form.Run = Unit {0}
 HasSize (form.Dump name) = Unit {0}
 HasSize (form.Gen n) = n ≤ 100
+HasSize (form.Lookup name ids) = Unit {0}

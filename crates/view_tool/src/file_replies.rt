@@ -13,7 +13,7 @@ use tool_io::{Failed, Sink};
 /// Tells that a file is refused, by the number of the refusal.
 pub fn write_refused_file<K: Sink>(sink: &mut K, number: u8) -> Result<(), Failed>
     requires first { 1 ≤ number }
-    requires last { number ≤ 41 }
+    requires last { number ≤ 43 }
     ensures { Delivered (K.state sink.old) (K.state sink.new) result (refused_file_text number) }
 {
     let mut reply = TextBuffer::new();
@@ -23,7 +23,7 @@ pub fn write_refused_file<K: Sink>(sink: &mut K, number: u8) -> Result<(), Faile
 
 fn put_file<K: Sink>(reply: &mut TextBuffer, sink: &mut K, number: u8)
     requires first { 1 ≤ number }
-    requires last { number ≤ 41 }
+    requires last { number ≤ 43 }
     ensures { Sends (K.state sink.old) (K.state sink.new) reply.old reply.new (refused_file_text number) }
 {
     reply.put(sink, b"file: ");

@@ -1,7 +1,8 @@
 //! The load, run in a world of its own.
 
-ghost use Rattle.std.specs.Prelude.{◌≡◌, ◌≤◌, ◌^◌, ◌==◌, ◌⊎◌, min, false, ◌-◌, [], ◌∷◌, Some, IfOk, IfSome, length, if◌then◌else◌};
+ghost use Rattle.std.specs.Prelude.{◌≡◌, ◌≢◌, ◌≤◌, ◌^◌, ◌==◌, ◌⊎◌, min, false, ◌-◌, [], ◌∷◌, Some, IfOk, IfErr, IfSome, length, if◌then◌else◌};
 ghost use Rattle.hex.specs.Hex.{encode_lower};
+ghost use Rattle.load_maker.specs.Load.{load};
 ghost use Rattle.script_lines.specs.Lines.{lines_of};
 ghost use Rattle.sha2.specs.Sha256.{sha256};
 ghost use Rattle.text_lines.specs.BufferedText.{Sends};
@@ -10,8 +11,11 @@ ghost use Rattle.tool_io.specs.Counts.{raised};
 ghost use Rattle.view_tool.specs.Dump.{Dumps};
 ghost use Rattle.view_tool.specs.Gen.{gen_outcome, gen_page, outcome_text};
 ghost use Rattle.view_tool.specs.Run.{HasCarriedOut};
+ghost use Rattle.view_tool.specs.Tally.{costs_of_script, tally_of};
 ghost use Rattle.view_tool.specs.Tool.{IsOneOf};
 ghost use Rattle.view_tool.specs.Transcript.{after_lines, max_script};
+ghost use Rattle.view_tool.specs.Works.{WorksPart};
+ghost use Rattle.view_world.specs.Watched.{IsWorth};
 
 use crate::dump::status_of;
 use crate::run::{Run, Stop};
@@ -42,6 +46,8 @@ pub fn run_load<K: Sink>(alloc: Global, n: u32, sink: &mut K, work: &mut Work) -
     requires { n ≤ 100 }
     ensures dumps { Dumps (gen_page n) false (K.state sink.old) (K.state sink.new) result }
     ensures known { IsOneOf result (0 ∷ 4 ∷ 5 ∷ []) }
+    ensures worth { result ≢ 5 → IsWorth (costs_of_script (load n) []) work.old work.new }
+    ensures works { WorksPart [] work.old work.new (lines_of (load n)) }
     ensures nothing_written { result ≡ 5 → sink.new ≡ sink.old }
     ensures sink_failed { (K.state sink.new).faults
         ≡ (if result == 4 then raised (K.state sink.old).faults else (K.state sink.old).faults) }
@@ -58,6 +64,8 @@ pub fn run_load<K: Sink>(alloc: Global, n: u32, sink: &mut K, work: &mut Work) -
 fn load_outcome(alloc: Global, n: u32, work: &mut Work) -> Option<Outcome>
     requires { n ≤ 100 }
     ensures value { IfSome result (λ outcome. outcome ≡ gen_outcome n) }
+    ensures worth { IfSome result (λ outcome. IsWorth (costs_of_script (load n) []) work.old work.new) }
+    ensures works { WorksPart [] work.old work.new (lines_of (load n)) }
     ensures painted { work.old.painted ≤ work.new.painted }
     ensures measured { min work.old.measured (2 ^ 64 - 1) ≤ work.new.measured }
 {
@@ -79,7 +87,8 @@ fn carried_out(
     work: &mut Work,
 ) -> Result<Run, Stop>
     requires short { length script.now ≤ max_script }
-    ensures runs { IfOk result (λ run. HasCarriedOut (Some page.old.gone) (Some page.new.gone) run.runner (after_lines [] (lines_of script.now))) }
+    ensures stopped { IfErr result (λ stop. WorksPart [] work.old work.new (lines_of script.now)) }
+    ensures runs { IfOk result (λ run. HasCarriedOut (record { gone = Some page.old.gone; work = work.old }) (record { gone = Some page.new.gone; work = work.new }) run.runner (after_lines [] (lines_of script.now)) (tally_of [] (lines_of script.now))) }
     ensures painted { work.old.painted ≤ work.new.painted }
     ensures measured { min work.old.measured (2 ^ 64 - 1) ≤ work.new.measured }
 {

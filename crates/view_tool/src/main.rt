@@ -9,6 +9,7 @@
 mod dump;
 mod file_replies;
 mod loading;
+mod lookup;
 mod names;
 mod refusals;
 mod run;

@@ -4,7 +4,7 @@ ghost use Rattle.std.specs.Prelude.{◌≡◌, ◌<◌, ◌≤◌, Some, length,
 ghost use Rattle.view_tool.specs.Names.{refusal_name};
 
 /// The name of each refusal at its number.
-const NAMES: [&[u8]; 42] = [
+const NAMES: [&[u8]; 44] = [
     b"",
     b"Truncated",
     b"BadChunk",
@@ -47,12 +47,14 @@ const NAMES: [&[u8]; 42] = [
     b"Missing",
     b"LongFile",
     b"DpiLate",
+    b"NotTable",
+    b"NoPane",
 ];
 
 /// The name of a refusal by its number.
 pub fn name_of(number: u8) -> &'static [u8]
     requires first { 1 ≤ number }
-    requires last { number ≤ 41 }
+    requires last { number ≤ 43 }
     ensures name { result.now ≡ refusal_name number }
     ensures named { 0 < length result.now }
     ensures short { length result.now ≤ 16 }

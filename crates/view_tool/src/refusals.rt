@@ -40,7 +40,7 @@ fn put_refusal<K: Sink>(reply: &mut TextBuffer, sink: &mut K, line: u64, refusal
 /// The number and the name of a refusal.
 pub fn put_refused<K: Sink>(reply: &mut TextBuffer, sink: &mut K, number: u8)
     requires first { 1 ≤ number }
-    requires last { number ≤ 41 }
+    requires last { number ≤ 43 }
     ensures { Sends (K.state sink.old) (K.state sink.new) reply.old reply.new (refused_text number) }
 {
     reply.put(sink, b"refused ");

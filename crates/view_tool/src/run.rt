@@ -4,9 +4,12 @@ ghost use Rattle.std.specs.Prelude.{nat_lt, ◌≡◌, ◌⊎◌, ℕ, ◌+◌, 
 ghost use Rattle.script_lines.specs.LineBuffer.{IsLent, lines_at};
 ghost use Rattle.script_lines.specs.Lines.{Line, cut_of, lines_of, max_line};
 ghost use Rattle.tool_io.specs.Fetched.{Files};
+ghost use Rattle.view_model.specs.declared.work.Work.{Work};
 ghost use Rattle.view_model.specs.declared.limits.TheConstants.{MAX_VIEWS, NUMBERS_END};
-ghost use Rattle.view_tool.specs.Run.{CountsFetches, HasCarriedOut, HasReadUpTo, IsShort, StopsIn, WithFiles, line_now, lines_now, writes_counted};
+ghost use Rattle.view_tool.specs.Run.{CountsFetches, HasCarriedOut, HasReadUpTo, HasTallied, IsShort, StopsIn, WithFiles, line_now, lines_now, writes_counted};
+ghost use Rattle.view_tool.specs.Tally.{Tally, tally_of, with_cost};
 ghost use Rattle.view_tool.specs.Transcript.{Asks, MayWant, Progress, after_line, after_lines, is_idle, reply_to_line};
+ghost use Rattle.view_tool.specs.Works.{Trace, trace};
 ghost use Rattle.view_world.specs.Carried.{CountsShelf, IsDone, WritesReply, faults_after_line};
 ghost use Rattle.view_world.specs.KeyedWorld.{world_of};
 
@@ -53,16 +56,16 @@ impl LineRunner {
     ) -> Result<(), Stop>
         requires numbered { self.old.world.screen.views.next < NUMBERS_END }
         requires short { IsShort line }
-        ensures done { (files : Files) (first : Option (List ℕ)) (progress : Progress)
+        ensures done { (files : Files) (first : Trace) (progress : Progress) (tally : Tally)
             → F.files shelf.old ≡ Some files
             → progress.lines < 2 ^ 63
-            → HasCarriedOut first (K.state sink.old).gone self.old progress
-            → OnOk result (HasCarriedOut first (K.state sink.new).gone self.new (after_line files progress (line_now line.entry))) }
-        ensures stopped { (files : Files) (first : Option (List ℕ)) (lines : List Line)
+            → HasCarriedOut first (trace (K.state sink.old) work.old) self.old progress tally
+            → OnOk result (HasCarriedOut first (trace (K.state sink.new) work.new) self.new (after_line files progress (line_now line.entry)) (with_cost files tally (line_now line.entry))) }
+        ensures stopped { (files : Files) (first : Trace) (lines : List Line)
             → F.files shelf.old ≡ Some files
             → length lines < 2 ^ 63
-            → HasCarriedOut first (K.state sink.old).gone self.old (after_lines files lines)
-            → IfErr result (StopsIn files first (K.state sink.new).gone (lines ++ line_now line.entry ∷ [])) }
+            → HasCarriedOut first (trace (K.state sink.old) work.old) self.old (after_lines files lines) (tally_of files lines)
+            → IfErr result (StopsIn files first (trace (K.state sink.new) work.new) (lines ++ line_now line.entry ∷ [])) }
         ensures numbers { self.new.world.screen.views.next ≤ self.old.world.screen.views.next + MAX_VIEWS }
         ensures files_stay { F.files shelf.new ≡ F.files shelf.old }
         ensures shelf_failed { CountsFetches (F.faults shelf.old) (F.faults shelf.new) result }
@@ -119,6 +122,12 @@ fn carry_out<K: Sink, F: Shelf>(
         → F.files shelf.old ≡ Some files
         → WritesReply (reply_to_line files (world_of world.old) (line_now bytes.entry)) (world_of world.new) (K.state sink.old) (K.state sink.new) result }
     ensures unchanged { IsDone result ⊎ ((world.new ≡ world.old) × (sink.new ≡ sink.old)) }
+    ensures tallied { (files : Files) (tally : Tally) (first : Work)
+        → F.files shelf.old ≡ Some files
+        → HasTallied first work.old world.old tally
+        → IsDone result
+        → HasTallied first work.new world.new (with_cost files tally (line_now bytes.entry)) }
+    ensures idle { IsDone result ⊎ (work.new ≡ work.old) }
     ensures memory { result ≡ Err StepFault.NoMemory → MayWant (line_now bytes.entry) }
     ensures numbers { world.new.screen.views.next ≤ world.old.screen.views.next + MAX_VIEWS }
     ensures sink_failed { (K.state sink.new).faults ≡ faults_after_line result (K.state sink.old).faults }
@@ -163,7 +172,7 @@ pub struct Run {
 
 impl Run {
     pub fn new(alloc: Global) -> Run
-        ensures behind { (shelf : Option Files) (first : Option (List ℕ)) → HasReadUpTo shelf first first result [] }
+        ensures behind { (shelf : Option Files) (first : Trace) → HasReadUpTo shelf first first result [] }
         ensures numbers { result.runner.world.screen.views.next ≡ 1 }
     {
         Run {
@@ -203,14 +212,14 @@ impl Run {
         requires { self.old.runner.world.screen.views.next < NUMBERS_END }
         ensures within { IfOk result (λ n. n ≤ length piece.now) }
         ensures some { 0 < length piece.now → IfOk result (λ n. 0 < n) }
-        ensures done { (first : Option (List ℕ)) (before : List ℕ)
+        ensures done { (first : Trace) (before : List ℕ)
             → length before < 2 ^ 63
-            → HasReadUpTo (F.files shelf.old) first (K.state sink.old).gone self.old before
-            → IfOk result (λ n. HasReadUpTo (F.files shelf.old) first (K.state sink.new).gone self.new (before ++ take n piece.now)) }
-        ensures stopped { (first : Option (List ℕ)) (before : List ℕ)
+            → HasReadUpTo (F.files shelf.old) first (trace (K.state sink.old) work.old) self.old before
+            → IfOk result (λ n. HasReadUpTo (F.files shelf.old) first (trace (K.state sink.new) work.new) self.new (before ++ take n piece.now)) }
+        ensures stopped { (first : Trace) (before : List ℕ)
             → length before < 2 ^ 63
-            → HasReadUpTo (F.files shelf.old) first (K.state sink.old).gone self.old before
-            → IfErr result (λ stop. WithFiles (F.files shelf.old) (λ files. StopsIn files first (K.state sink.new).gone (cut_of (before ++ piece.now)).lines stop)) }
+            → HasReadUpTo (F.files shelf.old) first (trace (K.state sink.old) work.old) self.old before
+            → IfErr result (λ stop. WithFiles (F.files shelf.old) (λ files. StopsIn files first (trace (K.state sink.new) work.new) (cut_of (before ++ piece.now)).lines stop)) }
         ensures numbers { self.new.runner.world.screen.views.next ≤ self.old.runner.world.screen.views.next + MAX_VIEWS }
         ensures files_stay { F.files shelf.new ≡ F.files shelf.old }
         ensures shelf_failed { CountsFetches (F.faults shelf.old) (F.faults shelf.new) result }
@@ -236,14 +245,14 @@ impl Run {
         work: &mut Work,
     ) -> Result<(), Stop>
         requires { self.old.runner.world.screen.views.next + MAX_VIEWS * length piece.now < NUMBERS_END }
-        ensures done { (first : Option (List ℕ)) (before : List ℕ)
+        ensures done { (first : Trace) (before : List ℕ)
             → length (before ++ piece.now) < 2 ^ 63
-            → HasReadUpTo (F.files shelf.old) first (K.state sink.old).gone self.old before
-            → OnOk result (HasReadUpTo (F.files shelf.old) first (K.state sink.new).gone self.new (before ++ piece.now)) }
-        ensures stopped { (first : Option (List ℕ)) (before : List ℕ)
+            → HasReadUpTo (F.files shelf.old) first (trace (K.state sink.old) work.old) self.old before
+            → OnOk result (HasReadUpTo (F.files shelf.old) first (trace (K.state sink.new) work.new) self.new (before ++ piece.now)) }
+        ensures stopped { (first : Trace) (before : List ℕ)
             → length (before ++ piece.now) < 2 ^ 63
-            → HasReadUpTo (F.files shelf.old) first (K.state sink.old).gone self.old before
-            → IfErr result (λ stop. WithFiles (F.files shelf.old) (λ files. StopsIn files first (K.state sink.new).gone (cut_of (before ++ piece.now)).lines stop)) }
+            → HasReadUpTo (F.files shelf.old) first (trace (K.state sink.old) work.old) self.old before
+            → IfErr result (λ stop. WithFiles (F.files shelf.old) (λ files. StopsIn files first (trace (K.state sink.new) work.new) (cut_of (before ++ piece.now)).lines stop)) }
         ensures numbers { self.new.runner.world.screen.views.next ≤ self.old.runner.world.screen.views.next + MAX_VIEWS * length piece.now }
         ensures files_stay { F.files shelf.new ≡ F.files shelf.old }
         ensures shelf_failed { CountsFetches (F.faults shelf.old) (F.faults shelf.new) result }
@@ -267,16 +276,16 @@ impl Run {
         work: &mut Work,
     ) -> Result<(), Stop>
         requires { self.old.runner.world.screen.views.next < NUMBERS_END }
-        ensures done { (files : Files) (first : Option (List ℕ)) (script : List ℕ)
+        ensures done { (files : Files) (first : Trace) (script : List ℕ)
             → F.files shelf.old ≡ Some files
             → length script < 2 ^ 63
-            → HasReadUpTo (F.files shelf.old) first (K.state sink.old).gone self.old script
-            → OnOk result (HasCarriedOut first (K.state sink.new).gone self.new.runner (after_lines files (lines_of script))) }
-        ensures stopped { (files : Files) (first : Option (List ℕ)) (script : List ℕ)
+            → HasReadUpTo (F.files shelf.old) first (trace (K.state sink.old) work.old) self.old script
+            → OnOk result (HasCarriedOut first (trace (K.state sink.new) work.new) self.new.runner (after_lines files (lines_of script)) (tally_of files (lines_of script))) }
+        ensures stopped { (files : Files) (first : Trace) (script : List ℕ)
             → F.files shelf.old ≡ Some files
             → length script < 2 ^ 63
-            → HasReadUpTo (F.files shelf.old) first (K.state sink.old).gone self.old script
-            → IfErr result (StopsIn files first (K.state sink.new).gone (lines_of script)) }
+            → HasReadUpTo (F.files shelf.old) first (trace (K.state sink.old) work.old) self.old script
+            → IfErr result (StopsIn files first (trace (K.state sink.new) work.new) (lines_of script)) }
         ensures files_stay { F.files shelf.new ≡ F.files shelf.old }
         ensures shelf_failed { CountsFetches (F.faults shelf.old) (F.faults shelf.new) result }
         ensures painted { work.old.painted ≤ work.new.painted }

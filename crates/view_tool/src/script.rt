@@ -6,6 +6,7 @@ ghost use Rattle.tool_io.specs.Fetched.{Files};
 ghost use Rattle.view_model.specs.declared.limits.TheConstants.{MAX_VIEWS, NUMBERS_END};
 ghost use Rattle.view_tool.specs.Run.{HasReadUpTo};
 ghost use Rattle.view_tool.specs.Script.{Comes, CountsEnd, ReadsPiece, RunsFrom, ends_counted, reads_counted};
+ghost use Rattle.view_tool.specs.Works.{Trace, trace};
 
 use crate::run::{Run, Stop};
 use std::alloc::Global;
@@ -51,10 +52,10 @@ fn carry_piece<K: Sink, F: Shelf>(
     requires most { length piece.now ≤ left + 1 }
     requires left { left ≤ MAX_SCRIPT }
     requires numbers { run.old.runner.world.screen.views.next + MAX_VIEWS * (left + 1) < NUMBERS_END }
-    ensures comes { (first : Option (List ℕ)) (before : List ℕ)
+    ensures comes { (first : Trace) (before : List ℕ)
         → length before + left ≡ MAX_SCRIPT
-        → HasReadUpTo (F.files shelf.old) first (K.state sink.old).gone run.old before
-        → Comes (F.files shelf.old) first before left piece.now (K.state sink.new).gone run.new result }
+        → HasReadUpTo (F.files shelf.old) first (trace (K.state sink.old) work.old) run.old before
+        → Comes (F.files shelf.old) first before left piece.now (trace (K.state sink.new) work.new) run.new result }
     ensures count { IfOk result (λ n. n ≡ length piece.now) }
     ensures most { IfOk result (λ n. n ≤ left) }
     ensures numbers { IfOk result (λ n. run.new.runner.world.screen.views.next ≤ run.old.runner.world.screen.views.next + MAX_VIEWS * n) }
@@ -89,10 +90,10 @@ fn read_piece<S: Source, K: Sink, F: Shelf>(
     requires most { length buffer.old ≤ left + 1 }
     requires left { left ≤ MAX_SCRIPT }
     requires numbers { run.old.runner.world.screen.views.next + MAX_VIEWS * (left + 1) < NUMBERS_END }
-    ensures reads { (first : Option (List ℕ)) (before : List ℕ)
+    ensures reads { (first : Trace) (before : List ℕ)
         → length before + left ≡ MAX_SCRIPT
-        → HasReadUpTo (F.files shelf.old) first (K.state sink.old).gone run.old before
-        → ReadsPiece (F.files shelf.old) first before left (S.left source.old) (S.left source.new) (K.state sink.new).gone run.new result }
+        → HasReadUpTo (F.files shelf.old) first (trace (K.state sink.old) work.old) run.old before
+        → ReadsPiece (F.files shelf.old) first before left (S.left source.old) (S.left source.new) (trace (K.state sink.new) work.new) run.new result }
     ensures end { result ≡ Ok 0 → IsAtEnd (S.left source.new) }
     ensures most { IfOk result (λ n. n ≤ left) }
     ensures numbers { IfOk result (λ n. run.new.runner.world.screen.views.next ≤ run.old.runner.world.screen.views.next + MAX_VIEWS * n) }
@@ -118,9 +119,9 @@ fn run_to_end<S: Source, K: Sink, F: Shelf>(
     sink: &mut K,
     work: &mut Work,
 ) -> Result<bool, End>
-    requires behind { (files : Option Files) (first : Option (List ℕ)) → HasReadUpTo files first first run.old [] }
+    requires behind { (files : Option Files) (first : Trace) → HasReadUpTo files first first run.old [] }
     requires numbers { run.old.runner.world.screen.views.next ≡ 1 }
-    ensures runs { RunsFrom (F.files shelf.old) (S.left source.old) (S.left source.new) (K.state sink.old).gone (K.state sink.new).gone result }
+    ensures runs { RunsFrom (F.files shelf.old) (S.left source.old) (S.left source.new) (trace (K.state sink.old) work.old) (trace (K.state sink.new) work.new) result }
     ensures files_stay { F.files shelf.new ≡ F.files shelf.old }
     ensures shelf_failed { CountsEnd (F.faults shelf.old) (F.faults shelf.new) result }
     ensures painted { work.old.painted ≤ work.new.painted }
@@ -160,7 +161,7 @@ pub fn run_source<S: Source, K: Sink, F: Shelf>(
     sink: &mut K,
     work: &mut Work,
 ) -> Result<bool, End>
-    ensures runs { RunsFrom (F.files shelf.old) (S.left source.old) (S.left source.new) (K.state sink.old).gone (K.state sink.new).gone result }
+    ensures runs { RunsFrom (F.files shelf.old) (S.left source.old) (S.left source.new) (trace (K.state sink.old) work.old) (trace (K.state sink.new) work.new) result }
     ensures files_stay { F.files shelf.new ≡ F.files shelf.old }
     ensures shelf_failed { CountsEnd (F.faults shelf.old) (F.faults shelf.new) result }
     ensures painted { work.old.painted ≤ work.new.painted }

@@ -222,22 +222,59 @@ const REPEATED: [Run; 2] = [
     Run { script: LOOSENING, reads: &[], writes: &[], status: 0, text: LOOSENED },
 ];
 
-/// Words, a file that the shelf holds as `a.xml`, the numbers of the fetches that fail, and how the call ends.
-struct Dump {
+/// Words, a file that the shelf holds as `a.xml`, the numbers of the fetches and writes that fail, and how the call ends.
+struct Print {
     words: &'static [&'static str],
     file: &'static [u8],
     fetches: &'static [u64],
+    writes: &'static [u64],
     status: u8,
     text: &'static [u8],
 }
 
 #[rattlefmt::skip]
-const DUMPS: [Dump; 5] = [
-    Dump { words: &["dump", "a.xml"], file: &NARROW, fetches: &[], status: 0, text: FILE_TEXT },
-    Dump { words: &["dump", "a.xml"], file: &NARROW, fetches: &[1], status: 6, text: b"" },
-    Dump { words: &["dump", "a.xml"], file: b"\x03\x00\x08\x00\x5c\x01\x00", fetches: &[], status: 1, text: b"file: refused 1 Truncated at 0\n" },
-    Dump { words: &["dump", "b.xml"], file: &NARROW, fetches: &[], status: 1, text: b"file: refused 39 Missing\n" },
-    Dump { words: &["dump"], file: &NARROW, fetches: &[], status: 2, text: b"" },
+const DUMPS: [Print; 5] = [
+    Print { words: &["dump", "a.xml"], file: &NARROW, fetches: &[], writes: &[], status: 0, text: FILE_TEXT },
+    Print { words: &["dump", "a.xml"], file: &NARROW, fetches: &[1], writes: &[], status: 6, text: b"" },
+    Print { words: &["dump", "a.xml"], file: b"\x03\x00\x08\x00\x5c\x01\x00", fetches: &[], writes: &[], status: 1, text: b"file: refused 1 Truncated at 0\n" },
+    Print { words: &["dump", "b.xml"], file: &NARROW, fetches: &[], writes: &[], status: 1, text: b"file: refused 39 Missing\n" },
+    Print { words: &["dump"], file: &NARROW, fetches: &[], writes: &[], status: 2, text: b"" },
+];
+
+/// Loads, whose digests two other programs print too.
+#[rattlefmt::skip]
+const LOADS: [Print; 5] = [
+    Print { words: &["gen", "1"], file: b"", fetches: &[1], writes: &[], status: 0, text: b"lines 185\nrefused 0\npage 8f3336bf7eea5311a170b5df1e30583d071ed438679ae2bd57e013e24bd463bc\n" },
+    Print { words: &["gen", "2"], file: b"", fetches: &[], writes: &[], status: 0, text: b"lines 363\nrefused 0\npage f92c3ffbb335971937a1e0923f8295a256226c5e8ff506f7d500ff3b84acc403\n" },
+    Print { words: &["gen", "1"], file: b"", fetches: &[], writes: &[1], status: 4, text: b"" },
+    Print { words: &["gen", "0"], file: b"", fetches: &[], writes: &[], status: 2, text: b"" },
+    Print { words: &["gen", "101"], file: b"", fetches: &[], writes: &[], status: 2, text: b"" },
+];
+
+/// Up to the zeros in the header of its package: a table with a pool of one string, and one package.
+const TABLE_POOL: &[u8] = b"\x02\x00\x0c\x00\xc0\x01\x00\x00\x01\x00\x00\x00\
+    \x01\x00\x1c\x00\x28\x00\x00\x00\x01\x00\x00\x00\x00\x00\x00\x00\x00\x01\x00\x00\x20\x00\x00\x00\x00\x00\x00\x00\
+    \x00\x00\x00\x00\x02\x02Hi\x00\x00\x00\x00\x00\x02\x1c\x01\x8c\x01\x00\x00\x7f\x00\x00\x00";
+
+/// Up to the zeros of its configuration: a type of four entries.
+const TABLE_TYPE: &[u8] = b"\x01\x02\x30\x00\x70\x00\x00\x00\x05\x00\x00\x00\x04\x00\x00\x00\
+    \x40\x00\x00\x00\x1c\x00\x00\x00";
+
+/// A dimension, a reference to it, nothing, and the string.
+const TABLE_ENTRIES: &[u8] = b"\x00\x00\x00\x00\x10\x00\x00\x00\xff\xff\xff\xff\x20\x00\x00\x00\
+    \x08\x00\x00\x00\x00\x00\x00\x00\x08\x00\x00\x05\x01\x10\x00\x00\
+    \x08\x00\x00\x00\x00\x00\x00\x00\x08\x00\x00\x01\x00\x00\x05\x7f\
+    \x08\x00\x00\x00\x00\x00\x00\x00\x08\x00\x00\x03\x00\x00\x00\x00";
+
+/// Look-ups in the table of these parts, or in a file that is none.
+#[rattlefmt::skip]
+const LOOKUPS: [Print; 6] = [
+    Print { words: &["lookup", "a.xml", "7f050000", "7F050001", "7f050002", "7f050003"], file: b"", fetches: &[], writes: &[], status: 0, text: b"7f050000 dimen 00001001\n7f050001 dimen 00001001\n7f050002 none\n7f050003 text \"Hi\"\n" },
+    Print { words: &["lookup", "a.xml", "7f050000"], file: &NARROW, fetches: &[], writes: &[], status: 1, text: b"file: refused 42 NotTable at 0\n" },
+    Print { words: &["lookup", "b.xml", "7f050000"], file: b"", fetches: &[], writes: &[], status: 1, text: b"file: refused 39 Missing\n" },
+    Print { words: &["lookup", "a.xml", "7f050000"], file: b"", fetches: &[1], writes: &[], status: 6, text: b"" },
+    Print { words: &["lookup", "a.xml", "7f050000"], file: b"", fetches: &[], writes: &[1], status: 4, text: b"" },
+    Print { words: &["lookup", "a.xml", "7f05000"], file: b"", fetches: &[], writes: &[], status: 2, text: b"" },
 ];
 
 /// A line of four children that share its length.
@@ -426,15 +463,29 @@ fn ended(
     Ok((status, Vec::from_slice(alloc, sink.gone())?))
 }
 
-/// What a script's run measures and paints.
-fn work_of(alloc: Global, script: &[u8]) -> Result<Work, AllocError> {
-    let words = [String::from_str(alloc, "run")?];
+/// The status of these words over a script, and what is measured and painted, where these writes fail.
+fn counted(
+    alloc: Global,
+    words: &[&str],
+    script: &[u8],
+    writes: &[u64],
+) -> Result<(u8, Work), AllocError> {
+    let mut owned = Vec::new(alloc);
+    for word in words {
+        owned.push(String::from_str(alloc, word)?)?;
+    }
     let mut source = MemorySource::new(Vec::from_slice(alloc, script)?, 4096, Vec::new(alloc));
     let mut shelf = MemoryShelf::new(Vec::new(alloc), Vec::new(alloc));
-    let mut sink = MemorySink::new(alloc, 4096, Vec::new(alloc));
+    let mut sink = MemorySink::new(alloc, 4096, Vec::from_slice(alloc, writes)?);
     let mut work = NO_WORK;
-    tool(alloc, &words, &mut shelf, &mut source, &mut sink, &mut work);
-    Ok(work)
+    let words = owned.as_slice();
+    let status = tool(alloc, words, &mut shelf, &mut source, &mut sink, &mut work);
+    Ok((status, work))
+}
+
+/// What a script's run measures and paints.
+fn work_of(alloc: Global, script: &[u8]) -> Result<Work, AllocError> {
+    Ok(counted(alloc, &["run"], script, &[])?.1)
 }
 
 fn run_ended(
@@ -451,17 +502,31 @@ fn run_ended(
     ended(alloc, &["run"], &mut source, &mut shelf, writes)
 }
 
-fn dump_ended(
+fn print_ended(
     alloc: Global,
     words: &[&str],
     file: Vec<u8>,
     fetches: &[u64],
+    writes: &[u64],
 ) -> Result<(u8, Vec<u8>), AllocError> {
     let mut files = Vec::new(alloc);
     files.push((String::from_str(alloc, "a.xml")?, file))?;
     let mut shelf = MemoryShelf::new(files, Vec::from_slice(alloc, fetches)?);
     let mut source = MemorySource::new(Vec::new(alloc), 1, Vec::new(alloc));
-    ended(alloc, words, &mut source, &mut shelf, &[])
+    ended(alloc, words, &mut source, &mut shelf, writes)
+}
+
+/// The table of its parts, or a file that is given.
+fn table_or(alloc: Global, file: &[u8]) -> Result<Vec<u8>, AllocError> {
+    if !file.is_empty() {
+        return Vec::from_slice(alloc, file);
+    }
+    let mut table = Vec::from_slice(alloc, TABLE_POOL)?;
+    table.extend_from_slice(&[0; 272])?;
+    table.extend_from_slice(TABLE_TYPE)?;
+    table.extend_from_slice(&[0; 24])?;
+    table.extend_from_slice(TABLE_ENTRIES)?;
+    Ok(table)
 }
 
 /// Puts a byte in the place of another.
@@ -607,12 +672,55 @@ fn what_changes_is_painted(rt: HostRuntime) -> Result<(), Fail> {
 }
 
 #[test]
+fn a_frame_is_counted_whose_text_is_lost(rt: HostRuntime) -> Result<(), Fail> {
+    let (status, work) = counted(rt.alloc(), &["run"], BLENDING, &[3])?;
+    assert_eq!(rt; (status, work.measured), (4, 2));
+    assert!(rt; 12 <= work.painted && work.painted <= 60);
+    Ok(())
+}
+
+#[test]
+fn the_work_of_a_load_is_counted(rt: HostRuntime) -> Result<(), Fail> {
+    let alloc = rt.alloc();
+    // Of its 39 views the first step hides at most one before the first frame.
+    let (status, work) = counted(alloc, &["gen", "1"], b"", &[])?;
+    assert_eq!(rt; status, 0);
+    assert!(rt; 38 <= work.measured && 0 < work.painted);
+    // The same where its lines can't be written.
+    let (status, lost) = counted(alloc, &["gen", "1"], b"", &[1])?;
+    assert_eq!(rt; (status, lost), (4, work));
+    Ok(())
+}
+
+#[test]
 fn files_are_printed_or_refused(rt: HostRuntime) -> Result<(), Fail> {
     let alloc = rt.alloc();
     for dump in &DUMPS {
         let file = Vec::from_slice(alloc, dump.file)?;
-        let (status, gone) = dump_ended(alloc, dump.words, file, dump.fetches)?;
+        let (status, gone) = print_ended(alloc, dump.words, file, dump.fetches, dump.writes)?;
         assert_eq!(rt; (status, gone.as_slice()), (dump.status, dump.text));
+    }
+    Ok(())
+}
+
+#[test]
+fn loads_are_carried_out(rt: HostRuntime) -> Result<(), Fail> {
+    let alloc = rt.alloc();
+    for load in &LOADS {
+        let file = Vec::from_slice(alloc, load.file)?;
+        let (status, gone) = print_ended(alloc, load.words, file, load.fetches, load.writes)?;
+        assert_eq!(rt; (status, gone.as_slice()), (load.status, load.text));
+    }
+    Ok(())
+}
+
+#[test]
+fn resources_are_looked_up(rt: HostRuntime) -> Result<(), Fail> {
+    let alloc = rt.alloc();
+    for asked in &LOOKUPS {
+        let file = table_or(alloc, asked.file)?;
+        let (status, gone) = print_ended(alloc, asked.words, file, asked.fetches, asked.writes)?;
+        assert_eq!(rt; (status, gone.as_slice()), (asked.status, asked.text));
     }
     Ok(())
 }
@@ -624,7 +732,8 @@ fn longer_scripts_and_files_are_refused(rt: HostRuntime) -> Result<(), Fail> {
     assert_eq!(rt; (status, gone.len()), (0, 0));
     let (status, gone) = run_ended(alloc, vec![in alloc; b'\n'; 16777217]?, 4096, &[], &[])?;
     assert_eq!(rt; (status, gone.len()), (7, 0));
-    let (status, gone) = dump_ended(alloc, &["dump", "a.xml"], vec![in alloc; 0; 1048577]?, &[])?;
+    let file = vec![in alloc; 0; 1048577]?;
+    let (status, gone) = print_ended(alloc, &["dump", "a.xml"], file, &[], &[])?;
     assert_eq!(rt;
         (status, gone.as_slice()),
         (1, b"file: refused 40 LongFile\n".as_slice())

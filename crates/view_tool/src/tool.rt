@@ -2,18 +2,26 @@
 
 ghost use Rattle.std.specs.Prelude.{◌≡◌, ◌≢◌, ℕ, ◌+◌, ◌-◌, ◌^◌, ◌<◌, ◌≤◌, ◌↔◌, ◌⊎◌, ◌==◌, List, [], ◌∷◌, Some, length, min, if◌then◌else◌};
 ghost use Rattle.std.specs.Io.KnownBytes.{Appends, Consumes, IsAtEnd};
+ghost use Rattle.load_maker.specs.Load.{load};
+ghost use Rattle.script_lines.specs.Lines.{lines_of};
 ghost use Rattle.tool_io.specs.Counts.{Rose, raised};
 ghost use Rattle.tool_io.specs.Fetched.{Files};
 ghost use Rattle.view_tool.specs.Dump.{dump_page, refuses_file};
-ghost use Rattle.view_tool.specs.Run.{StopsAtFetch, StopsBefore};
-ghost use Rattle.view_tool.specs.Script.{WritesTaken};
-ghost use Rattle.view_tool.specs.Tool.{IsComplete, IsDumpOf, IsOneOf, IsRunOf, RunsWith, Writes, status_of};
-ghost use Rattle.view_tool.specs.Transcript.{carried_lines, cut_transcript, has_refusal, max_script, transcript};
 ghost use Rattle.view_tool.specs.Gen.{gen_page};
-ghost use Rattle.view_tool.specs.Usage.{Run, Dump, Gen, Unknown, usage};
+ghost use Rattle.view_tool.specs.Lookup.{lookup_page, refuses_table};
+ghost use Rattle.view_tool.specs.Run.{StopsAtFetch, StopsBefore};
+ghost use Rattle.view_tool.specs.Tally.{costs_of_script};
+ghost use Rattle.view_tool.specs.Works.{WorksPart, trace};
+ghost use Rattle.view_tool.specs.WorksWith.{WorksWith};
+ghost use Rattle.view_world.specs.Watched.{IsWorth};
+ghost use Rattle.view_tool.specs.Script.{WritesTaken};
+ghost use Rattle.view_tool.specs.Tool.{IsComplete, IsDumpOf, IsLookupOf, IsOneOf, IsRunOf, RunsWith, Writes, status_of};
+ghost use Rattle.view_tool.specs.Transcript.{carried_lines, cut_transcript, has_refusal, max_script, transcript};
+ghost use Rattle.view_tool.specs.Usage.{Run, Dump, Gen, Lookup, Unknown, usage};
 
 use crate::dump::dump;
 use crate::loading::run_load;
+use crate::lookup::lookup;
 use crate::run::Stop;
 use crate::script::{End, run_source};
 use crate::status::{
@@ -139,6 +147,21 @@ pub fn tool<S: Source, K: Sink, F: Shelf>(
     ensures measured_later { min work.old.measured (2 ^ 64 - 1) ≤ work.new.measured }
     ensures dump_measures_nothing { (name : List ℕ) → usage words.now ≡ Dump name → work.new ≡ work.old }
 
+    // The work of a run, in whatever way it ends: of the frames that were carried out it measures at most as many views, and
+    // paints at least and at most as many pixels, as they cost in the plain world. All lines of the script were carried out
+    // where the run ended by itself, and else the first ones: the very lines whose texts were written. The work of a load
+    // is that of its script. Nothing else is counted.
+    ensures worth { (script : List ℕ) (files : Files)
+        → IsRunOf (usage words.now) (S.left source.old) (F.files shelf.old) script files
+        → IsComplete result
+        → IsWorth (costs_of_script script files) work.old work.new }
+    ensures works { (script : List ℕ) (files : Files)
+        → IsRunOf (usage words.now) (S.left source.old) (F.files shelf.old) script files
+        → WorksWith files script (S.left source.new) (trace (K.state sink.old) work.old) (trace (K.state sink.new) work.new) result }
+    ensures gen_worth { (n : ℕ) → usage words.now ≡ Gen n → result ≢ 5 → IsWorth (costs_of_script (load n) []) work.old work.new }
+    ensures gen_works { (n : ℕ) → usage words.now ≡ Gen n → WorksPart [] work.old work.new (lines_of (load n)) }
+    ensures uncounted { usage words.now ≢ Run → ((n : ℕ) → usage words.now ≢ Gen n) → work.new ≡ work.old }
+
     // The load of a size, in a world of its own: what came of it. Neither the source nor the shelf is asked.
     ensures load { (n : ℕ) → usage words.now ≡ Gen n → Writes result (K.state sink.old).gone (K.state sink.new).gone (gen_page n) }
     ensures gen_accepts { (n : ℕ) → usage words.now ≡ Gen n → IsComplete result → result ≡ 0 }
@@ -149,11 +172,37 @@ pub fn tool<S: Source, K: Sink, F: Shelf>(
         → usage words.now ≡ Gen n
         → (Rose (K.state sink.old).faults (K.state sink.new).faults → ⊥)
         → (result ≡ 0) ⊎ (result ≡ 5) }
+
+    // What resources hold in a compiled table: a line an id, or why the file is refused. The source is not asked, and
+    // nothing is measured or painted.
+    ensures lookup { (name ids : List ℕ) (files : Files)
+        → IsLookupOf (usage words.now) (F.files shelf.old) name ids files
+        → Writes result (K.state sink.old).gone (K.state sink.new).gone (lookup_page files name ids) }
+    ensures lookup_refused { (name ids : List ℕ) (files : Files)
+        → IsLookupOf (usage words.now) (F.files shelf.old) name ids files
+        → IsComplete result
+        → result ≡ (if refuses_table files name then 1 else 0) }
+    ensures lookup_alone { (name ids : List ℕ)
+        → usage words.now ≡ Lookup name ids
+        → (source.new ≡ source.old) × (work.new ≡ work.old) }
+    ensures lookup_stops { (name ids : List ℕ)
+        → usage words.now ≡ Lookup name ids
+        → (result ≡ 5) ⊎ (result ≡ 6)
+        → sink.new ≡ sink.old }
+    ensures lookup_statuses { (name ids : List ℕ)
+        → usage words.now ≡ Lookup name ids
+        → IsOneOf result (0 ∷ 1 ∷ 4 ∷ 5 ∷ 6 ∷ []) }
+    ensures lookup_complete { (name ids : List ℕ)
+        → usage words.now ≡ Lookup name ids
+        → (Rose (K.state sink.old).faults (K.state sink.new).faults → ⊥)
+        → (Rose (F.faults shelf.old) (F.faults shelf.new) → ⊥)
+        → IsComplete result ⊎ (result ≡ 5) }
 {
     match form_of(words) {
         Some(Form::Run) => run(alloc, shelf, source, sink, work),
         Some(Form::Dump(name)) => dump(alloc, name, shelf, sink),
         Some(Form::Gen(n)) => run_load(alloc, n, sink, work),
+        Some(Form::Lookup { name, ids }) => lookup(alloc, name, ids, shelf, sink),
         None => USAGE,
     }
 }
@@ -170,6 +219,10 @@ fn run<S: Source, K: Sink, F: Shelf>(
         → F.files shelf.old ≡ Some files
         → S.left source.old ≡ Some script
         → RunsWith files script (S.left source.new) (K.state sink.old).gone (K.state sink.new).gone result }
+    ensures works { (files : Files) (script : List ℕ)
+        → F.files shelf.old ≡ Some files
+        → S.left source.old ≡ Some script
+        → WorksWith files script (S.left source.new) (trace (K.state sink.old) work.old) (trace (K.state sink.new) work.new) result }
     ensures known { IsOneOf result (0 ∷ 1 ∷ 3 ∷ 4 ∷ 5 ∷ 6 ∷ 7 ∷ []) }
     ensures whole { result ≢ 3 → result ≢ 4 → result ≢ 6 → result ≢ 7 → IsComplete result ⊎ (result ≡ 5) }
     ensures read_to_end { IsComplete result → IsAtEnd (S.left source.new) }

@@ -1,11 +1,13 @@
 //! What the words behind the name of the tool ask for.
 
-ghost use Rattle.std.specs.Prelude.{◌≡◌, ◌≤◌, IfSome, string_bytes};
-ghost use Rattle.std.specs.Prelude.{Some};
+ghost use Rattle.std.specs.Prelude.{◌≡◌, ◌≤◌, Some, IfSome, string_bytes};
 ghost use Rattle.std.specs.Str.{bytes_eq};
-ghost use Rattle.view_tool.specs.Usage.{dump_usage, form_now, gen_of, gen_usage, HasSize, pair_usage, run_usage, usage};
+ghost use Rattle.view_tool.specs.Usage.{HasSize, are_ids, dump_usage, form_now, gen_of, gen_usage, is_resource_id, lookup_usage, pair_usage, resource_id, run_usage, usage};
 
-use script_lines::{is_file_name, natural};
+use script_lines::{hex, is_file_name, natural};
+
+/// The most resources that are looked up at a time.
+const MAX_IDS: usize = 64;
 
 /// What the words ask for.
 #[derive(Clone, Copy, Debug)]
@@ -16,6 +18,8 @@ pub enum Form<'a> {
     Dump(&'a str),
     /// To run the load of this size.
     Gen(u32),
+    /// To print what the resources of these ids hold in the table of this name.
+    Lookup { name: &'a str, ids: &'a [String] },
 }
 
 /// The form of the words behind the program's name, where they have one.
@@ -26,6 +30,7 @@ pub fn form_of(words: &[String]) -> Option<Form<'_>>
     match words {
         [word] => run_form(word),
         [word, more] => pair_form(word, more),
+        [word, name, ids @ ..] => lookup_form(word, name, ids),
         _ => None,
     }
 }
@@ -85,6 +90,46 @@ fn dump_form<'a>(word: &String, name: &'a String) -> Option<Form<'a>>
         Some(Form::Dump(name.as_str()))
     } else {
         None
+    }
+}
+
+/// `lookup NAME ID ..`
+fn lookup_form<'a>(word: &String, name: &'a String, ids: &'a [String]) -> Option<Form<'a>>
+    ensures form { form_now result ≡ lookup_usage (string_bytes word.now) (string_bytes name.now) ids.now }
+    ensures size { IfSome result HasSize }
+{
+    let is_named = is(word, "lookup") && is_file_name(name.as_bytes());
+    if is_named && ids.len() <= MAX_IDS && are_ids(ids) {
+        Some(Form::Lookup {
+            name: name.as_str(),
+            ids,
+        })
+    } else {
+        None
+    }
+}
+
+/// Whether each word is the id of a resource.
+fn are_ids(words: &[String]) -> bool
+    ensures { result ≡ are_ids words.now }
+{
+    words.iter().all(|word| is_resource_id(word))
+}
+
+/// Whether a word has eight hexadecimal digits.
+fn is_resource_id(word: &String) -> bool
+    ensures { result ≡ is_resource_id (string_bytes word.now) }
+{
+    word.len() == 8 && hex(word.as_bytes()).is_some()
+}
+
+/// The id of a resource, 0 where a word is none.
+pub fn resource_id(word: &String) -> u32
+    ensures { result ≡ resource_id (string_bytes word.now) }
+{
+    match hex(word.as_bytes()) {
+        Some(id) => id,
+        None => 0,
     }
 }
 

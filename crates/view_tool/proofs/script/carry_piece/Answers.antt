@@ -5,6 +5,8 @@ use Rattle.std.proofs.lemmas.List.{take_all}
 use Rattle.script_lines.specs.Lines.{cut_of}
 use Rattle.view_tool.specs.declared.script.End.TheVariants as end
 use Rattle.view_tool.specs.Run.{StopsIn}
+use Rattle.view_tool.specs.Works.{trace}
+use Rattle.view_tool.proofs.RunLaws.{works_of}
 use Rattle.view_tool.proofs.script.carry_piece.Goals as goal
 
 pub returns-in_err-piece-clause-comes : goal.returns-in_err-piece-clause-comes
@@ -19,7 +21,7 @@ pub returns-then-piece-left-clause-comes : goal.returns-then-piece-left-clause-c
 returns-then-piece-left-clause-comes g c first before count behind =
     let front = take c.args.left c.args.piece.now in
     let short : length (before ++ front) < 2 ^ 63 = omega (arith, length-append before front, length-take c.args.left c.args.piece.now, count) in
-    (omega (arith, c.requires.most), λ files told. ((c.in_ok-piece.ensures.done first before short behind).runner files told).gone)
+    (omega (arith, c.requires.most), λ files told. works_of files first _ _ _ ((c.in_ok-piece.ensures.done first before short behind).runner files told))
 
 pub returns-in_err-piece-2-clause-comes : goal.returns-in_err-piece-2-clause-comes
 returns-in_err-piece-2-clause-comes g c first before count behind =
@@ -28,7 +30,7 @@ returns-in_err-piece-2-clause-comes g c first before count behind =
     let piece = c.args.piece.now in
     let short : length (before ++ piece) < 2 ^ 63 = omega (arith, length-append before piece, count, c.if-piece-left.false) in
     let all : take c.args.left piece ≡ piece = take_all c.args.left piece (omega (arith, c.if-piece-left.false)) in
-    rw e (λ files told. subst (λ (bytes : List ℕ). StopsIn files first (g.K.Sink.state c.piece-2.new.sink).gone (cut_of (before ++ bytes)).lines c.in_err-piece-2.field-0.0) (sym all)
+    rw e (λ files told. subst (λ (bytes : List ℕ). StopsIn files first (trace (g.K.Sink.state c.piece-2.new.sink) c.piece-2.new.work) (cut_of (before ++ bytes)).lines c.in_err-piece-2.field-0.0) (sym all)
     (c.in_err-piece-2.ensures.stopped first before short behind files told))
 
 pub returns-clause-comes : goal.returns-clause-comes

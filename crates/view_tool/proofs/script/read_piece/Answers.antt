@@ -1,4 +1,5 @@
 use Rattle.std.proofs.Common.{[], take, refl, sym, ◌∙◌, arith, length-take}
+use Rattle.view_tool.proofs.RunLaws.{works_of}
 use Rattle.view_tool.proofs.ScriptLaws.{Consumes-kept}
 use Rattle.view_tool.proofs.script.read_piece.Goals as goal
 
@@ -8,7 +9,7 @@ returns-in-Err-clause-reads g c first before count behind = record {
   consumed = Consumes-kept _ _ c.in-Err.ensures.bytes;
   within = omega arith;
   count = tt;
-  comes = (refl, λ files told. (behind.runner files told).gone);
+  comes = (refl, λ files told. works_of files first _ _ _ (behind.runner files told));
 }
 
 pub returns-in-Err-clause-source_failed : goal.returns-in-Err-clause-source_failed

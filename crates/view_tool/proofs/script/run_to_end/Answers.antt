@@ -2,6 +2,7 @@ use Rattle.std.proofs.Common.{◌≡◌, ◌≤◌, ◌++◌, ◌∙◌, [], len
 use Rattle.std.specs.Prelude.{Ok, Err}
 use Rattle.std.proofs.lemmas.Result.{err_from_is_err_and}
 use Rattle.view_tool.specs.declared.script.End.TheVariants as end
+use Rattle.view_tool.specs.Works.{trace}
 use Rattle.view_tool.specs.Script.{end_reads, end_writes}
 use Rattle.view_tool.specs.Transcript.{max_script}
 use Rattle.view_tool.proofs.ScriptLaws.{Consumes-nil, Consumes-Consumes, ends_early, ends_last, ends_well, taken_on}
@@ -11,7 +12,7 @@ pub loop-n-init : goal.loop-n-init
 loop-n-init g c = record {
   bound = omega arith;
   numbers = omega (arith, c.requires.numbers);
-  taken = record { bytes = []; consumed = Consumes-nil (g.S.Source.left c.args.source.now); count = refl; behind = c.requires.behind (g.F.Shelf.files c.args.shelf.now) (g.K.Sink.state c.args.sink.now).gone };
+  taken = record { bytes = []; consumed = Consumes-nil (g.S.Source.left c.args.source.now); count = refl; behind = c.requires.behind (g.F.Shelf.files c.args.shelf.now) (trace (g.K.Sink.state c.args.sink.now) c.args.work.now) };
   files = refl;
   fetches = refl;
   painted = omega arith;
@@ -102,7 +103,7 @@ returns-clause-runs g c =
     let ended = c.in_ok-n.ensures.end (ap Ok none) in
     rw c.refused.ensures (record {
       runs = λ files script at_hand told. ends_well files _ _ _ _ script (t.bytes ++ q.bytes) c.finish.new.self.runner told lost ended fits
-          (c.in_ok-finish.ensures.done files (g.K.Sink.state c.args.sink.now).gone (t.bytes ++ q.bytes) (c.read_piece.ensures.files_stay ∙ c.loop-n.invariant.files ∙ at_hand) (omega (arith, fits)) (rw c.read_piece.ensures.files_stay q.comes));
+          (c.in_ok-finish.ensures.done files (trace (g.K.Sink.state c.args.sink.now) c.args.work.now) (t.bytes ++ q.bytes) (c.read_piece.ensures.files_stay ∙ c.loop-n.invariant.files ∙ at_hand) (omega (arith, fits)) (rw c.read_piece.ensures.files_stay q.comes));
       end = ended;
       taken = t.bytes ++ q.bytes;
       consumed = lost;

@@ -40,3 +40,9 @@ returns-in-None-clause-long g c = λ script files run long.
     let none = rw c.in-None.is at c.form_of.ensures.form in
     let clash : Unknown ≡ Run = none ∙ run.words in
     absurd (cc)
+
+pub returns-in-Some-Run-clause-worth : goal.returns-in-Some-Run-clause-worth
+returns-in-Some-Run-clause-worth g c = λ script files run ended. ((c.run.ensures.works files script run.shelf run.source).ended ended).worth
+
+pub returns-in-Some-Run-clause-works : goal.returns-in-Some-Run-clause-works
+returns-in-Some-Run-clause-works g c = λ script files run. c.run.ensures.works files script run.shelf run.source

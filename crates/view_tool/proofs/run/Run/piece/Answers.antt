@@ -4,6 +4,7 @@ use Rattle.std.proofs.lemmas.Result.{err_from_is_err_and}
 use Rattle.std.specs.Prelude.{◌≡◌, Err}
 use Rattle.script_lines.specs.Lines.{cut_of}
 use Rattle.view_tool.specs.Run.{HasReadUpTo, StopsIn}
+use Rattle.view_tool.specs.Works.{trace}
 use Rattle.view_tool.proofs.LongScriptLaws.{taken_more, taken_rest, taken_short}
 use Rattle.view_tool.proofs.run.Run.piece.Goals as goal
 
@@ -15,7 +16,7 @@ loop-at-preserved g c =
     let some = c.in_ok-at.ensures.some left in
     record {
       within = omega (arith, c.in_ok-at.ensures.within, length-take {A = ℕ}, length-drop {A = ℕ}, c.loop-at.invariant.within);
-      behind = λ first before short s. subst (λ (bytes : List ℕ). HasReadUpTo (g.F.Shelf.files c.args.shelf.now) first (g.K.Sink.state c.take.new.sink).gone c.take.new.self bytes)
+      behind = λ first before short s. subst (λ (bytes : List ℕ). HasReadUpTo (g.F.Shelf.files c.args.shelf.now) first (trace (g.K.Sink.state c.take.new.sink) c.take.new.work) c.take.new.self bytes)
           (taken_more before piece at c.in_ok-at.field-0 c.loop-at.invariant.within)
           (rw (← c.loop-at.invariant.files) (c.in_ok-at.ensures.done first (before ++ take at piece) (taken_short before piece at _ short) (rw c.loop-at.invariant.files (c.loop-at.invariant.behind first before short s))));
       numbers = omega (arith, c.loop-at.invariant.numbers, c.take.ensures.numbers, some);
@@ -33,10 +34,10 @@ returns-in_err-at-clause-stopped g c first before short s =
     let at = c.loop-at.at in
     let piece = c.args.piece.now in
     let stopped = c.in_err-at.ensures.stopped first (before ++ take at piece) (taken_short before piece at _ short) (rw c.loop-at.invariant.files (c.loop-at.invariant.behind first before short s)) in
-    rw e (λ files told. subst (λ (bytes : List ℕ). StopsIn files first (g.K.Sink.state c.take.new.sink).gone (cut_of bytes).lines c.in_err-at.field-0.0) (taken_rest before piece at)
+    rw e (λ files told. subst (λ (bytes : List ℕ). StopsIn files first (trace (g.K.Sink.state c.take.new.sink) c.take.new.work) (cut_of bytes).lines c.in_err-at.field-0.0) (taken_rest before piece at)
     (stopped files (c.loop-at.invariant.files ∙ told)))
 
 pub returns-clause-done : goal.returns-clause-done
 returns-clause-done g c first before short s =
-    subst (λ (bytes : List ℕ). HasReadUpTo (g.F.Shelf.files c.args.shelf.now) first (g.K.Sink.state c.loop-at.sink).gone c.loop-at.self (before ++ bytes))
+    subst (λ (bytes : List ℕ). HasReadUpTo (g.F.Shelf.files c.args.shelf.now) first (trace (g.K.Sink.state c.loop-at.sink) c.loop-at.work) c.loop-at.self (before ++ bytes))
     (take_all c.loop-at.at c.args.piece.now c.loop-at-test.false) (c.loop-at.invariant.behind first before short s)

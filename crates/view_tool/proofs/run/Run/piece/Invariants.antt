@@ -1,14 +1,15 @@
-use Rattle.std.proofs.Common.{◌≡◌, min, ◌≤◌, ◌<◌, ◌+◌, ◌-◌, ◌*◌, ◌++◌, ◌^◌, List, Option, ℕ, length, take}
+use Rattle.std.proofs.Common.{◌≡◌, min, ◌≤◌, ◌<◌, ◌+◌, ◌-◌, ◌*◌, ◌++◌, ◌^◌, List, ℕ, length, take}
 use Rattle.view_model.specs.declared.limits.TheConstants.{MAX_VIEWS}
 use Rattle.view_tool.specs.Run.{HasReadUpTo}
+use Rattle.view_tool.specs.Works.{Trace, trace}
 use Rattle.view_tool.proofs.run.Run.piece.Given as goal
 
 -- from where the run stood, it stands behind the part of the piece that was taken
 abbrev pub invariant-loop-at : goal.invariant-loop-at
 invariant-loop-at g l = record {
   within : l.at ≤ length l.piece;
-  behind : (first : Option (List ℕ)) (before : List ℕ) → length (before ++ l.piece) < 2 ^ 63 → HasReadUpTo (g.F.Shelf.files l.fn.shelf) first (g.K.Sink.state l.fn.sink).gone l.fn.self before
-      → HasReadUpTo (g.F.Shelf.files l.fn.shelf) first (g.K.Sink.state l.sink).gone l.self (before ++ take l.at l.piece);
+  behind : (first : Trace) (before : List ℕ) → length (before ++ l.piece) < 2 ^ 63 → HasReadUpTo (g.F.Shelf.files l.fn.shelf) first (trace (g.K.Sink.state l.fn.sink) l.fn.work) l.fn.self before
+      → HasReadUpTo (g.F.Shelf.files l.fn.shelf) first (trace (g.K.Sink.state l.sink) l.work) l.self (before ++ take l.at l.piece);
   numbers : l.self.runner.world.screen.views.next ≤ l.fn.self.runner.world.screen.views.next + MAX_VIEWS * l.at;
   files : g.F.Shelf.files l.shelf ≡ g.F.Shelf.files l.fn.shelf;
   fetches : g.F.Shelf.faults l.shelf ≡ g.F.Shelf.faults l.fn.shelf;

@@ -4,6 +4,7 @@ use Rattle.std.proofs.lemmas.Result.{err_from_is_err_and}
 use Rattle.script_lines.specs.LineBuffer.{lines_at}
 use Rattle.script_lines.specs.Lines.{Line, cut_of}
 use Rattle.view_tool.specs.Run.{line_now}
+use Rattle.view_tool.specs.Tally.{tally_of}
 use Rattle.view_tool.specs.Transcript.{after_lines}
 use Rattle.view_tool.proofs.RunLaws.{behind_more, behind_same, counted_short, lines_short, stops_in_piece}
 use Rattle.view_tool.proofs.run.Run.take.Goals as goal
@@ -24,7 +25,7 @@ returns-clause-done g c first before short s =
     let line = line_now c.in-Some.line in
     let one = rw c.in-Some.is at c.ended_line.ensures.line in
     behind_more _ first _ c.next_line-used.new.self c.line.new.self before _ line
-    (λ files told. c.in_ok-line.ensures.done files first (after_lines files (cut_of before).lines) told (counted_short files before _ short) (s.runner files told)) (c.next_line-used.ensures.stands before s.held)
+    (λ files told. c.in_ok-line.ensures.done files first (after_lines files (cut_of before).lines) (tally_of files (cut_of before).lines) told (counted_short files before _ short) (s.runner files told)) (c.next_line-used.ensures.stands before s.held)
     (c.next_line-used.ensures.lines before s.held ∙ ap (λ (held : List ℕ). (cut_of before).lines ++ lines_at place piece held) (sym c.bytes.ensures.line)
     ∙ ap (λ (lines : List Line). (cut_of before).lines ++ lines) (sym one))
 
