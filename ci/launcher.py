@@ -17,14 +17,24 @@ TOOLCHAIN = r"""#!/usr/bin/env bash
 echo "${PWD##*/} $*" >> "$CALLS"
 case $1 in
     version) echo "kit of the checks" ;;
-    lib) echo "so far: 1 of 2 functions checked; the verdict comes last"; exit "${PROOF:-0}" ;;
+    lib) echo "so far: 1 of 2 functions checked; the verdict comes last"; eval "${BUILD-}"; exit "${PROOF:-0}" ;;
     run) mkdir -p out && printf '%s\n' '#!/usr/bin/env bash' 'eval "$ACT"' > out/view_tool && chmod +x out/view_tool ;;
 esac
 """
 SENTENCES = {3: "read", 4: "written", 5: "memory", 6: "file", 7: "16777216 bytes"}
 WRONG = [[], ["gen"], ["gen", "0"], ["gen", "101"], ["gen", "01"], ["gen", "1", "2"], ["gen", "x"], ["Run"],
          ["run", "x"], ["dump"], ["dump", "../README.md"], ["dump", ".a"], ["dump", "a" * 65], ["dump", "a", "b"],
-         ["dump", "é"], ["dump", ""], ["--help", "x"], ["explain"], ["explain", "x"]]
+         ["dump", "é"], ["dump", ""], ["lookup"], ["lookup", "a"], ["lookup", "a", "7f05000"], ["lookup", "a", "7f05000g"],
+         ["lookup", "a", "7f0500000"], ["lookup", ".a", "7f050000"], ["lookup", "a", *["7f050000"] * 65],
+         ["lookup", "a", "7f050000", ""], ["--help", "x"], ["explain", "x"], ["explain", "31", "x"], ["explain", ""]]
+# words that are explained, and what is said of them
+EXPLAINED = {
+    "NoView": "28 NoView: no view has the number or the id.\nIt comes at any line that names a view.\n",
+    "frame": "The line frame lays the whole tree out in the window",
+    "gravity": "The line gravity V self G sets where V lies in its parent: none, or words joined by |, at most",
+    "layout_alignTop": "The attribute layout_alignTop of a layout file takes: reference (id).\nIt sets: the rule",
+    "layout_marginEnd": "The attribute layout_marginEnd of a layout file takes: length -1048575..1048575.\n",
+}
 
 
 class Ended:
@@ -43,6 +53,7 @@ class Repository:
         shutil.copy(os.path.join(TOP, "vindaesk"), folder)
         shutil.copytree(os.path.join(TOP, "docs"), os.path.join(folder, "docs"))
         for name, text in (("crates.txt", "low:\nview_tool: low\n"), ("HANDLES", ""), ("calls", ""),
+                           ("VERSION", "1.2.3\n"),
                            ("tools/rt", TOOLCHAIN), ("crates/low/src/lib.rt", ""),
                            ("crates/view_tool/src/main.rt", "")):
             with open(os.path.join(folder, name), "w") as file:
@@ -53,7 +64,8 @@ class Repository:
         act = how.pop("act", "")
         kept = [it for it in os.environ["PATH"].split(":") if not os.path.exists(os.path.join(it, "rt"))]
         own = {"PATH": ":".join([os.path.join(self.folder, "tools")] * has_toolchain + kept), "CALLS": self.calls,
-               "ACT": act, "TMPDIR": os.path.join(self.folder, "temporary"), "PROOF": how.pop("proof", "0")}
+               "ACT": act, "TMPDIR": os.path.join(self.folder, "temporary"), "PROOF": how.pop("proof", "0"),
+               "BUILD": how.pop("build", ""), "VINDAESK_JOBS": how.pop("jobs", "2")}
         pipes = {"stdin": subprocess.PIPE, "stdout": subprocess.PIPE, "stderr": subprocess.PIPE, **how}
         return subprocess.Popen(["./vindaesk", *words], cwd=self.folder, env={**os.environ, **own}, **pipes)
 
@@ -61,6 +73,14 @@ class Repository:
         started = self.start(words, **how)
         out, said = started.communicate(given, timeout=SECONDS)
         return Ended(started.returncode, out, (said or b"").decode())
+
+    def add(self, name, needed):
+        """Another crate, which uses others and is used by the program."""
+        os.makedirs(os.path.join(self.folder, "crates", name, "src"))
+        with open(os.path.join(self.folder, "crates.txt")) as file:
+            text = file.read()
+        with open(os.path.join(self.folder, "crates.txt"), "w") as file:
+            file.write("%s: %s\n%s %s\n" % (name, needed, text.rstrip("\n"), name))
 
     def builds(self):
         """The toolchain's calls so far."""
@@ -79,11 +99,33 @@ def repository(is_built=True):
 
 def asks_for_help():
     with repository(is_built=False) as it:
-        for words, status in [*[([word], 0) for word in ("--help", "-h", "help")], *[(words, 2) for words in WRONG]]:
+        for word in ("--help", "-h", "help"):
+            ended = it.call([word])
+            if (ended.status, ended.out, "usage: vindaesk run" in ended.said) != (0, b"", True):
+                return "%s: status %d, '%s'" % (word, ended.status, ended.said)
+        for words in WRONG:
             ended = it.call(words)
-            if (ended.status, ended.out, "usage: vindaesk run" in ended.said) != (status, b"", True):
+            is_short = ended.said.count("\n") == 1 and re.search("vindaesk (--help|explain)", ended.said) is not None
+            if (ended.status, ended.out, is_short) != (2, b"", True):
                 return "%s: status %d, '%s'" % (words, ended.status, ended.said)
         return "help builds" if it.builds() else ""
+
+
+def hints():
+    """What is said of a path, and of a layout file that is not compiled."""
+    with repository() as it:
+        said = it.call(["dump", "res/layout/a.xml"]).said
+        if "cd res/layout first" not in said:
+            return "a path: '%s'" % said
+        texts = {b"<View/>": True, b"\xef\xbb\xbf \n<?xml?>": True, b"\xff\xfe<\0V\0": True, b"\3\0\x08\0<": False,
+                 b"": False}
+        for text, is_said in texts.items():
+            with open(os.path.join(it.folder, "a.xml"), "wb") as file:
+                file.write(text)
+            ended = it.call(["dump", "a.xml"], act="exit 1")
+            if (ended.status, "a.xml is XML as text" in ended.said) != (1, is_said):
+                return "%r: status %d, '%s'" % (text, ended.status, ended.said)
+        return ""
 
 
 def example_of_help():
@@ -98,10 +140,11 @@ def refusals():
     """The number and the name of each refusal that the program has."""
     with open(os.path.join(TOP, "crates/view_tool/src/names.rt")) as file:
         names = re.findall(r'^    b"(\w*)",$', file.read(), re.M)
+    with open(os.path.join(TOP, "crates/axml_chunks/src/cause.rt")) as file:
+        faults = re.findall(r"^ +Cause::\w+ => (\d+),$", file.read(), re.M)
     with open(os.path.join(TOP, "crates/view_model/src/refusals.rt")) as file:
         numbers = re.findall(r"^pub const \w+: u8 = (\d+);$", file.read(), re.M)
-    # a file's faults are the first eleven
-    return {(str(number), names[number]) for number in [*range(1, 12), *map(int, numbers)]}
+    return {(number, names[int(number)]) for number in faults + numbers}
 
 
 def explains():
@@ -112,7 +155,15 @@ def explains():
                 return "%s %s: status %d, '%s'" % (number, name, ended.status, ended.out.decode())
         if "\n    frame\n" not in it.call(["explain", "31"]).out.decode():
             return "31 does not list the lines"
-        for number in ("0", "50", "999"):
+        for word, text in EXPLAINED.items():
+            ended = it.call(["explain", word])
+            if ended.status or not ended.out.decode().startswith(text):
+                return "%s: status %d, '%s'" % (word, ended.status, ended.out.decode())
+        listed = it.call(["explain"]).out.decode()
+        for line in ("    31 Syntax\n", "    gravity V kids G\n", "    layout_alignParentEnd\n"):
+            if line not in listed:
+                return "%r is not listed" % line
+        for number in ("0", "50", "999", "syntax", "root"):
             if (it.call(["explain", number]).status, it.call(["explain", number]).out) != (2, b""):
                 return "%s is explained" % number
         return "it builds" if it.builds() else ""
@@ -121,8 +172,11 @@ def explains():
 def tells_version():
     with repository(is_built=False) as it:
         ended = it.call(["--version"])
-        is_right = re.fullmatch(rb"commit .+\nkit of the checks\n", ended.out)
-        return "" if is_right else "it tells '%s'" % ended.out.decode()
+        if not re.fullmatch(rb"vindaesk 1[.]2[.]3\ncommit .+\nkit of the checks\n", ended.out):
+            return "it prints '%s'" % ended.out.decode()
+        ended = it.call(["--version"], has_toolchain=False)
+        is_right = re.fullmatch(rb"vindaesk 1[.]2[.]3\ncommit .+\n", ended.out) and ended.status == 0
+        return "" if is_right else "without the toolchain it prints '%s'" % ended.out.decode()
 
 
 def lacks_toolchain():
@@ -151,6 +205,61 @@ def builds():
         if len(it.builds()) != 4:
             return "a source that is gone is not seen"
         return "temporary files stay" if os.listdir(os.path.join(it.folder, "temporary")) else ""
+
+
+def builds_side_by_side():
+    """Two crates that wait for one another as they are built, and one that uses both."""
+    waits = ('touch "../${PWD##*/}.begun"; '
+             "for k in {1..600}; do [[ -e ../a.begun && -e ../b.begun ]] && exit 0; sleep 0.1; done; exit 1")
+    with repository(is_built=False) as it:
+        it.add("b", "")
+        it.add("a", "")
+        it.add("both", "a b")
+        build = 'case ${PWD##*/} in a | b) %s ;; esac' % waits
+        it.call(["run"], build=build, act="true", jobs="4")
+        order = [call.split(" ")[0] for call in it.builds()]
+        places = [order.index(name) for name in ("a", "b", "both", "view_tool")] if len(order) == 5 else []
+        is_right = places and max(places[:2]) < places[2] < places[3] == 4
+        return "" if is_right else "calls: %s" % it.builds()
+
+
+def build_can_be_ended():
+    for name in (signal.SIGINT, signal.SIGTERM):
+        with repository(is_built=False) as it:
+            started = it.start(["run"], build='echo $$ > "$TMPDIR/pid"; exec sleep 60')
+            path = os.path.join(it.folder, "temporary", "pid")
+            until = time.monotonic() + SECONDS
+            while not (os.path.exists(path) and os.path.getsize(path)) and time.monotonic() < until:
+                time.sleep(0.01)
+            started.send_signal(name)
+            started.communicate(timeout=SECONDS)
+            with open(path) as file:
+                pid = int(file.read())
+            for _ in range(500):
+                if not os.path.exists("/proc/%d" % pid):
+                    break
+                time.sleep(0.01)
+            else:
+                return "%s: the toolchain goes on" % name.name
+            if os.listdir(os.path.join(it.folder, "temporary")) != ["pid"]:
+                return "%s: temporary files stay" % name.name
+    return ""
+
+
+def lost_build_fails():
+    with repository(is_built=False) as it:
+        ended = it.call(["run"], build="kill -9 0")
+        is_right = ended.status == 126 and "low could not be built" in ended.said
+        return "" if is_right else "status %d, '%s'" % (ended.status, ended.said)
+
+
+def circle_fails():
+    with repository(is_built=False) as it:
+        it.add("a", "b")
+        it.add("b", "a")
+        ended = it.call(["run"])
+        is_right = ended.status == 126 and "use one another in a circle" in ended.said
+        return "" if is_right else "status %d, '%s'" % (ended.status, ended.said)
 
 
 def proof_fails():
@@ -248,6 +357,7 @@ def talks_to_a_terminal():
 
 
 def checks():
-    for check in (asks_for_help, example_of_help, explains, tells_version, lacks_toolchain, builds, proof_fails,
+    for check in (asks_for_help, hints, example_of_help, explains, tells_version, lacks_toolchain, builds,
+                  builds_side_by_side, build_can_be_ended, lost_build_fails, circle_fails, proof_fails,
                   passes_statuses, passes_signals, passes_streams, talks_to_a_terminal):
         yield "the launcher: " + check.__name__.replace("_", " "), check

@@ -5,9 +5,12 @@ A block stands between two lines of three backticks, the first of which names it
     script, then answer      a script, and what `./vindaesk run` writes over it
     command, then answer     shell commands at the top of the repository, and what they write
     hex, then answer         the bytes of a layout file, and what `dump` writes of it; what follows a # is a remark
+    table ID .., then answer the same of a resource table, and what `lookup` writes of these ids
     dialogue                 the lines of a script, each with its replies after an arrow, further replies on lines of
                              their own: what the script writes up to each line is what stands up to there
-    source NAME              the source of the layout file NAME of examples/: `dump` has its elements and attributes
+    file PATH                the text of this file of the repository
+    source NAME              the source of the layout file NAME of examples/: compiled by tools/axml it has the elements
+                             and attributes of that file
     gate                     the call of the gate, which is what runs all this
 
 `answer N` says that the status is N, and of a dialogue `dialogue N`; without a number it is 0. Any other block, also
@@ -16,15 +19,13 @@ one that is only indented, is a failed check.
 import glob
 import os
 import tempfile
-import xml.etree.ElementTree
 from functools import partial
 
 from running import PROGRAM, TOP, difference, run
+from vindaesk import compiling, documents, files, names, sources
 
 ARROW = "→"
 INDENTED = ("    ", "\t")
-# the type and the word of those values in a source that are words
-VALUES = {"match_parent": "10 ffffffff", "wrap_content": "10 fffffffe", "vertical": "10 00000001"}
 
 
 def blocks(lines):
@@ -57,52 +58,52 @@ def command(lines, answer, status):
     return difference(answer, status, *run(["bash", "-c", "\n".join(lines)], b"", TOP))
 
 
-def layout_file(lines, answer, status):
+def bytes_of(lines):
+    """The bytes of lines with remarks; `00*9` stands for nine bytes 00."""
+    words = " ".join(line.partition("#")[0] for line in lines).split()
+    return b"".join(bytes.fromhex(digits) * int(count or 1) for digits, _, count in (it.partition("*") for it in words))
+
+
+def over_file(form, name, ids, lines, answer, status):
     with tempfile.TemporaryDirectory() as folder:
-        with open(os.path.join(folder, "file.xml"), "wb") as file:
-            file.write(bytes.fromhex(" ".join(line.partition("#")[0] for line in lines)))
-        return difference(answer, status, *run([PROGRAM, "dump", "file.xml"], b"", folder))
+        with open(os.path.join(folder, name), "wb") as file:
+            file.write(bytes_of(lines))
+        return difference(answer, status, *run([PROGRAM, form, name, *ids], b"", folder))
 
 
-def compiled(value):
-    """The type and the word of a value in a source, as `dump` writes them: a word, a colour, an id, or a number of dp."""
-    if value in VALUES:
-        return VALUES[value]
-    if value[0] in "#@":
-        return {"#": "1c ", "@": "01 "}[value[0]] + value[1:]
-    return "05 %08x" % (int(value[:-2]) << 8 & 0xFFFFFFFF | 1)
+def layout_file(lines, answer, status):
+    return over_file("dump", "file.xml", [], lines, answer, status)
 
 
-def elements_of_source(element, depth=1):
-    """Each element in order: how deep it is, its name, and its attributes, each with its namespace and its value."""
-    attributes = sorted((name.strip("{").replace("}", " "), compiled(it)) for name, it in element.attrib.items())
-    return [(depth, element.tag, attributes)] + [it for below in element for it in elements_of_source(below, depth + 1)]
+def table(ids, lines, answer, status):
+    return over_file("lookup", "file.arsc", ids, lines, answer, status)
 
 
-def elements_of_dump(lines):
-    """The same of what `dump` writes."""
-    strings, elements, depth = {}, [], 0
-    for words in (line.split(" ") for line in lines):
-        if words[0][0] == "s" and words[0][1:].isdigit():
-            strings[words[0]] = " ".join(words[1:])[1:-1]
-        elif words[0] == "start":
-            depth += 1
-            elements.append((depth, strings[words[3]], []))
-        elif words[0] == "attr":
-            elements[-1][2].append(("%s %s" % (strings[words[1]], strings[words[2]]), " ".join(words[4:])))
-            elements[-1][2].sort()
-        depth -= words[0] == "end"
-    return elements
+def elements(nodes):
+    """The name of each element, and its attributes by their names, with its depth."""
+    depth = 0
+    for node in nodes:
+        depth += isinstance(node, documents.Start)
+        if isinstance(node, documents.Start):
+            yield depth, node.name, sorted((it.namespace, it.name, it.value) for it in node.attributes)
+        depth -= isinstance(node, documents.End)
 
 
 def source(lines, name):
-    written, _ = run([PROGRAM, "dump", name], b"", os.path.join(TOP, "examples"))
-    wanted = elements_of_source(xml.etree.ElementTree.fromstring("\n".join(lines)))
-    found = elements_of_dump(written.decode().splitlines())
-    if found == wanted:
+    nodes, wrong = sources.read("\n".join(lines).encode(), name, names.Names())
+    wanted = list(elements(documents.of_file(compiling.compiled(nodes), name)))
+    path = os.path.join(TOP, "examples", name)
+    found = list(elements(documents.of_file(files.read(path), path)))
+    if found == wanted and not wrong:
         return ""
-    number = next(k for k in range(max(len(wanted), len(found))) if wanted[k : k + 1] != found[k : k + 1])
-    return "element %d should be %s, and is %s" % (number + 1, wanted[number : number + 1], found[number : number + 1])
+    number = next((k for k in range(max(len(wanted), len(found))) if wanted[k : k + 1] != found[k : k + 1]), 0)
+    return "element %d should be %s, and is %s; %s" % (
+        number + 1, wanted[number : number + 1], found[number : number + 1], wrong)
+
+
+def same_file(lines, path):
+    with open(os.path.join(TOP, path), "rb") as file:
+        return difference(file.read(), 0, text(lines), 0)
 
 
 def dialogue(lines, status):
@@ -142,6 +143,11 @@ def checks_of(page):
             yield page, number, partial(dialogue, lines, status_of(words))
         elif form == "source" and len(words) == 2:
             yield page, number, partial(source, lines, words[1])
+        elif form == "table" and next_words[:1] == ["answer"]:
+            is_answered = True
+            yield page, number, partial(table, words[1:], lines, text(next_lines), status_of(next_words))
+        elif form == "file" and len(words) == 2:
+            yield page, number, partial(same_file, lines, words[1])
         elif form in FORMS and next_words[:1] == ["answer"]:
             is_answered = True
             yield page, number, partial(FORMS[form], lines, text(next_lines), status_of(next_words))

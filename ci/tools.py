@@ -4,6 +4,7 @@ import io
 import json
 import os
 import runpy
+import shutil
 import signal
 import struct
 import subprocess
@@ -17,7 +18,7 @@ from running import SECONDS, TOP
 from vindaesk import png
 
 EXAMPLES = os.path.join(TOP, "examples")
-TOOLS = ("screenshot", "picdiff", "tree", "runall")
+TOOLS = ("screenshot", "picdiff", "tree", "runall", "check", "axml", "unpack", "lint", "page", "install")
 RED = "window 2 2\nadd root View match match\nbg v1 #ffff0000\nframe\n"
 UNSETTLED = """window 100 20
 add root LinearLayout match match
@@ -87,6 +88,10 @@ class Place:
         """Writes a file."""
         with open(os.path.join(self.folder, name), "wb") as file:
             file.write(text if isinstance(text, bytes) else text.encode())
+
+    def copy(self, path):
+        """Copies a file."""
+        shutil.copy(path, self.folder)
 
     def read(self, name):
         with open(os.path.join(self.folder, name), "rb") as file:
@@ -174,7 +179,7 @@ def lacks_program():
         it.put("a.script", RED)
         it.put("a.answer", "")
         said = "there is no program at /nowhere/it; ./vindaesk run builds it, see ./vindaesk --help"
-        calls = (("screenshot", "a.script", "a.png"), ("tree", "a.script"), ("runall", "."))
+        calls = (("screenshot", "a.script", "a.png"), ("tree", "a.script"), ("runall", "."), ("check", "a.script"))
         return first(unlike(it.call(*words, VINDAESK_PROGRAM="/nowhere/it"), 126, b"", said) for words in calls)
 
 
@@ -234,6 +239,8 @@ def lacks_files():
             ("screenshot", "a.script"): "OUT.png or --frames DIR is needed",
             ("screenshot", "a.script", "a.png", "--scale", "0"): "'0' is no number from 1 to 8",
             ("tree", "no.script"): "no.script cannot be read: No such file",
+            ("check", "no.script"): "no.script cannot be read: No such file",
+            ("check", "folder"): "folder cannot be read: Is a directory",
             ("tree", "folder"): "folder cannot be read: Is a directory",
             ("picdiff", "a.script", "a.script"): "a.script is no PNG file that can be read: it does not begin as one",
             ("picdiff", "no.png", "a.script"): "no.png cannot be read: No such file",
@@ -268,7 +275,7 @@ def ends_with_the_program():
     with place() as it:
         os.mkdir(os.path.join(it.folder, "folder"))
         text = RED.replace("View", "FrameLayout") + "inflate folder into v1\n"
-        for words in (("screenshot", "-", "a.png"), ("tree", "-")):
+        for words in (("screenshot", "-", "a.png"), ("tree", "-"), ("check", "-")):
             why = unlike(it.call(*words, given=text), 6, b"", "status 6: a layout file could not be read")
             for act, status, said in (("kill -9 $$", 137, "ended by the signal SIGKILL"),
                                       ("exit 5", 5, "out of memory"), ("exit 0", 1, "wrote no answer to line")):

@@ -2,8 +2,10 @@
 import argparse
 import os
 import sys
-from typing import Callable, Optional, Sequence
+from typing import Callable, List, Optional, Sequence
 
+# the folder around tools/
+TOP = os.path.dirname(os.path.dirname(os.path.dirname(os.path.realpath(__file__))))
 # the statuses that tools have of their own; 3 to 7 are those of the program
 WRONG = 1
 NOT_RUN = 2
@@ -36,9 +38,25 @@ def say(sentence: str) -> None:
     print("%s: %s" % (os.path.basename(sys.argv[0]), printable(sentence)), file=sys.stderr)
 
 
+def version() -> str:
+    """The version of the tools and of the program beside them."""
+    with open(os.path.join(TOP, "VERSION")) as file:
+        return "vindaesk " + file.read().strip()
+
+
+class ShowVersion(argparse.Action):
+    """Prints the version and ends."""
+
+    def __call__(self, parser: argparse.ArgumentParser, *_: object) -> None:
+        print(version())
+        parser.exit()
+
+
 def arguments(doc: str) -> argparse.ArgumentParser:
-    """A parser whose help is the first paragraphs of a tool's docstring."""
-    return argparse.ArgumentParser(description=doc, formatter_class=argparse.RawDescriptionHelpFormatter)
+    """A parser whose help is a tool's docstring, and which knows `--version`."""
+    found = argparse.ArgumentParser(description=doc, formatter_class=argparse.RawDescriptionHelpFormatter)
+    found.add_argument("--version", action=ShowVersion, nargs=0, help="prints the version")
+    return found
 
 
 def count(least: int, most: int) -> Callable[[str], int]:
@@ -48,6 +66,15 @@ def count(least: int, most: int) -> Callable[[str], int]:
         if not (word.isascii() and word.isdigit() and least <= int(word[:9]) <= most and len(word) <= 9):
             raise argparse.ArgumentTypeError("'%s' is no number from %d to %d" % (word, least, most))
         return int(word)
+
+    return read
+
+
+def counts(least: int, most: int) -> Callable[[str], List[int]]:
+    """A reader of such numbers, joined by commas; each is taken once."""
+
+    def read(word: str) -> List[int]:
+        return list(dict.fromkeys(map(count(least, most), word.split(","))))
 
     return read
 

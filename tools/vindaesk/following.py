@@ -1,10 +1,11 @@
 """The views of a script, line by line: what lines make of them that the reply of `bounds` does not say."""
 import re
-from typing import Dict, Iterator, List, Optional, Set, Tuple, Union
+from typing import Dict, Iterator, List, Optional, Sequence, Set, Tuple, Union
 
-from . import layouts, script
+from . import documents, layouts, lengths, script
 from .calling import Failure
-from .layouts import Element, Value
+from .documents import Value
+from .layouts import Element
 from .replies import Answer, Part
 
 TEXT_LINE = re.compile(rb" *text +[^ ]+ (.*)", re.DOTALL)
@@ -13,21 +14,45 @@ VISIBILITIES = ["visible", "invisible", "gone"]
 CLEAR = "#00000000"
 # lines whose reply says what they made
 REPLYING = (b"add", b"inflate", b"frame")
+# what is kept of a view as lines and attributes give it, in their own units
+SPACES = ("margins", "padding")
+GIVING = {"layout_margin": "margins", "padding": "padding"}
+
+# a view's number and the word of a line that sets something of it
+Fact = Tuple[int, str]
 
 
 class View:
-    """A view. A text is None where its class shows none, a background where a hook may have set it."""
+    """A view. A text is None where its class shows none, a background where a hook may have set it. `given` has its
+    margins and its padding as lines and attributes give them, None where a hook may have set them."""
 
     def __init__(self, number: int, parent: Optional["View"], kind: str):
         self.number = number
         self.parent = parent
-        self.depth = parent.depth + 1 if parent else 1
+        self.depth: int = parent.depth + 1 if parent else 1
         self.kind = kind
         self.children: Dict[int, "View"] = {}
         self.id = 0
-        self.text = "" if kind == "TextView" else None
+        self.text: Optional[str] = "" if kind == "TextView" else None
         self.visibility = VISIBILITIES[0]
         self.background: Optional[str] = CLEAR
+        self.answer = "off"
+        self.given: Dict[str, Optional[str]] = {}
+
+    def is_touched(self) -> bool:
+        """Whether it answers touches itself."""
+        return self.answer != "off"
+
+    def value(self, name: str) -> Optional[str]:
+        """What an edit that a hook may make has set."""
+        return self.background if name == "bg" else self.given.get(name, "")
+
+    def put(self, name: str, value: Optional[str]) -> None:
+        """Sets that."""
+        if name == "bg":
+            self.background = value
+        else:
+            self.given[name] = value
 
     def and_below(self) -> Iterator["View"]:
         """The view and all below it, in preorder."""
@@ -37,18 +62,18 @@ class View:
 
 
 class Armed:
-    """The hooks that are armed: of each view that has one, which backgrounds of which views it sets."""
+    """The hooks that are armed: of each view that has one, which values it sets of which views."""
 
     def __init__(self) -> None:
-        self.hooks: Dict[int, Dict[int, str]] = {}
+        self.hooks: Dict[int, Dict[Fact, str]] = {}
         # whether all of these are known to be armed still
         self.is_sure = True
 
-    def fired(self, count: int) -> Tuple[bool, Dict[int, Set[str]]]:
-        """After a frame in which this number of hooks fired: whether these were all, and which backgrounds they set."""
-        found: Dict[int, Set[str]] = {}
-        for view, colour in [pair for sets in self.hooks.values() for pair in sets.items()] if count else []:
-            found.setdefault(view, set()).add(colour)
+    def fired(self, count: int) -> Tuple[bool, Dict[Fact, Set[Optional[str]]]]:
+        """After a frame in which this number of hooks fired: whether these were all, and which values they set."""
+        found: Dict[Fact, Set[Optional[str]]] = {}
+        for fact, value in [pair for sets in self.hooks.values() for pair in sets.items()] if count else []:
+            found.setdefault(fact, set()).add(value)
         are_all = self.is_sure and count == len(self.hooks)
         if are_all:
             self.hooks = {}
@@ -125,6 +150,12 @@ class Tree:
             view.background = "#%08x" % word
         if "text" in found and view.text is not None:
             view.text = self.meant(found["text"], found["text"].text, "")
+        if "clickable" in found and found["clickable"].word and view.kind != "ScrollView":
+            view.answer = "click"
+        for start, name in GIVING.items():
+            values = ["%s %s" % (it, lengths.written(found[it])) for it in found if it.startswith(start)]
+            if values:
+                view.given[name] = ", ".join(values)
 
     def meant(self, value: Value, own: Union[int, str, None], nothing: Union[int, str]) -> Union[int, str, None]:
         """What a value means: itself, a resource, or nothing."""
@@ -155,7 +186,7 @@ class Tree:
 
     def bg(self, words: List[bytes], line: bytes, reply: bytes) -> None:
         """`bg V C`."""
-        self.view(words[1]).background = words[2].decode().lower()
+        self.view(words[1]).put(*value_of(words))
 
     def visible(self, words: List[bytes], line: bytes, reply: bytes) -> None:
         """`visible V S`."""
@@ -169,21 +200,32 @@ class Tree:
         else:
             self.resources[number] = text_of(TEXT_RESOURCE, line) if words[2] == b"text" else None
 
+    def answer(self, words: List[bytes], line: bytes, reply: bytes) -> None:
+        """`answer V A`."""
+        self.view(words[1]).answer = words[2].decode()
+
+    def space(self, words: List[bytes], line: bytes, reply: bytes) -> None:
+        """`margins V L T R B` or `padding V L T R B`."""
+        self.view(words[1]).put(*value_of(words))
+
     def hook(self, words: List[bytes], line: bytes, reply: bytes) -> None:
-        """`hook V E ; E ..`, of whose edits `bg` counts here."""
-        found: Dict[int, str] = {}
-        for at, word in enumerate(words):
-            if word == b"bg" and (at == 2 or words[at - 1] == b";"):
-                found[self.view(words[at + 1]).number] = words[at + 2].decode().lower()
+        """`hook V E ; E ..`, of whose edits `bg`, `margins` and `padding` count here."""
+        found: Dict[Fact, str] = {}
+        for edit in b" ".join(words[2:]).split(b" ; "):
+            parts = edit.split(b" ")
+            if parts[0] in (b"bg", b"margins", b"padding"):
+                name, value = value_of(parts)
+                found[self.view(parts[1]).number, name] = value
         self.armed.hooks[self.view(words[1]).number] = found
 
     def frame(self, words: List[bytes], line: bytes, reply: bytes) -> None:
-        """`frame`, after which hooks may have set backgrounds."""
+        """`frame`, after which hooks may have set something."""
         are_all, found = self.armed.fired(int(reply.split(b" ")[1]))
-        for number in found.keys() & self.views.keys():
-            view = self.views[number]
-            colours = found[number] if are_all else found[number] | {view.background}
-            view.background = colours.pop() if len(colours) == 1 else None
+        for (number, name), values in found.items():
+            view = self.views.get(number)
+            if view is not None:
+                values = values if are_all else values | {view.value(name)}
+                view.put(name, next(iter(values)) if len(values) == 1 else None)
 
     def follow(self, part: Part, answer: Answer) -> None:
         """What the lines of a part made of the views."""
@@ -195,21 +237,30 @@ class Tree:
 
 LINES = {
     word.encode(): getattr(Tree, word)
-    for word in ("add", "inflate", "remove", "id", "text", "bg", "visible", "res", "hook", "frame")
+    for word in ("add", "inflate", "remove", "id", "text", "bg", "visible", "answer", "res", "hook", "frame")
 }
+LINES.update({word.encode(): Tree.space for word in SPACES})
+
+
+def value_of(words: List[bytes]) -> Tuple[str, str]:
+    """What a line `bg`, `margins` or `padding` sets, and to what."""
+    name = words[0].decode()
+    if name == "bg":
+        return name, words[2].decode().lower()
+    return name, b" ".join(words[2:6]).decode() + " px"
 
 
 def text_of(form: "re.Pattern[bytes]", line: bytes) -> str:
     """The text at the end of a line, without its escapes."""
-    return layouts.unescaped(form.fullmatch(script.without_return(line))[1].decode())
+    return documents.unescaped(form.fullmatch(script.without_return(line))[1].decode())
 
 
-def parts_of(lines: List[bytes]) -> List[Part]:
-    """A script in parts that end where a reply says what a line made."""
+def parts_of(lines: List[bytes], ends: Sequence[bytes] = REPLYING) -> List[Part]:
+    """A script in parts that end with these lines: where a reply says what a line made."""
     parts, begun = [], 0
     for number, line in enumerate(lines, 1):
         words = script.words_of(line)
-        if number == len(lines) or (words and words[0] in REPLYING):
+        if number == len(lines) or (words and words[0] in ends):
             parts.append(Part(lines[begun:number], begun + 1))
             begun = number
     return parts

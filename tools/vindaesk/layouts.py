@@ -1,22 +1,9 @@
 """The elements of a layout file, from the lines that `dump` writes of it."""
-import re
 from typing import Dict, List, NamedTuple, Optional, Tuple
 
-from . import program
-from .calling import Failure, shown
-
-ANDROID = "http://schemas.android.com/apk/res/android"
-ESCAPE = re.compile(r'\\(n|\\|"|x[0-9a-f]{2})')
-PLAIN = {"n": "\n", "\\": "\\", '"': '"'}
-NULL, REFERENCE, STRING = 0x00, 0x01, 0x03
-
-
-class Value(NamedTuple):
-    """The value of an attribute: its type, its word, and its text where it is a string."""
-
-    kind: int
-    word: int
-    text: Optional[str]
+from . import documents
+from .calling import Failure
+from .documents import ANDROID, NULL, REFERENCE, End, Node, Start, Value
 
 
 class Element(NamedTuple):
@@ -27,45 +14,27 @@ class Element(NamedTuple):
     attributes: Dict[str, Value]
 
 
-def unescaped(text: str) -> str:
-    """A string as it is in the file."""
-    return ESCAPE.sub(lambda it: PLAIN.get(it[1]) or chr(int(it[1][1:], 16)), text)
-
-
-def value_of(words: List[str], strings: Dict[str, str]) -> Value:
-    """The value of a line `attr`."""
-    kind, word = int(words[4], 16), int(words[5], 16)
-    return Value(kind, word, strings["s%d" % word] if kind == STRING else None)
-
-
-def elements_in(lines: List[str]) -> List[Element]:
-    """The elements in order, from the lines of a dump."""
-    strings: Dict[str, str] = {}
+def elements_in(nodes: List[Node]) -> List[Element]:
+    """The elements of a document in order."""
     elements: List[Element] = []
     open_ones: List[int] = []
-    for line in lines:
-        words = line.split(" ")
-        if words[0] == "start":
+    for node in nodes:
+        if isinstance(node, Start):
             around = open_ones[-1] if open_ones else None
             open_ones.append(len(elements))
-            elements.append(Element(around, strings[words[3]].rpartition(".")[2], {}))
-        elif words[0] == "end":
+            known = {it.name: it.value for it in node.attributes if it.namespace == ANDROID}
+            elements.append(Element(around, node.name.rpartition(".")[2], known))
+        elif isinstance(node, End):
             open_ones.pop()
-        elif words[0] == "attr" and strings.get(words[1]) == ANDROID:
-            elements[-1].attributes[strings[words[2]]] = value_of(words, strings)
-        elif words[0][:1] == "s":
-            strings[words[0]] = unescaped(line[len(words[0]) + 2 : -1])
     return elements
 
 
 def read(name: str, folder: str) -> List[Element]:
-    """The elements of the layout file of this name."""
-    written, status = program.ran(["dump", name], b"", folder)
-    if status == 1:
-        raise Failure("the layout file %s cannot be printed any more: %s" % (name, shown(written.rstrip(b"\n"))))
-    if status:
-        raise program.failed(status)
-    return elements_in(written.decode().split("\n")[:-1])
+    """The elements of the layout file of this name, which was read before."""
+    lines, why = documents.printed(name, folder)
+    if lines is None:
+        raise Failure("the layout file %s cannot be printed any more: %s" % (name, why))
+    return elements_in(list(documents.nodes_in(lines)))
 
 
 def reference(value: Optional[Value]) -> Tuple[bool, int]:

@@ -31,15 +31,15 @@ def placed(view: View, words: List[bytes], around: Dict[int, Placed]) -> Placed:
     """A view by the words that `bounds` writes of it, and the views around it."""
     if words[1] == b"none":
         return Placed(view, None, None, None)
-    bounds = tuple(int(word) for word in words[1:5])
+    left, top, right, bottom = (int(word) for word in words[1:5])
+    bounds = (left, top, right, bottom)
     scroll = int(words[6]) if len(words) == 7 else None
     parent = around[view.parent.number] if view.parent else None
     if parent is None:
         return Placed(view, bounds, bounds, scroll)
     if parent.window is None:
         return Placed(view, bounds, None, scroll)
-    left, top = parent.window[:2]
-    return Placed(view, bounds, moved(bounds, left, top - (parent.scroll or 0)), scroll)
+    return Placed(view, bounds, moved(bounds, parent.window[0], parent.window[1] - (parent.scroll or 0)), scroll)
 
 
 def all_placed(root: Optional[View], lines: List[bytes]) -> List[Placed]:
@@ -57,11 +57,16 @@ def all_placed(root: Optional[View], lines: List[bytes]) -> List[Placed]:
 
 def views_of(made: Script, refused: Refused) -> List[Placed]:
     """All views that a script leaves, in preorder. Refused lines are reported on the way."""
-    tree = following.Tree(made.folder)
-    for part, answer in replies.answers([*following.parts_of(made.lines), Part([b"bounds"])], made.folder):
+    return views_after(following.parts_of(made.lines), made.folder, refused)
+
+
+def views_after(parts: List[Part], folder: str, refused: Refused) -> List[Placed]:
+    """The same of the parts of a script."""
+    tree = following.Tree(folder)
+    for part, answer in replies.answers([*parts, Part([b"bounds"])], folder):
         if part.first:
             refused.add_all(part, answer)
-            tree.follow(part, answer)
+        tree.follow(part, answer)
     for refusal in answer.refusals.values():
         refused.end()
         raise Failure("there are no bounds: " + REASONS.get(refusal.number, "refusal %d" % refusal.number), WRONG)

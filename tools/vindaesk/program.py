@@ -5,10 +5,10 @@ import subprocess
 import tempfile
 from typing import Iterator, List, Optional, Tuple
 
-from .calling import NOT_BUILT, Failure
+from .calling import NOT_BUILT, TOP, Failure
 
-TOP = os.path.dirname(os.path.dirname(os.path.dirname(os.path.realpath(__file__))))
 BUILT = os.path.join(TOP, "crates", "view_tool", "out", "view_tool")
+INSTALLED = os.path.join(TOP, "view_tool")
 # the longest script that the program reads
 MAX_SCRIPT = 16777216
 SENTENCES = {
@@ -22,8 +22,9 @@ SENTENCES = {
 
 
 def path() -> str:
-    """The program: the one that the variable VINDAESK_PROGRAM names, or the one that was built here."""
-    found = os.environ.get("VINDAESK_PROGRAM") or BUILT
+    """The program: the one that the variable VINDAESK_PROGRAM names, the one that was installed with the tools, or the
+    one that was built here."""
+    found = os.environ.get("VINDAESK_PROGRAM") or (INSTALLED if os.path.exists(INSTALLED) else BUILT)
     if not (os.path.isfile(found) and os.access(found, os.X_OK)):
         raise Failure("there is no program at %s; ./vindaesk run builds it, see ./vindaesk --help" % found, NOT_BUILT)
     return os.path.realpath(found)

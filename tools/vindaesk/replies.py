@@ -4,7 +4,7 @@ The program says no more of a line than its reply, which may be empty. So a scri
 comes a line that is always refused: its refusal has its number, and ends the replies of its part.
 """
 import re
-from typing import Dict, Iterator, List, NamedTuple, Optional, Sequence, Tuple
+from typing import Dict, Iterator, List, NamedTuple, Sequence, Tuple
 
 from . import program, script
 from .calling import WRONG, Failure, say, shown
@@ -37,20 +37,26 @@ class Answer(NamedTuple):
 
 
 class Refused:
-    """Says which lines of the user's script were refused: the first ones each by itself, the others by their number."""
+    """Says which lines of the user's script were refused: the first ones each by itself, the others by their number. A
+    script may be run several times: a line that is refused again for the same reason counts once."""
 
     MOST = 50
 
     def __init__(self, is_silent: bool = False) -> None:
         self.count = 0
+        self.known: Dict[Tuple[int, bytes], Refusal] = {}
         self.most = 0 if is_silent else self.MOST
 
     def add(self, part: Part, refusal: Refusal) -> None:
         """Counts a refused line, and says which one it is."""
+        line = part.first + refusal.place
+        if (line, refusal.text) in self.known:
+            return
+        self.known[line, refusal.text] = refusal
         self.count += 1
         if self.count <= self.most:
             why = refusal.text.decode("utf-8", "replace")
-            say("line %d: %s: %s" % (part.first + refusal.place, why, shown(part.lines[refusal.place])))
+            say("line %d: %s: %s" % (line, why, shown(part.lines[refusal.place])))
 
     def add_all(self, part: Part, answer: Answer) -> None:
         """Counts the refused lines of a part."""

@@ -1,7 +1,7 @@
 """The lines of a script, as far as tools have to know them. docs/SCRIPT.md has them all."""
 import os
 import re
-from typing import List, Optional, Tuple
+from typing import List, Optional, Sequence, Tuple
 
 from . import files
 from .calling import NOT_RUN, Failure
@@ -30,9 +30,10 @@ def read(path: str) -> Script:
 
 
 def lines_in(text: bytes) -> List[bytes]:
-    """The lines of a text; a last one without a line feed counts if it is not empty."""
-    lines = text.split(b"\n")
-    return lines if lines[-1] else lines[:-1]
+    """The lines of a text; a last one without a line feed counts if it is not empty, and a carriage return at its end
+    belongs to it."""
+    *lines, last = text.split(b"\n")
+    return lines + [last + b"\r" if last.endswith(b"\r") else last] if last else lines
 
 
 def words_of(line: bytes) -> List[bytes]:
@@ -61,7 +62,7 @@ def window_of(line: bytes) -> Optional[Window]:
     return (width, height) if 1 <= width <= MAX_SIDE and 1 <= height <= MAX_SIDE else None
 
 
-def last_window(lines: List[bytes]) -> Optional[Window]:
+def last_window(lines: Sequence[bytes]) -> Optional[Window]:
     """The last window that lines open."""
     return next(filter(None, map(window_of, reversed(lines))), None)
 

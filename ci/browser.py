@@ -1,0 +1,163 @@
+"""Tries tools/page: what it writes, and, where Chromium is on PATH, what a browser shows of it."""
+import json
+import os
+import re
+import tempfile
+
+import chromium
+from tools import EXAMPLES, RED, UNSETTLED, WITHOUT, place, unlike
+
+TOUCHED = """window 160 120
+add root FrameLayout match match
+bg v1 #ffeceff1
+frame
+add v1 ScrollView match match
+id v2 @7f080001
+padding v2 1 2 3 4
+margins v2 4 0 0 0
+add v2 LinearLayout match wrap
+orient v3 vertical
+add v3 TextView match 60
+text v4 </script><b>&é
+answer v4 click
+add v3 View match 100
+frame
+remove v9
+down 0 80 100
+move 0 80 70
+up 0
+x
+frame
+down 3 10 10
+"""
+OUTSIDE = re.compile(rb"""<[a-z][^>]*\s(?:src|href)\s*=|url\(|@import|https?:(?!//www\.w3\.org/2000/svg)""")
+
+
+def data_of(page):
+    """The data of a page."""
+    text = page.split(b'<script id="data" type="application/json">')[1].split(b"</script>")[0]
+    return json.loads(text.decode())
+
+
+def records():
+    with place() as it:
+        said = "page: line 16: refused 28 NoView: remove v9\npage: line 20: refused 31 Syntax: x\n"
+        found = it.call("page", "-", "a.html", "--title", "a <b>", given=TOUCHED)
+        page = it.read("a.html")
+        if unlike(found, 1, b"", said) or OUTSIDE.search(page) or b"<title>a &lt;b></title>" not in page:
+            return unlike(found, 1, b"", said) or "outside parts: %s" % OUTSIDE.search(page)
+        data = data_of(page)
+        steps = data["steps"]
+        views = [data["views"][place] for place in steps[1]["views"]]
+        made = [
+            [step["line"] for step in steps], [[event["line"] for event in step["events"]] for step in steps],
+            len({step["picture"] for step in steps}), views[3]["text"], views[3]["answer"], views[1]["padding"],
+            views[1]["margins"], views[1]["id"], steps[2]["events"][0]["words"], steps[1]["events"][2]["replies"][-1]
+        ]
+        wanted = [[4, 15, 21], [[], [17, 18, 19], [22]], 2, "</script><b>&é", "click", "1 2 3 4 px", "4 0 0 0 px",
+                  "@7f080001", ["down", "3", "10", "10"], "done yes"]
+        return next(("%r in place of %r" % pair for pair in zip(made, wanted) if pair[0] != pair[1]), "")
+
+
+def limits():
+    with place() as it:
+        text = RED + "bg v1 #ff00ff00\nframe\n" * 4
+        said = "the page has the first 2 frames, and 3 more are left out"
+        found = it.call("page", "-", "-", "--frames", "2", given=text)
+        if unlike(found, 0, None, said):
+            return unlike(found, 0, None, said)
+        data = data_of(found[1])
+        if (len(data["steps"]), data["more"], len(data["pictures"])) != (2, 3, 2):
+            return "it has %d frames, and %d pictures" % (len(data["steps"]), len(data["pictures"]))
+        # a frame that does not settle and one that is refused are none
+        text = UNSETTLED + "frame\nremove v1\nframe\n"
+        found = it.call("page", "-", "-", given=text)
+        lines = [step["line"] for step in data_of(found[1])["steps"]]
+        return unlike(found, 1, None, "line 12: refused 34 NoRoot: frame") or ("" if lines == [5, 10] else "%s" % lines)
+
+
+def wrong_scripts():
+    with place() as it:
+        os.mkdir(os.path.join(it.folder, "folder"))
+        for text, why in WITHOUT.items():
+            if text == UNSETTLED or text.startswith(RED):
+                continue
+            found = unlike(it.call("page", "-", "a.html", given=text), 1, b"", "there is no frame to show: %s\n" % why)
+            if found or it.names() != ["folder"]:
+                return "%r: %s" % (text, found or "files: %s" % it.names())
+        why = unlike(it.call("page", "no.script", "a.html"), 2, b"", "no.script cannot be read: No such file")
+        why = why or unlike(it.call("page", "-", "folder", given=RED), 2, b"", "folder cannot be written: it is no")
+        why = why or unlike(it.call("page", "-", "no/a.html", given=RED), 2, b"", "no/a.html cannot be written")
+        why = why or unlike(it.call("page", "-", "a.html", "--frames", "0", given=RED), 2, b"", "'0' is no number")
+        killed = it.call("page", "-", "a.html", given=RED, **it.stand_in("kill -9 $$"))
+        why = why or unlike(killed, 137, b"", "ended by the signal SIGKILL")
+        return why or ("" if it.names() == ["folder", "program"] else "files: %s" % it.names())
+
+
+def facts(browser):
+    """What the page says of the chosen view."""
+    names, values = (browser.value("[...document.querySelectorAll('#facts %s')].map(it => it.textContent)" % name)
+                     for name in ("dt", "dd"))
+    return dict(zip(names, values))
+
+
+def stage(browser):
+    """Left, top and width of the picture in the browser's window."""
+    box = "document.getElementById('stage').getBoundingClientRect()"
+    return [browser.value("%s.%s" % (box, side)) for side in ("left", "top", "width")]
+
+
+def is_shown(browser):
+    """How what a browser shows of a page is not as it should be."""
+    browser.value("document.getElementById('after').click()")
+    left, top, width = stage(browser)
+    browser.click(left + width * 80 / 160, top + width * 30 / 160)
+    found = facts(browser)
+    wanted = {"Number": "v4", "Class": "TextView", "Text": "</script><b>&é",
+              "In its parent": "0 0 152 60  (152 by 60 px)", "In the window": "5 2 157 62  (152 by 60 px)",
+              "Touches": "click", "Padding": "0", "Margins": "0"}
+    for name, value in wanted.items():
+        if found.get(name) != value:
+            return "after a click it shows %s" % found
+    for key, number in (("ArrowUp", "v3"), ("ArrowLeft", "v2"), ("End", "v5"), ("Home", "v1"), ("ArrowRight", "v2")):
+        if key == "ArrowUp":
+            browser.value("document.querySelector('#tree [aria-selected=true]').focus()")
+        browser.press(key)
+        if facts(browser)["Number"] != number:
+            return "after the key %s it shows %s" % (key, facts(browser))
+    if (facts(browser)["Padding"], facts(browser)["Margins"]) != ("1 2 3 4 px", "4 0 0 0 px"):
+        return "of a padding and of margins it shows %s" % facts(browser)
+    drawn = browser.value("[...document.querySelectorAll('#marks polyline.path')].map(it => it.getAttribute('points'))")
+    if drawn != ["80,100 80,70"]:
+        return "paths: %s" % drawn
+    log = browser.value("[...document.querySelectorAll('#log summary')].map(it => it.textContent)")
+    return "" if log[:1] == ["line 17: down 0 80 100 → done yes"] and len(log) == 3 else "touches: %s" % log
+
+
+def shows():
+    if not chromium.COMMAND:
+        print("note: no page is opened in a browser, since there is no chromium on PATH")
+        return ""
+    with place() as it:
+        it.call("page", "-", "a.html", given=TOUCHED)
+        for width, is_dark in ((1200, False), (360, True)):
+            with chromium.Browser(width, 800, is_dark) as browser:
+                browser.open(os.path.join(it.folder, "a.html"))
+                why = is_shown(browser)
+                if browser.value("document.documentElement.scrollWidth > innerWidth"):
+                    why = why or "it is wider than the window"
+                dark = browser.value("getComputedStyle(document.body).backgroundColor")
+                if (dark == "rgb(15, 19, 24)") != is_dark:
+                    why = why or "its background is %s" % dark
+                unnamed = browser.value("[...document.querySelectorAll('button, input, [role=tree]')].filter(it => "
+                                        "!it.ariaLabel && !it.getAttribute('aria-labelledby')).length")
+                if why or unnamed:
+                    return "%d pixels wide: %s" % (width, why or "%d parts have no name" % unnamed)
+        return ""
+
+
+def checks():
+    yield "the page: records", records
+    yield "the page: limits", limits
+    yield "the page: wrong scripts", wrong_scripts
+    yield "browser: shows a page", shows

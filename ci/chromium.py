@@ -1,0 +1,119 @@
+"""Drives headless Chromium over its debugging pipe, which needs no more than a process and two descriptors."""
+import base64
+import json
+import os
+import select
+import shutil
+import subprocess
+import tempfile
+import time
+
+COMMAND = shutil.which("chromium") or shutil.which("chromium-browser") or shutil.which("google-chrome")
+FLAGS = ["--headless=new", "--no-sandbox", "--disable-gpu", "--disable-dev-shm-usage", "--no-first-run",
+         "--disable-extensions", "--disable-background-networking", "--remote-debugging-pipe", "about:blank"]
+SECONDS = 120
+
+
+class Browser:
+    """One page of a browser. In a `with` statement it ends at its end."""
+
+    def __init__(self, width, height, is_dark=False):
+        self.folder = tempfile.mkdtemp()
+        theirs_in, self.into = os.pipe()
+        self.out, theirs_out = os.pipe()
+        self.left, self.count, self.session = b"", 0, None
+        self.process = self.started(theirs_in, theirs_out)
+        os.close(theirs_in)
+        os.close(theirs_out)
+        target = next(it for it in self.ask("Target.getTargets")["targetInfos"] if it["type"] == "page")
+        self.session = self.ask("Target.attachToTarget", targetId=target["targetId"], flatten=True)["sessionId"]
+        self.ask("Emulation.setDeviceMetricsOverride", width=width, height=height, deviceScaleFactor=1, mobile=False)
+        scheme = {"name": "prefers-color-scheme", "value": "dark" if is_dark else "light"}
+        self.ask("Emulation.setEmulatedMedia", features=[scheme])
+
+    def started(self, theirs_in, theirs_out):
+        """The process, whose descriptors 3 and 4 are the ends of the pipes."""
+
+        def place():
+            # out of the way first, since either may be 3 or 4
+            kept = [os.dup(theirs_in), os.dup(theirs_out)]
+            kept = [it if it > 4 else os.dup(os.dup(os.dup(it))) for it in kept]
+            os.dup2(kept[0], 3)
+            os.dup2(kept[1], 4)
+
+        words = [COMMAND, "--user-data-dir=" + self.folder, *FLAGS]
+        return subprocess.Popen(
+            words, preexec_fn=place, pass_fds=(3, 4), stdin=subprocess.DEVNULL, stdout=subprocess.DEVNULL,
+            stderr=subprocess.DEVNULL
+        )
+
+    def __enter__(self):
+        return self
+
+    def __exit__(self, *_):
+        self.process.terminate()
+        try:
+            self.process.wait(10)
+        except subprocess.TimeoutExpired:
+            self.process.kill()
+            self.process.wait()
+        os.close(self.into)
+        os.close(self.out)
+        shutil.rmtree(self.folder, ignore_errors=True)
+
+    def message(self, until):
+        """The next message of the browser."""
+        while b"\0" not in self.left:
+            if not select.select([self.out], [], [], max(0, until - time.monotonic()))[0]:
+                raise TimeoutError("the browser does not answer within %d seconds" % SECONDS)
+            part = os.read(self.out, 1 << 20)
+            if not part:
+                raise RuntimeError("the browser ended")
+            self.left += part
+        text, _, self.left = self.left.partition(b"\0")
+        return json.loads(text.decode())
+
+    def ask(self, method, **parameters):
+        """Sends a command, and returns its result."""
+        self.count += 1
+        asked = {"id": self.count, "method": method, "params": parameters}
+        if self.session:
+            asked["sessionId"] = self.session
+        os.write(self.into, json.dumps(asked).encode() + b"\0")
+        until = time.monotonic() + SECONDS
+        while True:
+            found = self.message(until)
+            if found.get("id") == self.count:
+                if "error" in found:
+                    raise RuntimeError("%s: %s" % (method, found["error"]["message"]))
+                return found["result"]
+
+    def value(self, expression):
+        """The value of an expression of the page."""
+        found = self.ask("Runtime.evaluate", expression=expression, returnByValue=True)
+        if "exceptionDetails" in found:
+            raise RuntimeError("%s: %s" % (expression, found["exceptionDetails"].get("exception")))
+        return found["result"].get("value")
+
+    def open(self, path):
+        """Opens a file, and waits until it is loaded."""
+        self.ask("Page.navigate", url="file://" + path)
+        until = time.monotonic() + SECONDS
+        while self.value("document.readyState + location.protocol") != "completefile:":
+            if time.monotonic() > until:
+                raise TimeoutError("the page does not load within %d seconds" % SECONDS)
+            time.sleep(0.05)
+
+    def click(self, x, y):
+        """Clicks at a place of the window."""
+        for kind, button in (("mouseMoved", "none"), ("mousePressed", "left"), ("mouseReleased", "left")):
+            self.ask("Input.dispatchMouseEvent", type=kind, x=x, y=y, button=button, clickCount=int(button == "left"))
+
+    def press(self, key):
+        """Presses a key and releases it."""
+        for kind in ("keyDown", "keyUp"):
+            self.ask("Input.dispatchKeyEvent", type=kind, key=key, code=key)
+
+    def screenshot(self):
+        """What is shown, as the bytes of a PNG file."""
+        return base64.b64decode(self.ask("Page.captureScreenshot", format="png")["data"])

@@ -1,0 +1,143 @@
+"""Tries the session of tools/, over the built program and over programs that end early."""
+import contextlib
+import os
+import tempfile
+
+from running import TOP
+from tools import place
+from vindaesk import png
+from vindaesk.calling import Failure
+from vindaesk.session import Bounds, Frame, Inflated, LineRefused, Session
+
+EXAMPLES = os.path.join(TOP, "examples")
+
+
+def refusal(act, *words):
+    """The number, the name and what follows of the refusal that a call raises."""
+    try:
+        return "no refusal, but %s" % (act(*words),)
+    except LineRefused as refused:
+        return "%d %s%s" % (refused.number, refused.name, refused.detail)
+
+
+def unlike(pairs):
+    """The first of some pairs whose parts differ, or nothing."""
+    return next(("%r in place of %r" % pair for pair in pairs if pair[0] != pair[1]), "")
+
+
+def lays_out():
+    with Session(EXAMPLES) as s:
+        s.window(100, 50)
+        root = s.add("root", "FrameLayout", "match", "match")
+        text = s.add(root, "TextView", "wrap", "wrap")
+        s.set(text, "text", "a\nb\\c")
+        s.set(text, "id", "@7f050001")
+        s.set(root, "flag", "clip", False)
+        made = [s.frame(), s.bounds("@7f050001"), s.tree()[1].text, s.line("bounds"), s.line("# x")]
+        s.hook(text, "size v1 90 50", "bg v1 #ff0000ff")
+        s.set(text, "size", 20, 16)
+        made += [s.frame(), s.tree()[0].background, s.bounds(root)]
+    wanted = [Frame(True, 0), Bounds(0, 0, 18, 16), "a\nb\\c", ["v1 0 0 100 50", "v2 0 0 18 16"], [], Frame(True, 1),
+              "#ff0000ff", Bounds(0, 0, 90, 50)]
+    return unlike(zip(made, wanted))
+
+
+def inflates():
+    with Session(EXAMPLES) as s:
+        s.window(100, 100)
+        made = [refusal(s.inflate, "dimens.xml"), refusal(s.inflate, "cut_short.xml"), refusal(s.inflate, "no.xml")]
+        for number, values in ((6, (40, "px")), (2, (30, "dp")), (15, (1, "in")), (4, (3, "dp"))):
+            s.res("@7f0600%02x" % number, "dimen", *values)
+        made += [s.inflate("dimens.xml"), s.frame().is_settled, s.bounds("v2")]
+    wanted = ["12 Unresolved element 1", "1 Truncated at 324", "39 Missing", Inflated("v1", "v2", 0), True,
+              Bounds(0, 0, 160, 3)]
+    return unlike(zip(made, wanted))
+
+
+def refuses():
+    with Session() as s:
+        made = [refusal(s.line, "ad x"), refusal(s.frame), refusal(s.add, "v1", "View", 1, 1), refusal(s.digest)]
+        s.window(9, 9)
+        root = s.add("root", "View", 1, 1)
+        made += [refusal(s.bounds, root), refusal(s.bounds, "v7"), refusal(s.set, root, "text", "a"),
+                 refusal(s.set, root, "size", -1, 1), refusal(s.script, "min v1 1 1\nx\nmin v1 2 2\n")]
+        made += [s.frame(), s.bounds(root), s.frames(2500) == [Frame(True, 0)] * 2500]
+        s.line("remove v1")
+        made += [refusal(s.frames, 3), s.add("root", "View", 2, 2)]
+    wanted = ["31 Syntax", "33 NoWindow", "34 NoRoot", "33 NoWindow", "37 NoFrame", "37 NoFrame", "29 WrongClass",
+              "30 Range", "31 Syntax", Frame(True, 0), Bounds(0, 0, 1, 1), True, "34 NoRoot", "v2"]
+    return unlike(zip(made, wanted))
+
+
+def touches():
+    with Session() as s:
+        s.script("window 50 40\nadd root ScrollView match match\nadd v1 LinearLayout match wrap\norient v2 vertical")
+        s.script("add v2 View match 30\nadd v2 View match 70\nanswer v3 click\nid v3 @1\nid v1 @2\nframe")
+        made = [s.tap("@1"), s.drag("@2", 0, -24, steps=3)[-4:], s.bounds("@2").scroll, s.in_window("@1")]
+        state = s.save()
+        s.frame()
+        made += [s.in_window("@1"), s.seen("@1"), s.tree()[2].window]
+        s.set("@2", "scroll", 0)
+        s.restore(state)
+        s.frame()
+        made += [s.bounds("@2").scroll, s.remove("v3")]
+    wanted = [["v1 ask DOWN 0:25,15 no", "v2 ask DOWN 0:25,15 no", "v3 touch DOWN 0:25,15 yes", "done yes",
+               "v1 ask UP 0:25,15 no", "v2 ask UP 0:25,15 no", "v3 touch UP 0:25,15 yes", "v3 click", "done yes"],
+              ["v1 scroll 8", "done yes", "v1 touch UP 0:25,-4 yes", "done yes"], 8, (0, -8, 50, 22), (0, -8, 50, 22),
+              (0, 0, 50, 22), (0, -8, 50, 22), 8, []]
+    return unlike(zip(made, wanted))
+
+
+def takes_pictures():
+    with tempfile.TemporaryDirectory() as folder, Session() as s:
+        s.script("window 2 3\nadd root View match match\nbg v1 #ffff0000\nframe")
+        path = os.path.join(folder, "a.png")
+        s.screenshot(path, scale=2)
+        with open(path, "rb") as file:
+            scaled = png.parsed(file.read())
+        return unlike([(s.picture(), png.Picture(2, 3, [b"\xff\0\0" * 2] * 3)), (scaled.rows, [b"\xff\0\0" * 4] * 6)])
+
+
+def failure(act, *words):
+    """The sentence and the status of the failure that a call raises."""
+    try:
+        return "no failure, but %s" % (act(*words),)
+    except Failure as failed:
+        return "%d %s" % (failed.status, failed)
+    except ValueError as error:
+        return str(error)
+
+
+@contextlib.contextmanager
+def stand_in(act):
+    """Sessions in here have a program that does this."""
+    kept = dict(os.environ)
+    with place() as it:
+        try:
+            os.environ.update(it.stand_in(act))
+            yield
+        finally:
+            os.environ.clear()
+            os.environ.update(kept)
+
+
+def ends_early():
+    made = []
+    for act in ("kill -9 $$", "exit 5", "exit 0", "read line; echo nonsense"):
+        with stand_in(act), Session() as s:
+            made.append(failure(s.line, "window 1 1"))
+            made.append(failure(s.frame))
+    with Session() as s:
+        s.script("window 9 9\nadd root FrameLayout 0 1\nframe")
+        made += [failure(s.line, "a\nb"), failure(s.tap, "v1")]
+    closed = "the session is closed"
+    wanted = ["137 the program was ended by the signal SIGKILL", closed,
+              "5 the program ended with status 5: out of memory", closed,
+              "1 the program ended before its input did", closed, "1 the program ended before its input did",
+              closed, "a line has a line feed in it: 'a\\nb'", "nothing of v1 is seen in the window"]
+    return unlike(zip(made, wanted))
+
+
+def checks():
+    for check in (lays_out, inflates, refuses, touches, takes_pictures, ends_early):
+        yield "a session: " + check.__name__.replace("_", " "), check

@@ -1,0 +1,153 @@
+"""Tries tools/install: what it puts below a folder, which then runs where it is copied, and that it takes all away."""
+import os
+import shutil
+import subprocess
+
+from running import PROGRAM, SECONDS, TOP, run
+from tools import place, unlike
+from vindaesk import calling, installing
+
+SCRIPT = b"window 9 9\nadd root View 1 1\nframe\nbounds\n"
+ANSWER = b"v1\nsettled 0\nv1 0 0 1 1\n"
+
+
+def files_below(folder):
+    """The files and links below a folder."""
+    return sorted(os.path.relpath(os.path.join(at, name), folder) for at, _, names in os.walk(folder) for name in names)
+
+
+def called(folder, words, given=b""):
+    """Standard output and status of an installed command, on a machine that has no toolchain and no repository."""
+    path = ":".join(it for it in os.environ["PATH"].split(":") if not os.path.exists(os.path.join(it, "rt")))
+    ended = subprocess.run(
+        [os.path.join(folder, "bin", words[0]), *words[1:]], input=given, stdout=subprocess.PIPE, timeout=SECONDS,
+        stderr=subprocess.DEVNULL, cwd=folder, env={"PATH": path}
+    )
+    return ended.stdout, ended.returncode
+
+
+def runs_where_it_is_copied():
+    with place() as it:
+        found = it.call("install", "made")
+        if unlike(found, 0, None, ""):
+            return unlike(found, 0, None, "")
+        shutil.move(os.path.join(it.folder, "made"), os.path.join(it.folder, "moved"))
+        it.put("moved/a.script", SCRIPT)
+        with open(os.path.join(TOP, "VERSION"), "rb") as file:
+            version = b"vindaesk " + file.read()
+        calls = [
+            (["vindaesk", "run"], SCRIPT, ANSWER), (["vindaesk-tree", "a.script"], b"", b"v1 View 0 0 1 1\n"),
+            (["vindaesk-lint", "a.script"], b"", b""), (["vindaesk-runall", "--version"], b"", version),
+            (["vindaesk", "explain", "NoView"], b"", b"28 NoView: no view has the number or the id.\n"
+             b"It comes at any line that names a view.\n"),
+        ]
+        for words, given, wanted in calls:
+            if called(os.path.join(it.folder, "moved"), words, given) != (wanted, 0):
+                return "%s: %r" % (words, called(os.path.join(it.folder, "moved"), words, given))
+        out, status = called(os.path.join(it.folder, "moved"), ["vindaesk", "--version"])
+        return "" if status == 0 and out.startswith(version + b"commit ") else "--version: %r" % out
+
+
+def replaces_and_removes():
+    with place() as it:
+        os.makedirs(os.path.join(it.folder, "made", "bin"))
+        it.put("made/bin/other", "x")
+        it.call("install", "made")
+        before = files_below(os.path.join(it.folder, "made"))
+        it.put("made/lib/vindaesk/old", "x")
+        why = unlike(it.call("install", "made"), 0, None, "")
+        if why or files_below(os.path.join(it.folder, "made")) != before:
+            return why or "after the second time there is %s" % files_below(os.path.join(it.folder, "made"))
+        why = unlike(it.call("install", "--remove", "made"), 0, None, "")
+        left = files_below(os.path.join(it.folder, "made"))
+        if why or left != ["bin/other"]:
+            return why or "there stays %s" % left
+        return unlike(it.call("install", "--remove", "made"), 2, b"", "nothing is installed at")
+
+
+def leaves_what_is_not_its_own():
+    with place() as it:
+        os.makedirs(os.path.join(it.folder, "made", "lib", "vindaesk"))
+        why = unlike(it.call("install", "made"), 2, b"", "is there already, and was not installed from here")
+        it.put("file", "x")
+        why = why or unlike(it.call("install", "file"), 2, b"", "Not a directory")
+        found = it.call("install", "other", VINDAESK_PROGRAM="/nowhere")
+        why = why or unlike(found, 126, b"", "there is no program at")
+        os.makedirs(os.path.join(it.folder, "third", "bin"))
+        it.put("third/bin/vindaesk", "x")
+        why = why or unlike(it.call("install", "third"), 2, b"", "vindaesk is there already, and is no link")
+        return why or ("" if it.read("third/bin/vindaesk") == b"x" else "another one's file is written over")
+
+
+def helps():
+    """Each tool, by `--help`, `--version` and an argument that none knows."""
+    with place() as it:
+        for tool in installing.tools():
+            found = it.call(tool, "--help")
+            if unlike(found, 0, None, "") or not found[1].startswith(b"usage: %s" % tool.encode()):
+                return "%s --help: status %d, %r" % (tool, *found[:2])
+            why = unlike(it.call(tool, "--version"), 0, calling.version().encode() + b"\n", "")
+            why = why or unlike(it.call(tool, "--unknown"), 2, b"")
+            if why:
+                return "%s: %s" % (tool, why)
+        return ""
+
+
+def manual_page():
+    with place() as it:
+        it.call("install", "made")
+        text = it.read("made/share/man/man1/vindaesk.1").decode()
+        for part in (".TH VINDAESK 1", "vindaesk dump NAME", ".SS vindaesk\\-picdiff", "How many pixels"):
+            if part not in text:
+                return "%r is not in it" % part
+        return ""
+
+
+def commands_of(recipe):
+    """The commands of the steps `run` of a recipe."""
+    commands, indent = [], None
+    for line in recipe.splitlines():
+        text = line.strip()
+        if indent is not None and len(line) - len(line.lstrip()) > indent:
+            commands.append(text)
+            continue
+        indent = len(line) - len(line.lstrip()) if text == "run: |" else None
+        if text.startswith("run: ") and text != "run: |":
+            commands.append(text[len("run: ") :])
+    return commands
+
+
+def recipe_runs():
+    """The commands of the recipe for a continuous build, over this repository in the place of a clone."""
+    with open(os.path.join(TOP, "docs", "ci", "github.yml")) as file:
+        commands = commands_of(file.read())
+    if len(commands) != 5 or not commands[0].startswith("git clone ") or not commands[1].startswith("git -C "):
+        return "commands: %s" % commands
+    with place() as it:
+        os.symlink(TOP, os.path.join(it.folder, "vindaesk"))
+        os.mkdir(os.path.join(it.folder, "screens"))
+        for stem in ("card", "first", "reader"):
+            for name in os.listdir(os.path.join(TOP, "examples")):
+                if name.startswith(stem + ".") or name == "page.xml":
+                    shutil.copy(os.path.join(TOP, "examples", name), os.path.join(it.folder, "screens"))
+        text = "\n".join(["set -e", *commands[2:]]).replace("${{ matrix.shard }}", "2")
+        written, status = run(["bash", "-c", text], b"", it.folder)
+        if (written.splitlines()[-1:], status) != ([b"1 passed, 0 failed"], 0):
+            return "status %d, %r" % (status, written)
+        return "" if "report-2.xml" in it.names() else "there is no report"
+
+
+def needs_libc_alone():
+    """What the program needs, as the loader lists it."""
+    if not shutil.which("ldd"):
+        print("note: what the program needs is not looked at, since there is no ldd on PATH")
+        return ""
+    names = {line.split()[0].decode() for line in run(["ldd", PROGRAM], b"", TOP)[0].splitlines()}
+    others = [it for it in names if not it.startswith(("linux-vdso.", "libc.", "/lib64/ld-linux", "statically", "not"))]
+    return "it needs %s" % ", ".join(others) if others else ""
+
+
+def checks():
+    for check in (helps, runs_where_it_is_copied, replaces_and_removes, leaves_what_is_not_its_own, manual_page,
+                  recipe_runs, needs_libc_alone):
+        yield "what is installed: " + check.__name__.replace("_", " "), check

@@ -1,0 +1,150 @@
+"""Tries tools/lint, over scripts with and without faults."""
+import os
+
+from tools import EXAMPLES, first, place, unlike
+
+FAULTS = """window 320 200
+add root FrameLayout match match
+add v1 TextView 60 10
+text v2 This text is cut off
+add v1 View 50 60
+answer v3 click
+margins v3 310 0 0 0
+add v1 View 60 60
+answer v4 click
+margins v4 0 20 0 0
+add v1 View 60 60
+answer v5 yes
+margins v5 10 30 0 0
+id v5 @7f050001
+add v1 View 0 4
+add v1 TextView 4 wrap
+text v7 ab
+frame
+"""
+FOUND = """v2 TextView "This text is cut off": text-cut: it is 10 px high, and its text needs 16 (160 dpi, 320 dp)
+v3 View: outside: 40 px beyond the right of v1, which is 320 by 200 px (160 dpi, 320 dp)
+v4 View: overlap: 50 by 50 px under its sibling v5 View @7f050001 (160 dpi, 320 dp)
+v6 View: no-size: 0 by 4 px (160 dpi, 320 dp)
+v7 TextView "ab": text-cut: it is 4 px wide, and one character needs 6 (160 dpi, 320 dp)
+"""
+# nothing is wrong here: what is higher than a `ScrollView`, what is not seen, texts as high as their room, and siblings
+# that touch only
+RIGHT = """window 100 100
+add root LinearLayout match match
+orient v1 vertical
+add v1 ScrollView match 30
+add v2 RelativeLayout match wrap
+add v3 TextView match wrap
+id v4 @1
+text v4 a\\nb\\nc
+padding v4 4 4 4 4
+add v3 TextView 30 64
+text v5 d\\ne\\nf\\ng
+rule v5 below @1
+add v1 View 50 50
+answer v6 click
+add v1 View 50 48
+answer v7 click
+visible v7 gone
+add v1 FrameLayout 0 0
+visible v8 invisible
+add v8 View 200 1
+add v1 ScrollView 20 20
+flag v10 fill yes
+add v10 TextView match wrap
+text v11 a
+frame
+"""
+# texts in the ways of each class to limit a child
+NARROW = {
+    "a weight": "add v1 LinearLayout match 8\nadd v2 TextView 0 match\nweight v3 1\ntext v3 a\\nb\n",
+    "rules": "add v1 RelativeLayout match 8\nadd v2 TextView 40 wrap\ntext v3 a\\nb\nrule v3 parent_top yes\n"
+             "rule v3 parent_bottom yes\n",
+    "padding": "add v1 TextView 40 10\ntext v2 a\npadding v2 0 4 0 4\n",
+}
+OWN = '''from vindaesk.rules import rule
+
+@rule("no-id")
+def no_id(view, page):
+    """What answers touches has an id."""
+    if view.view.is_touched() and not view.view.id:
+        yield "it has no id"
+'''
+
+
+def finds():
+    with place() as it:
+        why = unlike(it.call("lint", "-", given=FAULTS), 1, FOUND.encode(), "")
+        why = why or unlike(it.call("lint", "-", given=RIGHT), 0, b"", "")
+        return why or unlike(it.call("lint", "-", given=RIGHT, *["--dpi", "160,320"]), 1, b'v6 View: touch-target: '
+                             b"25 by 25 dp, below 48 by 48 (320 dpi, 100 dp)\n", "")
+
+
+def measures_texts():
+    with place() as it:
+        for name, lines in NARROW.items():
+            text = "window 100 100\nadd root FrameLayout match match\n" + lines + "frame\n"
+            status, out, said = it.call("lint", "-", "--only", "text-cut", given=text)
+            if (status, out.count(b"text-cut: it is "), said) != (1, 1, ""):
+                return "%s: status %d, %r, '%s'" % (name, status, out, said)
+        hooked = FAULTS.replace("frame\n", "frame\nhook v1 size v2 60 10\n")
+        return unlike(it.call("lint", "-", "--only", "text-cut", given=hooked), 0, b"", "")
+
+
+def screens():
+    with place() as it:
+        with open(os.path.join(EXAMPLES, "margins.xml"), "rb") as file:
+            it.put("margins.xml", file.read())
+        it.put("a.script", "dpi 240\nwindow 300 150\ninflate margins.xml\nframe\n")
+        where = [b"240 dpi, 200 dp", b"160 dpi, 200 dp", b"320 dpi, 64 dp"]
+        calls = [[], ["--dpi", "160"], ["--dpi", "320", "--width", "64"]]
+        for place_of, words in zip(where, calls):
+            status, out, said = it.call("lint", "a.script", *words)
+            if (status, said) != (1, "") or not all(b"(%s)" % place_of in line for line in out.splitlines()):
+                return "%s: status %d, %r, '%s'" % (words, status, out, said)
+        text = "window 4000 10\nadd root View 1 1\nframe\n"
+        why = unlike(it.call("lint", "-", "--dpi", "320", given=text), 2, b"", "a window of 8000 by 20 pixels, at 320")
+        # a line that is refused at one density alone
+        large = "window 9 9\ndpi 160\nx\nframe\n"
+        found = it.call("lint", "-", "--dpi", "160,320", given=large)
+        return why or unlike(found, 1, b"", "line 3: refused 31 Syntax: x\n")
+
+
+def own_rules():
+    with place() as it:
+        it.put("own.py", OWN)
+        it.put("broken.py", "def (")
+        it.put("failing.py", OWN.replace('yield "it has no id"', "yield 1 // 0"))
+        it.put("a.script", FAULTS)
+        out = b"v3 View: no-id: it has no id (160 dpi, 320 dp)\nv4 View: no-id: it has no id (160 dpi, 320 dp)\n"
+        calls = [
+            (("--rules", "own.py", "--only", "no-id"), 1, out, ""),
+            (("--rules", "own.py", "--skip", "no-id,outside,no-size,overlap,text-cut"), 0, b"", ""),
+            (("--rules", "broken.py"), 2, b"", "the rules of broken.py cannot be loaded: SyntaxError"),
+            (("--rules", "failing.py"), 2, b"", "the rule no-id failed at v3: ZeroDivisionError"),
+            (("--rules", "no.py"), 2, b"", "there is no file no.py"),
+            (("--only", "other"), 2, b"", "there is no rule 'other'; the rules are outside, no-size"),
+            (("--dpi", "160,x"), 2, b"", "'x' is no number from 40 to 1000"),
+            (("--width", ""), 2, b"", "'' is no number from 1 to 16384"),
+        ]
+        return first(unlike(it.call("lint", "a.script", *words), *wanted) for words, *wanted in calls)
+
+
+def wrong_scripts():
+    with place() as it:
+        os.mkdir(os.path.join(it.folder, "folder"))
+        why = unlike(it.call("lint", "no.script"), 2, b"", "no.script cannot be read")
+        why = why or unlike(it.call("lint", "folder"), 2, b"", "folder cannot be read: Is a directory")
+        why = why or unlike(it.call("lint", "-"), 1, b"", "there are no bounds: the script opens no window\n")
+        refused = it.call("lint", "-", given="ad x\nwindow 9 9\nadd root View 1 1\nframe\n")
+        why = why or unlike(refused, 1, b"", "lint: line 1: refused 31 Syntax: ad x\n")
+        killed = it.call("lint", "-", given=FAULTS, **it.stand_in("kill -9 $$"))
+        why = why or unlike(killed, 137, b"", "ended by the signal SIGKILL")
+        ended = it.call("lint", "-", given="add root FrameLayout 1 1\ninflate folder into v1\n")
+        return why or unlike(ended, 6, b"", "status 6: a layout file could not be read")
+
+
+def checks():
+    for check in (finds, measures_texts, screens, own_rules, wrong_scripts):
+        yield "the lint: " + check.__name__.replace("_", " "), check

@@ -1,0 +1,153 @@
+"""The program under a limit of memory: a run ends by a status of its own and never by a signal, and what it has written
+is a prefix of what it writes without a limit. Of the stack it needs up to 256 KiB.
+
+Each script, and a layout file that is printed, is run under limits of the address space, of data and of the stack,
+from the least under which an empty script is run up to one that is no limit. The sweep takes some minutes, so it is run
+where it is asked for by its name: `ci/checks memory`.
+"""
+import os
+import resource
+import subprocess
+import tempfile
+from functools import partial
+
+from running import PROGRAM, SECONDS, TOP
+
+PAGE = 4096
+MAX_STEPS = 192
+LIMITS = {
+    "address space": (resource.RLIMIT_AS, 16 * PAGE, 1 << 29),
+    "data": (resource.RLIMIT_DATA, 8 * PAGE, 1 << 29),
+    "stack": (resource.RLIMIT_STACK, PAGE, 8 << 20),
+}
+# a stack that is smaller may end a run by a signal: functions that call themselves go as deep as the tree
+LEAST = {"stack": 256 << 10}
+OUT_OF_MEMORY, WRITE_FAILED = 5, 4
+
+
+def contents(name):
+    with open(os.path.join(TOP, "examples", name), "rb") as file:
+        return file.read()
+
+
+def lines(*parts):
+    return "".join(part + "\n" for part in parts).encode()
+
+
+def growing():
+    """Many views with texts, ids and rules."""
+    made = ["window 200 400", "add root RelativeLayout match match"]
+    for view in range(2, 200):
+        made += ["add v1 TextView wrap wrap", "id v%d @%x" % (view, view), "text v%d %s" % (view, "text " * 20)]
+        made += ["rule v%d below @%x" % (view, view - 1)] if view > 2 else []
+    return lines(*made, "frame", "bounds v199", "digest")
+
+
+def touching():
+    """Hooks, a gesture, and views that are scrolled, saved and restored."""
+    made = ["window 100 100", "add root ScrollView match match", "id v1 @1", "add v1 LinearLayout match wrap"]
+    for view in range(3, 203):
+        made += ["add v2 View match 40", "bg v%d #ff%06x" % (view, view * 4099 % (1 << 24))]
+    made += ["hook v%d size v%d match 41" % (view, view + 1) for view in range(3, 27)]
+    made += ["frame", "frame", "down 0 5 5", "move 0 5 1", "up 0", "scroll v1 0 900", "save", "scroll v1 0 0", "restore"]
+    return lines(*made, "frame", "bounds v3", "digest", "remove v2", "restore 01")
+
+
+def inflating():
+    """Resources, and a file that is read several times."""
+    made = ["window 300 300", "res @7f050001 dimen 16 dp"]
+    made += ["res @%x text %s" % (number, "word " * 30) for number in range(1, 300)]
+    made += ["add root FrameLayout match match"] + ["inflate a.xml into v1"] * 100
+    return lines(*made, "frame", "digest")
+
+
+def pictures():
+    """Windows of many sizes, with their pixels."""
+    made = ["window 64 64", "add root FrameLayout match match", "bg v1 #ff336699", "frame"]
+    for size in range(64, 512, 64):
+        made += ["window %d %d" % (size, size), "frame", "digest", "pixels 0 0 4 4"]
+    return lines(*made)
+
+
+SCRIPTS = {
+    "growing": growing(),
+    "touching": touching(),
+    "inflating": inflating(),
+    "pictures": pictures(),
+    "empty": b"",
+    "refused": b"ad root\n" * 50 + b"x" * 5000 + b"\n",
+}
+
+
+def limited(kind, limit):
+    resource.setrlimit(kind, (limit, resource.getrlimit(kind)[1]))
+
+
+def run_under(kind, limit, words, given, folder):
+    """What is written under a limit, and the status; a run that the system does not start has none."""
+    try:
+        ended = subprocess.run(
+            [PROGRAM, *words], input=given, stdout=subprocess.PIPE, stderr=subprocess.DEVNULL, cwd=folder,
+            timeout=SECONDS, preexec_fn=partial(limited, kind, limit)
+        )
+    except (OSError, subprocess.SubprocessError):
+        return b"", None
+    return ended.stdout, ended.returncode
+
+
+def starts(kind, limit, folder):
+    return run_under(kind, limit, ["run"], b"", folder) == (b"", 0)
+
+
+def least_start(kind, step, most, folder):
+    """The least limit, a multiple of the step, under which an empty script is run; found by halving."""
+    low, high = 0, most // step
+    while low + 1 < high:
+        middle = (low + high) // 2
+        if starts(kind, middle * step, folder):
+            high = middle
+        else:
+            low = middle
+    return high * step
+
+
+def is_prefix(written, whole, status):
+    """Whether a run that stopped has written whole lines that it writes without a limit; a write that fails may end
+    in a line."""
+    is_whole = status == WRITE_FAILED or written[-1:] in (b"", b"\n")
+    return whole.startswith(written) and is_whole
+
+
+def swept(words, given, folder, kind_name):
+    """Why a run under some limit is wrong, or nothing."""
+    kind, step, most = LIMITS[kind_name]
+    whole, whole_status = run_under(kind, most, words, given, folder)
+    if whole_status not in (0, 1):
+        return "without a limit the status is %s" % whole_status
+    limit, count = max(least_start(kind, step, most, folder), LEAST.get(kind_name, 0)), 0
+    while limit < most:
+        written, status = run_under(kind, limit, words, given, folder)
+        if (written, status) == (whole, whole_status):
+            count += 1
+            if count == 8:
+                return ""
+        elif status not in (OUT_OF_MEMORY, WRITE_FAILED):
+            return "under a limit of %d bytes the status is %s" % (limit, status)
+        elif not is_prefix(written, whole, status):
+            return "under a limit of %d bytes what is written is no prefix" % limit
+        limit += step * (1 + limit // (step * MAX_STEPS))
+    return ""
+
+
+def sweep(words, given, kind_name):
+    with tempfile.TemporaryDirectory() as folder:
+        with open(os.path.join(folder, "a.xml"), "wb") as file:
+            file.write(contents("a.xml"))
+        return swept(words, given, folder, kind_name)
+
+
+def checks():
+    for kind_name in LIMITS:
+        for name, script in SCRIPTS.items():
+            yield "memory/%s/%s" % (kind_name, name), partial(sweep, ["run"], script, kind_name)
+        yield "memory/%s/dump" % kind_name, partial(sweep, ["dump", "a.xml"], b"", kind_name)
