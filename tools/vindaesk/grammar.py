@@ -118,7 +118,7 @@ place = number(-1048576, 1048576, "a number of pixels")
 window_side = number(1, 4096, "a number of pixels")
 whole = Kind("a number, 0 or more, and with K at most 65535", is_number, is_within=lambda word: 0 <= int(word) <= 65535)
 part = number(0, 255)
-pointer = number(0, 9)
+pointer = number(0, 31)
 touches = Kind("none, or one or more of down, up, move, cancel, pdown and pup", TOUCHES.__contains__, TOUCHES,
                is_many=True)
 edits = Kind("an edit: a line size, min, margins, padding, weight, gravity or bg", lambda word: True, is_rest=True)

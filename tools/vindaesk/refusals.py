@@ -40,7 +40,7 @@ REFUSALS: Dict[int, Refusal] = {
     24: Refusal("Hooks", VIEW, "32 hooks are armed, and none of them is of this view"),
     25: Refusal("HookEdit", ("E",), "a hook has no such edit"),
     26: Refusal("BadState", ("HEX",), "the saved state is cut short or wrong"),
-    27: Refusal("StateClass", ("HEX",), "a view has an id of the saved state, and no view that scrolls has it"),
+    27: Refusal("StateClass", ("HEX",), "a view has the id of an entry of the saved state, and no view that suits the entry has it"),
     28: Refusal("NoView", VIEW, "no view has this number or id"),
     29: Refusal("WrongClass", VIEW, "the view is of a class that has no such thing"),
     30: Refusal("Range", (), "a number is out of its bounds"),

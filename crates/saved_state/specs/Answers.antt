@@ -25,7 +25,8 @@ abbrev pub ReadAs : {A : Type 0} → Result A ℕ → Result A StateFault → Ty
 ReadAs read (Ok made) = read ≡ Ok made
 ReadAs read (Err failed) = FailsAs read failed
 
--- a state is refused exactly where it is for a view of another class; memory is never wanting
+-- a state is refused exactly where it is for a view of another class; only where it is not, there may be no memory
 abbrev pub RestoredUnless : {A : Type 0} → Bool → Result A StateFault → Type 0
 RestoredUnless is_for_other (Ok done) = is_for_other ≡ false
-RestoredUnless is_for_other (Err failed) = (is_for_other ≡ true) × is_other_class failed
+RestoredUnless is_for_other (Err (fault.Refused refusal)) = (is_for_other ≡ true) × is_other_class (fault.Refused refusal)
+RestoredUnless is_for_other (Err fault.NoMemory) = is_for_other ≡ false

@@ -13,7 +13,7 @@ pub const MAX_POINT: i64 = 4095;
 /// The greatest number of pixels that a line tells.
 pub const MAX_PIXELS: i64 = 65536;
 /// The greatest id of a pointer.
-pub const MAX_POINTER: u32 = 9;
+pub const MAX_POINTER: u32 = 31;
 /// The least coordinate of a touch, in pixels.
 pub const MIN_TOUCH: i64 = -1048576;
 /// The greatest coordinate of a touch, in pixels.

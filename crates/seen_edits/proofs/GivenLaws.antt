@@ -8,6 +8,7 @@ use Rattle.geom_core.specs.declared.geometry.Rect.{Rect}
 use Rattle.geom_core.specs.declared.geometry.Size.{Size}
 use Rattle.saved_state.proofs.RestoredLaws.{all_bounds, all_offsets}
 use Rattle.saved_state.specs.Restored.{all_given, set_by, wanted}
+use Rattle.saved_state.specs.State.{StateEntry}
 use Rattle.seen_edits.proofs.ScrolledLaws.{in_more}
 use Rattle.seen_edits.proofs.ShownLaws.{colors_same}
 use Rattle.seen_edits.specs.Scrolled.{IsIn, NotesGiven}
@@ -23,15 +24,15 @@ use Rattle.view_tree.specs.Rows.{Row, count_of_key}
 use Rattle.view_tree.specs.Views.{IsLive, IsTree, SameTree, Views, held_of}
 
 -- so far, what is seen of each view before `next` that is given an offset is damage
-abbrev pub NotesBefore : List (ℕ × ℕ) → Size → Rect → Views → Option ℕ → Type 0
+abbrev pub NotesBefore : List StateEntry → Size → Rect → Views → Option ℕ → Type 0
 NotesBefore entries window damage views next =
     (key : ℕ) → IsLive views key → is_some (wanted entries views.tree key) ≡ true → key_count key (rows_from next views.tree) ≡ 0 → IsIn window damage views key
 
-pub given_start : (entries : List (ℕ × ℕ)) (window : Size) (damage : Rect) (views : Views) (next : Option ℕ) → rows_from next views.tree ≡ rows views.tree → NotesBefore entries window damage views next
+pub given_start : (entries : List StateEntry) (window : Size) (damage : Rect) (views : Views) (next : Option ℕ) → rows_from next views.tree ≡ rows views.tree → NotesBefore entries window damage views next
 given_start entries window damage views next whole key live some none =
     absurd (let all = ap (key_count key) (sym whole) ∙ none in let count = key_count-rows key views.tree in omega arith)
 
-pub given_on : (entries : List (ℕ × ℕ)) (window : Size) (less more : Rect) (views : Views) (view : ℕ) (next : Option ℕ) → IsLive views view
+pub given_on : (entries : List StateEntry) (window : Size) (less more : Rect) (views : Views) (view : ℕ) (next : Option ℕ) → IsLive views view
     → rows_from next views.tree ≡ drop 1 (rows_from (Some view) views.tree) → LiesIn less more
     → (is_some (wanted entries views.tree view) ≡ true → IsIn window more views view)
     → NotesBefore entries window less views (Some view) → NotesBefore entries window more views next
@@ -48,7 +49,7 @@ given_on entries window less more views view next there is grew own before key l
         ap (key_count key) parts ∙ rw other (omega (arith, none))
 
 -- offsets were restored, and all of that was noted
-pub shown_given : (window : Size) (less more : Rect) (old new : Views) (entries : List (ℕ × ℕ)) → IsTree new → SameTree old new
+pub shown_given : (window : Size) (less more : Rect) (old new : Views) (entries : List StateEntry) → IsTree new → SameTree old new
     → ((key : ℕ) → held_of new key ≡ all_given entries old.tree (set_by entries old.tree) (held_of old) key)
     → LiesIn less more → NotesGiven entries window more new → KeepsShown window less more old new
 shown_given window less more old new entries is same held grew noted = record {

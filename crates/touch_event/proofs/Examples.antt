@@ -7,7 +7,7 @@ use Rattle.touch_event.specs.declared.event.Point.{Point}
 use Rattle.touch_event.specs.PointerSets.{has_id}
 use Rattle.touch_event.specs.Splitting.{split_event}
 
--- the pointers 0, 1 and 9
+-- the pointers 0, 1 and 31
 left : Point
 left = record { id = 0; x = pos 10; y = pos 5 }
 
@@ -15,7 +15,7 @@ right : Point
 right = record { id = 1; x = pos 60; y = pos 5 }
 
 last : Point
-last = record { id = 9; x = pos 61; y = pos 6 }
+last = record { id = 31; x = pos 61; y = pos 6 }
 
 event : Action → ℕ → List Point → Event
 event action pointer points = record { action = action; pointer = pointer; points = record { items = points } }
@@ -50,11 +50,11 @@ unfolding part event left right has_id
 goes_up_elsewhere = refl
 
 -- of three pointers two are followed
-goes_up_beside_another : part 513 (event PointerUp 9 (left ∷ right ∷ last ∷ [])) ≡ Some (event PointerUp 9 (left ∷ last ∷ []))
+goes_up_beside_another : part 2147483649 (event PointerUp 31 (left ∷ right ∷ last ∷ [])) ≡ Some (event PointerUp 31 (left ∷ last ∷ []))
 unfolding part event left right last has_id
 goes_up_beside_another = refl
 
-goes_up_elsewhere_of_two : part 3 (event PointerUp 9 (left ∷ right ∷ last ∷ [])) ≡ Some (event Move 9 (left ∷ right ∷ []))
+goes_up_elsewhere_of_two : part 3 (event PointerUp 31 (left ∷ right ∷ last ∷ [])) ≡ Some (event Move 31 (left ∷ right ∷ []))
 unfolding part event left right last has_id
 goes_up_elsewhere_of_two = refl
 

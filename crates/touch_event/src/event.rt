@@ -3,7 +3,7 @@
 use arrayvec::ArrayVec;
 
 /// The most pointers that can be down at once. Their ids are below this.
-pub const MAX_POINTERS: usize = 10;
+pub const MAX_POINTERS: usize = 32;
 
 /// What happens in an event.
 #[derive(Clone, Copy, Debug, PartialEq, Eq)]

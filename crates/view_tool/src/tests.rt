@@ -144,6 +144,14 @@ const SPLIT: &[u8] =
     v1 ask POINTER_DOWN(1) 0:10,5 1:60,5 no\nv2 touch POINTER_DOWN(1) 0:10,5 1:60,5 yes\ndone yes\n\
     v1 ask CANCEL no\nv2 touch CANCEL yes\ndone yes\n";
 
+// The pointer with the greatest id, and one beyond it.
+const GREATEST: &[u8] =
+    b"window 100 20\nadd root LinearLayout match match\nadd v1 View 50 match\nadd v1 View 50 match\nanswer v2 yes\nanswer v3 yes\nframe\n\
+    down 31 10 5\ndown 32 1 1\n";
+
+const GREATEST_DOWN: &[u8] =
+    b"v1\nv2\nv3\nsettled 0\nv1 ask DOWN 31:10,5 no\nv2 touch DOWN 31:10,5 yes\ndone yes\nline 9: refused 30 Range\n";
+
 // The view that has a gesture is taken away.
 const LEAVING: &[u8] =
     b"window 20 20\nadd root FrameLayout match match\nadd v1 View match match\nanswer v2 yes\nframe\ndown 0 5 5\nremove v2\nmove 0 6 6\nup 0\n";
@@ -168,11 +176,25 @@ const SAVING: &[u8] =
     size v3 match 70\nframe\nbounds v1\nid v1 @7f080001\nsave\nrestore 5653020100\nrestore 5653010100\nscroll v1 5\nrestore\nframe\nbounds v1\n";
 
 const SAVED: &[u8] =
-    b"v1\nv2\nv3\nsettled 0\nv1 0 0 50 40 scroll 60\nsettled 0\nv1 0 0 50 40 scroll 30\nstate 56530101000100087f011e000000\n\
-    line 14: refused 26 BadState at 2\nline 15: refused 26 BadState at 5\nsettled 0\nv1 0 0 50 40 scroll 30\n";
+    b"v1\nv2\nv3\nsettled 0\nv1 0 0 50 40 scroll 60\nsettled 0\nv1 0 0 50 40 scroll 30\nstate 56530201000100087f011e000000\n\
+    line 14: refused 26 BadState at 5\nline 15: refused 26 BadState at 5\nsettled 0\nv1 0 0 50 40 scroll 30\n";
+
+// The first version is read too, and a third is none.
+const READING_FIRST: &[u8] =
+    b"window 50 40\nadd root ScrollView match match\nadd v1 LinearLayout match wrap\norient v2 vertical\nadd v2 View match 100\nid v1 @1\n\
+    restore 5653030100\nrestore 5653010100\nrestore 565301010001000000011e000000\nframe\nbounds v1\n";
+
+const FIRST_READ: &[u8] =
+    b"v1\nv2\nv3\nline 7: refused 26 BadState at 2\nline 8: refused 26 BadState at 5\nsettled 0\nv1 0 0 50 40 scroll 30\n";
+
+// A text is saved and restored, and layout follows it.
+const TEXTS: &[u8] =
+    b"window 100 20\nadd root TextView wrap wrap\ntext v1 hi\nid v1 @1\nsave\ntext v1 x\nrestore\nframe\nbounds v1\n";
+
+const TEXTS_RESTORED: &[u8] = b"v1\nstate 5653020100010000000202006869\nsettled 0\nv1 0 0 12 8\n";
 
 #[rattlefmt::skip]
-const RUNS: [Run; 28] = [
+const RUNS: [Run; 31] = [
     Run { script: b"", reads: &[], writes: &[], status: 0, text: b"" },
     Run { script: SIMPLE, reads: &[], writes: &[], status: 0, text: SIMPLE_BOUNDS },
     // The window stands after the first read, and the first view after three.
@@ -206,8 +228,11 @@ const RUNS: [Run; 28] = [
     Run { script: PICTURING, reads: &[], writes: &[], status: 1, text: PICTURED },
     Run { script: DRAGGING, reads: &[], writes: &[], status: 0, text: DRAGGED },
     Run { script: SPLITTING, reads: &[], writes: &[], status: 0, text: SPLIT },
+    Run { script: GREATEST, reads: &[], writes: &[], status: 1, text: GREATEST_DOWN },
     Run { script: LEAVING, reads: &[], writes: &[], status: 0, text: LEFT },
     Run { script: SAVING, reads: &[], writes: &[], status: 1, text: SAVED },
+    Run { script: READING_FIRST, reads: &[], writes: &[], status: 1, text: FIRST_READ },
+    Run { script: TEXTS, reads: &[], writes: &[], status: 0, text: TEXTS_RESTORED },
     // An unsettled frame leaves no bounds.
     Run { script: HOOKING, reads: &[], writes: &[], status: 1, text: HOOKED },
     Run { script: BLUNDERING, reads: &[], writes: &[], status: 1, text: BLUNDERED },

@@ -47,7 +47,7 @@ pub fn tool<S: Source, K: Sink, F: Shelf>(
     // these.
     //
     // It covers all lines: a tree of views is built, edited, inflated from layout files, measured, laid out, painted and
-    // touched, hooks change it in the middle of a frame, offsets are saved and restored, and bounds, colours and digests
+    // touched, hooks change it in the middle of a frame, offsets and texts are saved and restored, and bounds, colours and digests
     // are told.
     ensures headline { (script : List ℕ) (files : Files)
         → IsRunOf (usage words.now) (S.left source.old) (F.files shelf.old) script files

@@ -1,4 +1,4 @@
--- The views whose offset a state sets, by their keys and by their numbers.
+-- The views whose offset or text a state sets, by their keys and by their numbers.
 use Rattle.std.proofs.Common.{◌≡◌, ℕ, ◌<◌, true, false, List, [], ◌∷◌, ◌++◌, map, Some, None, Ok, refl, sym, ◌∙◌, ap, subst, arith, inl, inr}
 use Rattle.std.proofs.lemmas.Bool.{cases_Bool, cases_eq, eq-eqb, ne_eqb}
 use Rattle.std.proofs.lemmas.List.Folds.{list_any-append}
@@ -10,8 +10,8 @@ use Rattle.geom_core.specs.declared.geometry.Rect.{Rect}
 use Rattle.geom_core.specs.declared.geometry.Size.{Size}
 use Rattle.pixel_raster.specs.Raster.{size_of}
 use Rattle.saved_state.specs.Restored.{given_keys, on_paths, set_by, wanted}
-use Rattle.saved_state.specs.Restoring.{given_offset}
-use Rattle.saved_state.specs.State.{decoded}
+use Rattle.saved_state.specs.Restoring.{given}
+use Rattle.saved_state.specs.State.{StateEntry, decoded}
 use Rattle.seen_edits.specs.Scrolled.{GivenIn}
 use Rattle.seen_edits.specs.Shown.{seen_of}
 use Rattle.view_model.specs.Forest.{Forest, Nothing, Branch, EveryRow, rows}
@@ -43,14 +43,14 @@ every_own views is (Branch row kids siblings) within live = (
   every_own views is siblings (λ r k s w. within r k s (in_after w)) live.2,
 )
 
-given_append : (entries : List (ℕ × ℕ)) (first second : List PlainView) → given_numbers entries (first ++ second) ≡ given_numbers entries first ++ given_numbers entries second
+given_append : (entries : List StateEntry) (first second : List PlainView) → given_numbers entries (first ++ second) ≡ given_numbers entries first ++ given_numbers entries second
 given_append entries [] second = refl
-given_append entries (view ∷ first) second = elim (cases_Bool (is_some (given_offset entries view))) [
+given_append entries (view ∷ first) second = elim (cases_Bool (is_some (given entries view))) [
   | inl e ↦ rw e (ap (λ (numbers : List ℕ). view.number ∷ numbers) (given_append entries first second))
   | inr e ↦ rw e (given_append entries first second)
 ]
 
-keys_append : (entries : List (ℕ × ℕ)) (tree : Forest Row) (first second : List Row) → given_keys entries tree (first ++ second) ≡ given_keys entries tree first ++ given_keys entries tree second
+keys_append : (entries : List StateEntry) (tree : Forest Row) (first second : List Row) → given_keys entries tree (first ++ second) ≡ given_keys entries tree first ++ given_keys entries tree second
 keys_append entries tree [] second = refl
 keys_append entries tree (row ∷ first) second = elim (cases_Bool (is_some (wanted entries tree row.key))) [
   | inl e ↦ rw e (ap (λ (keys : List ℕ). row.key ∷ keys) (keys_append entries tree first second))
@@ -58,7 +58,7 @@ keys_append entries tree (row ∷ first) second = elim (cases_Bool (is_some (wan
 ]
 
 -- a state gives the same views by both
-given_named : (views : Views) (entries : List (ℕ × ℕ)) (held : ℕ → Held) (list : Forest Row) → EveryRow (IsOwn views) list
+given_named : (views : Views) (entries : List StateEntry) (held : ℕ → Held) (list : Forest Row) → EveryRow (IsOwn views) list
     → given_numbers entries (rows (plain_rows held list)) ≡ map (number_of views) (given_keys entries views.tree (rows list))
 given_named views entries held Nothing every = refl
 given_named views entries held (Branch row kids siblings) every =
@@ -69,7 +69,7 @@ given_named views entries held (Branch row kids siblings) every =
     ∙ sym (map-append (number_of views) (given_keys entries views.tree (rows kids)) (given_keys entries views.tree (rows siblings)))
     ∙ ap (map (number_of views)) (sym (keys_append entries views.tree (rows kids) (rows siblings))) in
     let number : number_of views row.key ≡ row.view.number = ap (λ (view : PlainView). view.number) every.0.own in
-    elim (cases_Bool (is_some (given_offset entries row.view))) [
+    elim (cases_Bool (is_some (given entries row.view))) [
       | inl e ↦ rw (e, every.0.own, e) (
           ap (λ (numbers : List ℕ). row.view.number ∷ numbers) both
           ∙ ap (λ (n : ℕ). n ∷ map (number_of views) (given_keys entries views.tree (rows kids ++ rows siblings))) (sym number)
@@ -77,11 +77,11 @@ given_named views entries held (Branch row kids siblings) every =
       | inr e ↦ rw (e, every.0.own, e) both
     ]
 
-pub set_named : (views : Views) (entries : List (ℕ × ℕ)) → IsTree views → given_numbers entries (rows (plain_of views)) ≡ map (number_of views) (set_by entries views.tree)
+pub set_named : (views : Views) (entries : List StateEntry) → IsTree views → given_numbers entries (rows (plain_of views)) ≡ map (number_of views) (set_by entries views.tree)
 set_named views entries is =
     given_named views entries (held_of views) views.tree (every_own views is views.tree (λ row kids siblings within. within) (every_live views views.tree (λ key. omega arith)))
 
-keys_live : (views : Views) (entries : List (ℕ × ℕ)) (list : List Row) → AllLive views (map (λ (row : Row). row.key) list) → AllLive views (given_keys entries views.tree list)
+keys_live : (views : Views) (entries : List StateEntry) (list : List Row) → AllLive views (map (λ (row : Row). row.key) list) → AllLive views (given_keys entries views.tree list)
 keys_live views entries [] live = tt
 keys_live views entries (row ∷ more) live = elim (cases_Bool (is_some (wanted entries views.tree row.key))) [
   | inl e ↦ rw e (live.0, keys_live views entries more live.1)
@@ -107,7 +107,7 @@ off_set views [] key is live none = refl
 off_set views (view ∷ keys) key is live none = let both = unless _ _ none in rw (off_key views view key is live.0 both.0) (off_set views keys key is live.1 both.1)
 
 -- a view that is given an offset is among those that a state sets
-among_given : (entries : List (ℕ × ℕ)) (tree : Forest Row) (key : ℕ) (list : List Row) → is_some (wanted entries tree key) ≡ true → list_any (λ (row : Row). row.key == key) list ≡ true
+among_given : (entries : List StateEntry) (tree : Forest Row) (key : ℕ) (list : List Row) → is_some (wanted entries tree key) ≡ true → list_any (λ (row : Row). row.key == key) list ≡ true
     → list_any (λ (k : ℕ). key == k) (given_keys entries tree list) ≡ true
 among_given entries tree key [] some there = absurd cc
 among_given entries tree key (row ∷ list) some there = elim (cases_eq row.key key) [
@@ -133,7 +133,7 @@ row_there key (Branch row kids siblings) live = elim (cases_Bool (row.key == key
 ]
 
 -- what is seen of the views that are given offsets lies where it is known to lie
-given_seen : (old new : KeyedScreen) (entries : List (ℕ × ℕ)) (box : Rect) → IsTree old.views → SameTree old.views new.views → size_of new.surface ≡ size_of old.surface
+given_seen : (old new : KeyedScreen) (entries : List StateEntry) (box : Rect) → IsTree old.views → SameTree old.views new.views → size_of new.surface ≡ size_of old.surface
     → AreSeenIn box (given_numbers entries (rows (plain_of old.views))) old new → GivenIn entries (size_of old.surface) box new.views
 given_seen old new entries box is same size seen key live some =
     let was : IsTree new.views = is_tree-same old.views new.views is same.tree same.next in
@@ -148,7 +148,7 @@ given_seen old new entries box is same size seen key live some =
     subst (λ (window : Size). LiesIn (seen_of window new.views key) box) size (subst (λ (rect : Rect). LiesIn rect box) (seen_named new key was live) own)
 
 -- what is restored leaves all views that are on no path of those whose offset it sets
-restored_keeps : (old : KeyedScreen) (new : Views) (damage : Rect) (entries : List (ℕ × ℕ)) → IsTree old.views → new.counts ≡ old.views.counts
+restored_keeps : (old : KeyedScreen) (new : Views) (damage : Rect) (entries : List StateEntry) → IsTree old.views → new.counts ≡ old.views.counts
     → ((key : ℕ) → on_paths key (set_by entries old.views.tree) old.views.tree ≡ false → held_of new key ≡ held_of old.views key)
     → SameTree old.views new → ((box : Rect) → LiesIn old.damage box → GivenIn entries (size_of old.surface) box new → LiesIn damage box)
     → KeepsBut Asks (given_numbers entries (rows (plain_of old.views))) [] (given_numbers entries (rows (plain_of old.views))) old (record old { views = new; damage = damage })
@@ -170,7 +170,7 @@ restored_keeps old new damage entries is counts leaves same within =
     }
 
 -- the state of a text, or the one that is kept
-pub text_keeps : (old : KeyedScreen) (new : Views) (damage : Rect) (entries : List (ℕ × ℕ)) (text : List ℕ) → decoded (state_bytes text) ≡ Ok entries → IsTree old.views → new.counts ≡ old.views.counts
+pub text_keeps : (old : KeyedScreen) (new : Views) (damage : Rect) (entries : List StateEntry) (text : List ℕ) → decoded (state_bytes text) ≡ Ok entries → IsTree old.views → new.counts ≡ old.views.counts
     → ((key : ℕ) → on_paths key (set_by entries old.views.tree) old.views.tree ≡ false → held_of new key ≡ held_of old.views key)
     → SameTree old.views new → ((box : Rect) → LiesIn old.damage box → GivenIn entries (size_of old.surface) box new → LiesIn damage box)
     → KeepsBut Asks (restored_numbers (world_of old) (Some text)) [] (restored_numbers (world_of old) (Some text)) old (record old { views = new; damage = damage })

@@ -1,8 +1,8 @@
 -- At which views lines request layout, and what they leave with all others.
 use Rattle.std.specs.Prelude.{◌≡◌, ℕ, Bool, true, false, if◌then◌else◌, is_some, List, [], ◌∷◌, Option, Some, None, Result, Ok, Err}
 use Rattle.std.specs.Option.{option_map}
-use Rattle.saved_state.specs.Restoring.{given_offset}
-use Rattle.saved_state.specs.State.{decoded}
+use Rattle.saved_state.specs.Restoring.{given}
+use Rattle.saved_state.specs.State.{StateEntry, decoded}
 use Rattle.script_lines.specs.PlainCommands.{PlainCommand}
 use Rattle.script_lines.specs.PlainCommands as command
 use Rattle.tree_edits.specs.Asking.{requests_layout as act_requests}
@@ -28,13 +28,13 @@ abbrev pub parent_listed : Option ℕ → Forest PlainView → List ℕ
 parent_listed None tree = []
 parent_listed (Some number) tree = listed (parent_of number tree)
 
--- the numbers of those of these views whose offset a state sets
-abbrev pub given_numbers : List (ℕ × ℕ) → List PlainView → List ℕ
+-- the numbers of those of these views whose offset or text a state sets
+abbrev pub given_numbers : List StateEntry → List PlainView → List ℕ
 given_numbers entries [] = []
-given_numbers entries (view ∷ views) = if is_some (given_offset entries view) then view.number ∷ given_numbers entries views else given_numbers entries views
+given_numbers entries (view ∷ views) = if is_some (given entries view) then view.number ∷ given_numbers entries views else given_numbers entries views
 
 -- the same by what was read of a state
-abbrev pub set_numbers : Result (List (ℕ × ℕ)) ℕ → Forest PlainView → List ℕ
+abbrev pub set_numbers : Result (List StateEntry) ℕ → Forest PlainView → List ℕ
 set_numbers (Ok entries) tree = given_numbers entries (rows tree)
 set_numbers (Err place) tree = []
 

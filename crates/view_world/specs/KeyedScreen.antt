@@ -8,6 +8,8 @@ use Rattle.geom_core.specs.declared.geometry.Rect.{Rect}
 use Rattle.geom_core.specs.declared.geometry.Size.{Size}
 use Rattle.pixel_raster.specs.Raster.{Raster, empty_raster, size_of}
 use Rattle.pixel_raster.specs.contracts.surface.Surface.{the_row as surface_row}
+use Rattle.saved_state.specs.State.{StateEntry}
+use Rattle.saved_state.specs.contracts.states.States.{the_row as states_row}
 use Rattle.size_hooks.specs.Entries.{hooks_code}
 use Rattle.size_hooks.specs.Hook.{Hook}
 use Rattle.touch_dispatch.specs.Kept.{Kept, gesture_of, kept_code, nothing_kept}
@@ -41,16 +43,16 @@ pub record KeyedScreen : Type 0 where
   -- the deliveries of the last line that had any
   pub told : List Entry
   pub hooks : List Hook
-  -- the offsets that were kept last, by the ids of views
-  pub kept : List (ℕ × ℕ)
+  -- the offsets and texts that were kept last, by the ids of views
+  pub kept : List StateEntry
   -- the bytes of these, as they were told
   pub saved : List ℕ
 
 abbrev pub screen_code : Coded KeyedScreen
 screen_code =
-    code_by ((((Views × (Stage × (Raster × Rect))) × (ℕ × Entries)) × (Kept × (List Point × List Entry))) × ((List Hook × List (ℕ × ℕ)) × List ℕ))
+    code_by ((((Views × (Stage × (Raster × Rect))) × (ℕ × Entries)) × (Kept × (List Point × List Entry))) × ((List Hook × List StateEntry) × List ℕ))
     (coded× (coded× (coded× (coded× views_code (coded× stage_row.coded (coded× surface_row.coded rect_row.coded))) (coded× coded_ℕ resources_row.coded))
-    (coded× kept_code (coded× (coded_list point_row.coded) (coded_list entry_row.coded)))) (coded× (coded× hooks_code (coded_list (coded× coded_ℕ coded_ℕ))) (coded_list coded_ℕ)))
+    (coded× kept_code (coded× (coded_list point_row.coded) (coded_list entry_row.coded)))) (coded× (coded× hooks_code states_row.coded) (coded_list coded_ℕ)))
     (λ w. ((((w.views, (w.stage, (w.surface, w.damage))), (w.dpi, w.resources)), (w.gesture, (w.pointers, w.told))), ((w.hooks, w.kept), w.saved)))
     (λ p. record {
       views = p.0.0.0.0;

@@ -1,5 +1,6 @@
 -- The plain world of a script: what the lines so far have made, with no flag, no cache and nothing left to do.
 use Rattle.std.specs.Prelude.{ℕ, List, [], Option, None}
+use Rattle.saved_state.specs.State.{StateEntry}
 use Rattle.size_hooks.specs.Hook.{Hook}
 use Rattle.geom_core.specs.declared.color.Argb.{Argb}
 use Rattle.geom_core.specs.declared.geometry.Size.{Size}
@@ -38,8 +39,8 @@ pub record World : Type 0 where
   pub gesture : PlainGesture
   -- the armed hooks, at most one of a view
   pub hooks : List Hook
-  -- the offsets that were kept last, by the ids of views, which rise
-  pub kept : List (ℕ × ℕ)
+  -- the offsets and texts that were kept last, by the ids of views, which rise
+  pub kept : List StateEntry
 
 abbrev pub empty_world : World
 empty_world = record {

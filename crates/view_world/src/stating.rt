@@ -3,7 +3,7 @@ ghost use Rattle.std.specs.Prelude.{◌≡◌, ℕ, false, ◌∷◌, [], Err, I
 ghost use Rattle.damage_rect.specs.Within.{LiesIn};
 ghost use Rattle.geom_core.specs.declared.geometry.Rect.{Rect};
 ghost use Rattle.hex.specs.Hex.{encode_lower};
-ghost use Rattle.saved_state.specs.Restored.{on_paths, set_by};
+ghost use Rattle.saved_state.specs.Restored.{Retells, on_paths, set_by};
 ghost use Rattle.saved_state.specs.Restoring.{is_for_other_class, restored};
 ghost use Rattle.saved_state.specs.Saving.{OffsetsFit};
 ghost use Rattle.saved_state.specs.State.{decoded};
@@ -12,7 +12,7 @@ ghost use Rattle.seen_edits.specs.Shown.{KeepsShown};
 ghost use Rattle.text_lines.specs.BufferedText.{Sends};
 ghost use Rattle.view_model.specs.Forest.{rows};
 ghost use Rattle.kept_views.specs.Kept.{IsConsistent};
-ghost use Rattle.view_tree.specs.Views.{SameTree, geometry_of, held_of, plain_of};
+ghost use Rattle.view_tree.specs.Views.{geometry_of, held_of, plain_of};
 ghost use Rattle.view_world.specs.Replies.{state_bytes, state_text};
 ghost use Rattle.view_world.specs.Stated.{ReadsState, TakesUp, fault_of_state};
 
@@ -21,7 +21,7 @@ use crate::response::Response;
 use damage_rect::Damage;
 use geom_core::Size;
 use saved_state::{StateFault, States, read};
-use seen_edits::restore_offsets;
+use seen_edits::restore_views;
 use std::alloc::Global;
 use text_lines::TextBuffer;
 use tool_io::Sink;
@@ -86,8 +86,9 @@ pub fn state_of(alloc: Global, bytes: &[u8]) -> Result<States, StepFault>
     }
 }
 
-/// Sets the offsets that a state has. Where they are seen in a window of this size is damage.
+/// Sets the offsets and texts that a state has. Where they are seen in a window of this size is damage.
 pub fn take_up(
+    alloc: Global,
     tree: &mut ViewTree,
     window: Size,
     states: &States,
@@ -99,14 +100,14 @@ pub fn take_up(
     ensures taken { TakesUp (is_for_other_class states.now (rows (plain_of tree.old))) result }
     ensures plain { OnOk result (plain_of tree.new ≡ restored states.now (plain_of tree.old)) }
     ensures unchanged { OnErr result (tree.new ≡ tree.old) }
-    ensures same { SameTree tree.old tree.new }
+    ensures retells { OnOk result (Retells states.now tree.old tree.new) }
     ensures counts { tree.new.counts ≡ tree.old.counts }
     ensures asked { (key : ℕ) → on_paths key (set_by states.now tree.old.tree) tree.old.tree ≡ false → held_of tree.new key ≡ held_of tree.old key }
     ensures geometry { geometry_of tree.new ≡ geometry_of tree.old }
     ensures consistent { IsConsistent tree.old → IsConsistent tree.new }
     ensures fits { OffsetsFit (plain_of tree.old) → OffsetsFit (plain_of tree.new) }
 {
-    match restore_offsets(tree, window, states, damage) {
+    match restore_views(alloc, tree, window, states, damage) {
         Ok(()) => Ok(Response::Nothing),
         Err(fault) => Err(fault_of(fault)),
     }

@@ -91,7 +91,7 @@ pub a_pointer_goes_down : stack_line_of (codes "sdown 0 3 3") ≡ Ok (Down 0 (po
 unfolding is_utf8 chars encode words after_word natural_of integer_of within_of natural_within pointer_of touch_of sup_of scancel_of stack_line_by stack_line_of
 a_pointer_goes_down = refl
 
-pub a_pointer_moves : stack_line_of (codes "smove 9 -1 4") ≡ Ok (Move 9 (negsuc 0) (pos 4))
+pub a_pointer_moves : stack_line_of (codes "smove 31 -1 4") ≡ Ok (Move 31 (negsuc 0) (pos 4))
 unfolding is_utf8 chars encode words after_word natural_of integer_of within_of natural_within pointer_of touch_of sup_of scancel_of stack_line_by stack_line_of
 a_pointer_moves = refl
 
