@@ -221,6 +221,13 @@ def frames_of_nested_groups(n):
     return b"".join(lines) + b"".join(b"min v94 %d %d\nframe\n" % (k % 90, k % 70) for k in range(n))
 
 
+def turned_frames(views):
+    """So many views in two lines, which run another way before each of 300 frames."""
+    lines = [b"window 1000 1000\nadd root LinearLayout match match\nadd v1 LinearLayout match match\n"]
+    lines += [b"add v%d View %d %d\n" % (2 - k % 2, 1 + k % 9, 1 + k % 7) for k in range(views - 2)]
+    return b"".join(lines) + b"".join(b"direction v1 %s\nframe\n" % (b"ltr", b"rtl")[k % 2] for k in range(300))
+
+
 def group(children, is_chain, lines):
     """A relative layout of so many children with the ids 1, 2, .., each right of the one before in a chain, and these lines."""
     begun = b"window 4096 1000\ninflate layout.xml\n"

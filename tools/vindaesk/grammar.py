@@ -160,6 +160,7 @@ FORMS = [
     Form("gravity V self G", V=view, G=gravity),
     Form("gravity V kids G", V=view, G=gravity),
     Form("orient V W", V=view, W=choice("horizontal vertical")),
+    Form("direction V D", V=view, D=choice("ltr rtl inherit")),
     Form("weight V N", V=view, N=whole),
     Form("weight V N K", V=view, N=whole, K=part),
     Form("weightsum V N", V=view, N=whole),

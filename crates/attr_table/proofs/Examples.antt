@@ -28,7 +28,7 @@ use Rattle.attr_table.specs.Taking.{Facets, facets_of, finished, known_place, wi
 use Rattle.attr_table.specs.Values.{below_given, boolean_given, color_of, dimension_of, extent_given, found_of, given_of, pixels_within, reference_given, signed, text_of, weight_given}
 
 -- each name leads to its own row, so none stands twice
-own_rows : map place_of (map (λ (known : Attribute). known.name) attributes) ≡ map (λ (place : ℕ). Some place) (range_with_len 0 53)
+own_rows : map place_of (map (λ (known : Attribute). known.name) attributes) ≡ map (λ (place : ℕ). Some place) (range_with_len 0 54)
 own_rows = refl
 
 named : List ℕ → Option (Takes × Slot)

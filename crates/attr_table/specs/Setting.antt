@@ -8,6 +8,8 @@ use Rattle.view_model.specs.declared.kinds.Visibility.{Visibility}
 use Rattle.view_model.specs.declared.kinds.Visibility.TheVariants as visibility
 use Rattle.view_model.specs.declared.placing.Across.{Across}
 use Rattle.view_model.specs.declared.placing.Across.TheVariants as across
+use Rattle.view_model.specs.declared.placing.Direction.{Direction}
+use Rattle.view_model.specs.declared.placing.Direction.TheVariants as direction
 use Rattle.view_model.specs.declared.placing.Down.{Down}
 use Rattle.view_model.specs.declared.placing.Down.TheVariants as down
 use Rattle.view_model.specs.declared.placing.Gravity.{Gravity}
@@ -38,6 +40,10 @@ gravity_of word = record { given = true; across = across_of (word % 8) (word / 2
 
 unfoldable pub visibility_of : ℕ → Visibility
 visibility_of word = if word == 0 then visibility.Visible else (if word == 1 then visibility.Invisible else visibility.Gone)
+
+-- the direction of the locale counts as from left to right
+unfoldable pub direction_of : ℕ → Direction
+direction_of word = if word == 1 then direction.Rtl else (if word == 2 then direction.Inherit else direction.Ltr)
 
 unfoldable pub answer_of : ℕ → Answer
 answer_of word = if word == 1 then answer.Click else answer.Off
@@ -77,6 +83,7 @@ with_word slot.LayoutGravity word facts = record facts { layout_gravity = gravit
 with_word slot.Gravity word facts = record facts { gravity = gravity_of word }
 with_word slot.Vertical word facts = record facts { vertical = word == 1 }
 with_word slot.Visibility word facts = record facts { visibility = visibility_of word }
+with_word slot.Direction word facts = record facts { direction = direction_of word }
 with_word slot.Background word facts = record facts { background = record { 0 = word } }
 with_word slot.Ink word facts = record facts { ink = record { 0 = word } }
 with_word slot.Click word facts = record facts { answer = answer_of word }

@@ -61,6 +61,7 @@ pub enum Slot {
     Gravity,
     Vertical,
     Visibility,
+    Direction,
     Background,
     Ink,
     Text,
@@ -73,7 +74,7 @@ pub enum Slot {
 }
 
 /// How many attributes are known.
-pub const KNOWN: usize = 53;
+pub const KNOWN: usize = 54;
 
 /// The place of the width.
 pub const WIDTH: usize = 1;
@@ -124,6 +125,7 @@ pub const ATTRIBUTES: [(&str, Takes, Slot); KNOWN] = [
     ("gravity", Takes::Whole, Slot::Gravity),
     ("orientation", Takes::Below(2), Slot::Vertical),
     ("visibility", Takes::Below(3), Slot::Visibility),
+    ("layoutDirection", Takes::Below(4), Slot::Direction),
     ("background", Takes::Color, Slot::Background),
     ("textColor", Takes::Color, Slot::Ink),
     ("text", Takes::Text, Slot::Text),

@@ -4,14 +4,14 @@ use Rattle.std.proofs.lemmas.Bool.{eq-eqb}
 use Rattle.std.specs.Prelude.{if◌then◌else◌}
 use mathlib.Core.Path.{fun_ext}
 use Rattle.kept_views.specs.Kept.{IsKept}
-use Rattle.kept_views.specs.Pressing.{path_of, pressed}
+use Rattle.kept_views.specs.Pressing.{path_of}
 use Rattle.kept_views.proofs.Lines.{IsMoved, put_kept}
 use Rattle.kept_views.proofs.Paths.{unforced_off}
 use Rattle.kept_views.proofs.Requested.{pressed_out}
 use Rattle.view_model.specs.Facts.{is_shown}
 use Rattle.view_model.specs.Forest.{Forest}
 use Rattle.view_model.specs.PlainTree.{PlainView}
-use Rattle.view_tree.specs.Requests.{among, asking, unforced}
+use Rattle.view_tree.specs.Requests.{among, asking, pressed, unforced}
 use Rattle.view_tree.specs.Rows.{Row, ancestors, changed_at_key, head_view, part_from}
 use Rattle.view_tree.specs.Views.{Held, IsLive, IsTree, Views, held_of}
 

@@ -5,7 +5,7 @@ use mathlib.Core.Path.{fun_ext}
 use Rattle.view_model.specs.Forest.{Forest, Nothing, Branch}
 use Rattle.view_model.specs.Sprouts.{Seed}
 use Rattle.view_tree.specs.Grafted.{Grafted}
-use Rattle.view_tree.specs.Requests.{among, asking, unforced}
+use Rattle.view_tree.specs.Requests.{among, asking, pressed, unforced}
 use Rattle.view_tree.specs.Rows.{Row, ancestors, count_of_key, first_key, grown_at_key, later_siblings}
 use Rattle.view_tree.specs.Views.{IsLive, IsTree, Views, held_of}
 use Rattle.view_tree.proofs.forest.DepthLaws.{ancestors-grown}
@@ -13,7 +13,7 @@ use Rattle.view_tree.proofs.forest.GrownParts.{count_of_key-grown_more}
 use Rattle.view_tree.proofs.forest.KeyLaws.{times_self, zero_or_more}
 use Rattle.view_tree.proofs.forest.NumberLaws.{sum-grown}
 use Rattle.kept_views.specs.Kept.{IsConsistent, IsKept}
-use Rattle.kept_views.specs.Pressing.{path_of, pressed}
+use Rattle.kept_views.specs.Pressing.{path_of}
 use Rattle.kept_views.proofs.Edits.{AllHidden}
 use Rattle.kept_views.proofs.Fresh.{AllCalm, came_calm, came_hidden, new_tree}
 use Rattle.kept_views.proofs.KeptFrames.{Same}

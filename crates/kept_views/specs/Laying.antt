@@ -6,7 +6,7 @@ use Rattle.geom_core.specs.declared.geometry.Size.{Size}
 use Rattle.view_model.specs.Facts.{is_shown, layout_facts}
 use Rattle.view_model.specs.Forest.{Forest, Nothing, Branch}
 use Rattle.view_model.specs.Geometry.{Laid}
-use Rattle.view_model.specs.Layout.{Spot, laid_views, measured_size, place_in, for_layout}
+use Rattle.view_model.specs.Layout.{Spot, laid_views, measured_size, place_in, places_backwards, for_layout}
 use Rattle.view_model.specs.Measuring.{Measured, Specs}
 use Rattle.view_model.specs.Offsets.{brought, range_by}
 use Rattle.view_model.specs.RelativeLayout.{sides_of}
@@ -52,6 +52,33 @@ group_places spot before held (Branch row kids siblings) =
     if is_shown row.view.facts
     then kid_place spot before own row kids ∷ group_places spot (before ++ kid_sizes (specs_of own.state) row kids) held siblings
     else group_places spot (before ++ kid_sizes (specs_of own.state) row kids) held siblings
+
+-- the children of a list as before, from the last to the first
+abbrev pub sizes_back : (ℕ → Held) → Forest Row → List Measured
+sizes_back held Nothing = []
+sizes_back held (Branch row kids siblings) = sizes_back held siblings ++ kid_sizes (specs_of (held row.key).state) row kids
+
+-- the layout of a list of children of a group that places them from the last to the first
+abbrev pub group_kids_back : Spot → (ℕ → Held) → Forest Row → List Laid
+group_kids_back spot held Nothing = []
+group_kids_back spot held (Branch row kids siblings) =
+    let own = held row.key in
+    laid_views row.view (views_of kids) (specs_of own.state) (kid_place spot (sizes_back held siblings) own row kids) ++ group_kids_back spot held siblings
+
+-- where it puts those that take part in layout
+abbrev pub places_back : Spot → (ℕ → Held) → Forest Row → List Rect
+places_back spot held Nothing = []
+places_back spot held (Branch row kids siblings) =
+    if is_shown row.view.facts
+    then kid_place spot (sizes_back held siblings) (held row.key) row kids ∷ places_back spot held siblings
+    else places_back spot held siblings
+
+-- the layout of all children of a group, and where it puts those that take part in it
+abbrev pub group_all : Spot → (ℕ → Held) → Forest Row → List Laid
+group_all spot held list = if places_backwards spot.view.class spot.view.facts then group_kids_back spot held list else group_kids spot [] held list
+
+abbrev pub places_all : Spot → (ℕ → Held) → Forest Row → List Rect
+places_all spot held list = if places_backwards spot.view.class spot.view.facts then places_back spot held list else group_places spot [] held list
 
 -- the group that the first view of a list is, of which this is kept, where it has this size
 abbrev pub spot_of : Forest Row → Held → Size → Spot
@@ -103,15 +130,27 @@ pub record Wrote (old new : ℕ → Held) (view : ℕ) (own : Held) : Type 0 whe
   pub at : new view ≡ own
   pub others : (other : ℕ) → other ≢ view → new other ≡ old other
 
--- what it leaves of the children that a group places, after others, with the specs and the sides that they had
-pub record IsQuiet (held : ℕ → Held) (spot : Spot) (before : List Measured) (start : ℕ → Held) (list : Forest Row) : Type 0 where
+-- what it leaves of children that a group lays out so, at these places, with the specs and the sides that they had
+pub record IsQuietAs (held : ℕ → Held) (layout : List Laid) (rects : List Rect) (start : ℕ → Held) (list : Forest Row) : Type 0 where
   pub kept : Kept [] held firm list
   pub reached : Reached held false list
   pub specs : last_specs held list ≡ last_specs start list
   pub edges : last_edges held list ≡ last_edges start list
-  pub lies : laid_rows held list ≡ group_kids spot before start list
-  pub places : last_places held list ≡ some_all (group_places spot before start list)
+  pub lies : laid_rows held list ≡ layout
+  pub places : last_places held list ≡ some_all rects
   pub offsets : Brought start held list
+
+-- of children that a group places after others
+abbrev pub IsQuiet : (ℕ → Held) → Spot → List Measured → (ℕ → Held) → Forest Row → Type 0
+IsQuiet held spot before start list = IsQuietAs held (group_kids spot before start list) (group_places spot before start list) start list
+
+-- of children that it places from the last to the first
+abbrev pub IsQuietBack : (ℕ → Held) → Spot → (ℕ → Held) → Forest Row → Type 0
+IsQuietBack held spot start list = IsQuietAs held (group_kids_back spot start list) (places_back spot start list) start list
+
+-- of all its children
+abbrev pub IsQuietAll : (ℕ → Held) → Spot → (ℕ → Held) → Forest Row → Type 0
+IsQuietAll held spot start list = IsQuietAs held (group_all spot start list) (places_all spot start list) start list
 
 -- what it leaves of the first view of a list
 pub record IsPut (old held : ℕ → Held) (view : ℕ) (list : Forest Row) (rect : Rect) : Type 0 where

@@ -1,7 +1,7 @@
 -- Views that are pressed: forced from now on, with their caches emptied.
-use Rattle.std.specs.Prelude.{◌≡◌, ◌⊎◌, ℕ, true, false, if◌then◌else◌, List, [], ◌∷◌}
+use Rattle.std.specs.Prelude.{◌≡◌, ◌⊎◌, ℕ, true, false, List, [], ◌∷◌}
 use Rattle.view_model.specs.Forest.{Forest, Nothing, Branch}
-use Rattle.view_tree.specs.Requests.{among, forced_one}
+use Rattle.view_tree.specs.Requests.{pressed}
 use Rattle.view_tree.specs.Rows.{Row, ancestors}
 use Rattle.view_tree.specs.Views.{Held, specs_of}
 use Rattle.kept_views.specs.Kept.{Around, HiddenView, asked, hidden_in, inside}
@@ -9,10 +9,6 @@ use Rattle.kept_views.specs.Kept.{Around, HiddenView, asked, hidden_in, inside}
 -- the view and all above it
 abbrev pub path_of : ℕ → Forest Row → List ℕ
 path_of view tree = view ∷ ancestors view tree
-
--- some views are forced
-abbrev pub pressed : (ℕ → Held) → List ℕ → ℕ → Held
-pressed held keys key = if among key keys then forced_one (held key) else held key
 
 -- one view after the other, each with all above it
 abbrev pub all_pressed : (ℕ → Held) → List ℕ → Forest Row → ℕ → Held

@@ -86,13 +86,13 @@ pub fn high_padding(vertical: bool, facts: &Facts) -> i32
 }
 
 #[tactic(auto, unfolding(view_model::specs::LinearLayout::alignment_on))]
-pub fn alignment_on(vertical: bool, gravity: Gravity) -> Alignment
-    ensures { result ≡ alignment_on vertical gravity }
+pub fn alignment_on(vertical: bool, rtl: bool, gravity: Gravity) -> Alignment
+    ensures { result ≡ alignment_on vertical rtl gravity }
 {
     if vertical {
         return gravity.down.alignment();
     }
-    gravity.across.alignment()
+    gravity.across.alignment(rtl)
 }
 
 /// The size of what is so long along a line and so broad beside it.

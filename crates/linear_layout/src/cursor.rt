@@ -6,7 +6,7 @@ ghost use Rattle.view_model.specs.declared.facts.Facts.{Facts as FactsValue};
 ghost use Rattle.view_model.specs.declared.limits.TheConstants.{MAX_VIEWS};
 ghost use Rattle.view_model.specs.Facts.{layout_facts};
 ghost use Rattle.view_model.specs.Geometry.{size_of_rect};
-ghost use Rattle.view_model.specs.LinearLayout.{edge_beside, gravity_for, line_begin, linear_place, low_margin, rect_by};
+ghost use Rattle.view_model.specs.LinearLayout.{edge_beside, is_backwards, line_begin, linear_place, low_margin, rect_by};
 ghost use Rattle.view_model.specs.Measuring.{Measured};
 ghost use Rattle.geom_core.specs.declared.geometry.Size.{Size as SizeValue};
 
@@ -15,15 +15,23 @@ use crate::axis::{
 };
 use crate::mark::Mark;
 use geom_core::{Rect, Size, to_coordinate};
-use view_model::{Alignment, Facts, Gravity, rect_at};
+use view_model::{Alignment, Facts, rect_at};
 
-/// The placing of the children of one group. They are handed in in order.
+/// The placing of the children of one group. They are handed in in order, and in a line from left to right whose group
+/// runs from right to left from the last to the first.
 #[derive(Clone, Copy, Debug)]
 pub struct Cursor {
     own: Facts,
     room: Size,
     /// Where the next child's low margin begins.
     mark: Mark,
+}
+
+/// Whether a group with these facts hands its children in from the last to the first.
+pub fn is_backwards(own: &Facts) -> bool
+    ensures { result ≡ is_backwards own.now }
+{
+    !own.vertical && own.rtl
 }
 
 impl Cursor {
@@ -38,7 +46,7 @@ impl Cursor {
             own: *own,
             room,
             mark: Mark::new(line_begin(
-                alignment_on(along, own.gravity),
+                alignment_on(along, own.rtl, own.gravity.started()),
                 low_padding(along, own),
                 size_on(along, room),
                 total,
@@ -105,7 +113,8 @@ fn edge_beside(own: &Facts, room: Size, kid: &Facts, size: Size) -> i32
     ensures edge { IsCoordinate result }
 {
     let beside = !own.vertical;
-    to_coordinate(alignment_on(beside, gravity_for(own, kid)).low_edge(
+    let gravity = own.gravity.for_child(kid.layout_gravity);
+    to_coordinate(alignment_on(beside, own.rtl, gravity).low_edge(
         size_on(beside, room),
         low_padding(beside, own),
         high_padding(beside, own),
@@ -113,16 +122,6 @@ fn edge_beside(own: &Facts, room: Size, kid: &Facts, size: Size) -> i32
         low_margin(beside, kid),
         high_margin(beside, kid),
     ))
-}
-
-/// The gravity by which a child is placed beside the line: its own, if it has one.
-fn gravity_for(own: &Facts, kid: &Facts) -> Gravity
-    ensures { result ≡ gravity_for (layout_facts own.now) (layout_facts kid.now) }
-{
-    if kid.layout_gravity.given {
-        return kid.layout_gravity;
-    }
-    own.gravity
 }
 
 /// The rectangle of this size whose low edges are these, along the line and beside it.

@@ -23,5 +23,5 @@ mod sharing;
 mod weight_pass;
 mod wide;
 
-pub use cursor::Cursor;
+pub use cursor::{Cursor, is_backwards};
 pub use plan::LinearPlan;

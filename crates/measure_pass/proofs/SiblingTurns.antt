@@ -98,7 +98,7 @@ turn_fixed Horizontal own specs held list orders p are inside over =
     let phase = phase_of Horizontal own specs (kids_in list) in
     record {
       fixed = spans_across-fixed own specs (kids_in list) orders.across is p inside;
-      anchored = anchors_same Horizontal (kids_in list) orders.across is (kept_spans Horizontal held list) phase.spans p inside (λ q before here.
+      anchored = anchors_same own.rtl Horizontal (kids_in list) orders.across is (kept_spans Horizontal held list) phase.spans p inside (λ q before here.
           kept_over Horizontal own specs held list (get_or orders.across q 0) (over q before) here);
     }
 turn_fixed Vertical own specs held list orders p are inside over =
@@ -106,7 +106,7 @@ turn_fixed Vertical own specs held list orders p are inside over =
     let phase = phase_of Vertical own specs (kids_in list) in
     record {
       fixed = spans_down-fixed own specs (kids_in list) phase-across orders.down is p inside;
-      anchored = anchors_same Vertical (kids_in list) orders.down is (kept_spans Vertical held list) phase.spans p inside (λ q before here.
+      anchored = anchors_same own.rtl Vertical (kids_in list) orders.down is (kept_spans Vertical held list) phase.spans p inside (λ q before here.
           kept_over Vertical own specs held list (get_or orders.down q 0) (over q before) here);
     }
   where
@@ -119,7 +119,7 @@ no_axis e = absurd (cc)
 
 pub asked_is : (axis : Axis) (past : List (List Spanned)) (own : Facts) (specs : Specs) (kids : List Child) (place : ℕ) (facts : Facts) (edges : Edges) (anchors : Anchors)
     → phase_axis past ≡ axis → facts ≡ (child_at kids place).facts → edges ≡ (phase_of axis own specs kids).before place
-    → anchors ≡ anchors_by axis kids (phase_of axis own specs kids).spans place
+    → anchors ≡ anchors_by own.rtl axis kids (phase_of axis own specs kids).spans place
     → phase_specs own specs past facts edges anchors ≡ (phase_of axis own specs kids).asks place
 asked_is Horizontal [] own specs kids place facts edges anchors is same known tied = rw (same, tied) refl
 asked_is Vertical [] own specs kids place facts edges anchors is same known tied = no_axis is
@@ -127,7 +127,7 @@ asked_is Horizontal (first ∷ more) own specs kids place facts edges anchors is
 asked_is Vertical (first ∷ more) own specs kids place facts edges anchors is same known tied = rw (same, known, tied) refl
 
 pub span_is : (axis : Axis) (past : List (List Spanned)) (own : Facts) (specs : Specs) (kids : List Child) (place : ℕ) (facts : Facts) (anchors : Anchors) (size : Size)
-    → phase_axis past ≡ axis → facts ≡ (child_at kids place).facts → anchors ≡ anchors_by axis kids (phase_of axis own specs kids).spans place
+    → phase_axis past ≡ axis → facts ≡ (child_at kids place).facts → anchors ≡ anchors_by own.rtl axis kids (phase_of axis own specs kids).spans place
     → size ≡ (child_at kids place).measure ((phase_of axis own specs kids).asks place)
     → (phase_of axis own specs kids).spans place ≡ step_on axis own specs kids (phase_of axis own specs kids).spans place
     → span_on (phase_axis past) own specs facts anchors size ≡ (phase_of axis own specs kids).spans place
@@ -273,7 +273,7 @@ module _ (axis : Axis) (own : Facts) (specs : Specs) (past : List (List Spanned)
       → phase_axis past ≡ axis → TurnIsFixed axis own specs (kids_in list) (kept_spans axis before list) place
       → is_shown row.view.facts ≡ true → facts ≡ layout_facts row.view.facts
       → edges ≡ (phase_of axis own specs (kids_in list)).before place
-      → anchors ≡ anchors_by axis (kids_in list) (kept_spans axis before list) place
+      → anchors ≡ anchors_by own.rtl axis (kids_in list) (kept_spans axis before list) place
       → pair_of asked ≡ pair_of (phase_specs own specs past facts edges anchors)
       → size ≡ measured_size row.view (views_of below) asked
       → Sized mid (Branch row below Nothing) → specs_of (mid row.key).state ≡ asked
@@ -288,7 +288,7 @@ module _ (axis : Axis) (own : Facts) (specs : Specs) (past : List (List Spanned)
       let kids = kids_in list in
       let phase = phase_of axis own specs kids in
       let same : facts ≡ (child_at kids place).facts = facts_are ∙ ap (λ (kid : Child). kid.facts) (sym kid_here) in
-      let tied : anchors ≡ anchors_by axis kids phase.spans place = anchored ∙ fixed.anchored in
+      let tied : anchors ≡ anchors_by own.rtl axis kids phase.spans place = anchored ∙ fixed.anchored in
       let asked_same : asked ≡ phase.asks place = pairs_same asked (phase_specs own specs past facts edges anchors) asks ∙ asked_is axis past own specs kids place facts edges anchors is same known tied in
       let size_same : size ≡ (child_at kids place).measure (phase.asks place) =
       measured ∙ ap (measured_size row.view (views_of below)) asked_same ∙ ap (λ (kid : Child). kid.measure (phase.asks place)) (sym kid_here) in

@@ -120,7 +120,7 @@ step_on Vertical own specs kids = span_down own specs kids (spans_across own spe
 -- theirs
 pub record TurnIsFixed (axis : Axis) (own : Facts) (specs : Specs) (kids : List Child) (kept : ℕ → ℤ × ℤ) (place : ℕ) : Type 0 where
   pub fixed : (phase_of axis own specs kids).spans place ≡ step_on axis own specs kids (phase_of axis own specs kids).spans place
-  pub anchored : anchors_by axis kids kept place ≡ anchors_by axis kids (phase_of axis own specs kids).spans place
+  pub anchored : anchors_by own.rtl axis kids kept place ≡ anchors_by own.rtl axis kids (phase_of axis own specs kids).spans place
 
 -- the order of an axis
 abbrev pub order_on : Axis → PlainOrders → List ℕ

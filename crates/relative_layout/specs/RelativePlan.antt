@@ -22,6 +22,7 @@ pub record IsExtent (extent : Extent) (axis : Axis) (own : Facts) (specs : Specs
 -- a plan in a phase of this axis, with these children taken from left to right and these from top to bottom
 pub record HasTaken (plan : RelativePlan) (axis : Axis) (own : Facts) (specs : Specs) (across down : List Spanned) : Type 0 where
   pub of_axis : plan.axis ≡ axis
+  pub of_rtl : plan.rtl ≡ own.rtl
   pub of_across : IsExtent plan.across Horizontal own specs across
   pub of_down : IsExtent plan.down Vertical own specs down
 

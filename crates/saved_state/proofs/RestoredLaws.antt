@@ -7,14 +7,14 @@ use Rattle.kept_views.proofs.AskedViews.{asked_same, off_path}
 use Rattle.kept_views.proofs.Lines.{IsMoved, put_kept}
 use Rattle.kept_views.proofs.Requested.{pressed_in, pressed_out}
 use Rattle.kept_views.specs.Kept.{IsConsistent, IsKept}
-use Rattle.kept_views.specs.Pressing.{path_of, pressed}
+use Rattle.kept_views.specs.Pressing.{path_of}
 use Rattle.saved_state.specs.Restored.{all_given, given_held, given_keys, moved_one, on_paths, set_by, wanted}
 use Rattle.view_model.specs.Forest.{Forest, Nothing, Branch, rows}
 use Rattle.view_model.specs.PlainTree.{PlainView}
 use Rattle.view_tree.proofs.forest.PreorderLaws.{key_count, key_count-rows, standing}
 use Rattle.view_tree.proofs.values.GeometryLaws.{laid_along}
 use Rattle.view_tree.specs.Preorder.{rows_from}
-use Rattle.view_tree.specs.Requests.{among, asking}
+use Rattle.view_tree.specs.Requests.{among, asking, pressed}
 use Rattle.view_tree.specs.Rows.{Row, changed_at_key, count_of_key}
 use Rattle.view_tree.specs.Views.{Held, IsTree, Views, geometry_of, held_of, laid_rows}
 

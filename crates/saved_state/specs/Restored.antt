@@ -1,9 +1,9 @@
 -- What is kept with views once a state is restored: each that it gives an offset has it, and asks for layout.
 use Rattle.std.specs.Prelude.{ℕ, ◌==◌, ℤ, Bool, true, false, if◌then◌else◌, is_some, List, [], ◌∷◌, Option, Some, None}
-use Rattle.kept_views.specs.Pressing.{path_of, pressed}
+use Rattle.kept_views.specs.Pressing.{path_of}
 use Rattle.saved_state.specs.Restoring.{given_offset}
 use Rattle.view_model.specs.Forest.{Forest, rows}
-use Rattle.view_tree.specs.Requests.{among, asking}
+use Rattle.view_tree.specs.Requests.{among, asking, pressed}
 use Rattle.view_tree.specs.Rows.{Row, head_view, part_from}
 use Rattle.view_tree.specs.Views.{Held}
 

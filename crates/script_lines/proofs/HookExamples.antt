@@ -208,12 +208,12 @@ unfolding is_utf8 chars encode words natural_of integer_of within_of pair_of nat
 bytes_that_are_no_text = refl
 
 -- the first words of all lines
-pub words_that_begin_lines : list_all begins_line (codes "window" ∷ codes "dpi" ∷ codes "res" ∷ codes "inflate" ∷ codes "add" ∷ codes "remove" ∷ codes "size" ∷ codes "min" ∷ codes "margins" ∷ codes "padding" ∷ codes "weight" ∷ codes "weightsum" ∷ codes "gravity" ∷ codes "orient" ∷ codes "flag" ∷ codes "visible" ∷ codes "bg" ∷ codes "ink" ∷ codes "text" ∷ codes "id" ∷ codes "rule" ∷ codes "answer" ∷ codes "intercept" ∷ codes "disallow" ∷ codes "hook" ∷ codes "scroll" ∷ codes "down" ∷ codes "move" ∷ codes "up" ∷ codes "cancel" ∷ codes "frame" ∷ codes "bounds" ∷ codes "pixels" ∷ codes "digest" ∷ codes "save" ∷ codes "restore" ∷ []) ≡ true
+pub words_that_begin_lines : list_all begins_line (codes "window" ∷ codes "dpi" ∷ codes "res" ∷ codes "inflate" ∷ codes "add" ∷ codes "remove" ∷ codes "size" ∷ codes "min" ∷ codes "margins" ∷ codes "padding" ∷ codes "weight" ∷ codes "weightsum" ∷ codes "gravity" ∷ codes "orient" ∷ codes "direction" ∷ codes "flag" ∷ codes "visible" ∷ codes "bg" ∷ codes "ink" ∷ codes "text" ∷ codes "id" ∷ codes "rule" ∷ codes "answer" ∷ codes "intercept" ∷ codes "disallow" ∷ codes "hook" ∷ codes "scroll" ∷ codes "down" ∷ codes "move" ∷ codes "up" ∷ codes "cancel" ∷ codes "frame" ∷ codes "bounds" ∷ codes "pixels" ∷ codes "digest" ∷ codes "save" ∷ codes "restore" ∷ []) ≡ true
 unfolding begins_line
 words_that_begin_lines = refl
 
 -- words with which no line begins
-pub no_line_begins-1 : begins_line (codes "direction") ≡ false
+pub no_line_begins-1 : begins_line (codes "directions") ≡ false
 unfolding begins_line
 no_line_begins-1 = refl
 

@@ -21,6 +21,8 @@ use Rattle.view_model.specs.declared.kinds.Visibility.{Visibility}
 use Rattle.view_model.specs.declared.kinds.Visibility.TheVariants as visibility
 use Rattle.view_model.specs.declared.placing.Across.{Across}
 use Rattle.view_model.specs.declared.placing.Across.TheVariants as across
+use Rattle.view_model.specs.declared.placing.Direction.{Direction}
+use Rattle.view_model.specs.declared.placing.Direction.TheVariants.{Inherit, Ltr, Rtl}
 use Rattle.view_model.specs.declared.placing.Down.{Down}
 use Rattle.view_model.specs.declared.placing.Down.TheVariants as down
 use Rattle.view_model.specs.declared.placing.Gravity.{Gravity}
@@ -155,6 +157,11 @@ answer_text (suc n) = codes "yes"
 abbrev pub rule_value_text : ℕ → ℕ → List ℕ
 rule_value_text verb value = if names_sibling verb then name_text (Id value) else answer_text value
 
+abbrev pub direction_text : Direction → List ℕ
+direction_text Inherit = codes "inherit"
+direction_text Ltr = codes "ltr"
+direction_text Rtl = codes "rtl"
+
 -- the first word of the line that sets this
 abbrev pub act_head : Act → List ℕ
 act_head (act.Change change) = change_head change
@@ -168,6 +175,7 @@ act_head (act.Rule verb value) = codes "rule"
 act_head (act.Answer answer) = codes "answer"
 act_head (act.Intercept actions) = codes "intercept"
 act_head (act.Scroll offset) = codes "scroll"
+act_head (act.Direction direction) = codes "direction"
 
 -- the words behind the view
 abbrev pub act_words : Act → List (List ℕ)
@@ -182,6 +190,7 @@ act_words (act.Rule verb value) = verb_text verb ∷ rule_value_text verb value 
 act_words (act.Answer answer) = event_answer_text answer ∷ []
 act_words (act.Intercept actions) = intercept_words actions
 act_words (act.Scroll offset) = signed_decimal offset ∷ []
+act_words (act.Direction direction) = direction_text direction ∷ []
 
 -- a unit by its number in the word of a dimension
 abbrev pub unit_text : ℕ → List ℕ
@@ -286,6 +295,7 @@ ActHasLine (act.Rule verb value) = value < (if names_sibling verb then 2 ^ 32 el
 ActHasLine (act.Answer answer) = Unit {0}
 ActHasLine (act.Intercept actions) = Unit {0}
 ActHasLine (act.Scroll offset) = Unit {0}
+ActHasLine (act.Direction direction) = Unit {0}
 
 -- a value that a line can give a resource
 abbrev pub GivenHasLine : PlainGiven → Type 0

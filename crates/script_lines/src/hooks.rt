@@ -22,7 +22,7 @@ use arrayvec::ArrayVec;
 use view_model::limits::MAX_EDITS;
 
 /// The words with which lines of the script begin.
-pub const LINE_WORDS: [&str; 36] = [
+pub const LINE_WORDS: [&str; 37] = [
     "window",
     "dpi",
     "res",
@@ -37,6 +37,7 @@ pub const LINE_WORDS: [&str; 36] = [
     "weightsum",
     "gravity",
     "orient",
+    "direction",
     "flag",
     "visible",
     "bg",

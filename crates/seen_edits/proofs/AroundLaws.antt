@@ -4,15 +4,14 @@ use Rattle.std.proofs.lemmas.Bool.{cases_eq, eq-eqb, ne_eqb}
 use Rattle.std.specs.Prelude.{◌==◌, if◌then◌else◌, chars}
 use Rattle.geom_core.specs.Rects.{holds}
 use Rattle.geom_core.specs.declared.geometry.Size.{Size}
-use Rattle.kept_views.specs.Pressing.{pressed}
 use Rattle.seen_edits.proofs.StillLaws.{AreStill}
 use Rattle.seen_edits.specs.Shown.{IsChange, edited, seen_of}
 use Rattle.seen_parts.proofs.MeetingLaws.{nowhere_unseen}
 use Rattle.seen_parts.specs.Meeting.{canvas_around}
-use Rattle.tree_edits.specs.Asking.{asked_by, requested}
+use Rattle.tree_edits.specs.Asking.{acted_view, asked_by}
 use Rattle.tree_edits.specs.Editing.{hides}
 use Rattle.tree_edits.specs.Hiding.{gone_one, held_hiding}
-use Rattle.tree_edits.specs.Keeping.{KeepsViews, acted_view, held_acted, held_edited}
+use Rattle.tree_edits.specs.Keeping.{KeepsViews, held_acted, held_edited}
 use Rattle.tree_edits.specs.declared.edits.Edit.{Edit}
 use Rattle.tree_edits.specs.declared.edits.Edit.TheVariants as edit
 use Rattle.view_model.specs.Changes.{facts_after_act}
@@ -20,7 +19,7 @@ use Rattle.view_model.specs.Forest.{Forest, Nothing, Branch}
 use Rattle.view_model.specs.PlainTree.{PlainView}
 use Rattle.view_model.specs.Visible.{Canvas, canvas_below, whole_window}
 use Rattle.view_model.specs.declared.changes.Act.{Act}
-use Rattle.view_tree.specs.Requests.{among, asking, forced_one}
+use Rattle.view_tree.specs.Requests.{among, asking, forced_one, pressed, requested}
 use Rattle.view_tree.specs.Rows.{Row, changed_at_key, count_of_key, first_tree, part_from, pruned_at_key}
 use Rattle.view_tree.specs.Views.{Held, IsLive, Views, facts_of, held_of, scrolled}
 use Rattle.view_tree.proofs.forest.KeyLaws.{times_self}

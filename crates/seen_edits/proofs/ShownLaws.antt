@@ -20,10 +20,10 @@ use Rattle.seen_parts.proofs.MeetingLaws.{same_color}
 use Rattle.seen_parts.specs.Meeting.{met_at, placed_rows}
 use Rattle.tree_edits.proofs.UnaskedLaws.{stays_bounds, stays_offset}
 use Rattle.tree_edits.specs.Applied.{IsEdit}
-use Rattle.tree_edits.specs.Asking.{goes_out, is_in_part}
+use Rattle.tree_edits.specs.Asking.{acted_view, goes_out, is_in_part}
 use Rattle.tree_edits.specs.Editing.{hides}
 use Rattle.tree_edits.specs.Hiding.{gone_one, held_hiding}
-use Rattle.tree_edits.specs.Keeping.{KeepsViews, acted_view, held_edited}
+use Rattle.tree_edits.specs.Keeping.{KeepsViews, held_edited}
 use Rattle.tree_edits.specs.declared.edits.Edit.{Edit}
 use Rattle.tree_edits.specs.declared.edits.Edit.TheVariants as edit
 use Rattle.tree_painter.specs.Painted.{IsPainted}

@@ -14,7 +14,8 @@ use Rattle.seen_edits.specs.Shown.{KeepsShown, act_is_unseen, is_unseen}
 use Rattle.seen_parts.specs.Meeting.{placed_rows}
 use Rattle.tree_edits.proofs.UnaskedLaws.{stays_bounds, stays_offset}
 use Rattle.tree_edits.specs.Editing.{hides}
-use Rattle.tree_edits.specs.Keeping.{KeepsViews, acted_view, held_acted}
+use Rattle.tree_edits.specs.Asking.{acted_view}
+use Rattle.tree_edits.specs.Keeping.{KeepsViews, held_acted}
 use Rattle.tree_edits.specs.declared.edits.Edit.{Edit}
 use Rattle.tree_edits.specs.declared.edits.Edit.TheVariants as edit
 use Rattle.view_model.specs.Changes.{facts_after_act}
@@ -53,6 +54,7 @@ acted_alike : (act : Act) → act_is_unseen act ≡ true → (view : PlainView) 
 acted_alike (act.Change change) e view offset = absurd (cc)
 acted_alike (act.WeightSum sum) e view offset = absurd (cc)
 acted_alike (act.Orient vertical) e view offset = absurd (cc)
+acted_alike (act.Direction direction) e view offset = absurd (cc)
 acted_alike (act.Flag flag.Clip on) e view offset = absurd (cc)
 acted_alike (act.Flag flag.Fill on) e view offset = absurd (cc)
 acted_alike (act.Flag flag.Split on) e view offset = refl
@@ -68,6 +70,7 @@ unseen_offset : (act : Act) → act_is_unseen act ≡ true → (facts : Facts) �
 unseen_offset (act.Change change) e facts = absurd (cc)
 unseen_offset (act.WeightSum sum) e facts = absurd (cc)
 unseen_offset (act.Orient vertical) e facts = absurd (cc)
+unseen_offset (act.Direction direction) e facts = absurd (cc)
 unseen_offset (act.Flag flag.Clip on) e facts = absurd (cc)
 unseen_offset (act.Flag flag.Fill on) e facts = absurd (cc)
 unseen_offset (act.Flag flag.Split on) e facts = refl
@@ -83,6 +86,7 @@ unseen_stays : (act : Act) → act_is_unseen act ≡ true → hides act ≡ fals
 unseen_stays (act.Change change) e = refl
 unseen_stays (act.WeightSum sum) e = refl
 unseen_stays (act.Orient vertical) e = refl
+unseen_stays (act.Direction direction) e = refl
 unseen_stays (act.Flag flag on) e = refl
 unseen_stays (act.Visible visibility) e = absurd (cc)
 unseen_stays (act.Ink color) e = refl

@@ -54,6 +54,7 @@ abbrev pub act_is_unseen : Act → Bool
 act_is_unseen (act.Change change) = false
 act_is_unseen (act.WeightSum sum) = false
 act_is_unseen (act.Orient vertical) = false
+act_is_unseen (act.Direction direction) = false
 act_is_unseen (act.Flag flag on) = flag_is_unseen flag
 act_is_unseen (act.Visible visibility) = false
 act_is_unseen (act.Ink color) = false

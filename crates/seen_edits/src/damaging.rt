@@ -96,6 +96,7 @@ fn act_is_unseen(act: Act) -> bool
         Act::Change(_)
         | Act::WeightSum(_)
         | Act::Orient { .. }
+        | Act::Direction(_)
         | Act::Visible(_)
         | Act::Ink(_)
         | Act::Rule { .. }

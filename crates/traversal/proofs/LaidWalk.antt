@@ -123,14 +123,14 @@ laid_start tree kids placer spot start measured laid next places short distinct 
   moves = rw is (λ end same. omega arith);
 }
 
-sides_at : (tree : Forest Row) (kid : ℕ) (held : ℕ → Held) → 0 < count_of_key kid tree → is_shown (head_view (part_from kid tree)).facts ≡ true
+pub sides_at : (tree : Forest Row) (kid : ℕ) (held : ℕ → Held) → 0 < count_of_key kid tree → is_shown (head_view (part_from kid tree)).facts ≡ true
     → AreNarrow held (part_from kid tree) → AreSidesNarrow (sides_of (held kid).state.edges)
 sides_at tree kid held live shown narrow =
     let f = located kid tree live in
     let narrow : AreNarrow held (Branch f.row f.kids f.siblings) = rw f.is at narrow in
     subst (λ (k : ℕ). AreSidesNarrow (sides_of (held k).state.edges)) f.key_is (narrow.0 (rw f.is at shown))
 
-narrow_for : (placer : Placer) (spot : Spot) (before : List Measured) (sides : Option Rect) → PlacesAs placer spot before
+pub narrow_for : (placer : Placer) (spot : Spot) (before : List Measured) (sides : Option Rect) → PlacesAs placer spot before
     → (spot.view.class ≡ RelativeLayout → AreSidesNarrow sides) → IsNarrowFor placer sides
 narrow_for (Over own room) spot before sides places narrow = tt
 narrow_for (InLine cursor) spot before sides places narrow = tt

@@ -1,3 +1,5 @@
+mod BackWalk
+mod Backwards
 mod ChangeLaws
 mod CountLaws
 mod CountedLaws

@@ -7,7 +7,7 @@ use mathlib.Core.Path.{fun_ext}
 use Rattle.geom_core.specs.declared.geometry.Size.{Size}
 use Rattle.kept_views.specs.Kept.{IsKept}
 use Rattle.kept_views.specs.Passes.{InPass, settled, settled_at}
-use Rattle.kept_views.specs.Pressing.{all_pressed, path_of, pressed}
+use Rattle.kept_views.specs.Pressing.{all_pressed, path_of}
 use Rattle.kept_views.proofs.Lines.{hook_put, last_requester, pass_end, same_kept}
 use Rattle.kept_views.proofs.Paths.{among_append}
 use Rattle.size_hooks.specs.Hook.{Hook}
@@ -18,7 +18,7 @@ use Rattle.view_model.specs.Geometry.{Laid}
 use Rattle.view_model.specs.Layout.{full_layout}
 use Rattle.view_model.specs.Offsets.{ranged}
 use Rattle.view_model.specs.PlainTree.{PlainView}
-use Rattle.view_tree.specs.Requests.{among, asking, forced_one}
+use Rattle.view_tree.specs.Requests.{among, asking, forced_one, pressed}
 use Rattle.view_tree.specs.Rows.{Row, changed_at_key, count_of_key}
 use Rattle.view_tree.specs.Views.{Held, IsLive, IsTree, KeepsOthers, Views, facts_of, geometry_of, held_of, plain_of, plain_rows, scrolled}
 use Rattle.traversal.specs.Changing.{IsPassed}

@@ -3,13 +3,13 @@ use Rattle.std.proofs.Common.{◌≡◌, ◌≢◌, ℕ, zero, suc, true, false,
 use Rattle.std.proofs.lemmas.Bool.{cases_Bool, cases_eq}
 use Rattle.std.specs.Prelude.{◌==◌, ℤ, IfSome}
 use Rattle.kept_views.specs.Passes.{settled}
-use Rattle.kept_views.specs.Pressing.{all_pressed, path_of, pressed}
+use Rattle.kept_views.specs.Pressing.{all_pressed, path_of}
 use Rattle.kept_views.proofs.Paths.{among_first, among_rest}
 use Rattle.kept_views.proofs.Requested.{pressed_out}
 use Rattle.view_model.specs.declared.changes.NumEdit.{NumEdit}
 use Rattle.view_model.specs.Forest.{Forest}
 use Rattle.view_model.specs.PlainTree.{PlainView}
-use Rattle.view_tree.specs.Requests.{among, asking, unforced}
+use Rattle.view_tree.specs.Requests.{among, asking, pressed, unforced}
 use Rattle.view_tree.specs.Rows.{Row, ancestors, changed_at_key, count_of_key}
 use Rattle.view_tree.specs.Views.{Held, Views}
 use Rattle.view_tree.proofs.values.KeptLaws.{ancestors-put}

@@ -4,7 +4,6 @@ use Rattle.std.proofs.lemmas.Bool.{cases_Bool, cases_eq, eq-eqb, ne_eqb}
 use Rattle.std.specs.Prelude.{if◌then◌else◌, MatchOption}
 use mathlib.Core.Path.{fun_ext}
 use Rattle.kept_views.specs.Kept.{HiddenView, IsConsistent, IsKept, loose}
-use Rattle.kept_views.specs.Pressing.{pressed}
 use Rattle.kept_views.proofs.AskedViews.{asked_kept, put_asked}
 use Rattle.kept_views.proofs.AroundEdits.{IsCalm, cleared_each, reached_each}
 use Rattle.kept_views.proofs.Edits.{AllHidden, hidden_kept}
@@ -19,13 +18,13 @@ use Rattle.view_model.specs.Forest.{Forest, Nothing}
 use Rattle.view_model.specs.Layout.{unscrolled}
 use Rattle.view_model.specs.PlainTree.{PlainView}
 use Rattle.view_tree.specs.Attached.{Attached}
-use Rattle.view_tree.specs.Requests.{asking}
+use Rattle.view_tree.specs.Requests.{asking, pressed, requested}
 use Rattle.view_tree.specs.Rows.{Row, ancestors, changed_at_key, count_of_key, first_tree, grown_at_key, head_view, leaf, part_from, pruned_at_key}
 use Rattle.view_tree.specs.Views.{Held, IsLive, IsTree, KeepsOthers, KeepsOutside, SameTree, Views, facts_of, held_of}
 use Rattle.view_tree.proofs.forest.KeyLaws.{zero_or_more}
 use Rattle.view_tree.proofs.forest.NumberLaws.{count_of_key-own_part, count_of_key-pruned_at_key, sum-grown}
 use Rattle.tree_edits.specs.Applied.{IsAddable}
-use Rattle.tree_edits.specs.Asking.{asked_by_act, listed, requested, requests_layout}
+use Rattle.tree_edits.specs.Asking.{asked_by_act, listed, requests_layout}
 use Rattle.tree_edits.specs.Editing.{hides}
 use Rattle.tree_edits.specs.Hiding.{gone_one, held_hiding, hidden_at}
 use Rattle.tree_edits.proofs.FactLaws.{gone_after, hides_ask, quiet_act, shown_offset}

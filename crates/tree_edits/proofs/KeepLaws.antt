@@ -13,7 +13,7 @@ use Rattle.view_model.specs.Forest.{Forest, Nothing, Branch}
 use Rattle.view_model.specs.PlainTree.{PlainView}
 use Rattle.view_tree.specs.Attached.{Attached}
 use Rattle.view_model.specs.Facts.{unscrolled_facts}
-use Rattle.view_tree.specs.Requests.{among}
+use Rattle.view_tree.specs.Requests.{among, requested}
 use Rattle.view_tree.specs.Rows.{Row, ancestors, changed_at_key, count_of_key, first_tree, head_view, leaf, part_from, pruned_at_key}
 use Rattle.view_tree.specs.Views.{Held, IsLive, IsTree, KeepsOthers, KeepsOutside, SameTree, Unscrolled, Views, facts_of, held_of, offset_of}
 use Rattle.view_tree.proofs.forest.DepthLaws.{ancestors-grown, ancestors-pruned_at_key}
@@ -23,10 +23,10 @@ use Rattle.tree_edits.specs.declared.edits.Edit.{Edit}
 use Rattle.tree_edits.specs.declared.edits.Edit.TheVariants as edit
 use Rattle.tree_edits.specs.declared.fault.EditFault.{EditFault}
 use Rattle.tree_edits.specs.Applied.{IsAddable}
-use Rattle.tree_edits.specs.Asking.{asked_by, asked_by_act, listed, nearest, requested}
+use Rattle.tree_edits.specs.Asking.{acted_view, asked_by, asked_by_act, listed, nearest}
 use Rattle.tree_edits.specs.Editing.{hides, names_views, new_view}
 use Rattle.tree_edits.specs.Hiding.{held_hiding}
-use Rattle.tree_edits.specs.Keeping.{KeepsViews, acted_view, held_acted, held_after, held_edited, next_after, tree_after}
+use Rattle.tree_edits.specs.Keeping.{KeepsViews, held_acted, held_after, held_edited, next_after, tree_after}
 use Rattle.tree_edits.proofs.FactLaws.{acted-named, acted-offset, names_ask, names_offset, names_stay, renamed}
 use Rattle.tree_edits.proofs.ParentLaws.{parent_stays}
 use Rattle.tree_edits.proofs.RequestLaws.{ancestor_live, ancestors_off, request_same, requested-put, requested_off}

@@ -1,18 +1,18 @@
 -- What requests for layout leave of the views of a tree.
 use Rattle.std.proofs.Common.{◌≡◌, ℕ, ◌<◌, Bool, true, false, List, [], ◌∷◌, ap, ◌∙◌, sym, refl, inl, inr}
 use Rattle.std.specs.Prelude.{◌==◌, if◌then◌else◌}
-use Rattle.kept_views.specs.Pressing.{path_of, pressed}
+use Rattle.kept_views.specs.Pressing.{path_of}
 use Rattle.kept_views.proofs.Emptied.{around_off}
 use Rattle.kept_views.proofs.Paths.{among_first, among_rest, unforced_off}
 use Rattle.kept_views.proofs.Requested.{pressed_out}
 use Rattle.view_model.specs.Forest.{Forest}
 use Rattle.view_model.specs.PlainTree.{PlainView}
-use Rattle.view_tree.specs.Requests.{among, asking, forced_one, unforced}
+use Rattle.view_tree.specs.Requests.{among, asking, forced_one, pressed, requested, unforced}
 use Rattle.view_tree.specs.Rows.{Row, ancestors, around, changed_at_key, count_of_key}
 use Rattle.view_tree.specs.Views.{Held}
 use Rattle.view_tree.proofs.forest.KeyLaws.{zero_or_more}
 use Rattle.view_tree.proofs.values.KeptLaws.{ancestors-put}
-use Rattle.tree_edits.specs.Asking.{is_on_paths, requested}
+use Rattle.tree_edits.specs.Asking.{is_on_paths}
 
 -- a view that is not in a tree is around none of its views
 pub ancestors_off : (key view : ℕ) (tree : Forest Row) → count_of_key key tree ≡ 0 → among key (ancestors view tree) ≡ false

@@ -3,10 +3,10 @@ use Rattle.std.proofs.Common.{◌≡◌, ℕ, List, ◌∙◌, ap}
 use Rattle.view_model.specs.Forest.{Forest}
 use Rattle.view_model.specs.Geometry.{Laid}
 use Rattle.view_model.specs.PlainTree.{PlainView}
+use Rattle.view_tree.specs.Requests.{requested}
 use Rattle.view_tree.specs.Views.{Held, SameTree, Views, held_of, laid_rows, plain_rows}
 use Rattle.view_tree.proofs.forest.PlainLaws.{plain_along}
 use Rattle.view_tree.proofs.values.GeometryLaws.{laid_along}
-use Rattle.tree_edits.specs.Asking.{requested}
 use Rattle.tree_edits.specs.Scene.{Scene, scene_of}
 use Rattle.tree_edits.proofs.RequestLaws.{requested_place}
 

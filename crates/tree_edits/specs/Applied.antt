@@ -35,6 +35,7 @@ IsVerb (act.Rule verb value) = verb < 21
 IsVerb (act.Change change) = Unit {0}
 IsVerb (act.WeightSum sum) = Unit {0}
 IsVerb (act.Orient vertical) = Unit {0}
+IsVerb (act.Direction direction) = Unit {0}
 IsVerb (act.Flag flag on) = Unit {0}
 IsVerb (act.Visible visibility) = Unit {0}
 IsVerb (act.Ink color) = Unit {0}

@@ -11,6 +11,7 @@ use Rattle.view_model.specs.declared.kinds.Class.{Class}
 use Rattle.view_model.specs.declared.kinds.Class.TheVariants as class
 use Rattle.view_model.specs.declared.refusal.Member.TheVariants as member
 use Rattle.view_model.specs.Cycles.{first_cycle}
+use Rattle.view_model.specs.Directed.{directed, rtl_at}
 use Rattle.view_model.specs.Facts.{new_facts, takes_part}
 use Rattle.view_model.specs.Forest.{Forest}
 use Rattle.view_model.specs.Geometry.{Laid, without}
@@ -71,6 +72,7 @@ abbrev pub takes : Class → Act → Bool
 takes class (act.Change change) = takes_change class change
 takes class (act.WeightSum sum) = lays_in_line class
 takes class (act.Orient vertical) = lays_in_line class
+takes class (act.Direction direction) = true
 takes class (act.Flag flag on) = takes_flag class flag
 takes class (act.Visible visibility) = true
 takes class (act.Ink color) = has_text class
@@ -85,6 +87,7 @@ abbrev pub hides : Act → Bool
 hides (act.Change change) = false
 hides (act.WeightSum sum) = false
 hides (act.Orient vertical) = false
+hides (act.Direction direction) = false
 hides (act.Flag flag on) = false
 hides (act.Visible visibility) = not (takes_part visibility)
 hides (act.Ink color) = false
@@ -101,12 +104,34 @@ names_views (act.Id id) = true
 names_views (act.Change change) = false
 names_views (act.WeightSum sum) = false
 names_views (act.Orient vertical) = false
+names_views (act.Direction direction) = false
 names_views (act.Flag flag on) = false
 names_views (act.Visible visibility) = false
 names_views (act.Ink color) = false
 names_views (act.Answer answer) = false
 names_views (act.Intercept actions) = false
 names_views (act.Scroll offset) = false
+
+-- whether an act sets a direction, which goes down the tree
+abbrev pub turns : Act → Bool
+turns (act.Direction direction) = true
+turns (act.Change change) = false
+turns (act.WeightSum sum) = false
+turns (act.Orient vertical) = false
+turns (act.Flag flag on) = false
+turns (act.Visible visibility) = false
+turns (act.Ink color) = false
+turns (act.Id id) = false
+turns (act.Rule verb value) = false
+turns (act.Answer answer) = false
+turns (act.Intercept actions) = false
+turns (act.Scroll offset) = false
+
+-- the tree after an act on the view of this number
+abbrev pub tree_after_act : ℕ → Act → Forest PlainView → Forest PlainView
+tree_after_act number act tree =
+    let changed = with_facts number (facts_after_act act) tree in
+    if turns act then directed false changed else changed
 
 -- the cycle that a tree would have once an act names views
 abbrev pub cycle_of_act : Forest PlainView → ℕ → Act → Option PlainRefusal
@@ -120,11 +145,11 @@ hidden number scene = without (numbers_of (part_of number scene.tree)) scene.geo
 abbrev pub new_view : ℕ → Class → ℤ → ℤ → PlainView
 new_view number class width height = record { number = number; class = class; facts = new_facts width height; text = [] }
 
--- a view is added under the next number, unless there is a reason against it; it lies nowhere
+-- a view is added under the next number, unless there is a reason against it; it runs as its parent, and lies nowhere
 abbrev pub outcome_of_add : Scene → Option ℕ → Class → ℤ → ℤ → Option PlainRefusal → Outcome
 outcome_of_add scene parent class width height (Some refusal) = Err refusal
 outcome_of_add scene parent class width height None =
-    Ok (record scene { tree = grown_at parent (single (new_view scene.next class width height)) scene.tree; next = scene.next + 1 }, Some scene.next)
+    Ok (record scene { tree = grown_at parent (directed (rtl_at parent scene.tree) (single (new_view scene.next class width height))) scene.tree; next = scene.next + 1 }, Some scene.next)
 
 -- a view and all below it go, and lie nowhere
 abbrev pub outcome_of_remove : Scene → ℕ → Outcome
@@ -133,7 +158,7 @@ outcome_of_remove scene number = Ok (record scene { tree = pruned number scene.t
 -- what an act makes of a scene
 abbrev pub after_act : Scene → ℕ → Act → Scene
 after_act scene number act =
-    record scene { tree = with_facts number (facts_after_act act) scene.tree; geometry = if hides act then hidden number scene else scene.geometry }
+    record scene { tree = tree_after_act number act scene.tree; geometry = if hides act then hidden number scene else scene.geometry }
 
 -- an act that a view takes is done, unless there would be a cycle
 abbrev pub outcome_unless : Scene → ℕ → Act → Option PlainRefusal → Outcome

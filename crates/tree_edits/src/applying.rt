@@ -10,7 +10,7 @@ ghost use Rattle.tree_edits.specs.Keeping.{KeepsViews};
 ghost use Rattle.tree_edits.specs.Scene.{scene_of};
 ghost use Rattle.view_tree.specs.Views.{IsLive, IsTree, number_of};
 
-use crate::acting::{names_views, set_facts, set_names};
+use crate::acting::{names_views, set_direction, set_facts, set_names};
 use crate::asking::request_at;
 use crate::classes::{has_text, takes};
 use crate::edits::Edit;
@@ -111,6 +111,8 @@ fn act_on(tree: &mut ViewTree, view: Key, act: Act) -> Result<Option<u64>, EditF
     }
     if names_views(act) {
         set_names(tree, view, act)?;
+    } else if let Act::Direction(direction) = act {
+        set_direction(tree, view, direction);
     } else {
         set_facts(tree, view, act);
     }

@@ -1,6 +1,7 @@
 //! Requests for layout that go with edits.
 ghost use Rattle.std.specs.Prelude.{◌≡◌, ℕ, IfSome};
-ghost use Rattle.tree_edits.specs.Asking.{asked_by_act, change_requests, flag_requests, listed, requested, requests_layout};
+ghost use Rattle.tree_edits.specs.Asking.{asked_by_act, change_requests, flag_requests, listed, requests_layout};
+ghost use Rattle.view_tree.specs.Requests.{requested};
 ghost use Rattle.view_tree.specs.Views.{IsLive, SameTree, held_of};
 
 use view_model::{Act, Change, Flag};
@@ -15,6 +16,7 @@ pub fn requests_layout(act: Act) -> bool
         Act::Flag { flag, on: _ } => flag_requests(flag),
         Act::WeightSum(_)
         | Act::Orient { .. }
+        | Act::Direction(_)
         | Act::Visible(_)
         | Act::Id(_)
         | Act::Rule { .. }

@@ -31,6 +31,7 @@ pub fn facts_after_act(act: Act, facts: Facts) -> Facts
         Act::Answer(answer) => Facts { answer, ..facts },
         Act::Intercept(intercept) => Facts { intercept, ..facts },
         Act::Scroll(offset) => Facts { offset, ..facts },
+        Act::Direction(direction) => Facts { direction, ..facts },
     }
 }
 

@@ -3,6 +3,8 @@ pub mod Changes
 pub mod Course
 pub mod Cycles
 pub mod Dimensions
+pub mod Directed
+pub mod Direction
 pub mod Facts
 pub mod Forest
 pub mod FrameLayout

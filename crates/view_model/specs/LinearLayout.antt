@@ -19,7 +19,7 @@ use Rattle.view_model.specs.Facts.{is_match, margin_left, margin_right, margins_
 use Rattle.view_model.specs.FrameLayout.{is_exactly}
 use Rattle.view_model.specs.Geometry.{rect_at}
 use Rattle.view_model.specs.Measuring.{Specs, Measured, Rule}
-use Rattle.view_model.specs.Placing.{alignment_across, alignment_down, low_edge}
+use Rattle.view_model.specs.Placing.{alignment_across, alignment_down, gravity_for, low_edge, started}
 
 -- what is read on an axis
 unfoldable pub size_on : Bool → Size → ℤ
@@ -53,8 +53,8 @@ low_padding vertical facts = if vertical then facts.padding.top else padding_lef
 unfoldable pub high_padding : Bool → Facts → ℤ
 high_padding vertical facts = if vertical then facts.padding.bottom else padding_right facts
 
-unfoldable pub alignment_on : Bool → Gravity → Alignment
-alignment_on vertical gravity = if vertical then alignment_down gravity.down else alignment_across gravity.across
+unfoldable pub alignment_on : Bool → Bool → Gravity → Alignment
+alignment_on vertical rtl gravity = if vertical then alignment_down gravity.down else alignment_across rtl gravity.across
 
 -- the two sides, the two specs and the rectangle of what is known along and beside a line
 abbrev pub size_by : Bool → ℤ → ℤ → Size
@@ -287,6 +287,11 @@ linear_rule own specs = record {
   total = linear_total own specs;
 }
 
+-- whether children stand in the line from the last to the first: in one from left to right, where the group runs from
+-- right to left
+abbrev pub is_backwards : Facts → Bool
+is_backwards own = not own.vertical && own.rtl
+
 -- where the line begins, by the group's gravity, in a group that has `room` pixels on its axis
 unfoldable pub line_begin : Alignment → ℤ → ℤ → ℤ → ℤ
 line_begin Low padding room total = padding
@@ -297,20 +302,16 @@ line_begin High padding room total = padding +ℤ (room -ℤ total)
 abbrev pub passed : Bool → List Measured → ℤ
 passed vertical before = fold (λ sum kid. sum +ℤ size_on vertical kid.size +ℤ margins_on vertical kid.facts) (pos 0) before
 
--- a child's own gravity goes before the group's
-abbrev pub gravity_for : Facts → Facts → Gravity
-gravity_for own kid = if kid.layout_gravity.given then kid.layout_gravity else own.gravity
-
 -- the low edges of a child along the line and beside it
 abbrev pub edge_along : Facts → Size → ℤ → List Measured → Facts → ℤ
 edge_along own room total before kid =
     let along = own.vertical in
-    line_begin (alignment_on along own.gravity) (low_padding along own) (size_on along room) total +ℤ passed along before +ℤ low_margin along kid
+    line_begin (alignment_on along own.rtl (started own.gravity)) (low_padding along own) (size_on along room) total +ℤ passed along before +ℤ low_margin along kid
 
 abbrev pub edge_beside : Facts → Size → Measured → ℤ
 edge_beside own room kid =
     let beside = not own.vertical in
-    low_edge (alignment_on beside (gravity_for own kid.facts)) (size_on beside room) (low_padding beside own) (high_padding beside own)
+    low_edge (alignment_on beside own.rtl (gravity_for own.gravity kid.facts.layout_gravity)) (size_on beside room) (low_padding beside own) (high_padding beside own)
     (size_on beside kid.size) (low_margin beside kid.facts) (high_margin beside kid.facts)
 
 -- the rectangle of a child, behind those that were placed before it, in a group of the size `room` whose children take

@@ -1,6 +1,6 @@
 -- A relative layout: its children are tied to its sides and to one another. It measures each child twice, on the
 -- horizontal axis and then on the vertical one, and a child always after its anchors. Lengths are in pixels.
-use Rattle.std.specs.Prelude.{ℕ, ℤ, pos, ◌+ℤ◌, ◌-ℤ◌, int_div, int_lt, Bool, ◌||◌, not, ◌==◌, if◌then◌else◌, List, [], ◌∷◌, fold, Option, Some, None, unwrap_or}
+use Rattle.std.specs.Prelude.{ℕ, ℤ, pos, ◌+ℤ◌, ◌-ℤ◌, int_div, int_lt, Bool, false, ◌&&◌, ◌||◌, not, ◌==◌, if◌then◌else◌, List, [], ◌∷◌, fold, Option, Some, None, unwrap_or}
 use Rattle.std.specs.Int.{int_max, int_min}
 use Rattle.std.specs.Option.{option_map}
 use Rattle.geom_core.specs.Limits.{clamp_coordinate, clamp_size}
@@ -20,10 +20,11 @@ use Rattle.view_model.specs.declared.relative.Band.{Band}
 use Rattle.view_model.specs.declared.relative.Edges.{Edges}
 use Rattle.view_model.specs.declared.relative.Tied.{Tied}
 use Rattle.view_model.specs.declared.verbs.TheConstants.{PARENT_LEFT, PARENT_TOP, PARENT_RIGHT, PARENT_BOTTOM, PARENT_START, PARENT_END, CENTER, CENTER_H, CENTER_V}
+use Rattle.view_model.specs.Direction.{left_of_two, right_of_two}
 use Rattle.view_model.specs.Facts.{is_match, margin_left, margin_right, padding_left, padding_right}
 use Rattle.view_model.specs.FrameLayout.{is_exactly}
 use Rattle.view_model.specs.Measuring.{Specs}
-use Rattle.view_model.specs.SiblingRules.{value_of}
+use Rattle.view_model.specs.SiblingRules.{is_free, value_of}
 
 -- One axis of a group and of a child.
 
@@ -34,22 +35,35 @@ abbrev pub band_on : Axis → Facts → Specs → Band
 band_on Horizontal own specs = record { spec = specs.across; padding_near = padding_left own; padding_far = padding_right own; min = own.min.w }
 band_on Vertical own specs = record { spec = specs.down; padding_near = own.padding.top; padding_far = own.padding.bottom; min = own.min.h }
 
-abbrev pub tied_on : Axis → Facts → Tied
-tied_on Horizontal kid = record {
+-- the margins of a child on an axis
+abbrev pub near_margin : Axis → Facts → ℤ
+near_margin Horizontal kid = margin_left kid
+near_margin Vertical kid = kid.margins.top
+
+abbrev pub far_margin : Axis → Facts → ℤ
+far_margin Horizontal kid = margin_right kid
+far_margin Vertical kid = kid.margins.bottom
+
+-- a child in a group that runs from right to left or not. Where it does, one without a rule for the axis rests at the far
+-- side; down there is no such thing
+abbrev pub tied_on : Bool → Axis → Facts → Tied
+tied_on rtl Horizontal kid = record {
   dim = kid.width;
   margin_near = margin_left kid;
   margin_far = margin_right kid;
-  at_near = is_set kid.rules PARENT_LEFT || is_set kid.rules PARENT_START;
-  at_far = is_set kid.rules PARENT_RIGHT || is_set kid.rules PARENT_END;
+  at_near = is_set kid.rules PARENT_LEFT || not (left_of_two rtl (value_of kid.rules PARENT_START) (value_of kid.rules PARENT_END) == 0);
+  at_far = is_set kid.rules PARENT_RIGHT || not (right_of_two rtl (value_of kid.rules PARENT_START) (value_of kid.rules PARENT_END) == 0);
   centered = is_set kid.rules CENTER || is_set kid.rules CENTER_H;
+  rests_far = rtl && is_free kid.rules;
 }
-tied_on Vertical kid = record {
+tied_on rtl Vertical kid = record {
   dim = kid.height;
   margin_near = kid.margins.top;
   margin_far = kid.margins.bottom;
   at_near = is_set kid.rules PARENT_TOP;
   at_far = is_set kid.rules PARENT_BOTTOM;
   centered = is_set kid.rules CENTER || is_set kid.rules CENTER_V;
+  rests_far = false;
 }
 
 abbrev pub length_on : Axis → Size → ℤ
@@ -179,14 +193,19 @@ loose_spec_in band kid (Some room) = loose_spec band kid room
 abbrev pub span_at : ℤ → ℤ → ℤ × ℤ
 span_at near length = let edge = clamp_coordinate near in (edge, edge +ℤ length)
 
+-- the near side of a child that rests at the far side of a group of this size
+abbrev pub rest_near : Band → Tied → ℤ → ℤ → ℤ
+rest_near band kid room length = room -ℤ (far_inset band kid +ℤ length)
+
 abbrev pub centered_in : ℤ → ℤ → ℤ
 centered_in room length = int_div (room -ℤ length) (pos 2)
 
--- where no side is set: in the middle of a group of a told size, or at its near side
+-- where no side is set: in the middle of a group of a told size, at its far side where it rests there, or at its near side
 unfoldable pub free_near : Band → Tied → ℤ → ℤ
 free_near band kid length =
     if is_exactly band.spec.mode
-    then (if kid.centered then centered_in band.spec.size length else near_inset band kid)
+    then (if kid.centered then centered_in band.spec.size length
+    else if kid.rests_far then rest_near band kid band.spec.size length else near_inset band kid)
     else near_inset band kid
 
 -- a side that is not set follows from the other and the length
@@ -207,7 +226,7 @@ pub record Spanned : Type 0 where
 
 -- how far its children reach, with their margins
 abbrev pub reach_of : Axis → Spanned → ℤ
-reach_of axis kid = kid.span.1 +ℤ (tied_on axis kid.facts).margin_far
+reach_of axis kid = kid.span.1 +ℤ far_margin axis kid.facts
 
 abbrev pub greatest_reach : Axis → List Spanned → ℤ
 greatest_reach axis kids = fold (λ most kid. int_max most (reach_of axis kid)) (pos 0) kids
@@ -218,15 +237,16 @@ own_length axis own specs kids =
     let band = band_on axis own specs in
     resolve_of (int_max band.min (greatest_reach axis kids +ℤ band.padding_far)) band.spec
 
--- where the group was not told its size, children in its middle or at its far side move once it is known; their
--- siblings don't move along
+-- where the group was not told its size, children in its middle or at its far side, and those that rest there, move once
+-- it is known; their siblings don't move along
 unfoldable pub moved_span : Band → Tied → ℤ → ℤ × ℤ → ℤ → ℤ × ℤ
 moved_span band kid own span length =
     if is_exactly band.spec.mode
     then span
     else (if kid.centered
     then span_at (centered_in own length) length
-    else if kid.at_far then span_at (own -ℤ (band.padding_far +ℤ length)) length else span)
+    else if kid.at_far then span_at (own -ℤ (band.padding_far +ℤ length)) length
+    else if kid.rests_far then span_at (rest_near band kid own length) length else span)
 
 -- The two phases.
 
@@ -241,18 +261,18 @@ width_of span = span.1 -ℤ span.0
 abbrev pub across_specs : Facts → Specs → Facts → Anchors → Specs
 across_specs own specs kid anchors =
     let band = band_on Horizontal own specs in
-    let tied = tied_on Horizontal kid in
+    let tied = tied_on own.rtl Horizontal kid in
     let lower = band_on Vertical own specs in
     record {
       across = side_spec band tied (near_side band tied anchors) (far_side band tied anchors);
-      down = loose_spec_in lower (tied_on Vertical kid) (room_of lower);
+      down = loose_spec_in lower (tied_on own.rtl Vertical kid) (room_of lower);
     }
 
 -- in the second, by its sides from left to right and its anchors from top to bottom
 abbrev pub down_specs : Facts → Specs → Facts → ℤ × ℤ → Anchors → Specs
 down_specs own specs kid span anchors =
     let band = band_on Vertical own specs in
-    let tied = tied_on Vertical kid in
+    let tied = tied_on own.rtl Vertical kid in
     record {
       across = exactly (width_of span);
       down = side_spec band tied (near_side band tied anchors) (far_side band tied anchors);
@@ -260,7 +280,7 @@ down_specs own specs kid span anchors =
 
 -- the sides of a child, measured with this size, on an axis
 abbrev pub span_on : Axis → Facts → Specs → Facts → Anchors → Size → ℤ × ℤ
-span_on axis own specs kid anchors size = settled_span (band_on axis own specs) (tied_on axis kid) anchors (length_on axis size)
+span_on axis own specs kid anchors size = settled_span (band_on axis own specs) (tied_on own.rtl axis kid) anchors (length_on axis size)
 
 -- the axis of a phase, by the phases before
 abbrev pub phase_axis : List (List Spanned) → Axis
@@ -288,7 +308,7 @@ sides_of edges = sides_by edges.across edges.down
 
 -- the sides at which it lies in the end
 abbrev pub final_span : Axis → Facts → Specs → ℤ → Facts → ℤ × ℤ → Size → ℤ × ℤ
-final_span axis own specs size kid span kid_size = moved_span (band_on axis own specs) (tied_on axis kid) size span (length_on axis kid_size)
+final_span axis own specs size kid span kid_size = moved_span (band_on axis own specs) (tied_on own.rtl axis kid) size span (length_on axis kid_size)
 
 -- the size of the group, whose children were taken with these sides from left to right and from top to bottom
 abbrev pub relative_size : Facts → Specs → List Spanned → List Spanned → Size

@@ -2,6 +2,7 @@ pub mod Attached
 pub mod Codes
 pub mod Cycles
 pub mod Detached
+pub mod Directions
 pub mod Faults
 pub mod Grafted
 pub mod Grafting

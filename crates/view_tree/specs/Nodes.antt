@@ -1,7 +1,7 @@
 -- How the nodes of a tree stand for its views.
 use Rattle.std.specs.declared.hash.BuildHasherDefault.{BuildHasherDefault}
 use Rattle.std.specs.declared.hash.FoldHasher.{FoldHasher}
-use Rattle.std.specs.Prelude.{ℕ, zero, suc, ◌≡◌, ◌<◌, ◌≤◌, ◌==◌, ◌^◌, nat_eq, map, Bool, [], Option, Some, None, if◌then◌else◌, option_map, ◌⊎◌}
+use Rattle.std.specs.Prelude.{ℕ, zero, suc, ◌≡◌, ◌<◌, ◌≤◌, ◌==◌, ◌^◌, nat_eq, map, Bool, false, [], Option, Some, None, if◌then◌else◌, option_map, ◌⊎◌}
 use Rattle.slab.specs.Slab.{Slab, get, slab_len}
 use Rattle.indexmap.specs.IndexMap.{IndexMap, get as get_key, hasher_of}
 use Rattle.indexmap.specs.Layout.{hash_map}
@@ -45,6 +45,15 @@ links_in (Some node) = Some (links_of node)
 
 abbrev pub links_at : Slab Node → ℕ → Option PlainNode
 links_at nodes key = links_in (get nodes key)
+
+-- whether the view of a node runs from right to left; where there is none, nothing does
+abbrev pub node_runs : Option PlainNode → Bool
+node_runs None = false
+node_runs (Some node) = node.view.facts.rtl
+
+abbrev pub runs_at : (ℕ → Option PlainNode) → Option ℕ → Bool
+runs_at at None = false
+runs_at at (Some key) = node_runs (at key)
 
 -- what is kept of a node's view beside the tree
 abbrev pub held_by : Node → Held

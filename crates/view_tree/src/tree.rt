@@ -7,6 +7,7 @@ ghost use Rattle.view_tree.specs.Views.{IsLive, IsTree, no_views};
 
 mod attach;
 mod detach;
+mod direct;
 mod find;
 mod graft;
 mod look_up;

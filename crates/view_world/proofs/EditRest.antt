@@ -10,9 +10,9 @@ use Rattle.touch_dispatch.specs.TreeEvents.{OnlyScrolls}
 use Rattle.traversal.specs.Frames.{fired_in}
 use Rattle.geom_core.specs.declared.geometry.Rect.{Rect}
 use Rattle.tree_edits.specs.Applied.{AppliesEdit, IsEdit, numbered}
-use Rattle.tree_edits.specs.Asking.{LeavesUnasked as EditLeaves, change_requests, flag_requests, requests_layout}
+use Rattle.tree_edits.specs.Asking.{LeavesUnasked as EditLeaves, acted_view, change_requests, flag_requests, requests_layout}
 use Rattle.tree_edits.specs.Editing.{Outcome, ActOn, cycle_of_act, hides, outcome_of_act, outcome_of_edit, outcome_unless, takes}
-use Rattle.tree_edits.specs.Keeping.{KeepsViews, acted_view}
+use Rattle.tree_edits.specs.Keeping.{KeepsViews}
 use Rattle.tree_edits.specs.Scene.{Scene, scene_of as edited_of}
 use Rattle.tree_edits.specs.declared.edits.Edit.{Edit}
 use Rattle.tree_edits.specs.declared.edits.Edit.TheVariants as edit
@@ -61,6 +61,7 @@ quiet_sides (act.Change (change.Weight weight)) facts quiet = absurd cc
 quiet_sides (act.Change (change.Gravity kids gravity)) facts quiet = absurd cc
 quiet_sides (act.WeightSum sum) facts quiet = absurd cc
 quiet_sides (act.Orient vertical) facts quiet = absurd cc
+quiet_sides (act.Direction direction) facts quiet = absurd cc
 quiet_sides (act.Flag flag.Clip on) facts quiet = record { shown = refl; specs = λ window. refl }
 quiet_sides (act.Flag flag.Fill on) facts quiet = absurd cc
 quiet_sides (act.Flag flag.Split on) facts quiet = record { shown = refl; specs = λ window. refl }
@@ -76,6 +77,7 @@ quiet_shows : (act : Act) → requests_layout act ≡ false → hides act ≡ fa
 quiet_shows (act.Change change) quiet = refl
 quiet_shows (act.WeightSum sum) quiet = refl
 quiet_shows (act.Orient vertical) quiet = refl
+quiet_shows (act.Direction direction) quiet = refl
 quiet_shows (act.Flag flag on) quiet = refl
 quiet_shows (act.Visible visibility) quiet = absurd cc
 quiet_shows (act.Ink color) quiet = refl
@@ -90,6 +92,7 @@ hides_asks (act.Visible visibility) hidden = refl
 hides_asks (act.Change change) hidden = absurd cc
 hides_asks (act.WeightSum sum) hidden = absurd cc
 hides_asks (act.Orient vertical) hidden = absurd cc
+hides_asks (act.Direction direction) hidden = absurd cc
 hides_asks (act.Flag flag on) hidden = absurd cc
 hides_asks (act.Ink color) hidden = absurd cc
 hides_asks (act.Id id) hidden = absurd cc
@@ -214,6 +217,7 @@ unpainted : (act : Act) → (requests_layout act || act_paints act) ≡ false �
 unpainted (act.Change change) e = unpainted_change change e
 unpainted (act.WeightSum sum) e = absurd cc
 unpainted (act.Orient vertical) e = absurd cc
+unpainted (act.Direction direction) e = absurd cc
 unpainted (act.Flag flag on) e = unpainted_flag flag e
 unpainted (act.Visible visibility) e = absurd cc
 unpainted (act.Ink color) e = absurd cc

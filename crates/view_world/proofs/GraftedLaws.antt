@@ -5,13 +5,13 @@ use Rattle.kept_views.proofs.GraftedKept.{grafted_kept, grafted_live, grafted_ro
 use mathlib.Core.Path.{fun_ext}
 use Rattle.kept_views.specs.Kept.{IsConsistent, IsKept}
 use Rattle.kept_views.specs.Pressing.{path_of}
-use Rattle.tree_edits.specs.Asking.{is_on_paths, listed, requested}
+use Rattle.tree_edits.specs.Asking.{is_on_paths, listed}
 use Rattle.view_model.specs.Forest.{Forest, Nothing}
 use Rattle.view_model.specs.Sprouts.{Seed}
 use Rattle.view_tree.proofs.forest.PlainLaws.{plain_along}
 use Rattle.view_tree.proofs.values.GeometryLaws.{geometry-gained, laid_along}
 use Rattle.view_tree.specs.Grafted.{Grafted}
-use Rattle.view_tree.specs.Requests.{among, asking, forced_one}
+use Rattle.view_tree.specs.Requests.{among, asking, forced_one, requested}
 use Rattle.view_tree.specs.Rows.{Row, count_of_key}
 use Rattle.view_tree.specs.Views.{Held, IsLive, IsTree, SameTree, Views, held_of, laid_rows, plain_rows}
 use Rattle.view_world.specs.Places.{HasGained}

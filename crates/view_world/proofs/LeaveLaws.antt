@@ -187,6 +187,7 @@ hide_done scene after number (act.Visible visibility) result hiding applied memo
 hide_done scene after number (act.Change change) result hiding applied memory = absurd (cc)
 hide_done scene after number (act.WeightSum sum) result hiding applied memory = absurd (cc)
 hide_done scene after number (act.Orient vertical) result hiding applied memory = absurd (cc)
+hide_done scene after number (act.Direction direction) result hiding applied memory = absurd (cc)
 hide_done scene after number (act.Flag flag on) result hiding applied memory = absurd (cc)
 hide_done scene after number (act.Ink color) result hiding applied memory = absurd (cc)
 hide_done scene after number (act.Id id) result hiding applied memory = absurd (cc)

@@ -103,6 +103,7 @@ fits_acted : (act : Act) (view : PlainView) → ScrollsWithin act → FitsOffset
 fits_acted (act.Change change) view bounds fits = kept_fits view (facts_after_change change view.facts) (offset_changed change view.facts) fits
 fits_acted (act.WeightSum sum) view bounds fits = fits
 fits_acted (act.Orient vertical) view bounds fits = fits
+fits_acted (act.Direction direction) view bounds fits = fits
 fits_acted (act.Flag flag.Clip on) view bounds fits = fits
 fits_acted (act.Flag flag.Fill on) view bounds fits = fits
 fits_acted (act.Flag flag.Split on) view bounds fits = fits
@@ -156,6 +157,7 @@ pub bounds_within : (act : Act) → IsActInBounds act → ScrollsWithin act
 bounds_within (act.Change change) bounds = tt
 bounds_within (act.WeightSum sum) bounds = tt
 bounds_within (act.Orient vertical) bounds = tt
+bounds_within (act.Direction direction) bounds = tt
 bounds_within (act.Flag flag on) bounds = tt
 bounds_within (act.Visible visibility) bounds = tt
 bounds_within (act.Ink color) bounds = tt
@@ -169,6 +171,7 @@ pub hides_within : (act : Act) → hides act ≡ true → ScrollsWithin act
 hides_within (act.Change change) hidden = tt
 hides_within (act.WeightSum sum) hidden = tt
 hides_within (act.Orient vertical) hidden = tt
+hides_within (act.Direction direction) hidden = tt
 hides_within (act.Flag flag on) hidden = tt
 hides_within (act.Visible visibility) hidden = tt
 hides_within (act.Ink color) hidden = tt

@@ -13,6 +13,7 @@ abbrev pub ScrollsWithin : Act → Type 0
 ScrollsWithin (act.Change change) = Unit {0}
 ScrollsWithin (act.WeightSum sum) = Unit {0}
 ScrollsWithin (act.Orient vertical) = Unit {0}
+ScrollsWithin (act.Direction direction) = Unit {0}
 ScrollsWithin (act.Flag flag on) = Unit {0}
 ScrollsWithin (act.Visible visibility) = Unit {0}
 ScrollsWithin (act.Ink color) = Unit {0}

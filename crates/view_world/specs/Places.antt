@@ -3,9 +3,11 @@ use Rattle.std.specs.Prelude.{◌≡◌, ℕ, zero, suc, ◌+◌, ◌<◌, ◌�
 use Rattle.std.specs.Option.{option_map}
 use Rattle.touch_dispatch.specs.Kept.{IsUnknown, Kept, gesture_of, is_open, with_place}
 use Rattle.touch_targets.specs.Captures.{is_target}
+use Rattle.view_model.specs.Directed.{directed}
 use Rattle.view_model.specs.Forest.{Forest, count_of}
 use Rattle.view_model.specs.Growth.{grown_at}
 use Rattle.view_model.specs.Sprouts.{Seed, numbered}
+use Rattle.view_tree.specs.Directions.{is_rtl_at}
 use Rattle.view_tree.specs.Views.{Views, geometry_of, number_of, plain_of}
 
 -- places for so many views, from this number on
@@ -34,6 +36,6 @@ pub record AreOpened (first count : ℕ) (old new : Kept) : Type 0 where
 
 -- the views of a sapling have come below a view, or as all there is, under the next numbers, and lie nowhere
 pub record HasGained (old : Views) (place : Option ℕ) (seeds : Forest Seed) (new : Views) : Type 0 where
-  pub plain : plain_of new ≡ grown_at (option_map (number_of old) place) (numbered old.next seeds) (plain_of old)
+  pub plain : plain_of new ≡ grown_at (option_map (number_of old) place) (directed (is_rtl_at place old.tree) (numbered old.next seeds)) (plain_of old)
   pub next : new.next ≡ old.next + count_of seeds
   pub geometry : geometry_of new ≡ geometry_of old

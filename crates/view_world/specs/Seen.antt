@@ -54,6 +54,7 @@ abbrev pub act_paints : Act → Bool
 act_paints (act.Change change) = change_paints change
 act_paints (act.WeightSum sum) = false
 act_paints (act.Orient vertical) = false
+act_paints (act.Direction direction) = false
 act_paints (act.Flag flag on) = flag_paints flag
 act_paints (act.Visible visibility) = false
 act_paints (act.Ink color) = true

@@ -2,12 +2,13 @@
 ghost use Rattle.std.specs.Prelude.{◌≡◌, ◌<◌, ◌≤◌, ◌+◌, ℕ, false, OnErr, OnOk, None, IfOk, IfSome};
 ghost use Rattle.std.specs.Option.{option_map};
 ghost use Rattle.kept_views.specs.Kept.{IsConsistent};
-ghost use Rattle.tree_edits.specs.Asking.{is_on_paths, listed, requested};
+ghost use Rattle.tree_edits.specs.Asking.{is_on_paths, listed};
 ghost use Rattle.view_model.specs.Cycles.{graft_cycle};
 ghost use Rattle.view_model.specs.Forest.{Nothing};
 ghost use Rattle.view_model.specs.Grafts.{graft_refusal};
 ghost use Rattle.view_model.specs.Sprouts.{seeds_of};
 ghost use Rattle.view_model.specs.declared.limits.TheConstants.{MAX_VIEWS, NUMBERS_END};
+ghost use Rattle.view_tree.specs.Requests.{requested};
 ghost use Rattle.view_tree.specs.Faults.{IsRefusedOrCyclic};
 ghost use Rattle.view_tree.specs.Views.{IsLive, SameTree, held_of, number_of, plain_of};
 ghost use Rattle.view_world.specs.Places.{HasGained};

@@ -130,6 +130,7 @@ fn paints(act: Act) -> bool
         Act::Change(_)
         | Act::WeightSum(_)
         | Act::Orient { .. }
+        | Act::Direction(_)
         | Act::Visible(_)
         | Act::Id(_)
         | Act::Rule { .. }

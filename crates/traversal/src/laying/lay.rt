@@ -6,7 +6,7 @@ ghost use Rattle.geom_core.specs.declared.geometry.Rect.{Rect};
 ghost use Rattle.seen_parts.specs.Frames.{IsCanvas};
 ghost use Rattle.seen_parts.specs.Meeting.{as_seen};
 ghost use Rattle.kept_views.specs.Kept.{owed};
-ghost use Rattle.kept_views.specs.Laying.{Fit, IsPut, IsQuiet, differ, moved_to, same_place, spot_of};
+ghost use Rattle.kept_views.specs.Laying.{Fit, IsPut, IsQuiet, IsQuietAll, IsQuietBack, differ, moved_to, same_place, spot_of};
 ghost use Rattle.kept_views.specs.Passes.{settled, settled_at};
 ghost use Rattle.measure_pass.specs.Caches.{Grown};
 ghost use Rattle.measure_pass.specs.Measured.{IsFit, Keeps};
@@ -30,7 +30,7 @@ ghost use Rattle.traversal.specs.Narrow.{AreNarrow, IsNarrow, IsNarrowFor, IsStr
 ghost use Rattle.traversal.specs.Placing.{LaidKids, PlacesAs, Unmarked};
 ghost use Rattle.traversal.specs.Resting.{IsAtPlace};
 
-use super::placer::Placer;
+use super::placer::{Placer, places_backwards};
 use damage_rect::Damage;
 use geom_core::{Rect, Size};
 use measure_pass::remeasure;
@@ -225,9 +225,41 @@ pub fn settle(tree: &mut ViewTree, view: Key)
     tree.set_state(view, state);
 }
 
-/// Lays the children of a view of this size.
+/// Lays the children of a view of this size, in the order in which it places them.
 #[cycle(lay)]
 fn lay_kids(
+    tree: &mut ViewTree,
+    view: Key,
+    size: Size,
+    canvas: Option<Canvas>,
+    damage: &mut Damage,
+    work: &mut Work,
+)
+    requires live { IsLive tree.old view }
+    requires fit { Fit (held_of tree.old) (children_of_first (part_from view tree.old.tree)) }
+    requires narrow { class_of tree.old view ≡ RelativeLayout → AreNarrow (held_of tree.old) (children_of_first (part_from view tree.old.tree)) }
+    requires near { IfSome canvas (IsCanvas (2 ^ 37)) }
+    ensures grew { LiesIn damage.old.rect damage.new.rect }
+    ensures sight { KeepsSightIn canvas damage.new.rect (held_of tree.old) (held_of tree.new) (children_of_first (part_from view tree.old.tree)) }
+    ensures within { GrowsWithin canvas damage.old.rect damage.new.rect (held_of tree.old) (held_of tree.new) (children_of_first (part_from view tree.old.tree)) }
+    ensures same { SameTree tree.old tree.new }
+    ensures quiet { IsQuietAll (held_of tree.new) (spot_of (part_from view tree.old.tree) (held_of tree.old view) size) (held_of tree.old) (children_of_first (part_from view tree.old.tree)) }
+    ensures others { KeepsOutside (held_of tree.old) (held_of tree.new) (children_of_first (part_from view tree.old.tree)) }
+    ensures measured { work.new.measured ≤ work.old.measured + owed (held_of tree.old) (children_of_first (part_from view tree.old.tree)) }
+    ensures laid { tree.new.counts.laid ≤ tree.old.counts.laid + differ (held_of tree.old) (held_of tree.new) (children_of_first (part_from view tree.old.tree)) }
+    ensures counted { IsCounted tree.old tree.new work.old work.new }
+    ensures caches { Grown (LastAt (held_of tree.old) (children_of_first (part_from view tree.old.tree))) (held_of tree.old) (held_of tree.new) (children_of_first (part_from view tree.old.tree)) }
+{
+    if places_backwards(tree, view) {
+        lay_backwards(tree, view, size, canvas, damage, work);
+        return;
+    }
+    lay_forwards(tree, view, size, canvas, damage, work);
+}
+
+/// Lays the children of a view of this size, from the first to the last.
+#[cycle(lay)]
+fn lay_forwards(
     tree: &mut ViewTree,
     view: Key,
     size: Size,
@@ -256,6 +288,43 @@ fn lay_kids(
     while let Some(kid) = next {
         lay_kid(tree, &mut placer, kid, canvas, damage, work);
         next = tree.next(kid);
+    }
+}
+
+/// Lays the children of a view of this size, from the last to the first.
+#[cycle(lay)]
+fn lay_backwards(
+    tree: &mut ViewTree,
+    view: Key,
+    size: Size,
+    canvas: Option<Canvas>,
+    damage: &mut Damage,
+    work: &mut Work,
+)
+    requires live { IsLive tree.old view }
+    requires fit { Fit (held_of tree.old) (children_of_first (part_from view tree.old.tree)) }
+    requires narrow { class_of tree.old view ≡ RelativeLayout → AreNarrow (held_of tree.old) (children_of_first (part_from view tree.old.tree)) }
+    requires near { IfSome canvas (IsCanvas (2 ^ 37)) }
+    ensures grew { LiesIn damage.old.rect damage.new.rect }
+    ensures sight { KeepsSightIn canvas damage.new.rect (held_of tree.old) (held_of tree.new) (children_of_first (part_from view tree.old.tree)) }
+    ensures within { GrowsWithin canvas damage.old.rect damage.new.rect (held_of tree.old) (held_of tree.new) (children_of_first (part_from view tree.old.tree)) }
+    ensures same { SameTree tree.old tree.new }
+    ensures quiet { IsQuietBack (held_of tree.new) (spot_of (part_from view tree.old.tree) (held_of tree.old view) size) (held_of tree.old) (children_of_first (part_from view tree.old.tree)) }
+    ensures others { KeepsOutside (held_of tree.old) (held_of tree.new) (children_of_first (part_from view tree.old.tree)) }
+    ensures measured { work.new.measured ≤ work.old.measured + owed (held_of tree.old) (children_of_first (part_from view tree.old.tree)) }
+    ensures laid { tree.new.counts.laid ≤ tree.old.counts.laid + differ (held_of tree.old) (held_of tree.new) (children_of_first (part_from view tree.old.tree)) }
+    ensures counted { IsCounted tree.old tree.new work.old work.new }
+    ensures caches { Grown (LastAt (held_of tree.old) (children_of_first (part_from view tree.old.tree))) (held_of tree.old) (held_of tree.new) (children_of_first (part_from view tree.old.tree)) }
+{
+    let _in_range = work.measured;
+    if tree.first(view).is_none() {
+        return;
+    }
+    let mut placer = Placer::start(tree, view, size);
+    let mut next = tree.last(view);
+    while let Some(kid) = next {
+        lay_kid(tree, &mut placer, kid, canvas, damage, work);
+        next = tree.previous(kid);
     }
 }
 

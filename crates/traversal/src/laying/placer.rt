@@ -3,19 +3,19 @@ ghost use Rattle.std.specs.Prelude.{◌≡◌, ◌<◌, [], ◌∷◌, ◌++◌,
 ghost use Rattle.geom_core.specs.Limits.{IsSide};
 ghost use Rattle.view_model.specs.declared.limits.TheConstants.{MAX_VIEWS};
 ghost use Rattle.view_model.specs.Facts.{layout_facts};
-ghost use Rattle.view_model.specs.Layout.{Spot, place_in};
+ghost use Rattle.view_model.specs.Layout.{Spot, place_in, places_backwards};
 ghost use Rattle.view_model.specs.Measuring.{Measured};
 ghost use Rattle.view_model.specs.RelativeCourse.{relative_place};
 ghost use Rattle.view_model.specs.RelativeLayout.{sides_of};
 ghost use Rattle.view_tree.specs.Rows.{part_from};
-ghost use Rattle.view_tree.specs.Views.{IsLive, held_of};
+ghost use Rattle.view_tree.specs.Views.{IsLive, class_of, facts_of, held_of};
 ghost use Rattle.kept_views.specs.Laying.{spot_of};
 ghost use Rattle.traversal.specs.Narrow.{AreSidesNarrow, IsNarrow, IsNarrowFor};
 ghost use Rattle.traversal.specs.Placing.{PlacesAs};
 
 use frame_layout::place;
 use geom_core::{Rect, Size};
-use linear_layout::Cursor;
+use linear_layout::{Cursor, is_backwards};
 use view_model::{Class, Edges, Facts};
 use view_tree::{Key, ViewTree};
 
@@ -67,6 +67,21 @@ impl Placer {
             Placer::InLine(cursor) => cursor.place(kid, size),
             Placer::Between => between(edges, size),
         }
+    }
+}
+
+/// Whether a view hands its children in from the last to the first.
+pub fn places_backwards(tree: &ViewTree, view: Key) -> bool
+    requires { IsLive tree.now view }
+    ensures { result ≡ places_backwards (class_of tree.now view) (facts_of tree.now view) }
+{
+    match tree.class(view) {
+        Class::LinearLayout => is_backwards(tree.facts(view)),
+        Class::View
+        | Class::TextView
+        | Class::FrameLayout
+        | Class::ScrollView
+        | Class::RelativeLayout => false,
     }
 }
 

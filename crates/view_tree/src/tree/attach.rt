@@ -6,6 +6,7 @@ ghost use Rattle.view_model.specs.Forest.{Nothing};
 ghost use Rattle.view_model.specs.Growth.{growth_refusal, refusal_at};
 ghost use Rattle.view_model.specs.PlainTree.{PlainView};
 ghost use Rattle.view_tree.specs.Attached.{Attached};
+ghost use Rattle.view_tree.specs.Directions.{running_below};
 ghost use Rattle.view_tree.specs.Faults.{IsRefusedExactlyFor, RefusesExactlyFor};
 ghost use Rattle.view_tree.specs.Rows.{ancestors};
 ghost use Rattle.view_tree.specs.Views.{IsLive, group_number, number_of, orders_under, plain_of};
@@ -21,7 +22,7 @@ use view_model::{Class, Facts, Refusal, Sprout, Text};
 
 impl ViewTree {
     /// Makes a view, the last child of its parent, or the root where there is none. It has the next number, no bounds,
-    /// and nothing below it.
+    /// and nothing below it. It runs as its direction says, or as its parent.
     pub fn attach(
         &mut self,
         parent: Option<Key>,
@@ -34,7 +35,7 @@ impl ViewTree {
         requires unnamed { (facts.id ≡ 0) × (facts.rules.values ≡ replicate 21 0) }
         requires numbers { self.old.next < NUMBERS_END }
         ensures attached { let view : PlainView = record { number = self.old.next; class = class; facts = facts; text = text } in
-            IfOk result (λ key. Attached self.old parent view key self.new) }
+            IfOk result (λ key. Attached self.old parent (running_below parent self.old.tree view) key self.new) }
         ensures orders { OnOk result ((k : ℕ) → group_number self.old parent ≢ Some k → k ≢ self.old.next → orders_under self.new k ≡ orders_under self.old k) }
         ensures refused { IsRefusedExactlyFor (refusal_at (plain_of self.old) (option_map (number_of self.old) parent)) result }
         ensures unchanged { OnErr result (self.new ≡ self.old) }

@@ -11,12 +11,12 @@ use Rattle.kept_views.proofs.LaidRows.{moved_is}
 use Rattle.view_model.specs.declared.limits.TheConstants.{MAX_VIEWS}
 use Rattle.view_model.specs.Facts.{is_shown, layout_facts}
 use Rattle.view_model.specs.Forest.{count_of}
-use Rattle.view_model.specs.Layout.{place_in}
+use Rattle.view_model.specs.Layout.{place_in, places_backwards}
 use Rattle.view_model.specs.Measuring.{Measured, Specs}
 use Rattle.view_model.specs.RelativeLayout.{sides_of}
 use Rattle.view_tree.specs.declared.state.State.{State}
 use Rattle.view_tree.specs.Rows.{first_tree, children_of_first, part_from, head_view}
-use Rattle.view_tree.specs.Views.{Held, Views, held_of, specs_of, state_of}
+use Rattle.view_tree.specs.Views.{Held, Views, class_of, facts_of, held_of, specs_of, state_of}
 use Rattle.view_tree.specs.declared.counts.Counts.{Counts}
 use Rattle.view_tree.proofs.forest.Walks.{count_few, count_one, fewer_below}
 use Rattle.view_tree.proofs.forest.Forests.{count_alone, live_after}
@@ -30,6 +30,7 @@ use Rattle.traversal.proofs.LastAsked.{kids_asked}
 use Rattle.traversal.proofs.LaidAt.{alone_outside, below_at, calm_at, differ_at, kid_at, kid_gone, outside_at, put_at, put_same, settled_bounds, settled_cache, settled_is, sides_at}
 use Rattle.traversal.proofs.CoverLaws.{SamePlaces}
 use Rattle.traversal.proofs.FollowedViews.{covers_along, covers_at, covers_end, covers_on, covers_start, settled_places, sight_along, sight_at, sight_same, steps_by, walks_end, walks_on, walks_start}
+use Rattle.traversal.proofs.BackWalk.{backwards_is}
 use Rattle.traversal.proofs.LaidWalk.{laid_on, laid_start, next_narrow}
 use Rattle.traversal.proofs.RestLaws.{calm_is, calm_of, unmoved}
 use Rattle.traversal.proofs.laying.lay.+lay.Goals as goal
@@ -83,10 +84,10 @@ lay_kid-returns-clause-caches t c =
     let shown = sym (ap is_shown c.facts-facts.ensures.value) ∙ sym c.is_shown.ensures ∙ c.if-not-is_shown.false in
     grown_kid c.args.tree.now.tree c.args.kid (held_of c.args.tree.now) (held_of c.lay.new.tree) c.requires.live shown c.lay.ensures.caches
 
--- lay_kids
+-- lay_forwards
 
-pub lay_kids-lay_kid-requires : goal.lay_kids-lay_kid-requires
-lay_kids-lay_kid-requires t c =
+pub lay_forwards-lay_kid-requires : goal.lay_forwards-lay_kid-requires
+lay_forwards-lay_kid-requires t c =
     let tree = c.args.tree.now.tree in
     let walk = rw c.in-Some.is at c.loop-next.invariant.walked in
     let fewer = fewer_below tree c.args.view c.in-Some.kid c.requires.live walk.walked.walk in
@@ -107,13 +108,13 @@ lay_kids-lay_kid-requires t c =
       ),
     )
 
-pub lay_kids-loop-next-smaller : goal.lay_kids-loop-next-smaller
-lay_kids-loop-next-smaller t c =
+pub lay_forwards-loop-next-smaller : goal.lay_forwards-loop-next-smaller
+lay_forwards-loop-next-smaller t c =
     let walk = rw c.in-Some.is at c.loop-next.invariant.walked in
     rw (c.next-next.ensures.part, c.lay_kid.ensures.same.tree, c.loop-next.invariant.same.tree, c.in-Some.is) (live_after c.in-Some.kid c.args.tree.now.tree walk.walked.walk.live)
 
-pub lay_kids-loop-next-init : goal.lay_kids-loop-next-init
-lay_kids-loop-next-init t c =
+pub lay_forwards-loop-next-init : goal.lay_forwards-loop-next-init
+lay_forwards-loop-next-init t c =
     let tree = c.args.tree.now.tree in
     let first = c.first-next.ensures in
     let spot = spot_of (part_from c.args.view tree) (held_of c.args.tree.now c.args.view) c.args.size in
@@ -128,8 +129,8 @@ lay_kids-loop-next-init t c =
           (count_few c.args.view tree c.requires.live first.is_tree.few) first.is_tree.keys first.part first.live c.requires.fit c.requires.narrow;
     }
 
-pub lay_kids-loop-next-preserved : goal.lay_kids-loop-next-preserved
-lay_kids-loop-next-preserved t c =
+pub lay_forwards-loop-next-preserved : goal.lay_forwards-loop-next-preserved
+lay_forwards-loop-next-preserved t c =
     let tree = c.args.tree.now.tree in
     let before = c.loop-next.invariant in
     let kid = c.lay_kid.ensures in
@@ -159,37 +160,53 @@ lay_kids-loop-next-preserved t c =
           (rw (kid.same.tree, before.same.tree) at c.next-next.ensures.part) (rw (kid.same.tree, before.same.tree) at c.next-next.ensures.live);
     }
 
-pub lay_kids-returns-clause-quiet : goal.lay_kids-returns-clause-quiet
-lay_kids-returns-clause-quiet t c =
+pub lay_forwards-returns-clause-quiet : goal.lay_forwards-returns-clause-quiet
+lay_forwards-returns-clause-quiet t c =
     let walk = rw c.in_default.is at c.loop-next.invariant.walked in
     walk.quiet (held_of c.loop-next.tree) (λ key none. refl) (record { kept = tt; reached = tt; specs = refl; edges = refl; lies = refl; places = refl; offsets = tt })
 
-pub lay_kids-returns-clause-measured : goal.lay_kids-returns-clause-measured
-lay_kids-returns-clause-measured t c =
+pub lay_forwards-returns-clause-measured : goal.lay_forwards-returns-clause-measured
+lay_forwards-returns-clause-measured t c =
     let walk = rw c.in_default.is at c.loop-next.invariant.walked in
     let m = walk.measures in
     omega arith
 
-pub lay_kids-returns-clause-laid : goal.lay_kids-returns-clause-laid
-lay_kids-returns-clause-laid t c =
+pub lay_forwards-returns-clause-laid : goal.lay_forwards-returns-clause-laid
+lay_forwards-returns-clause-laid t c =
     let walk = rw c.in_default.is at c.loop-next.invariant.walked in
     let m = walk.moves (held_of c.loop-next.tree) (λ key none. refl) in
     omega arith
 
-pub lay_kids-returns-clause-caches : goal.lay_kids-returns-clause-caches
-lay_kids-returns-clause-caches t c =
+pub lay_forwards-returns-clause-caches : goal.lay_forwards-returns-clause-caches
+lay_forwards-returns-clause-caches t c =
     let walk = rw c.in_default.is at c.loop-next.invariant.walked in
     walk.caches (held_of c.loop-next.tree) (λ key none. refl) tt
 
-pub lay_kids-returns-clause-sight : goal.lay_kids-returns-clause-sight
-lay_kids-returns-clause-sight t c =
+pub lay_forwards-returns-clause-sight : goal.lay_forwards-returns-clause-sight
+lay_forwards-returns-clause-sight t c =
     walks_end c.args.canvas c.loop-next.damage.rect c.args.tree.now.tree (children_of_first (part_from c.args.view c.args.tree.now.tree)) (held_of c.args.tree.now) (held_of c.loop-next.tree)
     (rw c.in_default.is at c.loop-next.invariant.sight)
 
-pub lay_kids-returns-clause-within : goal.lay_kids-returns-clause-within
-lay_kids-returns-clause-within t c =
+pub lay_forwards-returns-clause-within : goal.lay_forwards-returns-clause-within
+lay_forwards-returns-clause-within t c =
     covers_end c.args.canvas c.args.damage.now.rect c.loop-next.damage.rect c.args.tree.now.tree (children_of_first (part_from c.args.view c.args.tree.now.tree)) (held_of c.args.tree.now) (held_of c.loop-next.tree)
     (rw c.in_default.is at c.loop-next.invariant.cover)
+
+-- lay_kids
+
+pub lay_kids-returns-then-places_backwards-clause-quiet : goal.lay_kids-returns-then-places_backwards-clause-quiet
+lay_kids-returns-then-places_backwards-clause-quiet t c =
+    let class = class_of c.args.tree.now c.args.view in
+    let facts = facts_of c.args.tree.now c.args.view in
+    let back : places_backwards class (layout_facts facts) ≡ true = sym (backwards_is class facts) ∙ sym c.places_backwards.ensures ∙ c.if-places_backwards.true in
+    rw back c.lay_backwards.ensures.quiet
+
+pub lay_kids-returns-clause-quiet : goal.lay_kids-returns-clause-quiet
+lay_kids-returns-clause-quiet t c =
+    let class = class_of c.args.tree.now c.args.view in
+    let facts = facts_of c.args.tree.now c.args.view in
+    let on : places_backwards class (layout_facts facts) ≡ false = sym (backwards_is class facts) ∙ sym c.places_backwards.ensures ∙ c.if-places_backwards.false in
+    rw on c.lay_forwards.ensures.quiet
 
 -- lay_open
 
