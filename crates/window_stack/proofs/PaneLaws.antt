@@ -235,15 +235,6 @@ pub stack_placed : (holder : Option ℕ) (to : Pane) (panes : List Pane) → IsS
     → IsStack (record { panes = map (placed to) panes; holder = holder })
 stack_placed holder to panes is = record { once = AreOpen-placed to panes is.once; held = held_placed holder to panes is.held }
 
-held_opened : (holder : Option ℕ) (to : Pane) (panes : List Pane) → IfSome holder (λ j. is_some (pane_at panes j) ≡ true)
-    → IfSome holder (λ j. is_some (pane_at (to ∷ panes) j) ≡ true)
-held_opened None to panes held = tt
-held_opened (Some j) to panes held = elim (cases_Bool (to.k == j)) [ inl e ↦ rw e refl | inr e ↦ rw e held ]
-
-pub stack_opened : (holder : Option ℕ) (to : Pane) (panes : List Pane) → to.k ≤ MAX_PANE → pane_at panes to.k ≡ None → IsStack (record { panes = panes; holder = holder })
-    → IsStack (record { panes = to ∷ panes; holder = holder })
-stack_opened holder to panes low none is = record { once = (low, none, is.once); held = held_opened holder to panes is.held }
-
 -- a window that holds a point is open
 pub found_under : (x y : ℤ) (sizes : List (Option Size)) (panes : List Pane) → AreOpen panes → IfSome (pane_under x y sizes panes) (λ pane. (pane.k ≤ MAX_PANE) × (is_some (pane_at panes pane.k) ≡ true))
 found_under x y sizes [] are = tt
