@@ -6,7 +6,7 @@ use Rattle.axml_chunks.specs.Steps.{Fails}
 use Rattle.arsc_reader.specs.Contents.{Contents}
 use Rattle.arsc_reader.specs.Table.{value_of}
 
--- a table stands for what was read: it has the same strings, and each resource holds the same
+-- a table represents what was read: it has the same strings, and each resource holds the same
 pub record StandsFor (table : Contents) (read : Result Contents Fault) : Type 0 where
   pub whole : Contents
   pub whole_is : read ≡ Ok whole

@@ -10,15 +10,15 @@ use Rattle.arsc_reader.specs.declared.held.Held.{Held}
 use Rattle.arsc_reader.specs.declared.held.Held.TheVariants as held
 use Rattle.arsc_reader.specs.declared.listing.Listing.{Listing}
 
--- so many bytes from a place on are 0
+-- n bytes from a place on are 0
 abbrev pub are_zeros : List ℕ → ℕ → ℕ → Bool
 are_zeros bytes place zero = true
 are_zeros bytes place (suc n) = are_zeros bytes place n && (slice_index bytes (place + n) == 0)
 
--- The chunk of a type has its number in the byte at 8 and its flags in the byte at 9. The count of its entries stands
--- at 12, the place of the first one at 16, and at 20 the configuration, which begins with its own size.
+-- The chunk of a type has its number in the byte at 8 and its flags in the byte at 9. The count of its entries is at
+-- 12, the place of the first one at 16, and at 20 the configuration, which begins with its own size.
 
--- where the entries of a type stand, whose chunk stands at a place, in a package of this id
+-- where the entries of a type are, whose chunk is at a place, in a package of this id
 abbrev pub listing_at : List ℕ → ℕ → ℕ → Chunk → Listing
 listing_at bytes place package_id chunk = record {
   id = package_id * 16777216 + slice_index bytes (place + 8) * 65536;
@@ -58,7 +58,8 @@ IfListed len None = Unit {0}
 IfListed len (Some listing) = IsListing len listing
 
 -- An entry begins with its size and its flags, in two bytes each, and a key. Of the flags, 1 says that it is complex,
--- and those of 8 and above that it is written in another form. Faults in an entry show at its offset's place, `own`.
+-- and those of 8 and above that it is written in another form. Faults in an entry are reported at its offset's place,
+-- `own`.
 
 -- the plain value of the entry at a place, which follows the entry
 unfoldable pub plain_at : List ℕ → ℕ → ℕ → ℕ → Result Held Fault
@@ -74,19 +75,19 @@ entry_at bytes own end place =
     else (if number16 bytes (place + 2) % 2 == 1 then Ok held.Complex
     else plain_at bytes own end place))
 
--- what entry k holds, whose offset stands in the list; the highest number there means no entry
+-- what entry k holds, whose offset is in the list; the highest number there means no entry
 unfoldable pub held_at : List ℕ → Listing → ℕ → Result Held Fault
 held_at bytes listing k =
     if number32 bytes (listing.offsets + 4 * k) == 4294967295 then Ok held.None
     else entry_at bytes (listing.offsets + 4 * k) listing.end (listing.first + number32 bytes (listing.offsets + 4 * k))
 
--- the entries with one more, where it holds something
+-- the entries with one more, if it holds something
 abbrev pub with_entry : List Entry → ℕ → Held → List Entry
 with_entry entries id held.None = entries
 with_entry entries id held.Complex = entries ++ record { id = id; held = held.Complex } ∷ []
 with_entry entries id (held.Plain kind word) = entries ++ record { id = id; held = held.Plain kind word } ∷ []
 
--- the entries with entry k of a type after them; one whose number has no place in an id is passed over
+-- the entries with entry k of a type after them; one whose number does not fit an id is passed over
 unfoldable pub entry_after : List ℕ → Listing → List Entry → ℕ → Result (List Entry) Fault
 entry_after bytes listing entries k =
     if nat_lt 65535 k then Ok entries

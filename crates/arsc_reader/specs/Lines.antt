@@ -9,7 +9,7 @@ use Rattle.arsc_reader.specs.declared.held.Held.TheVariants as held
 use Rattle.arsc_reader.specs.Contents.{Contents}
 use Rattle.arsc_reader.specs.Table.{text_of, value_of}
 
--- a text in quotes, where there is one
+-- a text in quotes, if there is one
 abbrev pub quoted_text : Option (List ℕ) → List ℕ
 quoted_text None = codes "none"
 quoted_text (Some text) = codes "\"" ⧺ texts_of escaped text ⧺ codes "\""

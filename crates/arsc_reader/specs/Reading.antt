@@ -11,8 +11,7 @@ use Rattle.arsc_reader.specs.declared.held.Entry.{Entry}
 use Rattle.arsc_reader.specs.declared.listing.Listing.{Listing}
 use Rattle.arsc_reader.specs.Entries.{listing_of, entries_upto}
 
--- what was read so far: the strings, the entries in the order of the file, and how many of these its types say that
--- they have
+-- what was read so far: the strings, the entries in the order of the file, and how many of these its types declare
 pub record Found : Type 0 where
   pub pool : Option StringPool
   pub entries : List Entry
@@ -22,7 +21,7 @@ pub record Found : Type 0 where
 abbrev pub start : Found
 start = record { pool = None; entries = []; count = 0 }
 
--- what was read with the entries of a type, whose chunk stands at a place
+-- what was read with the entries of a type, whose chunk is at a place
 unfoldable pub listed : List ℕ → ℕ → Option Listing → Found → Result Found Fault
 listed bytes place None s = Ok s
 listed bytes place (Some listing) s =
@@ -43,7 +42,7 @@ one_chunk step bytes end place s = do
   t ← step place chunk s
   Ok (place + chunk.size, t)
 
--- what was read with the chunks from a place to the end, at most so many
+-- what was read with the chunks from a place to the end, at most n
 unfoldable pub chunks_from : (ℕ → Chunk → Found → Result Found Fault) → ℕ → List ℕ → ℕ → ℕ → Found → Result Found Fault
 chunks_from step zero bytes end place s = Ok s
 chunks_from step (suc n) bytes end place s =
@@ -54,7 +53,7 @@ chunks_from step (suc n) bytes end place s =
 abbrev pub all_chunks : (ℕ → Chunk → Found → Result Found Fault) → List ℕ → ℕ → ℕ → Found → Result Found Fault
 all_chunks step bytes end place s = chunks_from step end bytes end place s
 
--- the id of the package whose chunk stands at a place
+-- the id of the package whose chunk is at a place
 unfoldable pub package_of : List ℕ → ℕ → Chunk → Result ℕ Fault
 package_of bytes place chunk =
     if nat_lt chunk.head 284 then Err (bad_chunk place)

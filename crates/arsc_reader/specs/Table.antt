@@ -13,7 +13,7 @@ use Rattle.arsc_reader.specs.declared.held.Held.TheVariants as held
 use Rattle.arsc_reader.specs.Contents.{Contents}
 use Rattle.arsc_reader.specs.Reading.{start, in_table, all_chunks}
 
--- the chunk that holds the table; what stands after it is not looked at
+-- the chunk that holds the table; what comes after it is not looked at
 unfoldable pub whole_of : List ℕ → Result Chunk Fault
 whole_of bytes = do
   chunk ← chunk_of bytes 0 (length bytes)
@@ -33,7 +33,7 @@ table_of bytes =
     else (if not (number16 bytes 0 == 2) then Err (not_table 0)
     else inside_of bytes)
 
--- what an entry holds where it has an id, and otherwise what was found before it
+-- what an entry holds if it has an id, and otherwise what was found before it
 abbrev pub newer : Held → Entry → ℕ → Held
 newer before entry id = if entry.id == id then entry.held else before
 
@@ -52,12 +52,12 @@ named_by held.None = None
 named_by held.Complex = None
 named_by (held.Plain kind word) = if (kind == 1) && not (word == 0) then Some word else None
 
--- what is held, or what stands for it where it names an id
+-- what is held, or what the id that it names holds
 abbrev pub through : Held → Option ℕ → (ℕ → Held) → Held
 through own None next = own
 through own (Some id) next = next id
 
--- what an id holds, through at most so many references, and nothing where one more is needed
+-- what an id holds, through at most n references, and nothing if one more is needed
 unfoldable pub followed : ℕ → List Entry → ℕ → Held
 followed zero entries id = through (latest entries id) (named_by (latest entries id)) (λ word. held.None)
 followed (suc n) entries id = through (latest entries id) (named_by (latest entries id)) (λ word. followed n entries word)

@@ -24,7 +24,7 @@ const PACKAGE: u16 = 0x200;
 /// The type of a chunk that has entries.
 const TYPE: u16 = 0x201;
 
-/// The id of the package whose chunk stands at a place.
+/// The id of the package whose chunk is at a place.
 #[tactic(auto, unfolding(crate::specs::Reading::package_of))]
 fn package_of(bytes: &[u8], place: usize, chunk: Chunk) -> Result<u32, Fault>
     requires { IsChunk place (length bytes.now) chunk }
@@ -57,7 +57,7 @@ impl Reading {
         }
     }
 
-    /// Reads the entries of the type whose chunk stands at a place.
+    /// Reads the entries of the type whose chunk is at a place.
     #[tactic(auto, unfolding(crate::specs::Reading::listed))]
     fn read_listing(
         &mut self,
@@ -142,7 +142,7 @@ impl Reading {
         Ok(())
     }
 
-    /// Reads the package whose chunk stands at a place.
+    /// Reads the package whose chunk is at a place.
     #[tactic(auto, unfolding(crate::specs::Reading::package_read))]
     fn read_package(&mut self, bytes: &[u8], place: usize, chunk: Chunk) -> Result<(), ReadFault>
         requires { IsChunk place (length bytes.now) chunk }
@@ -152,7 +152,7 @@ impl Reading {
         self.read_types(bytes, package_id, place + chunk.head, place + chunk.size)
     }
 
-    /// Reads the string pool whose chunk stands at a place.
+    /// Reads the string pool whose chunk is at a place.
     #[tactic(auto, unfolding(crate::specs::Reading::pool_read))]
     fn read_pool(
         &mut self,

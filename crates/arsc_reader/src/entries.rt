@@ -14,7 +14,7 @@ const NO_ENTRY: u32 = 0xffff_ffff;
 /// The highest number that an entry of a type may have; those above are passed over.
 const LAST_ENTRY: usize = 65535;
 
-/// Whether so many bytes from a place on are 0.
+/// Whether `count` bytes from a place on are 0.
 fn are_zeros(bytes: &[u8], place: usize, n: usize) -> bool
     requires { place + n ≤ length bytes.now }
     ensures { result ≡ are_zeros bytes.now place n }
@@ -26,8 +26,8 @@ fn are_zeros(bytes: &[u8], place: usize, n: usize) -> bool
     zeros
 }
 
-/// The entries of the type whose chunk stands at a place, in a package of this id; none where the type is written in
-/// another form, or for another configuration than the default one.
+/// The entries of the type whose chunk is at a place, in a package of this id; none if the type is written in another
+/// form, or for another configuration than the default one.
 #[tactic(auto, unfolding(crate::specs::Entries::listing_of))]
 pub(crate) fn listing_of(
     bytes: &[u8],
@@ -72,7 +72,7 @@ pub(crate) fn listing_of(
     }))
 }
 
-/// The plain value of the entry at a place, whose offset stands at `own`.
+/// The plain value of the entry at a place, whose offset is at `own`.
 #[tactic(auto, unfolding(crate::specs::Entries::plain_at))]
 fn plain_at(bytes: &[u8], own: usize, end: usize, place: usize) -> Result<Held, Fault>
     requires end { end ≤ length bytes.now }
@@ -92,7 +92,7 @@ fn plain_at(bytes: &[u8], own: usize, end: usize, place: usize) -> Result<Held, 
     })
 }
 
-/// What the entry at a place holds, whose offset stands at `own`; nothing where it is written in another form.
+/// What the entry at a place holds, whose offset is at `own`; nothing if it is written in another form.
 #[tactic(auto, unfolding(crate::specs::Entries::entry_at))]
 fn entry_at(bytes: &[u8], own: usize, end: usize, place: usize) -> Result<Held, Fault>
     requires end { end ≤ length bytes.now }
@@ -115,7 +115,7 @@ fn entry_at(bytes: &[u8], own: usize, end: usize, place: usize) -> Result<Held, 
     plain_at(bytes, own, end, place)
 }
 
-/// What entry `k` holds; nothing where there is none.
+/// What entry `k` holds; nothing if there is none.
 #[tactic(auto, unfolding(crate::specs::Entries::held_at))]
 fn held_at(bytes: &[u8], listing: Listing, k: usize) -> Result<Held, Fault>
     requires number { k < listing.count }

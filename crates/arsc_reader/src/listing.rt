@@ -1,7 +1,7 @@
 //! The entries of one type in one configuration, before they are read.
 
-/// Where the entries of a type stand: the id of its first entry, the places in the file of the list of offsets and of
-/// the first entry, the place after the type's chunk, and how many entries there are.
+/// Where the entries of a type are: the id of its first entry, the places in the file of the list of offsets and of the
+/// first entry, the place after the type's chunk, and how many entries there are.
 #[derive(Clone, Copy, Debug, PartialEq, Eq)]
 pub(crate) struct Listing {
     pub(crate) id: u32,

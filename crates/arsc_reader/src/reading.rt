@@ -4,8 +4,8 @@ ghost use Rattle.std.specs.Prelude.{◌≤◌};
 use crate::held::Entry;
 use axml_chunks::Pool;
 
-/// What was read of a table so far: its strings, its entries in the order of the file, and how many entries the types
-/// so far say that they have.
+/// What was read of a table so far: its strings, its entries in the order of the file, and how many entries its types
+/// so far declare.
 #[derive(Debug, Drop)]
 pub(crate) struct Reading {
     pub(crate) pool: Option<Pool>,

@@ -42,7 +42,7 @@ impl Model for Table {
     ghost invariant = { λ t. AreOrdered t.entries.items };
 }
 
-/// The chunk that holds the table. What stands after it is not looked at.
+/// The chunk that holds the table. What comes after it is not looked at.
 #[tactic(auto, unfolding(crate::specs::Table::whole_of))]
 fn whole_of(bytes: &[u8]) -> Result<Chunk, Fault>
     ensures value { result ≡ whole_of bytes.now }
@@ -69,7 +69,7 @@ fn inside_of(alloc: Global, bytes: &[u8]) -> Result<Reading, ReadFault>
     Ok(so_far)
 }
 
-/// Brings entries in the order of their ids; those with one id stay in their order.
+/// Sorts entries by their ids; those with one id stay in their order.
 fn sort(entries: &mut Vec<Entry>) -> Result<(), AllocError>
     ensures order { OnOk result (AreOrdered entries.new.items) }
     ensures same { OnOk result ((id : ℕ) → latest entries.new.items id ≡ latest entries.old.items id) }
@@ -90,7 +90,7 @@ fn table_with(reading: Reading) -> Result<Table, ReadFault>
     }
 }
 
-/// What an entry holds where it has an id, and otherwise what was found before it.
+/// What an entry holds if it has an id, and otherwise what was found before it.
 fn newer(before: Held, entry: Entry, id: u32) -> Held
     ensures { result ≡ newer before entry id }
 {
@@ -118,7 +118,7 @@ fn latest(entries: &[Entry], id: u32) -> Held
     newer(Held::None, entries[place - 1], id)
 }
 
-/// The id that a value names, if it is a reference and no empty one.
+/// The id that a value names, if it is a reference that is not empty.
 fn named_by(held: Held) -> Option<u32>
     ensures { result ≡ named_by held }
 {

@@ -1,7 +1,6 @@
 -- Worked attributes, by computation: what is known, what values say, and what elements set.
 use Rattle.std.specs.Prelude.{◌≡◌, ℕ, pos, negsuc, true, List, [], ◌∷◌, length, map, Option, Some, None, Result, Ok, Err, chars, codes, refl}
 use Rattle.std.specs.List.{range_with_len}
-use Rattle.std.specs.Option.{option_map}
 use Rattle.axml_reader.specs.declared.doc.Attr.{Attr}
 use Rattle.axml_reader.specs.declared.doc.Node.TheVariants.{Start}
 use Rattle.view_model.specs.declared.facts.Facts.{Facts}
@@ -17,63 +16,25 @@ use Rattle.view_model.specs.Refusals.{PlainRefusal, refusal_numbered}
 use Rattle.view_model.specs.Resources.{Dimen, Entries, Text}
 use Rattle.attr_table.specs.declared.given.Given.{Given}
 use Rattle.attr_table.specs.declared.given.Given.TheVariants as given
-use Rattle.attr_table.specs.declared.table.Side.TheVariants as side
-use Rattle.attr_table.specs.declared.table.Slot.{Slot}
-use Rattle.attr_table.specs.declared.table.Slot.TheVariants as slot
 use Rattle.attr_table.specs.declared.table.Takes.{Takes}
 use Rattle.attr_table.specs.declared.table.Takes.TheVariants as takes
 use Rattle.attr_table.specs.Setting.{across_of, all_sides, down_of, gravity_of, visibility_of, with_margins, with_paddings}
-use Rattle.attr_table.specs.Table.{Attribute, attributes, place_of, slot_at, takes_at}
+use Rattle.attr_table.specs.Attributes.{Attribute, attributes}
+use Rattle.attr_table.specs.Table.{place_of}
 use Rattle.attr_table.specs.Taking.{Facets, facets_of, finished, known_place, with_known}
 use Rattle.attr_table.specs.Values.{below_given, boolean_given, color_of, dimension_of, extent_given, found_of, given_of, pixels_within, reference_given, signed, text_of, weight_given}
 
--- each name leads to its own row, so none stands twice
-own_rows : map place_of (map (λ (known : Attribute). known.name) attributes) ≡ map (λ (place : ℕ). Some place) (range_with_len 0 53)
+-- each name leads to its own row, so no name is there twice
+own_rows : map place_of (map (λ (known : Attribute). known.name) attributes) ≡ map (λ (place : ℕ). Some place) (range_with_len 0 54)
+unfolding attributes
 own_rows = refl
 
-named : List ℕ → Option (Takes × Slot)
-named name = option_map (λ place. (takes_at place, slot_at place)) (place_of name)
-
--- the rules that name a sibling, and those of the parent, in the order of a view's rules
-siblings : List (List ℕ)
-siblings =
-    codes "layout_toLeftOf" ∷ codes "layout_toRightOf" ∷ codes "layout_above" ∷ codes "layout_below"
-    ∷ codes "layout_alignLeft" ∷ codes "layout_alignTop" ∷ codes "layout_alignRight" ∷ codes "layout_alignBottom"
-    ∷ codes "layout_toStartOf" ∷ codes "layout_toEndOf" ∷ codes "layout_alignStart" ∷ codes "layout_alignEnd" ∷ []
-
-sibling_rules : map named siblings ≡ map (λ (verb : ℕ). Some (takes.Reference, slot.Rule verb)) (range_with_len 0 12)
-unfolding siblings named
-sibling_rules = refl
-
-parents : List (List ℕ)
-parents =
-    codes "layout_alignParentLeft" ∷ codes "layout_alignParentTop" ∷ codes "layout_alignParentRight" ∷ codes "layout_alignParentBottom"
-    ∷ codes "layout_alignParentStart" ∷ codes "layout_alignParentEnd" ∷ codes "layout_centerInParent" ∷ codes "layout_centerHorizontal"
-    ∷ codes "layout_centerVertical" ∷ []
-
-parent_rules : map named parents ≡ map (λ (verb : ℕ). Some (takes.Boolean, slot.Rule verb)) (range_with_len 12 9)
-unfolding parents named
-parent_rules = refl
-
--- lengths of a side
-margins : map named (codes "layout_margin" ∷ codes "layout_marginTop" ∷ codes "layout_marginEnd" ∷ []) ≡ map (λ (sides : Slot). Some (takes.Length (negsuc 1048574) (pos 1048575), sides)) (slot.Margins ∷ slot.Margin side.Top ∷ slot.Margin side.End ∷ [])
-unfolding named
-margins = refl
-
-paddings : map named (codes "padding" ∷ codes "paddingRight" ∷ codes "paddingStart" ∷ []) ≡ map (λ (sides : Slot). Some (takes.Length (pos 0) (pos 1048575), sides)) (slot.Paddings ∷ slot.Padding side.Right ∷ slot.Padding side.Start ∷ [])
-unfolding named
-paddings = refl
-
-minimums : map named (codes "minWidth" ∷ codes "minHeight" ∷ []) ≡ map (λ (least : Slot). Some (takes.Length (pos 0) (pos 16777215), least)) (slot.MinWidth ∷ slot.MinHeight ∷ [])
-unfolding named
-minimums = refl
-
 -- names are exact, and those of other tools are not known
-others : map named (codes "Id" ∷ codes "layout_margin_left" ∷ codes "enabled" ∷ codes "" ∷ []) ≡ None ∷ None ∷ None ∷ None ∷ []
-unfolding named
+others : map place_of (codes "Id" ∷ codes "layout_margin_left" ∷ codes "enabled" ∷ codes "" ∷ []) ≡ None ∷ None ∷ None ∷ None ∷ []
+unfolding attributes
 others = refl
 
--- what gravities say, as Android numbers them: left, right, start, end, centre of both, bottom and right, fill
+-- what gravities mean, as Android numbers them: left, right, start, end, centre of both, bottom and right, fill
 gravity : Across → Down → Gravity
 gravity x y = record { given = true; across = x; down = y }
 
@@ -167,66 +128,66 @@ plain : Facts
 plain = new_facts (negsuc 0) (pos 16)
 
 as_large_as_its_parent : element (sized (stranger ∷ [])) ≡ sets plain [] 1
-unfolding element sized sets plain stranger attr texts resources facets_of finished known_place with_known found_of extent_given signed pixels_within dimension_of text_of px_of mantissa radix unit_of nearest never_lost pixels_in_bounds with_margins with_paddings
+unfolding element sized sets plain stranger attr texts resources facets_of finished known_place with_known found_of extent_given signed pixels_within dimension_of text_of px_of mantissa radix unit_of nearest never_lost pixels_in_bounds with_margins with_paddings attributes
 as_large_as_its_parent = refl
 
 -- the same names in no namespace are not known
 other_namespace : element (sized (record (attr 1 0x02 0) { ns = 9 } ∷ record (attr 1 0x02 0) { ns = 0xffff_ffff } ∷ [])) ≡ sets plain [] 2
-unfolding element sized sets plain stranger attr texts resources facets_of finished known_place with_known found_of extent_given signed pixels_within dimension_of text_of px_of mantissa radix unit_of nearest never_lost pixels_in_bounds with_margins with_paddings
+unfolding element sized sets plain stranger attr texts resources facets_of finished known_place with_known found_of extent_given signed pixels_within dimension_of text_of px_of mantissa radix unit_of nearest never_lost pixels_in_bounds with_margins with_paddings attributes
 other_namespace = refl
 
 no_height : element (attr 1 0x10 0 ∷ []) ≡ Err (refusal_numbered 17)
-unfolding element sized sets plain stranger attr texts resources facets_of finished known_place with_known found_of extent_given signed pixels_within dimension_of text_of px_of mantissa radix unit_of nearest never_lost pixels_in_bounds with_margins with_paddings
+unfolding element sized sets plain stranger attr texts resources facets_of finished known_place with_known found_of extent_given signed pixels_within dimension_of text_of px_of mantissa radix unit_of nearest never_lost pixels_in_bounds with_margins with_paddings attributes
 no_height = refl
 
 -- of several reasons the first in this order
 twice_before_theme : element (sized (attr 1 0x02 0 ∷ [])) ≡ Err (refusal_numbered 16)
-unfolding element sized sets plain stranger attr texts resources facets_of finished known_place with_known found_of extent_given signed pixels_within dimension_of text_of px_of mantissa radix unit_of nearest never_lost pixels_in_bounds with_margins with_paddings
+unfolding element sized sets plain stranger attr texts resources facets_of finished known_place with_known found_of extent_given signed pixels_within dimension_of text_of px_of mantissa radix unit_of nearest never_lost pixels_in_bounds with_margins with_paddings attributes
 twice_before_theme = refl
 
 theme : element (attr 1 0x02 0 ∷ []) ≡ Err (refusal_numbered 13)
-unfolding element sized sets plain stranger attr texts resources facets_of finished known_place with_known found_of extent_given signed pixels_within dimension_of text_of px_of mantissa radix unit_of nearest never_lost pixels_in_bounds with_margins with_paddings
+unfolding element sized sets plain stranger attr texts resources facets_of finished known_place with_known found_of extent_given signed pixels_within dimension_of text_of px_of mantissa radix unit_of nearest never_lost pixels_in_bounds with_margins with_paddings attributes
 theme = refl
 
 not_defined : element (attr 1 0x10 5 ∷ attr 2 0x01 0x7f05_0002 ∷ []) ≡ Err (refusal_numbered 12)
-unfolding element sized sets plain stranger attr texts resources facets_of finished known_place with_known found_of extent_given signed pixels_within dimension_of text_of px_of mantissa radix unit_of nearest never_lost pixels_in_bounds with_margins with_paddings
+unfolding element sized sets plain stranger attr texts resources facets_of finished known_place with_known found_of extent_given signed pixels_within dimension_of text_of px_of mantissa radix unit_of nearest never_lost pixels_in_bounds with_margins with_paddings attributes
 not_defined = refl
 
 defined : element (attr 1 0x10 5 ∷ attr 2 0x01 0x7f05_0001 ∷ []) ≡ sets (new_facts (pos 5) (pos 16)) [] 0
-unfolding element sized sets plain stranger attr texts resources facets_of finished known_place with_known found_of extent_given signed pixels_within dimension_of text_of px_of mantissa radix unit_of nearest never_lost pixels_in_bounds with_margins with_paddings
+unfolding element sized sets plain stranger attr texts resources facets_of finished known_place with_known found_of extent_given signed pixels_within dimension_of text_of px_of mantissa radix unit_of nearest never_lost pixels_in_bounds with_margins with_paddings attributes
 defined = refl
 
 of_another_kind : element (attr 1 0x10 5 ∷ attr 2 0x01 0x7f06_0001 ∷ []) ≡ Err (refusal_numbered 14)
-unfolding element sized sets plain stranger attr texts resources facets_of finished known_place with_known found_of extent_given signed pixels_within dimension_of text_of px_of mantissa radix unit_of nearest never_lost pixels_in_bounds with_margins with_paddings
+unfolding element sized sets plain stranger attr texts resources facets_of finished known_place with_known found_of extent_given signed pixels_within dimension_of text_of px_of mantissa radix unit_of nearest never_lost pixels_in_bounds with_margins with_paddings attributes
 of_another_kind = refl
 
 of_nothing : element (attr 1 0x10 5 ∷ attr 2 0x01 0 ∷ []) ≡ Err (refusal_numbered 14)
-unfolding element sized sets plain stranger attr texts resources facets_of finished known_place with_known found_of extent_given signed pixels_within dimension_of text_of px_of mantissa radix unit_of nearest never_lost pixels_in_bounds with_margins with_paddings
+unfolding element sized sets plain stranger attr texts resources facets_of finished known_place with_known found_of extent_given signed pixels_within dimension_of text_of px_of mantissa radix unit_of nearest never_lost pixels_in_bounds with_margins with_paddings attributes
 of_nothing = refl
 
 -- an attribute of the file's order is refused before a later one
 first_refused : element (attr 1 0x03 5 ∷ attr 2 0x02 0 ∷ []) ≡ Err (refusal_numbered 14)
-unfolding element sized sets plain stranger attr texts resources facets_of finished known_place with_known found_of extent_given signed pixels_within dimension_of text_of px_of mantissa radix unit_of nearest never_lost pixels_in_bounds with_margins with_paddings
+unfolding element sized sets plain stranger attr texts resources facets_of finished known_place with_known found_of extent_given signed pixels_within dimension_of text_of px_of mantissa radix unit_of nearest never_lost pixels_in_bounds with_margins with_paddings attributes
 first_refused = refl
 
 texts_taken : element (sized (attr 8 0x03 10 ∷ [])) ∷ element (sized (attr 8 0x01 0x7f06_0001 ∷ [])) ∷ element (sized (attr 8 0x00 5 ∷ [])) ∷ []
     ≡ sets plain (chars (codes "hi")) 0 ∷ sets plain (104 ∷ []) 0 ∷ sets plain [] 0 ∷ []
-unfolding element sized sets plain stranger attr texts resources facets_of finished known_place with_known found_of extent_given signed pixels_within dimension_of text_of px_of mantissa radix unit_of nearest never_lost pixels_in_bounds with_margins with_paddings
+unfolding element sized sets plain stranger attr texts resources facets_of finished known_place with_known found_of extent_given signed pixels_within dimension_of text_of px_of mantissa radix unit_of nearest never_lost pixels_in_bounds with_margins with_paddings attributes
 texts_taken = refl
 
--- 5 px for all sides count, whether 3 px on the left come before or behind; -1 px for all do not
+-- 5 px for all sides count, whether 3 px on the left come before or after; -1 px for all do not
 all_margins : element (sized (attr 3 0x05 0x500 ∷ attr 4 0x05 0x300 ∷ [])) ∷ element (sized (attr 4 0x05 0x300 ∷ attr 3 0x05 0x500 ∷ [])) ∷ []
     ≡ sets (record plain { margins = all_sides (pos 5) }) [] 0 ∷ sets (record plain { margins = all_sides (pos 5) }) [] 0 ∷ []
-unfolding element sized sets plain stranger attr texts resources facets_of finished known_place with_known found_of extent_given signed pixels_within dimension_of text_of px_of mantissa radix unit_of nearest never_lost pixels_in_bounds with_margins with_paddings
+unfolding element sized sets plain stranger attr texts resources facets_of finished known_place with_known found_of extent_given signed pixels_within dimension_of text_of px_of mantissa radix unit_of nearest never_lost pixels_in_bounds with_margins with_paddings attributes
 all_margins = refl
 
 negative_margins : element (sized (attr 3 0x05 0xffff_ff00 ∷ attr 4 0x05 0x300 ∷ []))
     ≡ sets (record plain { margins = record { left = pos 3; top = pos 0; right = pos 0; bottom = pos 0 } }) [] 0
-unfolding element sized sets plain stranger attr texts resources facets_of finished known_place with_known found_of extent_given signed pixels_within dimension_of text_of px_of mantissa radix unit_of nearest never_lost pixels_in_bounds with_margins with_paddings
+unfolding element sized sets plain stranger attr texts resources facets_of finished known_place with_known found_of extent_given signed pixels_within dimension_of text_of px_of mantissa radix unit_of nearest never_lost pixels_in_bounds with_margins with_paddings attributes
 negative_margins = refl
 
 -- a padding for all sides leaves a start padding
 all_paddings : element (sized (attr 7 0x05 0x200 ∷ attr 6 0x05 0x300 ∷ attr 5 0x05 0x500 ∷ []))
     ≡ sets (record plain { padding = all_sides (pos 5); padding_start = Some (pos 2) }) [] 0
-unfolding element sized sets plain stranger attr texts resources facets_of finished known_place with_known found_of extent_given signed pixels_within dimension_of text_of px_of mantissa radix unit_of nearest never_lost pixels_in_bounds with_margins with_paddings
+unfolding element sized sets plain stranger attr texts resources facets_of finished known_place with_known found_of extent_given signed pixels_within dimension_of text_of px_of mantissa radix unit_of nearest never_lost pixels_in_bounds with_margins with_paddings attributes
 all_paddings = refl

@@ -10,7 +10,14 @@ use Rattle.attr_table.specs.declared.table.Slot.{Slot}
 use Rattle.attr_table.specs.declared.table.Slot.TheVariants as slot
 use Rattle.attr_table.specs.declared.table.Takes.{Takes}
 use Rattle.attr_table.specs.Setting.{HasVerb}
-use Rattle.attr_table.specs.Table.{Attribute, attribute, attributes, place_in, slot_at}
+use Rattle.attr_table.specs.declared.table.TheConstants.{ATTRIBUTES}
+use Rattle.attr_table.specs.Attributes.{Attribute, attributes, known}
+use Rattle.attr_table.specs.Table.{attribute, place_in, slot_at}
+
+-- the table of the code has these rows
+pub tabled : map (λ row. known row.0.now row.1 row.2) ATTRIBUTES ≡ attributes
+unfolding attributes
+tabled = refl
 
 pub attribute-index : (rows : List (Bor (List ℕ) × Takes × Slot)) (place : ℕ) (default : Bor (List ℕ) × Takes × Slot) → place < length rows
     → slice_get (map attribute rows) place ≡ Some (attribute (slice_index_or rows place default))
@@ -42,4 +49,5 @@ has_verb-get (known ∷ all) zero is = (and_parts (has_verb known.slot) (list_al
 has_verb-get (known ∷ all) (suc place) is = has_verb-get all place (and_parts (has_verb known.slot) (list_all (λ (known : Attribute). has_verb known.slot) all) is).1
 
 pub verbs : (place : ℕ) → HasVerb (slot_at place)
+unfolding attributes
 verbs place = HasVerb_by (slot_at place) (has_verb-get attributes place refl)

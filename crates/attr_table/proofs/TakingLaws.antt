@@ -27,7 +27,7 @@ pub taken-finished : (sets : Result Draft PlainRefusal) (draft : Draft) (result 
     → IsTakenAs (sets >>= finished) result
 taken-finished sets draft result is taken = subst (λ made. IsTakenAs (made >>= finished) result) (sym is) taken
 
--- one was refused, or memory was wanting
+-- one was refused, or memory ran out
 pub taken-stopped : (sets : Result Draft PlainRefusal) (now : Draft) (why : AttrFault) (result : Result Taken AttrFault) → DraftsAs sets now (Err why)
     → IsErrAnd result (λ given. given ≡ why) → IsTakenAs (sets >>= finished) result
 taken-stopped sets now why (Ok taken) stopped is = absurd is

@@ -8,6 +8,8 @@ use Rattle.view_model.specs.declared.kinds.Visibility.{Visibility}
 use Rattle.view_model.specs.declared.kinds.Visibility.TheVariants as visibility
 use Rattle.view_model.specs.declared.placing.Across.{Across}
 use Rattle.view_model.specs.declared.placing.Across.TheVariants as across
+use Rattle.view_model.specs.declared.placing.Direction.{Direction}
+use Rattle.view_model.specs.declared.placing.Direction.TheVariants as direction
 use Rattle.view_model.specs.declared.placing.Down.{Down}
 use Rattle.view_model.specs.declared.placing.Down.TheVariants as down
 use Rattle.view_model.specs.declared.placing.Gravity.{Gravity}
@@ -19,7 +21,7 @@ use Rattle.attr_table.specs.declared.table.Side.{Side}
 use Rattle.attr_table.specs.declared.table.Side.TheVariants as side
 use Rattle.attr_table.specs.declared.table.Slot.{Slot}
 use Rattle.attr_table.specs.declared.table.Slot.TheVariants as slot
-use Rattle.attr_table.specs.declared.table.TheConstants.{KNOWN}
+use Rattle.attr_table.specs.Attributes.{known_count}
 
 -- where bits 0 to 2 of a gravity's word place a view across; `relative` is its bit 23, for start and end
 unfoldable pub across_of : ℕ → Bool → Across
@@ -38,6 +40,10 @@ gravity_of word = record { given = true; across = across_of (word % 8) (word / 2
 
 unfoldable pub visibility_of : ℕ → Visibility
 visibility_of word = if word == 0 then visibility.Visible else (if word == 1 then visibility.Invisible else visibility.Gone)
+
+-- the direction of the locale counts as from left to right
+unfoldable pub direction_of : ℕ → Direction
+direction_of word = if word == 1 then direction.Rtl else (if word == 2 then direction.Inherit else direction.Ltr)
 
 unfoldable pub answer_of : ℕ → Answer
 answer_of word = if word == 1 then answer.Click else answer.Off
@@ -77,6 +83,7 @@ with_word slot.LayoutGravity word facts = record facts { layout_gravity = gravit
 with_word slot.Gravity word facts = record facts { gravity = gravity_of word }
 with_word slot.Vertical word facts = record facts { vertical = word == 1 }
 with_word slot.Visibility word facts = record facts { visibility = visibility_of word }
+with_word slot.Direction word facts = record facts { direction = direction_of word }
 with_word slot.Background word facts = record facts { background = record { 0 = word } }
 with_word slot.Ink word facts = record facts { ink = record { 0 = word } }
 with_word slot.Click word facts = record facts { answer = answer_of word }
@@ -88,9 +95,9 @@ with_word _ word facts = facts
 
 -- the draft before any attribute
 abbrev pub empty_draft : Draft
-empty_draft = record { facts = new_facts (pos 0) (pos 0); margin = None; padding = None; text = []; came = replicate KNOWN false; ignored = 0 }
+empty_draft = record { facts = new_facts (pos 0) (pos 0); margin = None; padding = None; text = []; came = replicate known_count false; ignored = 0 }
 
--- the draft with what a value says; a margin or a padding for all sides stands apart until the end
+-- the draft with a value; a margin or a padding for all sides is kept apart until the end
 abbrev pub with_given : Slot → Given → Draft → Draft
 with_given slot.Margins (given.Pixels n) draft = record draft { margin = Some n }
 with_given slot.Paddings (given.Pixels n) draft = record draft { padding = Some n }
@@ -101,7 +108,7 @@ with_given other (given.Text text) draft = record draft { text = text }
 abbrev pub all_sides : ℤ → Insets
 all_sides n = record { left = n; top = n; right = n; bottom = n }
 
--- a margin for all sides counts where it is 0 or more, and then no other one does
+-- a margin for all sides counts if it is 0 or more, and then no other one does
 unfoldable pub with_margins : Option ℤ → Facts → Facts
 with_margins None facts = facts
 with_margins (Some n) facts = if int_le (pos 0) n then record facts { margins = all_sides n; margin_start = None; margin_end = None } else facts
@@ -111,7 +118,7 @@ unfoldable pub with_paddings : Option ℤ → Facts → Facts
 with_paddings None facts = facts
 with_paddings (Some n) facts = record facts { padding = all_sides n }
 
--- the facts that a draft comes to
+-- the facts that a draft results in
 abbrev pub drafted : Draft → Facts
 drafted draft = with_paddings draft.padding (with_margins draft.margin draft.facts)
 

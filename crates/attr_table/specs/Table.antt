@@ -1,5 +1,5 @@
--- The attributes that are known, as the table has them.
-use Rattle.std.specs.Prelude.{ℕ, List, map, Option, position, slice_get}
+-- Where an attribute is among those that are known, and what its row says.
+use Rattle.std.specs.Prelude.{ℕ, List, Option, position, slice_get}
 use Rattle.std.specs.Option.{option_map_or}
 use Rattle.std.specs.Borrow.{Bor}
 use Rattle.std.specs.Str.{bytes_eq}
@@ -7,16 +7,7 @@ use Rattle.attr_table.specs.declared.table.Slot.{Slot}
 use Rattle.attr_table.specs.declared.table.Slot.TheVariants as slot
 use Rattle.attr_table.specs.declared.table.Takes.{Takes}
 use Rattle.attr_table.specs.declared.table.Takes.TheVariants as takes
-use Rattle.attr_table.specs.declared.table.TheConstants.{ATTRIBUTES}
-
--- an attribute: its name, what its value may be, and what it sets
-pub record Attribute : Type 0 where
-  pub name : List ℕ
-  pub takes : Takes
-  pub slot : Slot
-
-abbrev pub attributes : List Attribute
-attributes = map (λ row. record { name = row.0.now; takes = row.1; slot = row.2 }) ATTRIBUTES
+use Rattle.attr_table.specs.Attributes.{Attribute, attributes, known}
 
 -- the place of a name
 abbrev pub place_in : List Attribute → List ℕ → Option ℕ
@@ -35,4 +26,4 @@ slot_at place = option_map_or (λ (known : Attribute). known.slot) (slice_get at
 
 -- a row of a table of the code
 abbrev pub attribute : Bor (List ℕ) × Takes × Slot → Attribute
-attribute row = record { name = row.0.now; takes = row.1; slot = row.2 }
+attribute row = known row.0.now row.1 row.2

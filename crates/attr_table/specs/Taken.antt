@@ -1,4 +1,4 @@
--- What the code answers of the attributes of an element.
+-- What the code returns for the attributes of an element.
 use Rattle.std.specs.Prelude.{◌≡◌, ℕ, List, Option, Some, Result, Ok, Err, slice_get}
 use Rattle.std.specs.Borrow.{Bor}
 use Rattle.std.specs.Option.{option_map}
@@ -27,13 +27,13 @@ pub record IsStart (nodes : List Node) (node : ℕ) : Type 0 where
 abbrev pub facets : Taken → Facets
 facets taken = record { facts = taken.facts; text = taken.text; ignored = taken.ignored }
 
--- an answer is what the element sets, or its first refusal; memory may be wanting in place of either
+-- a result is what the element sets, or its first refusal; memory may run out in place of either
 abbrev pub IsTakenAs : Result Facets PlainRefusal → Result Taken AttrFault → Type 0
 IsTakenAs sets (Ok taken) = sets ≡ Ok (facets taken)
 IsTakenAs sets (Err (fault.Refused refusal)) = sets ≡ Err (plain_refusal refusal)
 IsTakenAs sets (Err fault.NoMemory) = Unit {0}
 
--- the draft is now what a step makes of it, or the answer is the step's refusal
+-- the draft is now what a step makes of it, or the result is the step's refusal
 abbrev pub DraftsAs : Result Draft PlainRefusal → Draft → Result (Unit {0}) AttrFault → Type 0
 DraftsAs step now (Ok answer) = step ≡ Ok now
 DraftsAs step now (Err (fault.Refused refusal)) = step ≡ Err (plain_refusal refusal)

@@ -12,8 +12,8 @@ use Rattle.view_model.specs.Refusals.{PlainRefusal, refusal_numbered, ◌>>=◌}
 use Rattle.view_model.specs.Resources.{Entries}
 use Rattle.attr_table.specs.declared.draft.Draft.{Draft}
 use Rattle.attr_table.specs.declared.given.Given.{Given}
-use Rattle.attr_table.specs.declared.table.TheConstants.{HEIGHT, WIDTH}
-use Rattle.attr_table.specs.declared.types.TheConstants.{THEME}
+use Rattle.attr_table.specs.Attributes.{height_place, width_place}
+use Rattle.attr_table.specs.Kinds.{theme_kind}
 use Rattle.attr_table.specs.Setting.{drafted, empty_draft, with_given}
 use Rattle.attr_table.specs.Table.{place_of, slot_at, takes_at}
 use Rattle.attr_table.specs.Values.{found_of, given_of}
@@ -31,7 +31,7 @@ place_named (Some name) = place_of name
 unfoldable pub known_place : StringPool → Attr → Option ℕ
 known_place pool attr = if is_android (slice_get pool.texts attr.ns) then place_named (slice_get pool.texts attr.name) else None
 
--- the draft with what the value of the attribute at a place says, if the attribute takes such a value
+-- the draft with the value of the attribute at a place, if the attribute takes such a value
 abbrev pub set_at : ℕ → Option Given → Draft → Result Draft PlainRefusal
 set_at place None draft = Err (refusal_numbered BAD_VALUE)
 set_at place (Some given) draft =
@@ -43,7 +43,7 @@ set_at place (Some given) draft =
 unfoldable pub with_known : StringPool → Entries → ℕ → Attr → ℕ → Draft → Result Draft PlainRefusal
 with_known pool resources dpi attr place draft =
     if slice_index_or draft.came place false then Err (refusal_numbered DUPLICATE)
-    else (if attr.kind == THEME then Err (refusal_numbered THEME_REF)
+    else (if attr.kind == theme_kind then Err (refusal_numbered THEME_REF)
     else do
       found ← found_of resources (takes_at place) attr.kind attr.word
       set_at place (given_of pool dpi (takes_at place) attr.kind attr.word found) draft)
@@ -71,7 +71,7 @@ pub record Facets : Type 0 where
 -- a width and a height have to be there
 unfoldable pub finished : Draft → Result Facets PlainRefusal
 finished draft =
-    if slice_index_or draft.came WIDTH false && slice_index_or draft.came HEIGHT false
+    if slice_index_or draft.came width_place false && slice_index_or draft.came height_place false
     then Ok (record { facts = drafted draft; text = draft.text; ignored = draft.ignored })
     else Err (refusal_numbered NO_SIZE)
 

@@ -1,4 +1,4 @@
--- What the value of an attribute says, by what the attribute takes.
+-- What the value of an attribute means, by what the attribute takes.
 use Rattle.std.specs.Prelude.{ℕ, ◌*◌, ◌-◌, ◌==◌, ◌||◌, ◌&&◌, not, nat_lt, nat_le, int_le, ℤ, pos, negsuc, Bool, true, false, [], Option, Some, None, Result, Ok, Err, if◌then◌else◌, slice_get, chars}
 use Rattle.std.specs.Option.{option_map}
 use Rattle.axml_chunks.specs.Pool.{StringPool}
@@ -12,18 +12,18 @@ use Rattle.attr_table.specs.declared.given.Given.{Given}
 use Rattle.attr_table.specs.declared.given.Given.TheVariants as given
 use Rattle.attr_table.specs.declared.table.Takes.{Takes}
 use Rattle.attr_table.specs.declared.table.Takes.TheVariants as takes
-use Rattle.attr_table.specs.declared.types.TheConstants.{NULL, REFERENCE, STRING, FLOAT, DIMENSION, DECIMAL, HEXADECIMAL, BOOLEAN, FIRST_COLOR, LAST_COLOR}
 use Rattle.attr_table.specs.declared.values.TheConstants.{MAX_WHOLE_WEIGHT}
+use Rattle.attr_table.specs.Kinds.{boolean_kind, decimal_kind, dimension_kind, first_color_kind, float_kind, hexadecimal_kind, last_color_kind, null_kind, reference_kind, string_kind}
 
 abbrev pub is_whole : ℕ → Bool
-is_whole kind = kind == DECIMAL || kind == HEXADECIMAL
+is_whole kind = kind == decimal_kind || kind == hexadecimal_kind
 
 abbrev pub is_color : ℕ → Bool
-is_color kind = nat_le FIRST_COLOR kind && nat_le kind LAST_COLOR
+is_color kind = nat_le first_color_kind kind && nat_le kind last_color_kind
 
 -- null, or a reference to nothing
 abbrev pub is_nothing : ℕ → ℕ → Bool
-is_nothing kind word = kind == NULL || (kind == REFERENCE && word == 0)
+is_nothing kind word = kind == null_kind || (kind == reference_kind && word == 0)
 
 -- the whole number that a word of 32 bits is
 unfoldable pub signed : ℕ → ℤ
@@ -44,7 +44,7 @@ dimension_in dpi (Text text) = None
 -- a dimension or its resource, in pixels
 unfoldable pub dimension_of : ℕ → ℕ → ℕ → Option Resource → Option ℤ
 dimension_of dpi kind word (Some found) = dimension_in dpi found
-dimension_of dpi kind word None = if kind == DIMENSION then px_of word dpi else None
+dimension_of dpi kind word None = if kind == dimension_kind then px_of word dpi else None
 
 abbrev pub color_in : Resource → Option Given
 color_in (Color color) = Some (given.Word color.0)
@@ -65,13 +65,13 @@ text_in (Text text) = Some (given.Text text)
 unfoldable pub text_of : StringPool → ℕ → ℕ → Option Resource → Option Given
 text_of pool kind word (Some found) = text_in found
 text_of pool kind word None =
-    if kind == STRING then option_map (λ text. given.Text (chars text)) (slice_get pool.texts word)
+    if kind == string_kind then option_map (λ text. given.Text (chars text)) (slice_get pool.texts word)
     else (if is_nothing kind word then Some (given.Text []) else None)
 
 -- a float, or a whole number that is not negative, in 256ths
 unfoldable pub weight_given : ℕ → ℕ → Option Given
 weight_given kind word =
-    if kind == FLOAT then option_map given.Word (weight_of word)
+    if kind == float_kind then option_map given.Word (weight_of word)
     else (if is_whole kind && nat_le word MAX_WHOLE_WEIGHT then Some (given.Word (256 * word)) else None)
 
 -- a number of pixels from 0 upward, or as a whole number -1 or -2 for a view as large as its parent or its content
@@ -88,12 +88,12 @@ below_given count kind word = if is_whole kind && nat_lt word count then Some (g
 
 -- any word but 0 is true
 unfoldable pub boolean_given : ℕ → ℕ → Option Given
-boolean_given kind word = if kind == BOOLEAN then Some (given.Word (if word == 0 then 0 else 1)) else None
+boolean_given kind word = if kind == boolean_kind then Some (given.Word (if word == 0 then 0 else 1)) else None
 
 unfoldable pub reference_given : ℕ → ℕ → Option Given
-reference_given kind word = if kind == REFERENCE then Some (given.Word word) else None
+reference_given kind word = if kind == reference_kind then Some (given.Word word) else None
 
--- what a value of this type and word says, where the attribute takes such a value
+-- the meaning of a value of this type and word, if the attribute takes such a value
 abbrev pub given_of : StringPool → ℕ → Takes → ℕ → ℕ → Option Resource → Option Given
 given_of pool dpi takes.Reference kind word found = reference_given kind word
 given_of pool dpi takes.Extent kind word found = extent_given dpi kind word found
@@ -121,7 +121,7 @@ abbrev pub defined : Option Resource → Result (Option Resource) PlainRefusal
 defined None = Err (refusal_numbered UNRESOLVED)
 defined (Some found) = Ok (Some found)
 
--- the resource that a value names, if it names one; where the id of a reference counts, none is looked for
+-- the resource that a value names, if it names one; if the id of a reference counts, the reference is not followed
 unfoldable pub found_of : Entries → Takes → ℕ → ℕ → Result (Option Resource) PlainRefusal
 found_of resources takes kind word =
-    if kind == REFERENCE && (not (takes_reference takes) && not (word == 0)) then defined (resource_of resources word) else Ok None
+    if kind == reference_kind && (not (takes_reference takes) && not (word == 0)) then defined (resource_of resources word) else Ok None

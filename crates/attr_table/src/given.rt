@@ -1,8 +1,8 @@
-//! What the value of an attribute says.
+//! What the value of an attribute means.
 
 use view_model::Text;
 
-/// What the value of an attribute says.
+/// What the value of an attribute means.
 #[derive(Debug, Drop)]
 pub enum Given {
     Pixels(i32),

@@ -1,8 +1,8 @@
 //! The attributes of an element of a layout file, and the facts that they set.
 //!
-//! `table` has the attributes that are known, `types` the types of values, `values` what a value says, `given` the form
-//! of that, `draft` what was set so far, `setting` how a value is set, `known` which attributes are known, `taking` an
-//! element as a whole.
+//! `table` has the attributes that are known, `types` the types of values, `values` what a value means, `given` the
+//! form of that, `draft` what was set so far, `setting` how a value is set, `known` which attributes are known,
+//! `taking` an element as a whole.
 #![tactic(auto)]
 
 mod draft;

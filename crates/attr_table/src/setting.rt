@@ -1,18 +1,18 @@
 //! What the value of an attribute sets.
 ghost use Rattle.std.specs.Prelude.{◌≡◌};
-ghost use Rattle.attr_table.specs.Setting.{across_of, answer_of, down_of, drafted, gravity_of, visibility_of, with_given, with_margin, with_margins, with_padding, with_paddings, with_pixels, with_word, HasVerb};
+ghost use Rattle.attr_table.specs.Setting.{across_of, answer_of, direction_of, down_of, drafted, gravity_of, visibility_of, with_given, with_margin, with_margins, with_padding, with_paddings, with_pixels, with_word, HasVerb};
 
 use crate::draft::Draft;
 use crate::given::Given;
 use crate::table::{Side, Slot};
 use geom_core::{Argb, Insets};
-use view_model::{Across, Answer, Down, Facts, Gravity, Visibility};
+use view_model::{Across, Answer, Direction, Down, Facts, Gravity, Visibility};
 
 /// The bit of a gravity's word that makes left start and right end.
 const RELATIVE: u32 = 1 << 23;
 
-/// Sets what a value says. A margin or a padding for all sides is kept apart, since one side that comes later may not
-/// count.
+/// Sets the meaning of a value. A margin or a padding for all sides is kept apart, since one side that comes later may
+/// not count.
 pub fn set(slot: Slot, given: Given, draft: &mut Draft)
     requires { HasVerb slot }
     ensures { draft.new ≡ with_given slot given draft.old }
@@ -28,7 +28,7 @@ pub fn set(slot: Slot, given: Given, draft: &mut Draft)
     }
 }
 
-/// The facts that a draft comes to.
+/// The facts that a draft results in.
 pub fn drafted(draft: &Draft) -> Facts
     ensures { result ≡ drafted draft.now }
 {
@@ -38,7 +38,7 @@ pub fn drafted(draft: &Draft) -> Facts
     facts
 }
 
-/// Sets all margins, where one for all sides is not negative.
+/// Sets all margins, if one for all sides is not negative.
 #[tactic(auto, unfolding(crate::specs::Setting::with_margins))]
 fn spread_margin(margin: Option<i32>, facts: &mut Facts)
     ensures { facts.new ≡ with_margins margin facts.old }
@@ -127,6 +127,7 @@ fn set_word(slot: Slot, word: u32, facts: &mut Facts)
         Slot::Gravity => facts.gravity = gravity(word),
         Slot::Vertical => facts.vertical = word == 1,
         Slot::Visibility => facts.visibility = visibility(word),
+        Slot::Direction => facts.direction = direction(word),
         Slot::Background => facts.background = Argb(word),
         Slot::Ink => facts.ink = Argb(word),
         Slot::Click => facts.answer = answer(word),
@@ -138,7 +139,7 @@ fn set_word(slot: Slot, word: u32, facts: &mut Facts)
     }
 }
 
-/// Where a word places a view, as Android's gravities have it.
+/// Where a word places a view, in the bits of Android's gravities.
 #[tactic(auto, unfolding(crate::specs::Setting::gravity_of))]
 fn gravity(word: u32) -> Gravity
     ensures { result ≡ gravity_of word }
@@ -184,6 +185,18 @@ fn visibility(word: u32) -> Visibility
         0 => Visibility::Visible,
         1 => Visibility::Invisible,
         _ => Visibility::Gone,
+    }
+}
+
+/// The direction of the locale counts as from left to right.
+#[tactic(auto, unfolding(crate::specs::Setting::direction_of))]
+fn direction(word: u32) -> Direction
+    ensures { result ≡ direction_of word }
+{
+    match word {
+        1 => Direction::Rtl,
+        2 => Direction::Inherit,
+        _ => Direction::Ltr,
     }
 }
 

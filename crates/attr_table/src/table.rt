@@ -14,7 +14,7 @@ pub enum Takes {
     Extent,
     /// A dimension or its resource, from this number of pixels to that one.
     Length { low: i64, high: i64 },
-    /// A float, or a whole number, which is told in 256ths.
+    /// A float, or a whole number, given in 256ths.
     Weight,
     /// Any whole number, as its word.
     Whole,
@@ -24,7 +24,7 @@ pub enum Takes {
     Color,
     /// A text or its resource, or null for none.
     Text,
-    /// A boolean, which is told as 1 or 0.
+    /// A boolean, given as 1 or 0.
     Boolean,
 }
 
@@ -61,6 +61,7 @@ pub enum Slot {
     Gravity,
     Vertical,
     Visibility,
+    Direction,
     Background,
     Ink,
     Text,
@@ -73,7 +74,7 @@ pub enum Slot {
 }
 
 /// How many attributes are known.
-pub const KNOWN: usize = 53;
+pub const KNOWN: usize = 54;
 
 /// The place of the width.
 pub const WIDTH: usize = 1;
@@ -124,6 +125,7 @@ pub const ATTRIBUTES: [(&str, Takes, Slot); KNOWN] = [
     ("gravity", Takes::Whole, Slot::Gravity),
     ("orientation", Takes::Below(2), Slot::Vertical),
     ("visibility", Takes::Below(3), Slot::Visibility),
+    ("layoutDirection", Takes::Below(4), Slot::Direction),
     ("background", Takes::Color, Slot::Background),
     ("textColor", Takes::Color, Slot::Ink),
     ("text", Takes::Text, Slot::Text),
@@ -155,6 +157,7 @@ pub const ATTRIBUTES: [(&str, Takes, Slot); KNOWN] = [
 ];
 
 /// The place of a name in the table.
+#[tactic(auto, unfolding(crate::specs::Attributes::attributes))]
 pub fn find(name: &str) -> Option<usize>
     ensures place { result ≡ place_of name.now }
     ensures within { IfSome result (λ place. place < KNOWN) }
@@ -163,6 +166,7 @@ pub fn find(name: &str) -> Option<usize>
 }
 
 /// What the value of the attribute at a place may be.
+#[tactic(auto, unfolding(crate::specs::Attributes::attributes))]
 pub fn takes_at(place: usize) -> Takes
     requires { place < KNOWN }
     ensures { result ≡ takes_at place }
@@ -171,6 +175,7 @@ pub fn takes_at(place: usize) -> Takes
 }
 
 /// What the attribute at a place sets.
+#[tactic(auto, unfolding(crate::specs::Attributes::attributes))]
 pub fn slot_at(place: usize) -> Slot
     requires { place < KNOWN }
     ensures { result ≡ slot_at place }

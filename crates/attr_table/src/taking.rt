@@ -29,8 +29,8 @@ pub struct Taken {
     pub ignored: u32,
 }
 
-/// What the element that begins at a node sets, where dimensions are taken at a density of so many dots an inch. A
-/// refusal has no detail: the caller knows the number of the element.
+/// What the element that begins at a node sets, with dimensions at a density in dots an inch. A refusal has no detail:
+/// the caller knows the number of the element.
 pub fn take(
     alloc: Global,
     doc: &Doc,
@@ -133,7 +133,7 @@ fn take_known(
     Ok(())
 }
 
-/// What a draft comes to, where there was a width and a height.
+/// The result of a draft, if there was a width and a height.
 #[tactic(auto, unfolding(crate::specs::Taking::finished))]
 fn finish(draft: Draft) -> Result<Taken, AttrFault>
     ensures value { IsTakenAs (finished draft) result }

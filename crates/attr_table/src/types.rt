@@ -15,7 +15,7 @@ pub const DIMENSION: u8 = 0x05;
 pub const DECIMAL: u8 = 0x10;
 /// A whole number, written with hexadecimal digits.
 pub const HEXADECIMAL: u8 = 0x11;
-/// True where the word is not 0.
+/// True if the word is not 0.
 pub const BOOLEAN: u8 = 0x12;
 /// This type and those up to `LAST_COLOR` are colours, and the word has all four channels in each.
 pub const FIRST_COLOR: u8 = 0x1c;

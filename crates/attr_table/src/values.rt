@@ -1,4 +1,4 @@
-//! What the value of an attribute says, by what the attribute takes.
+//! What the value of an attribute means, by what the attribute takes.
 ghost use Rattle.std.specs.Prelude.{◌≡◌, ◌<◌, ◌^◌, IfOk, Some, chars, length, option_map, slice_get};
 ghost use Rattle.geom_core.specs.declared.measuring.TheConstants.{WRAP};
 ghost use Rattle.view_model.specs.declared.limits.TheConstants.{MAX_SIZE};
@@ -50,7 +50,7 @@ fn takes_reference(takes: Takes) -> bool
     matches!(takes, Takes::Reference)
 }
 
-/// What an attribute's value says, where the attribute takes such a value; `found` is the resource that it names.
+/// The meaning of an attribute's value, if the attribute takes such a value; `found` is the resource that it names.
 pub fn given(
     alloc: Global,
     pool: &Pool,

@@ -1,4 +1,4 @@
--- The chunk that is read stands there, and the chunk that stands there is read.
+-- The chunk that is read is the one at that place, and the chunk at that place is read.
 use Rattle.std.proofs.Common.{◌≡◌, ℕ, ◌+◌, ◌-◌, ◌≤◌, ◌%◌, false, cond, ltb, List, Result, Ok, Err, refl, subst, arith, inl, inr}
 use Rattle.std.proofs.lemmas.Bool.{cases_lt, lt-ltb, le-ltb, ltb-false, eq-eqb, ne_eqb, cases_eq}
 use Rattle.axml_chunks.specs.declared.chunk.Chunk.{Chunk}

@@ -18,7 +18,7 @@ use Rattle.axml_chunks.proofs.Readings.{bind_ok, guard_ok, ok_is, done}
 abbrev some : List ℕ → Option (List ℕ)
 some text = Some text
 
--- a header, and the sizes that it was read under
+-- a header, and the sizes that hold where it was read
 pub record IsHeaderOf (chunk : List ℕ) (head : ℕ) (header : Header) : Type 0 where
   pub least : 28 ≤ head
   pub lists : head + 4 * (string_count chunk + style_count chunk) ≤ length chunk
@@ -96,7 +96,7 @@ all_found chunk place head header (suc n) g e =
       room = t.2;
     })
 
--- the first n of texts that stand at their offsets are gathered
+-- the first n texts, which are at their offsets, are gathered
 all_again : (chunk : List ℕ) (place head : ℕ) (header : Header) (texts : List (List ℕ)) → ((k : ℕ) → k < length texts → text_at chunk head header k ≡ Some (get_or texts k []))
     → sum_by length texts ≤ 4194304 → (n : ℕ) → n ≤ length texts → gathered_upto chunk place head header n ≡ Ok (record { texts = take n texts; sum = sum_by length (take n texts) })
 unfolding upto gathered

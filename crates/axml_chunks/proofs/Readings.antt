@@ -1,4 +1,4 @@
--- What readings say where they did not fail.
+-- What readings return where they did not fail.
 use Rattle.std.proofs.Common.{◌≡◌, Bool, true, false, cond, Result, Ok, Err, refl}
 use Rattle.axml_chunks.specs.declared.fault.Fault.{Fault}
 use Rattle.axml_chunks.specs.Steps.{◌>>=◌}

@@ -1,4 +1,4 @@
--- The numbers of the causes that a file is refused for.
+-- The numbers of the causes for which a file is refused.
 use Rattle.std.specs.Prelude.{ℕ}
 use Rattle.axml_chunks.specs.declared.cause.Cause.{Cause}
 use Rattle.axml_chunks.specs.declared.cause.Cause.TheVariants as cause

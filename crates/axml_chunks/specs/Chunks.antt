@@ -5,7 +5,7 @@ use Rattle.axml_chunks.specs.declared.fault.Fault.{Fault}
 use Rattle.axml_chunks.specs.Faults.{truncated, bad_chunk}
 use Rattle.axml_chunks.specs.Numbers.{number16, number32}
 
--- a header of this many bytes, and this size, stand in no chunk
+-- no chunk has a header of this many bytes and this size
 abbrev pub is_bad_head : ℕ → ℕ → Bool
 is_bad_head head size = nat_lt head 8 || not (head % 4 == 0) || not (size % 4 == 0) || nat_lt size head
 
@@ -23,7 +23,7 @@ pub record IsChunk (place end : ℕ) (chunk : Chunk) : Type 0 where
   pub size : chunk.head ≤ chunk.size
   pub fits : place + chunk.size ≤ end
 
--- a chunk stands at a place of a file and ends at `end` at the latest
+-- there is a chunk at a place of a file, which ends at `end` at the latest
 pub record IsChunkAt (bytes : List ℕ) (place end : ℕ) (chunk : Chunk) : Type 0 where
   pub kind_is : chunk.kind ≡ number16 bytes place
   pub head_is : chunk.head ≡ number16 bytes (place + 2)

@@ -1,4 +1,4 @@
--- What may be wrong with a file, each with the place where it shows.
+-- What may be wrong with a file, each with the place at which it is reported.
 use Rattle.std.specs.Prelude.{ℕ}
 use Rattle.axml_chunks.specs.declared.cause.Cause.TheVariants as cause
 use Rattle.axml_chunks.specs.declared.fault.Fault.{Fault}
@@ -15,7 +15,7 @@ bad_chunk place = record { cause = cause.BadChunk; at = place }
 abbrev pub bad_pool : ℕ → Fault
 bad_pool place = record { cause = cause.BadPool; at = place }
 
--- a string that is cut short or no text
+-- a string that is cut short, or is no text
 abbrev pub bad_string : ℕ → Fault
 bad_string place = record { cause = cause.BadString; at = place }
 
@@ -35,7 +35,7 @@ unbalanced place = record { cause = cause.Unbalanced; at = place }
 abbrev pub no_element : ℕ → Fault
 no_element place = record { cause = cause.NoElement; at = place }
 
--- an element begins behind the outermost one
+-- an element begins after the outermost one
 abbrev pub two_roots : ℕ → Fault
 two_roots place = record { cause = cause.TwoRoots; at = place }
 

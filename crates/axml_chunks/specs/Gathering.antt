@@ -1,4 +1,4 @@
--- A pool of the code that is being read, as that of the definitions.
+-- A pool that the code is reading, as the definitions see it.
 use Rattle.std.specs.Prelude.{map}
 use Rattle.std.specs.String.{string_bytes}
 use Rattle.axml_chunks.specs.declared.gathering.Gathering.{Gathering}

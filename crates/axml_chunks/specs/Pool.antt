@@ -9,7 +9,7 @@ use Rattle.axml_chunks.specs.Spelled.{IsString}
 use Rattle.axml_chunks.specs.Strings.{utf8_text, utf16_text}
 use Rattle.axml_chunks.specs.Steps.{◌>>=◌, upto}
 
--- the strings of a file, each in UTF-8, and whether the file had them so
+-- the strings of a file, each in UTF-8, and whether the file has them in UTF-8
 pub record StringPool : Type 0 where
   pub utf8 : Bool
   pub texts : List (List ℕ)
@@ -29,7 +29,7 @@ is_in_utf8 chunk = number32 chunk 16 / 256 % 2 == 1
 abbrev pub strings_start : List ℕ → ℕ
 strings_start chunk = number32 chunk 20
 
--- the header of the pool whose chunk stands at a place of the file
+-- the header of the pool whose chunk is at a place of the file
 unfoldable pub header_of : List ℕ → ℕ → ℕ → Result Header Fault
 header_of chunk place head =
     if nat_lt head 28 || nat_lt (length chunk) (head + 4 * (string_count chunk + style_count chunk)) || nat_lt (length chunk) (strings_start chunk)
@@ -47,7 +47,7 @@ pub record IsHeader (len head : ℕ) (header : Header) : Type 0 where
 unfoldable pub string_at : Bool → List ℕ → ℕ → Option (List ℕ)
 string_at utf8 chunk i = if utf8 then utf8_text chunk i else utf16_text chunk i
 
--- string k, whose offset from the first string's place stands in the list behind the header
+-- string k, whose offset from the first string's place is in the list after the header
 abbrev pub text_at : List ℕ → ℕ → Header → ℕ → Option (List ℕ)
 text_at chunk head header k = string_at header.utf8 chunk (header.first + number32 chunk (head + 4 * k))
 
@@ -56,7 +56,7 @@ pub record Gathered : Type 0 where
   pub texts : List (List ℕ)
   pub sum : ℕ
 
--- the strings with one more, whose offset stands at a place of the file
+-- the strings with one more, whose offset is at a place of the file
 unfoldable pub gathered : Gathered → ℕ → Option (List ℕ) → Result Gathered Fault
 gathered so_far entry None = Err (bad_string entry)
 gathered so_far entry (Some text) =

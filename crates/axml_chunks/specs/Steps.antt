@@ -4,7 +4,7 @@ use Rattle.axml_chunks.specs.declared.fault.Fault.{Fault}
 use Rattle.axml_chunks.specs.declared.fault.ReadFault.{ReadFault}
 use Rattle.axml_chunks.specs.declared.fault.ReadFault.TheVariants as faults
 
--- what was read goes on; a fault stays
+-- the next step gets what was read; a fault stays
 infixl 10 ◌>>=◌
 abbrev pub ◌>>=◌ : {A B : Type 0} → Result A Fault → (A → Result B Fault) → Result B Fault
 (Ok x) >>= f = f x
@@ -15,17 +15,17 @@ unfoldable pub upto : {S : Type 0} → (S → ℕ → Result S Fault) → S → 
 upto step s zero = Ok s
 upto step s (suc n) = upto step s n >>= λ t. step t n
 
--- a call's fault is that of the reading; it may also have wanted memory
+-- a call's fault is that of the reading; it may also have run out of memory
 abbrev pub Fails : {Y : Type 0} → ReadFault → Result Y Fault → Type 0
 Fails faults.NoMemory read = Unit {0}
 Fails (faults.Bad f) read = read ≡ Err f
 
--- a call answers what the reading gives, seen by a view of its values, unless it wanted memory
+-- a call returns what the reading gives, seen by a view of its values, unless it ran out of memory
 abbrev pub Gives : {X Y : Type 0} → (X → Y) → Result X ReadFault → Result Y Fault → Type 0
 Gives view (Ok x) read = read ≡ Ok (view x)
 Gives view (Err e) read = Fails e read
 
--- a call leaves the state that the reading gives, or answers its fault, unless it wanted memory
+-- a call leaves the state that the reading gives, or returns its fault, unless it ran out of memory
 abbrev pub Does : {X Y : Type 0} → Y → Result X ReadFault → Result Y Fault → Type 0
 Does now (Ok x) read = read ≡ Ok now
 Does now (Err e) read = Fails e read

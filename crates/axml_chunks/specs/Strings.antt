@@ -1,4 +1,4 @@
--- The strings of a pool, each at a place of the pool's chunk. None where one is cut short or no text.
+-- The strings of a pool, each at a place of the pool's chunk; `None` for one that is cut short or no text.
 use Rattle.std.specs.Prelude.{ℕ, zero, suc, ◌++◌, ◌+◌, ◌-◌, ◌*◌, not, List, [], ◌∷◌, length, slice_index, slice_range, Option, Some, None, nat_lt, ◌==◌, if◌then◌else◌}
 use Rattle.std.specs.Str.{is_utf8, encode_utf8_all}
 use Rattle.std.specs.Char.Utf16.{utf16_lossy_chars, has_unpaired_surrogate}
@@ -9,7 +9,7 @@ abbrev pub ◌>>=◌ : {A B : Type 0} → Option A → (A → Option B) → Opti
 None >>= f = None
 (Some x) >>= f = f x
 
--- a length in one byte, or in two where the first has its high bit set, and the place behind it
+-- a length in one byte, or in two if the first has its high bit set, and the place after it
 unfoldable pub utf8_length : List ℕ → ℕ → Option (ℕ × ℕ)
 utf8_length chunk i =
     if not (nat_lt i (length chunk)) then None
@@ -17,7 +17,7 @@ utf8_length chunk i =
     else (if not (nat_lt (i + 1) (length chunk)) then None
     else Some ((slice_index chunk i - 128) * 256 + slice_index chunk (i + 1), i + 2)))
 
--- a length in one unit, or in two where the first has its high bit set, and the place behind it
+-- a length in one unit, or in two if the first has its high bit set, and the place after it
 unfoldable pub utf16_length : List ℕ → ℕ → Option (ℕ × ℕ)
 utf16_length chunk i =
     if nat_lt (length chunk) (i + 2) then None
@@ -25,11 +25,11 @@ utf16_length chunk i =
     else (if nat_lt (length chunk) (i + 4) then None
     else Some ((number16 chunk i - 32768) * 65536 + number16 chunk (i + 2), i + 4)))
 
--- the bytes, where they are a text
+-- the bytes, if they are a text
 unfoldable pub text_of_bytes : List ℕ → Option (List ℕ)
 text_of_bytes bytes = if is_utf8 bytes then Some bytes else None
 
--- the text of so many bytes at a place, where a zero follows
+-- the text of n bytes at a place, if a zero follows
 unfoldable pub ended_bytes : List ℕ → ℕ → ℕ → Option (List ℕ)
 ended_bytes chunk i len =
     if not (nat_lt (i + len) (length chunk)) then None
@@ -43,16 +43,16 @@ utf8_text chunk i = do
   len ← utf8_length chunk units.1
   ended_bytes chunk len.1 len.0
 
--- so many units from a place on
+-- n units from a place on
 abbrev pub units_at : List ℕ → ℕ → ℕ → List ℕ
 units_at chunk i zero = []
 units_at chunk i (suc n) = units_at chunk i n ++ number16 chunk (i + 2 * n) ∷ []
 
--- the text, in UTF-8, of units among which no surrogate stands without its partner
+-- the text, in UTF-8, of units in which each surrogate has its partner
 unfoldable pub text_of_units : List ℕ → Option (List ℕ)
 text_of_units units = if has_unpaired_surrogate units then None else Some (encode_utf8_all (utf16_lossy_chars units))
 
--- the text of so many units at a place, where a zero follows
+-- the text of n units at a place, if a zero follows
 unfoldable pub ended_units : List ℕ → ℕ → ℕ → Option (List ℕ)
 ended_units chunk i len =
     if nat_lt (length chunk) (i + 2 * len + 2) then None

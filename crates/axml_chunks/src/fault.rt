@@ -4,7 +4,7 @@ ghost use Rattle.std.specs.Prelude.{◌≡◌};
 use crate::cause::Cause;
 use std::alloc::{AllocError, AllocFailed};
 
-/// What is wrong with a file, and the offset from the file's start at which it shows.
+/// What is wrong with a file, and the offset from the file's start at which it is reported.
 #[derive(Clone, Copy, Debug, PartialEq, Eq)]
 pub struct Fault {
     pub cause: Cause,

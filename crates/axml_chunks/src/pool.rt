@@ -54,7 +54,7 @@ impl Model for Pool {
 }
 
 impl Pool {
-    /// Reads the pool of a chunk that stands at a place of a file.
+    /// Reads the pool whose chunk is at a place of a file.
     #[tactic(auto, unfolding(crate::specs::Pool::pool_in), using(crate::proofs::Pools::pool_found, crate::proofs::Pools::pool_again))]
     pub fn read(alloc: Global, bytes: &[u8], at: usize, chunk: Chunk) -> Result<Pool, ReadFault>
         requires { IsChunk at (length bytes.now) chunk }
@@ -98,7 +98,7 @@ impl Pool {
     }
 }
 
-/// The header of the pool in a chunk that stands at a place of the file.
+/// The header of the pool whose chunk is at a place of the file.
 #[tactic(auto, unfolding(crate::specs::Pool::header_of))]
 fn header_of(chunk: &[u8], at: usize, head: usize) -> Result<Header, Fault>
     requires { head ≤ length chunk.now }
@@ -129,7 +129,7 @@ fn header_of(chunk: &[u8], at: usize, head: usize) -> Result<Header, Fault>
 }
 
 impl Gathering {
-    /// Adds a string, whose offset stands at a place of the file.
+    /// Adds a string, whose offset is at a place of the file.
     #[tactic(auto, unfolding(crate::specs::Pool::gathered), using(std::proofs::lemmas::Grind::common_steps))]
     fn add(&mut self, entry: usize, text: Option<String>) -> Result<(), ReadFault>
         ensures value { Does (gathering self.new) result (gathered (gathering self.old) entry (option_map string_bytes text)) }

@@ -9,7 +9,7 @@ use crate::chunk::{u16_at, u32_at};
 use crate::pool::Header;
 use std::alloc::{AllocError, Global};
 
-/// A length in one byte or two, and the place behind it.
+/// A length in one byte or two, and the place after it.
 #[tactic(auto, unfolding(crate::specs::Strings::utf8_length))]
 fn utf8_length(chunk: &[u8], i: usize) -> Option<(usize, usize)>
     ensures value { result ≡ utf8_length chunk.now i }
@@ -28,7 +28,7 @@ fn utf8_length(chunk: &[u8], i: usize) -> Option<(usize, usize)>
     Some(((first - 0x80) * 256 + chunk[i + 1] as usize, i + 2))
 }
 
-/// The bytes as a text, where they are one.
+/// The bytes as a text, if they are one.
 #[tactic(auto, using(crate::proofs::Texts::is_taken, crate::proofs::Texts::is_refused))]
 fn text_of_bytes(bytes: &[u8]) -> Option<&str>
     ensures { option_map (λ s. s.now) result ≡ text_of_bytes bytes.now }
@@ -39,7 +39,7 @@ fn text_of_bytes(bytes: &[u8]) -> Option<&str>
     }
 }
 
-/// The text of so many bytes at a place, where a zero follows.
+/// The text of `len` bytes at a place, if a zero follows.
 #[tactic(auto, unfolding(crate::specs::Strings::ended_bytes))]
 fn ended_bytes(chunk: &[u8], i: usize, len: usize) -> Option<&str>
     requires { i ≤ length chunk.now }
@@ -64,7 +64,7 @@ fn utf8_text(chunk: &[u8], i: usize) -> Option<&str>
     ended_bytes(chunk, i, len)
 }
 
-/// So many units from a place on.
+/// The `len` units from a place on.
 fn units_at(alloc: Global, chunk: &[u8], i: usize, len: usize) -> Result<Vec<u16>, AllocError>
     requires { i + 2 * len ≤ length chunk.now }
     ensures { IfOk result (λ units. units.items ≡ units_at chunk.now i len) }
@@ -76,7 +76,7 @@ fn units_at(alloc: Global, chunk: &[u8], i: usize, len: usize) -> Result<Vec<u16
     Ok(units)
 }
 
-/// The text of units, where they are one.
+/// The text of units, if they are one.
 #[tactic(auto, unfolding(crate::specs::Strings::text_of_units))]
 fn text_of_units(alloc: Global, units: &[u16]) -> Result<Option<String>, AllocError>
     ensures { IfOk result (λ text. option_map string_bytes text ≡ text_of_units units.now) }
@@ -85,7 +85,7 @@ fn text_of_units(alloc: Global, units: &[u16]) -> Result<Option<String>, AllocEr
     Ok(text.ok())
 }
 
-/// A length in one unit or two, and the place behind it.
+/// A length in one unit or two, and the place after it.
 #[tactic(auto, unfolding(crate::specs::Strings::utf16_length))]
 fn utf16_length(chunk: &[u8], i: usize) -> Option<(usize, usize)>
     requires { i < 2 ^ 40 }
@@ -106,7 +106,7 @@ fn utf16_length(chunk: &[u8], i: usize) -> Option<(usize, usize)>
     Some(((first - 0x8000) * 65536 + second, i + 4))
 }
 
-/// The text of so many units at a place, where a zero follows.
+/// The text of `len` units at a place, if a zero follows.
 #[tactic(auto, unfolding(crate::specs::Strings::ended_units))]
 fn ended_units(
     alloc: Global,

@@ -7,7 +7,7 @@ use Rattle.axml_chunks.proofs.Readings.{done}
 use Rattle.axml_reader.specs.declared.doc.Attr.{Attr}
 use Rattle.axml_reader.specs.Fields.{attr_at, attr_after, attrs_upto}
 
--- attributes behind others
+-- attributes after others
 abbrev pub behind : List Attr → Result (List Attr) Fault → Result (List Attr) Fault
 behind attrs more = more >>= λ own. Ok (attrs ++ own)
 

@@ -33,13 +33,13 @@ IsFresh pool (Ids ids) = Unit {0}
 IsFresh pool (Item node attrs) = Unit {0}
 IsFresh pool Other = Unit {0}
 
--- a part may come behind what was read
+-- a part may come after what was read
 pub record MayFollow (s : State) (part : Part) : Type 0 where
   pub fresh : IsFresh s.pool part
   pub allowed : allows (same_text s.pool) s.stack (token_of part) ≡ true
   pub few : 0 < starts_of (token_of part) → s.starts < 4096
 
--- the part of a chunk, behind what was read
+-- the part of a chunk, after what was read
 pub record Follows (bytes : List ℕ) (place : ℕ) (chunk : Chunk) (s : State) (part : Part) : Type 0 where
   pub is : IsPart bytes s.pool (length s.attrs) place chunk part
   pub may : MayFollow s part
@@ -75,7 +75,7 @@ long_enough chunk form e =
 not_short : (chunk : Chunk) (form : ℕ) → 16 ≤ chunk.head → form ≤ chunk.size - chunk.head → is_short chunk form ≡ false
 not_short chunk form header body = rw (le-ltb chunk.head 16 header, le-ltb (chunk.size - chunk.head) form body) refl
 
--- what was read behind the place of a body
+-- what was read after the place of a body
 in_body : {A : Type 0} (place : ℕ) (chunk : Chunk) (form : ℕ) (next : ℕ → Result A Fault) (a : A) → (body_at place chunk form >>= next) ≡ Ok a
     → (is_short chunk form ≡ false) × (next (place + chunk.head) ≡ Ok a)
 unfolding body_at

@@ -21,7 +21,7 @@ abbrev pub with_parts : State → List Part → State
 with_parts s [] = s
 with_parts s (x ∷ xs) = with_parts (with_part s x) xs
 
--- each part may come behind what was read before it
+-- each part may come after what was read before it
 abbrev pub Turns : State → List Part → Type 0
 Turns s [] = Unit {0}
 Turns s (x ∷ xs) = MayFollow s x × Turns (with_part s x) xs

@@ -84,7 +84,7 @@ attrs_of_node bytes low high before place chunk (Start line ns name first n) att
 attrs_of_node bytes low high before place chunk (End line ns name) attrs le is = no_attr_strings high attrs is.no_attrs
 attrs_of_node bytes low high before place chunk (Chars line text kind word) attrs le is = no_attr_strings high attrs is.no_attrs
 
--- the attributes of a node lie behind those before it
+-- the attributes of a node are after those before it
 node_within : (bytes : List ℕ) (count before place len : ℕ) (chunk : Chunk) (node : Node) (attrs : List Attr) → before + length attrs ≤ len → IsNode bytes count before place chunk node attrs → is_within len node ≡ true
 node_within bytes count before place len chunk (NsStart prefix uri) attrs le is = refl
 node_within bytes count before place len chunk (NsEnd prefix uri) attrs le is = refl

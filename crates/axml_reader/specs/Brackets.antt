@@ -54,13 +54,13 @@ allows same s Plain = true
 allows same s (Opens a) = not s.closed
 allows same s (Closes b) = is_closed_by same s.opened b
 
--- what is open behind a token
+-- what is open after a token
 abbrev pub turned : Stack → Token → Stack
 turned s Plain = s
 turned s (Opens a) = pushed s a
 turned s (Closes b) = popped s
 
--- what is open behind a word, if each of its tokens may come
+-- what is open after a word, if each of its tokens may come
 abbrev pub brackets : (ℕ → ℕ → Bool) → Stack → List Token → Option Stack
 brackets same s [] = Some s
 brackets same s (t ∷ rest) = if allows same s t then brackets same (turned s t) rest else None

@@ -22,14 +22,14 @@ document_of bytes =
     else (if not (number16 bytes 0 == 3) then Err (not_xml 0)
     else chunk_of bytes 0 (length bytes))
 
--- what was read with one chunk more, and the place behind it
+-- what was read with one chunk more, and the place after it
 unfoldable pub one_chunk : List ℕ → ℕ → ℕ → State → Result (ℕ × State) Fault
 one_chunk bytes end place s = do
   chunk ← chunk_of bytes place end
   t ← joined s (part_at bytes place chunk s)
   Ok (place + chunk.size, t)
 
--- what was read with the chunks from a place to the end, at most so many
+-- what was read with the chunks from a place to the end, at most n
 unfoldable pub chunks_from : ℕ → List ℕ → ℕ → ℕ → State → Result State Fault
 chunks_from zero bytes end place s = Ok s
 chunks_from (suc n) bytes end place s =
@@ -41,7 +41,7 @@ abbrev pub document_with : ℕ → State → Option StringPool → Result Docume
 document_with end s None = Err (no_element end)
 document_with end s (Some pool) = Ok (record { pool = pool; map = s.map; nodes = s.nodes; attrs = s.attrs })
 
--- the document, where all was read up to its end
+-- the document, if all was read up to its end
 unfoldable pub finished : ℕ → State → Result Document Fault
 finished end s =
     if not (length s.stack.opened == 0) then Err (unbalanced end)

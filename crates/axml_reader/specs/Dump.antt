@@ -13,11 +13,11 @@ use Rattle.axml_reader.specs.Document.{Document}
 abbrev pub string_mark : ℕ → List ℕ
 string_mark k = codes "s" ⧺ decimal k
 
--- a string number, `-` where it means none
+-- a string number, or `-` if it means none
 unfoldable pub string_name : ℕ → List ℕ
 string_name n = if n == 4294967295 then codes "-" else string_mark n
 
--- fields of a line, each behind a space
+-- fields of a line, each after a space
 abbrev pub name_field : ℕ → List ℕ
 name_field n = codes " " ⧺ string_name n
 

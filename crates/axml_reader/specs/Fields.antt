@@ -23,7 +23,7 @@ unfoldable pub same_text : Option StringPool → ℕ → ℕ → Bool
 same_text None a b = false
 same_text (Some pool) a b = same_bytes (slice_get pool.texts a) (slice_get pool.texts b)
 
--- the number at a place means no string, or one of so many
+-- the number at a place means no string, or is below the count of strings
 abbrev pub is_reference : ℕ → ℕ → Bool
 is_reference count n = n == 4294967295 || nat_lt n count
 
@@ -54,11 +54,11 @@ attr_at bytes count place = do
   word ← word_at bytes count (place + 12)
   Ok (record { ns = ns; name = name; raw = raw; kind = slice_index bytes (place + 15); word = word })
 
--- attributes, each of `step` bytes from a place on, with the one of number k behind those so far
+-- attributes, each of `step` bytes from a place on, with the one of number k after those so far
 abbrev pub attr_after : List ℕ → ℕ → ℕ → ℕ → List Attr → ℕ → Result (List Attr) Fault
 attr_after bytes count place step attrs k = attr_at bytes count (place + k * step) >>= λ attr. Ok (attrs ++ attr ∷ [])
 
--- the first n of them behind others
+-- the first n of them after others
 abbrev pub attrs_upto : List ℕ → ℕ → ℕ → ℕ → List Attr → ℕ → Result (List Attr) Fault
 attrs_upto bytes count place step attrs n = upto (attr_after bytes count place step) attrs n
 

@@ -17,7 +17,7 @@ use Rattle.axml_reader.specs.Parts.{Part, Strings, Ids, Item, Other, with_part}
 abbrev pub is_short : Chunk → ℕ → Bool
 is_short chunk form = nat_lt chunk.head 16 || nat_lt (chunk.size - chunk.head) form
 
--- where the body of a node stands
+-- where the body of a node is
 unfoldable pub body_at : ℕ → Chunk → ℕ → Result ℕ Fault
 body_at place chunk form = if is_short chunk form then Err (bad_chunk place) else Ok (place + chunk.head)
 
@@ -103,7 +103,7 @@ chars_part bytes place chunk s = do
   text ← chars_at bytes place chunk (strings s.pool)
   Ok (Item (Chars (line_at bytes place) text (slice_index bytes (place + chunk.head + 7)) (number32 bytes (place + chunk.head + 8))) [])
 
--- what a chunk is, behind what was read before it
+-- what a chunk is, after what was read before it
 unfoldable pub part_at : List ℕ → ℕ → Chunk → State → Result Part Fault
 part_at bytes place chunk s =
     if chunk.kind == 0x001 then pool_part bytes place chunk s
@@ -125,7 +125,7 @@ pub record IsBody (place : ℕ) (chunk : Chunk) (form body : ℕ) : Type 0 where
   pub room : chunk.head + form ≤ chunk.size
   pub body_is : body ≡ place + chunk.head
 
--- the attributes of an element lie in so many bytes, and it is not one too many
+-- the attributes of an element fit in n bytes, and the element is not one too many
 pub record IsStart (len begun : ℕ) (chunk : Chunk) (head : StartHead) : Type 0 where
   pub header : 16 ≤ chunk.head
   pub begun_few : begun < 4096

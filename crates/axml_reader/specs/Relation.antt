@@ -12,7 +12,7 @@ use Rattle.axml_reader.specs.Document.{Document}
 use Rattle.axml_reader.specs.Fields.{strings, same_text, words_at}
 use Rattle.axml_reader.specs.Parts.{Part, Strings, Ids, Item, Other, token, starts_in}
 
--- a number names one of so many strings, or none
+-- a number names one of n strings, or none
 abbrev pub IsReference : ℕ → ℕ → Type 0
 IsReference count n = (n ≡ 4294967295) ⊎ (n < count)
 
@@ -53,7 +53,7 @@ pub record IsNamespace (bytes : List ℕ) (count place kind : ℕ) (chunk : Chun
   pub uri_at : IsReferenceAt bytes count (place + chunk.head + 4) uri
   pub no_attrs : attrs ≡ []
 
--- an element begins, of which these are the attributes; so many came before them
+-- an element begins, of which these are the attributes; n elements came before it
 pub record IsStartNode (bytes : List ℕ) (count before place : ℕ) (chunk : Chunk) (line ns name first n : ℕ) (attrs : List Attr) : Type 0 where
   pub form : IsForm 0x102 20 chunk
   pub line_is : line ≡ number32 bytes (place + 8)
@@ -102,24 +102,24 @@ pub record IsOther (kind : ℕ) : Type 0 where
   pub no_end : kind ≢ 0x103
   pub no_chars : kind ≢ 0x104
 
--- the part that the chunk at a place is, behind this pool and so many attributes
+-- the part that the chunk at a place is, after this pool and n attributes
 abbrev pub IsPart : List ℕ → Option StringPool → ℕ → ℕ → Chunk → Part → Type 0
 IsPart bytes pool before place chunk (Strings strings) = (chunk.kind ≡ 0x001) × IsPool bytes place chunk strings
 IsPart bytes pool before place chunk (Ids ids) = (chunk.kind ≡ 0x180) × (ids ≡ words_at bytes (place + chunk.head) ((chunk.size - chunk.head) / 4))
 IsPart bytes pool before place chunk (Item node attrs) = IsNode bytes (strings pool) before place chunk node attrs
 IsPart bytes pool before place chunk Other = IsOther chunk.kind
 
--- a chunk and where it stands
+-- a chunk and where it is
 pub record Place : Type 0 where
   pub at : ℕ
   pub chunk : Chunk
 
--- these chunks stand one after the other, from a place to the end
+-- these chunks follow one another, from a place to the end
 abbrev pub Fills : List ℕ → ℕ → ℕ → List Place → Type 0
 Fills bytes end at [] = at ≡ end
 Fills bytes end at (p ∷ ps) = (p.at ≡ at) × IsChunkAt bytes at end p.chunk × Fills bytes end (at + p.chunk.size) ps
 
--- the pool behind a part, and how many attributes a part has
+-- the pool after a part, and how many attributes a part has
 abbrev pub pool_behind : Option StringPool → Part → Option StringPool
 pool_behind pool (Strings strings) = Some strings
 pool_behind pool (Ids ids) = pool

@@ -32,7 +32,7 @@ attr_has_strings count attr = is_reference count attr.ns && nat_lt attr.name cou
 abbrev pub AttrsHaveStrings : StringPool → List Attr → Type 0
 AttrsHaveStrings pool attrs = All (λ attr. attr_has_strings (length pool.texts) attr ≡ true) attrs
 
--- the attributes of a node are among so many
+-- the attributes of a node are among n
 abbrev pub is_within : ℕ → Node → Bool
 is_within len (NsStart prefix uri) = true
 is_within len (NsEnd prefix uri) = true

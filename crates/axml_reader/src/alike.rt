@@ -11,7 +11,7 @@ use crate::fields::same_text;
 use axml_chunks::Pool;
 use std::alloc::{AllocError, Global};
 
-/// The list for so many strings, each of which leads to itself.
+/// The list for `count` strings, each of which leads to itself.
 pub fn none_alike(alloc: Global, count: u32) -> Result<Vec<u32>, AllocError>
     ensures { IfOk result (λ alike. (pool : Option StringPool) → AreAlike pool alike.items) }
 {
@@ -22,8 +22,8 @@ pub fn none_alike(alloc: Global, count: u32) -> Result<Vec<u32>, AllocError>
     Ok(alike)
 }
 
-/// The number to which a number leads at last. Each number on the way then leads one step further,
-/// which keeps ways short.
+/// The number to which a number leads in the end. Each number on the way then leads one step
+/// further, which keeps paths short.
 fn least(alike: &mut [u32], mut number: u32) -> u32
     ensures { (pool : Option StringPool) → AreAlike pool alike.old → AreAlike pool alike.new × (text_of pool result ≡ text_of pool number) }
 {
@@ -38,7 +38,7 @@ fn least(alike: &mut [u32], mut number: u32) -> u32
     number
 }
 
-/// Lets the greater of two numbers lead to the other.
+/// Makes the greater of two numbers lead to the other.
 fn join(alike: &mut [u32], a: u32, b: u32)
     ensures { (pool : Option StringPool) → AreAlike pool alike.old → text_of pool a ≡ text_of pool b → AreAlike pool alike.new }
 {

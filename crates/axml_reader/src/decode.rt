@@ -16,7 +16,7 @@ use std::alloc::Global;
 /// The type of the chunk that holds the document.
 const DOCUMENT: u16 = 3;
 
-/// The chunk that holds the document. What stands behind it is not looked at.
+/// The chunk that holds the document. What comes after it is not looked at.
 #[tactic(auto, unfolding(crate::specs::Decoding::document_of))]
 fn document_chunk(bytes: &[u8]) -> Result<Chunk, Fault>
     ensures value { result ≡ document_of bytes.now }
@@ -54,7 +54,7 @@ impl Reading {
         }
     }
 
-    /// Reads the chunk at a place, and answers the place behind it.
+    /// Reads the chunk at a place, and returns the place after it.
     #[tactic(auto, unfolding(crate::specs::Decoding::one_chunk))]
     fn read_next(
         &mut self,

@@ -30,7 +30,7 @@ fn put_string_mark<K: Sink>(text: &mut TextBuffer, sink: &mut K, k: u32)
     put_number(text, sink, k);
 }
 
-/// Sends a string number, `-` where it means none.
+/// Sends a string number, or `-` if it means none.
 #[tactic(auto, unfolding(crate::specs::Dump::string_name))]
 fn put_string_name<K: Sink>(text: &mut TextBuffer, sink: &mut K, n: u32)
     ensures { Sends (K.state sink.old) (K.state sink.new) text.old text.new (string_name n) }
@@ -42,7 +42,7 @@ fn put_string_name<K: Sink>(text: &mut TextBuffer, sink: &mut K, n: u32)
     }
 }
 
-/// Sends a string number behind a space.
+/// Sends a string number after a space.
 fn put_name_field<K: Sink>(text: &mut TextBuffer, sink: &mut K, n: u32)
     ensures { Sends (K.state sink.old) (K.state sink.new) text.old text.new (name_field n) }
 {
@@ -50,7 +50,7 @@ fn put_name_field<K: Sink>(text: &mut TextBuffer, sink: &mut K, n: u32)
     put_string_name(text, sink, n);
 }
 
-/// Sends a number behind a space.
+/// Sends a number after a space.
 fn put_number_field<K: Sink>(text: &mut TextBuffer, sink: &mut K, n: u32)
     ensures { Sends (K.state sink.old) (K.state sink.new) text.old text.new (number_field n) }
 {
@@ -58,7 +58,7 @@ fn put_number_field<K: Sink>(text: &mut TextBuffer, sink: &mut K, n: u32)
     put_number(text, sink, n);
 }
 
-/// Sends hexadecimal digits behind a space.
+/// Sends hexadecimal digits after a space.
 fn put_hex_field<K: Sink>(text: &mut TextBuffer, sink: &mut K, n: u32, digits: u8)
     requires { digits ≤ 8 }
     ensures { Sends (K.state sink.old) (K.state sink.new) text.old text.new (hex_field n digits) }

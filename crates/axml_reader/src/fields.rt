@@ -11,7 +11,7 @@ use std::alloc::{AllocError, Global};
 const STRING: u8 = 3;
 
 /// An element that begins, without its attributes: its string numbers, where in the file the first
-/// attribute stands, how many bytes each has, and how many there are.
+/// attribute is, how many bytes each has, and how many there are.
 #[derive(Clone, Copy, Debug, PartialEq, Eq)]
 pub(crate) struct StartHead {
     pub(crate) ns: u32,
@@ -45,7 +45,7 @@ pub fn same_text(pool: &Option<Pool>, a: u32, b: u32) -> bool
     }
 }
 
-/// A string number below a count, or none.
+/// A string number below a count, or `NO_STRING`.
 #[tactic(auto, unfolding(crate::specs::Fields::reference_at))]
 pub fn reference_at(bytes: &[u8], count: u32, at: usize) -> Result<u32, Fault>
     requires { at + 4 ≤ length bytes.now }

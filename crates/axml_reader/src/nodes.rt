@@ -29,7 +29,7 @@ fn is_short(chunk: Chunk, form: usize) -> bool
     chunk.head < 16 || chunk.size - chunk.head < form
 }
 
-/// Where the body of a node stands; a form is the least length of a body.
+/// Where the body of a node is; a form is the least length of a body.
 #[tactic(auto, unfolding(crate::specs::Nodes::body_at))]
 fn body_at(at: usize, chunk: Chunk, form: usize) -> Result<usize, Fault>
     requires head { chunk.head ≤ chunk.size }
@@ -82,7 +82,7 @@ fn chars_at(bytes: &[u8], at: usize, chunk: Chunk, count: u32) -> Result<u32, Fa
     reference_at(bytes, count, body)
 }
 
-/// Whether attributes leave a body: `first` is where the first begins, `step` how many bytes each
+/// Whether attributes exceed a body: `first` is where the first begins, `step` how many bytes each
 /// has.
 fn is_outside(body: usize, first: usize, step: usize, count: usize) -> bool
     requires first { first < 2 ^ 16 }
@@ -177,7 +177,7 @@ impl Reading {
         Ok(())
     }
 
-    /// Takes a resource map in the place of an earlier one.
+    /// Takes a resource map in place of an earlier one.
     #[tactic(auto, unfolding(crate::specs::Nodes::map_part))]
     fn read_map(
         &mut self,

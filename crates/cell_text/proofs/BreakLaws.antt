@@ -1,4 +1,4 @@
--- The first line of a text, and what is behind it.
+-- The first line of a text, and what comes after it.
 use Rattle.std.proofs.Common.{◌≡◌, ◌≢◌, ℕ, zero, suc, ◌+◌, ◌-◌, ◌*◌, ◌/◌, ◌%◌, ◌<◌, ◌≤◌, min, Bool, true, false, List, [], ◌∷◌, ◌++◌, length, take, drop, get_or, Option, Some, None, if◌then◌else◌, refl, ap, sym, ◌∙◌, arith, length-append, inl, inr}
 use Rattle.std.specs.Prelude.{◌==◌, ◌⊎◌, nat_lt, slice_get}
 use Rattle.std.proofs.lemmas.Bool.{cases_Bool}
@@ -14,7 +14,7 @@ use Rattle.cell_text.proofs.SegmentLaws.{append_nothing, in_front-in_front, in_f
 abbrev pub IsPlain : List ℕ → Type 0
 IsPlain line = (k : ℕ) → k < length line → get_or line k newline ≢ newline
 
--- characters that are none stand in front of the first segment of what follows
+-- characters without a newline join the first segment of what follows
 pub segments-plain : (line text : List ℕ) → IsPlain line → segments_of (line ++ text) ≡ in_front line (segments_of text)
 segments-plain [] text plain = sym (in_front-nothing text)
 segments-plain (c ∷ line) text plain =
@@ -40,7 +40,7 @@ slice_get-right xs ys k = by_test (cases_Bool (nat_lt k (length ys)))
         let more = length-append xs ys in
         slice_get_past (xs ++ ys) (length xs + k) (omega arith) ∙ sym (slice_get_past ys k ge)
 
--- a line more where n more characters come before others, and one line where there are at most n
+-- a line more if n more characters come before others, and one line if there are at most n
 some_of : (s n k : ℕ) → 0 < k → k ≤ s * n → 0 < s
 some_of zero n k more le = absurd (omega arith)
 some_of (suc s) n k more le = omega arith
@@ -106,12 +106,12 @@ module _ (n : ℕ) (line seg : List ℕ) (others : List (List ℕ)) (some : 0 < 
       let at : (l + 1) * n + place ≡ length line + (l * n + place) = omega (arith, whole) in
       rw (count, test, left, at, slice_get-right line seg (l * n + place)) refl
 
--- what comes behind a line that isn't full is a newline
+-- what comes after a line that isn't full is a newline
 abbrev pub EndsLine : ℕ → List ℕ → List ℕ → Type 0
 EndsLine n line [] = Unit {0}
 EndsLine n line (c ∷ text) = length line < n → c ≡ newline
 
--- a text is never without a segment
+-- a text always has a segment
 module _ (n : ℕ) (line : List ℕ) (some : 0 < n) (short : length line ≤ n) (plain : IsPlain line) where
   pub first-line : (text : List ℕ) → EndsLine n line text → (place : ℕ) → cell_of n (line ++ text) 0 place ≡ slice_get line place
   first-line [] ends place = rw (segments-plain line [] plain) (head_first n line [] [] some short (λ lt. refl) place)
@@ -150,7 +150,7 @@ module _ (n : ℕ) (line : List ℕ) (some : 0 < n) (short : length line ≤ n) 
       by_segments [] = rest_part n line (c ∷ []) [] some short (λ lt. absurd (omega arith)) whole (omega arith) l place
       by_segments (segment ∷ more) = rest_part n line (c ∷ segment) more some short (λ lt. absurd (omega arith)) whole (omega arith) l place
 
--- the same of a text that is cut where its first line ends
+-- the same of a text that is cut at the end of its first line
 module _ (n end : ℕ) (text : List ℕ) (some : 0 < n) (short : end ≤ n) (within : end ≤ length text)
     (plain : (k : ℕ) → k < end → get_or text k newline ≢ newline) (full : end < n → end < length text → get_or text end newline ≡ newline) where
   line_size : length (take end text) ≡ end

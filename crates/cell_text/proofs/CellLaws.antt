@@ -20,7 +20,7 @@ cell_below-later : (n : ℕ) (segment : List ℕ) (more : List (List ℕ)) (line
     → cell_below n (segment ∷ more) line place ≡ cell_below n more (line - lines_for n (length segment)) place
 cell_below-later n segment more line place later = let test : nat_lt line (lines_for n (length segment)) ≡ false = grind (arith, nat_tests) in rw test refl
 
--- a newline at `end`: the segment is whole, and the next begins behind it
+-- a newline at `end`: the segment is whole, and the next begins after it
 pub cell_from-newline : (n : ℕ) (text : List ℕ) (begin end line place c : ℕ) → end < length text → c ≡ get_or text end c → c ≡ newline
     → cell_from n text begin end line place ≡ cell_below n (take (end - begin) (drop begin text) ∷ segments_behind [] (drop (end + 1) text)) line place
 cell_from-newline n text begin end line place c within here is =

@@ -3,12 +3,12 @@ use Rattle.std.proofs.Common.{◌≡◌, ℕ, ◌+◌, List, [], ◌∷◌, ◌+
 use Rattle.std.specs.Prelude.{◌==◌, Bool, if◌then◌else◌}
 use Rattle.view_model.specs.CellText.{in_front, lengths_of, newline, segments_of}
 
--- the segments of a text, behind these characters of the first
+-- the segments of a text, after these characters of the first
 abbrev pub segments_behind : List ℕ → List ℕ → List (List ℕ)
 segments_behind begun [] = begun ∷ []
 segments_behind begun (c ∷ text) = if c == newline then begun ∷ segments_behind [] text else segments_behind (begun ++ c ∷ []) text
 
--- their lengths, behind so many characters of the first
+-- their lengths, after n characters of the first
 abbrev pub lengths_behind : ℕ → List ℕ → List ℕ
 lengths_behind k [] = k ∷ []
 lengths_behind k (c ∷ text) = if c == newline then k ∷ lengths_behind 0 text else lengths_behind (k + 1) text

@@ -4,7 +4,7 @@ ghost use Rattle.view_model.specs.CellText.{cell_of, newline};
 
 use crate::lines::NEWLINE;
 
-/// The first line of a text: its characters stand before `end`, and the next line begins at `next`.
+/// The first line of a text: its characters are before `end`, and the next line begins at `next`.
 #[derive(Clone, Copy)]
 pub struct Break {
     pub end: usize,

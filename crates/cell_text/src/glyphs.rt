@@ -14,6 +14,7 @@ pub fn glyph(c: char, column: u8) -> u8
 }
 
 /// The five columns of a character.
+#[tactic(auto, unfolding(view_model::specs::Font::font))]
 fn columns_of(c: char) -> [u8; 5]
     ensures { result ≡ columns_of c }
 {

@@ -6,7 +6,7 @@ ghost use Rattle.view_model.specs.TextView.{cells_in};
 use view_model::Text;
 use view_model::limits::CELL_WIDTH;
 
-/// The character that parts segments.
+/// The character that ends segments.
 pub const NEWLINE: char = '\n';
 
 /// How many characters the longest segment of a text has.
@@ -26,7 +26,7 @@ pub fn widest(text: &Text) -> u32
     widest.max(length)
 }
 
-/// How many cells a line has in this many pixels: at least one, also where there is no room.
+/// How many cells a line has in this many pixels: at least one, even if there is no room.
 #[tactic(auto, unfolding(view_model::specs::TextView::cells_in))]
 pub fn cells_in(room: i64) -> u32
     requires { room ≤ℤ pos (2 ^ 34) }
@@ -57,7 +57,7 @@ pub fn count(text: &Text, n: u32) -> u32
     lines + lines_for(cells, n)
 }
 
-/// How many lines of `n` cells a segment of so many characters takes.
+/// How many lines of `n` cells a segment of this many characters takes.
 #[tactic(auto, unfolding(view_model::specs::CellText::lines_for))]
 pub fn lines_for(length: u32, n: u32) -> u32
     requires { 0 < n }

@@ -1,4 +1,4 @@
--- Points of what two rectangles have in common, and of what lies around both.
+-- Points of the intersection of two rectangles, and of the smallest rectangle around both.
 use Rattle.std.proofs.Common.{◌≡◌, ℤ, ◌≤ℤ◌, ◌<ℤ◌, pos, ◌-ℤ◌, Bool, true, false, refl, sym, ◌∙◌, arith}
 use Rattle.std.specs.Prelude.{◌&&◌, ◌||◌, not, int_lt, if◌then◌else◌}
 use Rattle.std.proofs.lemmas.Int.{ints}
@@ -29,7 +29,7 @@ overlap_holds a b x y =
     rw (both_among a.left a.right b.left b.right x, both_among a.top a.bottom b.top b.bottom y)
     (swap_middle (among a.left a.right x) (among b.left b.right x) (among a.top a.bottom y) (among b.top b.bottom y))
 
--- what a test of two has said
+-- what a test of two has shown
 module _ where
   pub both : (s t : Bool) → (s && t) ≡ true → (s ≡ true) × (t ≡ true)
   both true t e = (refl, e)

@@ -26,7 +26,7 @@ impl Damage {
         }
     }
 
-    /// One rectangle more. One without a point counts for nothing.
+    /// One rectangle more. One without a point is ignored.
     pub fn add(&mut self, rect: Rect)
         ensures { self.new.rect ≡ hull_of self.old.rect rect }
     {

@@ -121,7 +121,7 @@ unseen None canvas none = refl
 unseen (Some rect) canvas none =
     meet_none (moved_rect rect canvas.left canvas.top) canvas.clip λ x y. and_none (holds (moved_rect rect canvas.left canvas.top) x y) (holds canvas.clip x y) (none x y)
 
--- nothing is seen of the children of a view that lies nowhere, or of which nothing is seen
+-- nothing is seen of the children of a view that has no bounds, or of which nothing is seen
 pub nowhere_below : (facts : Facts) (canvas : Canvas) (x y : ℤ) → holds (canvas_below None facts canvas).clip x y ≡ false
 nowhere_below facts canvas x y = holds_none x y
 

@@ -24,7 +24,7 @@ takes_clicks Off = false
 takes_clicks Yes = false
 takes_clicks Click = true
 
--- whether a view may get the focus, where it is drawn with all its ancestors and something of it is seen
+-- whether a view may get the focus, if it is drawn with all its ancestors and something of it is seen
 abbrev pub is_focusable : PlainView → Bool
 is_focusable view = takes_clicks view.facts.answer && not (scrolls view.class)
 
@@ -34,7 +34,7 @@ focusable Nothing = []
 focusable (Branch view below after) =
     (if is_drawn view.facts.visibility then (if is_focusable view then view.number ∷ [] else []) ++ focusable below else []) ++ focusable after
 
--- a rectangle, with its axes exchanged where the focus moves up or down: then up is left, and down is right
+-- a rectangle, with its axes exchanged if the focus moves up or down: then up is left, and down is right
 abbrev pub turned : Side → Rect → Rect
 turned Left rect = rect
 turned Right rect = rect
@@ -63,7 +63,7 @@ lies_on low from to = if low then lies_low from to else lies_high from to
 abbrev pub in_beam : Rect → Rect → Bool
 in_beam from to = int_lt to.top from.bottom && int_lt from.top to.bottom
 
--- how many pixels one edge lies before another; 0 where it lies after it
+-- how many pixels one edge is before another; 0 if it is after it
 abbrev pub gap_of : ℤ → ℤ → ℕ
 gap_of low high = unsigned_abs (int_max (high -ℤ low) (pos 0))
 
@@ -104,7 +104,7 @@ candidate_of side view from other to =
     then None
     else Some (record { view = other; key = key_of side from to })
 
--- the one of two that has the lesser key, the first where the keys are equal
+-- the one of two that has the lesser key, the first if the keys are equal
 abbrev pub lesser : Option Candidate → Option Candidate → Option Candidate
 lesser one None = one
 lesser None (Some other) = Some other

@@ -43,7 +43,7 @@ fn key_on(low: bool, from: Rect, to: Rect) -> FocusKey
     }
 }
 
-/// How many pixels one edge lies before another; 0 where it lies after it.
+/// How many pixels one edge is before another; 0 if it is after it.
 fn gap(low: i32, high: i32) -> u64
     ensures value { result ≡ gap_of low high }
     ensures fits { result < 2 ^ 33 }

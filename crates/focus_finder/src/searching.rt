@@ -33,8 +33,8 @@ pub struct Search {
     pub from: Rect,
 }
 
-/// The view that gets the focus next, from a view to a side of it, in a window of this size. The views lie where their last
-/// layout left them. One walk over the tree finds it.
+/// The view that gets the focus next, from a view to a side of it, in a window of this size. The views have the bounds
+/// of their last layout. One walk over the tree finds it.
 pub fn next(tree: &ViewTree, window: Size, view: Key, side: Side) -> Option<Key>
     requires { IsLive tree.now view }
     ensures value { option_map (number_of tree.now) result ≡ next_focus (plain_of tree.now) (geometry_of tree.now) window (number_of tree.now view) side }
@@ -143,7 +143,7 @@ fn is_candidate(side: Side, from: Rect, to: Rect) -> bool
         && lies_on(is_low(side), turned(side, from), turned(side, to))
 }
 
-/// The one of two candidates that has the lesser key, the first where the keys are equal.
+/// The one of two candidates that has the lesser key, the first if the keys are equal.
 fn lesser(one: Option<Candidate>, other: Option<Candidate>) -> Option<Candidate>
     ensures { result ≡ lesser one other }
 {

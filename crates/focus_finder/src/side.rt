@@ -14,7 +14,7 @@ pub enum Side {
     Down,
 }
 
-/// A rectangle, with its axes exchanged where the focus moves up or down: then up is left, and down is right.
+/// A rectangle, with its axes exchanged if the focus moves up or down: then up is left, and down is right.
 pub fn turned(side: Side, rect: Rect) -> Rect
     ensures { result ≡ turned side rect }
 {

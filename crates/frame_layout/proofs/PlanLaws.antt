@@ -1,4 +1,4 @@
--- What a plan answers and becomes, phase by phase.
+-- What a plan returns and becomes, phase by phase.
 use Rattle.std.proofs.Common.{◌≡◌, ℕ, ◌+◌, ℤ, pos, Bool, true, cond, Option, Some, None, List, [], ◌∷◌, ◌++◌, min, ap, sym, ◌∙◌, arith}
 use Rattle.std.specs.Prelude.{count_by}
 use Rattle.std.specs.Int.{int_max}

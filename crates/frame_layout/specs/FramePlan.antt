@@ -1,4 +1,4 @@
--- What a plan stands for: a group, its specs, and the children that it has taken in each phase.
+-- What a plan represents: a group, its specs, and the children that it has taken in each phase.
 use Rattle.std.specs.Prelude.{◌≡◌, ℤ, Bool, true, false, List, [], ◌∷◌, ◌++◌, Some, None, count_by, min}
 use Rattle.frame_layout.specs.declared.axis.Axis.{Axis}
 use Rattle.frame_layout.specs.declared.plan.FramePlan.{FramePlan}
@@ -31,13 +31,13 @@ pub record InSecond (plan : FramePlan) (own : Facts) (specs : Specs) (first : Li
   pub measured : HasMeasured plan own specs first
   pub own_size : plan.own_size ≡ Some (frame_size own specs first)
 
--- it has come through these phases, and has taken these children in the one that it is in
+-- it has completed these phases, and has taken these children in the one that it is in
 abbrev pub StandsFrame : FramePlan → Facts → Specs → List (List Measured) → List Measured → Type 0
 StandsFrame plan own specs [] taken = InFirst plan own specs taken
 StandsFrame plan own specs (first ∷ []) taken = InSecond plan own specs first
 StandsFrame plan own specs (first ∷ second ∷ more) taken = ⊥
 
--- the plan at the end of a phase, where it has answered whether another follows
+-- the plan at the end of a phase, once it has returned whether another follows
 pub record TurnsFrame (plan : FramePlan) (own : Facts) (specs : Specs) (past : List (List Measured)) (taken : List Measured) (answer : Bool) : Type 0 where
   pub answers : answer ≡ (frame_rule own specs).turns (past ++ taken ∷ [])
   pub follows : answer ≡ true → StandsFrame plan own specs (past ++ taken ∷ []) []

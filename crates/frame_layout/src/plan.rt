@@ -12,13 +12,13 @@ use geom_core::{Size, Spec};
 use view_model::{Facts, is_exact};
 
 /// The measuring of one frame layout. In its first phase every child that takes part in layout is measured once; in the
-/// second, where there is one, those that match their parent are measured again. In each phase the children are handed
-/// in in order: `ask`, measuring, `take`.
+/// second, if there is one, those that match their parent are measured again. In each phase the children are passed in
+/// order: `ask`, measuring, `take`.
 #[derive(Clone, Copy, Debug)]
 pub struct FramePlan {
     across: Axis,
     down: Axis,
-    /// How many children of the first phase match their parent; two stand for all above.
+    /// How many children of the first phase match their parent; two means two or more.
     matching: u8,
     /// The own size, in the second phase.
     own_size: Option<Size>,
@@ -40,7 +40,7 @@ impl FramePlan {
         }
     }
 
-    /// The specs of a child in this phase, or None where it is not measured in it. The size is the child's present
+    /// The specs of a child in this phase, or `None` if it is not measured in it. The size is the child's present
     /// measured size; a frame layout has no use for it.
     pub fn ask(&self, kid: &Facts, size: Size) -> Option<(Spec, Spec)>
         ensures { (own : FactsValue) (specs : Specs) (past : List (List Measured)) (taken : List Measured)
@@ -60,7 +60,7 @@ impl FramePlan {
         }
     }
 
-    /// Takes the size that a child has got; where `ask` answered None, the one that was handed to it.
+    /// Takes the size that a child has got; if `ask` returned `None`, the one that was passed to it.
     pub fn take(&mut self, kid: &Facts, size: Size)
         ensures { (own : FactsValue) (specs : Specs) (past : List (List Measured)) (taken : List Measured)
             → StandsFrame self.old own specs past taken
@@ -75,7 +75,7 @@ impl FramePlan {
         self.matching = count_to_two(self.matching, kid.matches_parent());
     }
 
-    /// Ends a phase: true where another follows.
+    /// Ends a phase: true if another follows.
     pub fn turn(&mut self) -> bool
         ensures { (own : FactsValue) (specs : Specs) (past : List (List Measured)) (taken : List Measured)
             → StandsFrame self.old own specs past taken

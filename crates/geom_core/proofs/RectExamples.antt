@@ -1,4 +1,4 @@
--- What two rectangles have in common, and what lies around both, by computation.
+-- What two rectangles have in common, and the smallest rectangle around both, by computation.
 use Rattle.std.specs.Prelude.{◌≡◌, ℤ, pos, negsuc, refl}
 use Rattle.geom_core.specs.declared.geometry.Rect.{Rect}
 use Rattle.geom_core.specs.declared.geometry.TheConstants.{EMPTY}
@@ -19,7 +19,7 @@ meet_side_by_side : meet_of (rect (pos 0) (pos 0) (pos 4) (pos 3)) (rect (pos 4)
 unfolding larger_of smaller_of meet_of
 meet_side_by_side = refl
 
--- one whose edges have changed sides has no point
+-- one whose edges are swapped has no point
 meet_turned_round : meet_of (rect (pos 0) (pos 0) (pos 4) (pos 3)) (rect (pos 3) (pos 0) (pos 1) (pos 3)) ≡ EMPTY
 unfolding larger_of smaller_of meet_of
 meet_turned_round = refl
@@ -28,7 +28,7 @@ hull_of_two : hull_of (rect (pos 0) (pos 0) (pos 4) (pos 3)) (rect (pos 6) (negs
 unfolding larger_of smaller_of hull_of
 hull_of_two = refl
 
--- one without a point counts for nothing, wherever it lies
+-- one without a point is ignored, wherever it lies
 hull_with_none : hull_of (rect (pos 5) (pos 5) (pos 5) (pos 9)) (rect (pos 6) (negsuc 0) (pos 9) (pos 2)) ≡ rect (pos 6) (negsuc 0) (pos 9) (pos 2)
 unfolding larger_of smaller_of hull_of
 hull_with_none = refl

@@ -1,4 +1,4 @@
--- What a rule of measuring answers is a side of a size.
+-- The result of a measuring rule is a side of a size.
 use Rattle.std.proofs.Common.{ℤ, arith}
 use Rattle.std.proofs.lemmas.Int.{ints}
 use Rattle.geom_core.specs.Limits.{IsSide, clamp_size}

@@ -1,4 +1,5 @@
--- The limits of sizes and coordinates, in pixels. Rules compute over unbounded whole numbers; only these two cut.
+-- The limits of sizes and coordinates, in pixels. Rules compute with unbounded integers; only these two limits cut them
+-- off.
 use Rattle.std.specs.Prelude.{ℤ, pos, negsuc, ◌≤ℤ◌}
 use Rattle.std.specs.Int.{int_min, int_max}
 

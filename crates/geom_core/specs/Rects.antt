@@ -18,7 +18,7 @@ larger_of a b = int_max a b
 unfoldable pub smaller_of : ℤ → ℤ → ℤ
 smaller_of a b = int_min a b
 
--- the edges between which lies what both have
+-- the edges of the intersection
 abbrev pub overlap_of : Rect → Rect → Rect
 overlap_of a b = record {
   left = larger_of a.left b.left;
@@ -36,10 +36,10 @@ around_of a b = record {
   bottom = larger_of a.bottom b.bottom;
 }
 
--- the rectangle of the common points, and the empty one where there are none
+-- the rectangle of the common points, or the empty one if there are none
 unfoldable pub meet_of : Rect → Rect → Rect
 meet_of a b = if is_empty (overlap_of a b) then EMPTY else overlap_of a b
 
--- the smallest rectangle around both; one without a point counts for nothing
+-- the smallest rectangle around both; one without a point is ignored
 unfoldable pub hull_of : Rect → Rect → Rect
 hull_of a b = if is_empty a then (if is_empty b then EMPTY else b) else (if is_empty b then a else around_of a b)

@@ -7,7 +7,7 @@ use Rattle.geom_core.specs.declared.measuring.Mode.TheVariants.{Unspecified, Exa
 use Rattle.geom_core.specs.declared.measuring.Spec.{Spec}
 use Rattle.geom_core.specs.Limits.{clamp_size}
 
--- what is left of a parent's size where `used` pixels are taken, and 0 where more is taken than there is
+-- what is left of a parent's size of which `used` pixels are taken, or 0 if more is taken than there is
 unfoldable pub remaining_of : ℤ → ℤ → ℤ
 remaining_of size used = clamp_size (size -ℤ used)
 
@@ -27,7 +27,7 @@ child_spec_of spec used dim =
     else record { mode = wrap_mode spec.mode; size = remaining_of spec.size used })
     else record { mode = Exactly; size = clamp_size dim }
 
--- what a view takes that wants this much and takes all that it is offered
+-- the size of a view that wants this much and takes all that it is offered
 abbrev pub default_by : Mode → ℤ → ℤ → ℤ
 default_by Unspecified want size = want
 default_by Exactly want size = size
@@ -36,7 +36,7 @@ default_by AtMost want size = size
 unfoldable pub default_size_of : ℤ → Spec → ℤ
 default_size_of want spec = clamp_size (default_by spec.mode want spec.size)
 
--- what a view takes that wants this much and no more
+-- the size of a view that wants this much and no more
 abbrev pub resolve_by : Mode → ℤ → ℤ → ℤ
 resolve_by Unspecified want size = want
 resolve_by Exactly want size = size

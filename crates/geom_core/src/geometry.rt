@@ -1,4 +1,4 @@
-//! Sizes, rectangles and insets; which pixels two rectangles have in common, and which one lies around both.
+//! Sizes, rectangles and insets; the pixels that two rectangles have in common, and the smallest rectangle around both.
 ghost use Rattle.std.specs.Prelude.{◌≡◌};
 ghost use Rattle.geom_core.specs.Rects.{around_of, hull_of, is_empty, larger_of, meet_of, overlap_of, smaller_of};
 
@@ -27,7 +27,7 @@ pub struct Insets {
     pub bottom: i32,
 }
 
-/// The rectangle without a pixel that `meet` and `hull` answer.
+/// The rectangle without a pixel that `meet` and `hull` return.
 const EMPTY: Rect = Rect {
     left: 0,
     top: 0,
@@ -58,7 +58,7 @@ fn smaller(a: i32, b: i32) -> i32
     a.min(b)
 }
 
-/// The edges between which lies what both rectangles have. They may have changed sides.
+/// The edges of the intersection of both rectangles. They may be swapped.
 fn overlap(a: Rect, b: Rect) -> Rect
     ensures { result ≡ overlap_of a b }
 {
@@ -82,7 +82,7 @@ fn around(a: Rect, b: Rect) -> Rect
     }
 }
 
-/// The common pixels of two rectangles in the same coordinates, or 0 0 0 0 where there are none.
+/// The common pixels of two rectangles in the same coordinates, or 0 0 0 0 if there are none.
 #[tactic(auto, unfolding(crate::specs::Rects::meet_of))]
 pub fn meet(a: Rect, b: Rect) -> Rect
     ensures { result ≡ meet_of a b }
@@ -91,8 +91,8 @@ pub fn meet(a: Rect, b: Rect) -> Rect
     if both.is_empty() { EMPTY } else { both }
 }
 
-/// The smallest rectangle around two in the same coordinates. One without a pixel counts for nothing; where neither has
-/// one it is 0 0 0 0.
+/// The smallest rectangle around two in the same coordinates. One without a pixel is ignored; if neither has one, the
+/// result is 0 0 0 0.
 #[tactic(auto, unfolding(crate::specs::Rects::hull_of))]
 pub fn hull(a: Rect, b: Rect) -> Rect
     ensures { result ≡ hull_of a b }

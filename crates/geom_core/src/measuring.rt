@@ -84,7 +84,7 @@ pub fn default_size(want: i32, spec: Spec) -> i32
     })
 }
 
-/// The size of a view that wants `want` pixels and takes no more than that unless it is told to.
+/// The size of a view that wants `want` pixels and takes no more than that unless its parent requires it.
 #[tactic(auto, unfolding(crate::specs::Spec::resolve_of))]
 pub fn resolve(want: i64, spec: Spec) -> i32
     ensures value { result ≡ resolve_of want spec }

@@ -1,6 +1,7 @@
--- Worked examples: names of classes, which elements stand below which, and the first refusal.
+-- Worked examples: names of classes, which elements are below which, and the first refusal.
 use Rattle.std.proofs.Common.{◌≡◌, ℕ, List, [], ◌∷◌, Option, Some, None, Result, Ok, Err, refl}
 use Rattle.std.specs.Prelude.{codes, map, true}
+use Rattle.attr_table.specs.Attributes.{attributes}
 use Rattle.attr_table.specs.Setting.{with_margins, with_paddings}
 use Rattle.attr_table.specs.Taking.{facets_of, finished, known_place, with_known}
 use Rattle.attr_table.specs.Values.{extent_given, found_of, pixels_within, signed}
@@ -43,7 +44,7 @@ other_letters : class_of (codes "view") ≡ None
 unfolding class_of
 other_letters = refl
 
--- the first element has two in it, the second of which has one; namespaces and characters are none
+-- the first element has two in it, the second of which has one; namespaces and characters are no elements
 
 begin : ℕ → Node
 begin name = Start 0 0 name 0 0
@@ -73,7 +74,7 @@ refused_button : inflated button [] 160 ≡ Err (record { number = 23; reason = 
 unfolding button view_with class_of
 refused_button = refl
 
--- a group with two views in it, of which the second has so many attributes; the third attribute is not known
+-- a group with two views in it, of which the second has this many attributes; the third attribute is not known
 nodes_with : ℕ → List Node
 nodes_with count =
     Start 0 4294967295 3 0 3 ∷ Start 0 4294967295 4 0 2 ∷ End 0 4294967295 4 ∷ Start 0 4294967295 4 0 count ∷ End 0 4294967295 4 ∷ End 0 4294967295 3 ∷ []
@@ -97,10 +98,10 @@ outline (Ok plan) = Some (map (λ (sprout : Sprout). (sprout.depth, sprout.class
 outline (Err refusal) = None
 
 whole_group : outline (inflated (group_with 3) [] 160) ≡ Some ((1, FrameLayout) ∷ (2, View) ∷ (2, View) ∷ [], 2)
-unfolding group_with nodes_with view_with class_of facets_of known_place with_known found_of extent_given finished with_margins with_paddings signed pixels_within
+unfolding group_with nodes_with view_with class_of facets_of known_place with_known found_of extent_given finished with_margins with_paddings signed pixels_within attributes
 whole_group = refl
 
 -- the third element has no height
 no_height : inflated (group_with 1) [] 160 ≡ Err (record { number = 17; reason = Element 3 })
-unfolding group_with nodes_with view_with class_of facets_of known_place with_known found_of extent_given finished with_margins with_paddings signed pixels_within
+unfolding group_with nodes_with view_with class_of facets_of known_place with_known found_of extent_given finished with_margins with_paddings signed pixels_within attributes
 no_height = refl

@@ -32,8 +32,8 @@ use Rattle.inflater.proofs.RowLaws.{Row, before, inflated_err, inflated_ok, row_
 abbrev pub onto : List Sprout → ℕ → Result Row PlainRefusal → Result Row PlainRefusal
 onto sprouts ignored row = row >>= λ r. Ok (record { sprouts = sprouts ++ r.sprouts; ignored = ignored + r.ignored })
 
--- So many elements are open and so many began, with these views and so many attributes that are not known. With the
--- nodes that are left they make the row of the whole document. No end is too many, few elements are left, and few
+-- This many elements are open and this many began, with these views and this many attributes that are not known. With
+-- the nodes that are left they make the row of the whole document. No end is too many, few elements are left, and few
 -- attributes came.
 pub record Left (doc : Document) (resources : Entries) (dpi depth element ignored : ℕ) (sprouts : List Sprout) (rest : List Node) (total : Result Row PlainRefusal) : Type 0 where
   pub same : onto sprouts ignored (row_of doc resources dpi (suc element) (placed depth rest)) ≡ total
@@ -163,7 +163,7 @@ now nodes i read node lt at is = record {
   rest = drop_more nodes i read lt ∙ ap (λ n. n ∷ drop (i + 1) nodes) (sym at ∙ is);
 }
 
--- an element that stands there has few attributes
+-- an element at that place has few attributes
 pub few_there : (nodes : List Node) (i line ns name first count : ℕ) → i < length nodes → HaveFewAttrs nodes → slice_get nodes i ≡ Some (Start line ns name first count) → count ≤ 256
 few_there nodes i line ns name first count lt few is =
     let node : get_or nodes i (Start line ns name first count) ≡ Start line ns name first count = some_is _ _ (sym (slice_get-get_or nodes i (Start line ns name first count) lt) ∙ is) in
@@ -173,14 +173,14 @@ few_there nodes i line ns name first count lt few is =
     some_is : (a b : Node) → ◌≡◌ {A = Option Node} (Some a) (Some b) → a ≡ b
     some_is a b e = cc
 
--- what is said of the element at a place is said of its node
+-- what holds of the element at a place holds of its node
 pub viewed : (doc : Document) (resources : Entries) (dpi element place : ℕ) (node : Node) (made : Result ElementView GrowFault) → slice_get doc.nodes place ≡ Some node
     → ViewedAs (view_with element (class_in (slice_get doc.pool.texts (name_of node))) (facets_at doc resources dpi place)) made
     → ViewedAs (view_of doc resources dpi element node) made
 viewed doc resources dpi element place node made is view =
     subst (λ (o : Option Node). ViewedAs (view_with element (class_in (slice_get doc.pool.texts (name_of node))) (facets_in doc resources dpi o)) made) is view
 
--- one element was refused, or memory was wanting
+-- one element was refused, or memory ran out
 pub fault_out : (doc : Document) (resources : Entries) (dpi depth element ignored : ℕ) (sprouts : List Sprout) (more : List Node)
     (line ns name first count : ℕ) (fault : GrowFault)
     → Left doc resources dpi depth element ignored sprouts (Start line ns name first count ∷ more) (row_of doc resources dpi 1 (placed 0 doc.nodes))

@@ -10,7 +10,7 @@ pub record Placed : Type 0 where
   pub depth : ℕ
   pub node : Node
 
--- the elements from a node on, where so many are open
+-- the elements from a node on, inside n open ones
 abbrev pub placed : ℕ → List Node → List Placed
 placed depth [] = []
 placed depth (NsStart prefix uri ∷ more) = placed depth more

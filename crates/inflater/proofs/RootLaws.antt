@@ -10,7 +10,7 @@ use Rattle.axml_reader.specs.Parts.{token}
 use Rattle.view_model.specs.Forest.{Forest, Nothing, Branch}
 use Rattle.inflater.specs.Elements.{begun, elements, in_a_row, nested}
 
--- behind the ends of so many open elements no element stands
+-- after the ends of n open elements there is no element
 abbrev IsLastBehind : ℕ → List (Forest Node) → Type 0
 IsLastBehind zero lists = lists ≡ Nothing ∷ []
 IsLastBehind (suc n) [] = ⊥
@@ -51,7 +51,7 @@ length-popped opened n is = length-take-le (length opened - 1) opened (omega ari
 length-pushed : (opened : List ℕ) (a n : ℕ) → length opened ≡ n → length (opened ++ a ∷ []) ≡ suc n
 length-pushed opened a n is = length-append opened (a ∷ []) ∙ (let e = is in omega arith)
 
--- the first token of a word that ends everything may come, and the others end everything behind it
+-- the first token of a word that ends everything may come, and the others end everything after it
 first_allowed : (same : ℕ → ℕ → Bool) (stack : Stack) (t : Token) (rest : List Token) → is_ended (brackets same stack (t ∷ rest)) ≡ true
     → (allows same stack t ≡ true) × (is_ended (brackets same (turned stack t) rest) ≡ true)
 first_allowed same stack t rest is =
@@ -68,7 +68,7 @@ all_ended stack is =
       | inr some ↦ let g = rw (ne_eqb (length stack.opened) 0 some) at f in absurd (cc)
     ]
 
--- in so many open elements, and behind the outermost one
+-- inside n open elements, and after the outermost one
 inside : (same : ℕ → ℕ → Bool) (n : ℕ) (stack : Stack) (nodes : List Node) → length stack.opened ≡ n → (n ≡ 0 → stack.closed ≡ true) → (0 < n → stack.closed ≡ false)
     → is_ended (brackets same stack (map token nodes)) ≡ true → IsLastBehind n (nested nodes)
 inside same n stack [] long shut still is =

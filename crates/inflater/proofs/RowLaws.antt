@@ -31,7 +31,7 @@ row_of doc resources dpi element (placed ∷ more) =
     row_of doc resources dpi (suc element) more >>= λ row.
     Ok (before (sprout_of placed.depth own.seed) own.ignored row)
 
--- a plan whose outermost views stand in so many others, and what comes behind it
+-- a plan whose outermost views are inside n others, and what comes after it
 abbrev pub and_row : ℕ → Result Plan PlainRefusal → Result Row PlainRefusal → Result Row PlainRefusal
 and_row depth plan rest =
     plan >>= λ p. rest >>= λ row. Ok (record { sprouts = preorder (suc depth) p.seeds ++ row.sprouts; ignored = p.ignored + row.ignored })

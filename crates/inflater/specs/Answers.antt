@@ -1,4 +1,4 @@
--- What calls answer, by what is defined. Memory may always be wanting.
+-- What calls return, by what is defined. Memory may always run out.
 use Rattle.std.specs.Prelude.{◌≡◌, Result, Ok, Err}
 use Rattle.view_model.specs.Refusals.{PlainRefusal, plain_refusal}
 use Rattle.view_model.specs.Sprouts.{preorder, seeds_of}
@@ -14,7 +14,7 @@ pub record IsGrown (plan : Plan) (grown : Grown) : Type 0 where
   pub seeds : seeds_of grown.sapling.sprouts.items ≡ plan.seeds
   pub ignored : grown.ignored ≡ plan.ignored
 
--- the views of a plan were made, or its refusal is the answer
+-- the views of a plan were made, or its refusal is the result
 abbrev pub GrownAs : Result Plan PlainRefusal → Result Grown GrowFault → Type 0
 GrownAs plan (Ok grown) = (p : Plan) × (plan ≡ Ok p) × IsGrown p grown
 GrownAs plan (Err (fault.Refused refusal)) = plan ≡ Err (plain_refusal refusal)
@@ -23,7 +23,7 @@ GrownAs plan (Err fault.NoMemory) = Unit {0}
 abbrev pub one_view : ElementView → OneView
 one_view view = record { seed = record { class = view.class; facts = view.taken.facts; text = view.taken.text }; ignored = view.taken.ignored }
 
--- the view of one element was made, or its refusal is the answer
+-- the view of one element was made, or its refusal is the result
 abbrev pub ViewedAs : Result OneView PlainRefusal → Result ElementView GrowFault → Type 0
 ViewedAs view (Ok made) = view ≡ Ok (one_view made)
 ViewedAs view (Err (fault.Refused refusal)) = view ≡ Err (plain_refusal refusal)

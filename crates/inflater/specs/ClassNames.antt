@@ -15,7 +15,7 @@ class_names =
     (codes "RelativeLayout", RelativeLayout) ∷ (codes "android.widget.RelativeLayout", RelativeLayout) ∷
     (codes "ScrollView", ScrollView) ∷ (codes "android.widget.ScrollView", ScrollView) ∷ []
 
--- the class that a name stands for, if it is known
+-- the class that a name means, if it is known
 unfoldable pub class_of : List ℕ → Option Class
 class_of name = lookup (bytes_eq name) class_names
 

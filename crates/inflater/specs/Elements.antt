@@ -1,10 +1,10 @@
--- The elements of a document: which stand below which.
+-- The elements of a document: which are below which.
 use Rattle.std.specs.Prelude.{List, [], ◌∷◌}
 use Rattle.axml_reader.specs.declared.doc.Node.{Node}
 use Rattle.axml_reader.specs.declared.doc.Node.TheVariants.{NsStart, NsEnd, Start, End, Chars}
 use Rattle.view_model.specs.Forest.{Forest, Nothing, Branch, joined}
 
--- an element begins: what stands up to its end is below it, what stands behind its end is after it
+-- an element begins: what comes before its end is below it, what comes after its end is after it
 abbrev pub begun : Node → List (Forest Node) → List (Forest Node)
 begun node [] = Branch node Nothing Nothing ∷ []
 begun node (below ∷ []) = Branch node below Nothing ∷ []
@@ -20,7 +20,7 @@ nested (Start line ns name first count ∷ more) = begun (Start line ns name fir
 nested (End line ns name ∷ more) = Nothing ∷ nested more
 nested (Chars line text kind word ∷ more) = nested more
 
--- lists of trees, one behind the other
+-- lists of trees, one after the other
 abbrev pub in_a_row : List (Forest Node) → Forest Node
 in_a_row [] = Nothing
 in_a_row (trees ∷ more) = joined trees (in_a_row more)

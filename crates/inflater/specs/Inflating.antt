@@ -13,7 +13,7 @@ use Rattle.view_model.specs.Sprouts.{Seed}
 use Rattle.inflater.specs.ClassNames.{class_in}
 use Rattle.inflater.specs.Elements.{elements}
 
--- a refusal that is told of an element
+-- a refusal that is reported for an element
 abbrev pub refused_in : ℕ → ℕ → PlainRefusal
 refused_in element number = record { number = number; reason = Element element }
 
@@ -41,7 +41,7 @@ name_of (Chars line text kind word) = 0
 abbrev pub view_of : Document → Entries → ℕ → ℕ → Node → Result OneView PlainRefusal
 view_of doc resources dpi element node = view_with element (class_in (slice_get doc.pool.texts (name_of node))) (facets_of doc resources dpi node)
 
--- views that stand below one another as their elements do, and how many attributes are not known
+-- views that are below one another as their elements are, and how many attributes are not known
 pub record Plan : Type 0 where
   pub seeds : Forest Seed
   pub ignored : ℕ

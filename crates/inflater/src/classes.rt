@@ -4,7 +4,7 @@ ghost use Rattle.inflater.specs.ClassNames.{class_of};
 
 use view_model::Class;
 
-/// The class that an element's name stands for: its name alone, or with its package before it.
+/// The class that an element's name means: its name alone, or with its package before it.
 #[tactic(auto, unfolding(crate::specs::ClassNames::class_of))]
 pub fn class_of(name: &str) -> Option<Class>
     ensures { result ≡ class_of name.now }

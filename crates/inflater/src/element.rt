@@ -25,7 +25,7 @@ pub(crate) struct ElementView {
     pub(crate) taken: Taken,
 }
 
-/// A refusal that is told of an element.
+/// A refusal that is reported for an element.
 fn refused_in(element: u32, number: u8) -> Refusal
     requires first { 1 ≤ number }
     requires last { number ≤ 43 }

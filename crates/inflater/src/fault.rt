@@ -6,7 +6,7 @@ use view_model::Refusal;
 /// Why the views of a document are not made.
 #[derive(Debug, Drop)]
 pub enum GrowFault {
-    /// An element is refused, the first in the order of the file. Its number is told.
+    /// An element is refused, the first in the order of the file. Its number is reported.
     Refused(Refusal),
     NoMemory,
 }

@@ -2,7 +2,7 @@
 
 use view_model::Sapling;
 
-/// The views of a document, as they are to come into a tree.
+/// The views of a document, as they are to be added to a tree.
 #[derive(Debug, Drop)]
 pub struct Grown {
     pub sapling: Sapling,

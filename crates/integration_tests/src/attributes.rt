@@ -6,7 +6,7 @@ use geom_core::{Argb, Insets};
 use res_values::{Resources, Value};
 use std::alloc::Global;
 use std::test::Fail;
-use view_model::{Across, Answer, Down, Facts, Gravity, Text, Visibility};
+use view_model::{Across, Answer, Direction, Down, Facts, Gravity, Text, Visibility};
 
 /// A layout file with a View, which is as wide as its parent and 16 pixels high. The name of its third attribute is
 /// empty and has room for 29 bytes more.
@@ -33,11 +33,11 @@ const FILE: [u8; 300] = [
     0xff, 0xff, 0xff, 0xff, 0xff, 0xff, 0xff, 0xff, 0x03, 0x00, 0x00, 0x00,
 ];
 
-/// Where the first letter of the width's name stands, and that of the height's.
+/// Where the first letter of the width's name is, and that of the height's.
 const WIDTH_NAME: usize = 62;
 
 const HEIGHT_NAME: usize = 77;
-/// Where the third name stands, with its lengths before it, and where the type and the word of its value do.
+/// Where the third name is, with its lengths before it, and where the type and the word of its value are.
 const NAME: usize = 148;
 
 const KIND: usize = 271;
@@ -53,7 +53,7 @@ const TEXT: u32 = 0x7f07_0001;
 
 /// The attributes, the type and the word of a value that each takes, and those of one that it does not.
 #[rattlefmt::skip]
-const ROWS: [(&str, (u8, u32), (u8, u32)); 53] = [
+const ROWS: [(&str, (u8, u32), (u8, u32)); 54] = [
     ("id", (0x01, 0x7f01_0001), (0x10, 1)),
     ("layout_width", (0x10, 0xffff_fffe), (0x04, 0x3f80_0000)),
     ("layout_height", (0x01, LENGTH), (0x03, 4)),
@@ -79,6 +79,7 @@ const ROWS: [(&str, (u8, u32), (u8, u32)); 53] = [
     ("gravity", (0x10, 0x0080_0055), (0x03, 4)),
     ("orientation", (0x10, 1), (0x10, 2)),
     ("visibility", (0x10, 2), (0x10, 3)),
+    ("layoutDirection", (0x10, 1), (0x10, 4)),
     ("background", (0x1c, 0x8010_2030), (0x10, 7)),
     ("textColor", (0x01, COLOR), (0x01, LENGTH)),
     ("text", (0x03, 4), (0x05, 0x300)),
@@ -110,9 +111,9 @@ const ROWS: [(&str, (u8, u32), (u8, u32)); 53] = [
 ];
 
 /// The place in `ROWS` of the first attribute that sets a rule, and of the first that sets one of the parent.
-const FIRST_RULE: usize = 32;
+const FIRST_RULE: usize = 33;
 
-const FIRST_PARENT_RULE: usize = 44;
+const FIRST_PARENT_RULE: usize = 45;
 
 /// The file with this third attribute, which may be the width or the height in place of the file's own.
 fn file(name: &str, kind: u8, word: u32) -> [u8; 300] {
@@ -194,7 +195,7 @@ fn with_lengths(name: &str, mut facts: Facts) -> Facts {
     facts
 }
 
-/// The facts with what the others of `ROWS` set, but for rules.
+/// The facts with what the others of `ROWS` set, except rules.
 fn with_others(name: &str, mut facts: Facts) -> Facts {
     match name {
         "id" => facts.id = 0x7f01_0001,
@@ -204,6 +205,7 @@ fn with_others(name: &str, mut facts: Facts) -> Facts {
         "gravity" => facts.gravity = gravity(Across::End, Down::Bottom),
         "orientation" => facts.vertical = true,
         "visibility" => facts.visibility = Visibility::Gone,
+        "layoutDirection" => facts.direction = Direction::Rtl,
         "background" => facts.background = Argb(0x8010_2030),
         "textColor" => facts.ink = Argb(0xff00_ff00),
         "clickable" => facts.answer = Answer::Click,

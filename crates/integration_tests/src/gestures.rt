@@ -1,4 +1,4 @@
-//! Gestures with ample memory: an answer for want of it would meet their clauses too.
+//! Gestures with ample memory: running out of it would meet their clauses too.
 
 use std::test::Fail;
 use touch_dispatch::{Gesture, Log};

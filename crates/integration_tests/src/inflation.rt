@@ -38,7 +38,7 @@ fn end(alloc: Global, name: u8) -> Result<Vec<u8>, AllocError> {
     Ok(bytes)
 }
 
-/// A layout file of chunks that stand in place of the sample's one element.
+/// A layout file of chunks that replace the sample's one element.
 fn made(alloc: Global, chunks: &[&[u8]]) -> Result<Vec<u8>, AllocError> {
     let mut rest = Vec::from_slice(alloc, &NARROW[8..204])?;
     for chunk in chunks {
@@ -62,7 +62,7 @@ fn inflated(
     Ok(inflate(alloc, &doc, resources, 240))
 }
 
-/// The number of a refusal and that of the element which it tells.
+/// The number of a refusal and that of the element which it reports.
 fn refusal_of(answer: Result<Grown, GrowFault>) -> Option<(u8, u32)> {
     match answer {
         Err(GrowFault::Refused(refusal)) => match &refusal.detail {

@@ -8,7 +8,7 @@ use std::alloc::{AllocError, Global};
 use std::test::Fail;
 use tool_io::MemorySink;
 
-/// What the file holds, behind the pool's line and before the attribute that is the height.
+/// What the file holds after the pool's line and before the attribute that is the height.
 const BEFORE_HEIGHT: &str =
     "s0 \"layout_width\"\ns1 \"layout_height\"\ns2 \"android\"\ns3 \"http://schemas.android.com/apk/res/android\"\ns4 \"View\"\ns5 \"style\"\nmap 010100f4\nmap 010100f5\nns s2 s3\nstart 2 - s4 3\nattr s3 s0 - 10 ffffffff\n";
 
@@ -18,7 +18,7 @@ const HEIGHT: &str = "attr s3 s1 - 05 00001001\n";
 /// The height as a reference.
 const REFERENCE: &str = "attr s3 s1 - 01 7f050001\n";
 
-/// What the file holds behind the height.
+/// What the file holds after the height.
 const BEHIND_HEIGHT: &str = "attr - s5 - 01 7f030000\nend 2 - s4\nendns s2 s3\n";
 
 fn fault_of(answer: Result<Doc, ReadFault>) -> Option<Fault> {
@@ -28,7 +28,7 @@ fn fault_of(answer: Result<Doc, ReadFault>) -> Option<Fault> {
     }
 }
 
-/// Whether this is a document that is printed so, where its pool's line and its height's differ.
+/// Whether this is a document that is printed so, except that its pool's line and its height's differ.
 fn is_printed(
     alloc: Global,
     bytes: &[u8],
@@ -55,7 +55,7 @@ fn refer(bytes: &mut [u8], at: usize)
     bytes[at..at + 8].copy_from_slice(&[0x08, 0x00, 0x00, 0x01, 0x01, 0x00, 0x05, 0x7f]);
 }
 
-/// The narrow file cut to a length, which stands in its header if `said`.
+/// The narrow file cut to a length, which is in its header if `said`.
 fn cut(alloc: Global, len: usize, said: bool) -> Result<Option<Fault>, AllocError> {
     let mut bytes = Vec::from_slice(alloc, &NARROW)?;
     if said {

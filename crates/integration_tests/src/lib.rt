@@ -1,6 +1,6 @@
-//! Tests of the libraries through their public calls: those that may want memory, each with ample memory, since an
-//! answer for want of it would meet their clauses too, and the vectors of formats. They stand in one crate above all
-//! others but the program, whose own tests carry out whole scripts, because a crate with tests is proved twice.
+//! Tests of the libraries through their public calls: those that may run out of memory, each with ample memory, since
+//! running out of it would meet their clauses too, and the vectors of formats. They are in one crate above all others
+//! except the program, whose own tests carry out whole scripts, because a crate with tests is proved twice.
 #![tactic(auto)]
 
 #[cfg(test)]

@@ -1,4 +1,4 @@
-//! Orders with ample memory: an answer for want of it would meet their clauses too.
+//! Orders with ample memory: running out of it would meet their clauses too.
 
 use relative_layout::{Link, OrderFault, order};
 use std::test::Fail;

@@ -1,4 +1,4 @@
-//! Pictures with ample memory, an answer for want of it meeting their clauses too, against digests from elsewhere.
+//! Pictures with ample memory, since running out of it would meet their clauses too, against digests from elsewhere.
 
 use geom_core::{Argb, Rect, Size};
 use pixel_raster::Surface;

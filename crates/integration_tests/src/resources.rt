@@ -1,4 +1,4 @@
-//! Resources with ample memory: an answer for want of it would meet their clauses too.
+//! Resources with ample memory: running out of it would meet their clauses too.
 
 use geom_core::Argb;
 use res_values::{Resources, Value};

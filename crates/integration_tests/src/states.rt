@@ -1,4 +1,4 @@
-//! States with ample memory: an answer for want of it would meet their clauses too.
+//! States with ample memory: running out of it would meet their clauses too.
 
 use saved_state::{StateFault, read, restore, save};
 use std::alloc::Global;
@@ -6,7 +6,7 @@ use std::test::Fail;
 use view_model::{Class, Detail, Facts, Rules, Text};
 use view_tree::ViewTree;
 
-/// What is saved of a view with the id 0x7f080001 that has scrolled by 30.
+/// What the first version has of a view with the id 0x7f080001 that has scrolled by 30.
 const SCROLLED: [u8; 14] = [0x56, 0x53, 1, 1, 0, 1, 0, 8, 0x7f, 1, 30, 0, 0, 0];
 
 /// A root of this class, id and offset, if there was memory for it.
@@ -24,7 +24,7 @@ fn one_view(alloc: Global, class: Class, id: u32, offset: i32) -> Option<ViewTre
     Some(tree)
 }
 
-/// The place that a refusal tells.
+/// The place that a refusal reports.
 fn wrong_place(alloc: Global, bytes: &[u8]) -> Option<usize> {
     match read(alloc, bytes) {
         Err(StateFault::Refused(refusal)) => match refusal.detail {
@@ -35,17 +35,20 @@ fn wrong_place(alloc: Global, bytes: &[u8]) -> Option<usize> {
     }
 }
 
+/// What is saved of a view with the id 1 and the text `hi`.
+const TOLD: [u8; 14] = [0x56, 0x53, 2, 1, 0, 1, 0, 0, 0, 2, 2, 0, b'h', b'i'];
+
 /// The offset of the root after these bytes were restored, unless they were refused.
 fn restored(alloc: Global, tree: &mut ViewTree, bytes: &[u8]) -> Option<i32> {
     let states = read(alloc, bytes).ok()?;
-    restore(tree, &states).ok()?;
+    restore(alloc, tree, &states).ok()?;
     Some(tree.facts(tree.root()?).offset)
 }
 
 #[test]
 fn a_state_is_saved_where_there_is_memory(rt: HostRuntime) -> Result<(), Fail> {
     let bytes = save(rt.alloc(), &ViewTree::new(rt.alloc()))?;
-    assert_eq!(rt; bytes.as_slice(), [0x56, 0x53, 1, 0, 0].as_slice());
+    assert_eq!(rt; bytes.as_slice(), [0x56, 0x53, 2, 0, 0].as_slice());
     Ok(())
 }
 
@@ -56,6 +59,23 @@ fn a_state_is_restored(rt: HostRuntime) -> Result<(), Fail> {
         None => None,
     };
     assert_eq!(rt; offset, Some(30));
+    Ok(())
+}
+
+/// How many characters the root has after these bytes were restored, unless they were refused.
+fn characters(alloc: Global, tree: &mut ViewTree, bytes: &[u8]) -> Option<usize> {
+    let states = read(alloc, bytes).ok()?;
+    restore(alloc, tree, &states).ok()?;
+    Some(tree.text(tree.root()?).len())
+}
+
+#[test]
+fn a_text_is_restored(rt: HostRuntime) -> Result<(), Fail> {
+    let count = match one_view(rt.alloc(), Class::TextView, 1, 0) {
+        Some(mut tree) => characters(rt.alloc(), &mut tree, &TOLD),
+        None => None,
+    };
+    assert_eq!(rt; count, Some(2));
     Ok(())
 }
 
@@ -71,7 +91,8 @@ fn a_view_of_another_class_is_refused(rt: HostRuntime) -> Result<(), Fail> {
 
 #[test]
 fn a_broken_state_tells_its_first_wrong_place(rt: HostRuntime) -> Result<(), Fail> {
-    assert_eq!(rt; wrong_place(rt.alloc(), &[0x56, 0x53, 2, 1, 0]), Some(2));
+    assert_eq!(rt; wrong_place(rt.alloc(), &[0x56, 0x53, 3, 1, 0]), Some(2));
+    assert_eq!(rt; wrong_place(rt.alloc(), &[0x56, 0x53, 2, 1, 0]), Some(5));
     assert_eq!(rt; wrong_place(rt.alloc(), &[0x56, 0x53, 1, 1, 0]), Some(5));
     Ok(())
 }

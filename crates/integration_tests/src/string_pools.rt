@@ -10,7 +10,7 @@ fn pool_of(alloc: Global, bytes: &[u8]) -> Result<Pool, ReadFault> {
     Pool::read(alloc, bytes, 0, chunk)
 }
 
-/// A pool of so many strings; the bytes stand behind its header of 28 bytes.
+/// A pool of this many strings; the bytes follow its header of 28 bytes.
 fn made(alloc: Global, count: u32, flags: u8, rest: &[u8]) -> Result<Vec<u8>, AllocError> {
     let padding = (4 - rest.len() % 4) % 4;
     let size = u32::try_from(rest.len())

@@ -1,4 +1,4 @@
-//! Trees with ample memory: an answer for want of it would meet their clauses too.
+//! Trees with ample memory: running out of it would meet their clauses too.
 ghost use Rattle.std.specs.Prelude.{◌≡◌};
 
 use geom_core::MATCH;
@@ -43,7 +43,7 @@ fn a_view_is_made_and_named_where_there_is_memory(rt: HostRuntime) -> Result<(),
     Ok(())
 }
 
-/// A view with this depth and id that stands right of another.
+/// A view with this depth and id that is right of another.
 fn sprout(depth: u32, class: Class, id: u32, anchor: u32, text: Text) -> Sprout
     ensures { result.depth ≡ depth }
 {
@@ -61,7 +61,7 @@ fn sprout(depth: u32, class: Class, id: u32, anchor: u32, text: Text) -> Sprout
     }
 }
 
-/// A relative layout with two children that stand right of the views with these ids, and a third below the first.
+/// A relative layout with two children that are right of the views with these ids, and a third below the first.
 fn sapling(alloc: Global, first: u32, second: u32) -> Result<Sapling, Fail> {
     let mut sprouts = Vec::new(alloc);
     sprouts.push(sprout(1, Class::RelativeLayout, 0, 0, Text::new(alloc, "a")?))?;
@@ -80,7 +80,7 @@ fn a_sapling_comes_where_there_is_memory(rt: HostRuntime) -> Result<(), Fail> {
     Ok(())
 }
 
-/// The members of a cycle on the horizontal axis that is told.
+/// The members of a cycle on the horizontal axis that is reported.
 fn members(fault: AttachFault, alloc: Global) -> Vec<Member> {
     match fault {
         AttachFault::Refused(

@@ -84,7 +84,7 @@ flags_absent key held up (Branch row kids siblings) z = (
 )
 
 module _ (key : ℕ) (f : Row → Row) (g : Forest Row → Forest Row) (f_key : (row : Row) → (f row).key ≡ row.key) (old new : ℕ → Held) where
-  -- the flags above a view that was edited are right still
+  -- the flags above a view that was edited are still right
   pub flags_replaced : (up : Around) (list : Forest Row) → Apart key old new list → count_of_key key (replaced key f g list) ≤ 1 → Kept [] old up list → FlagsAbove key new up (replaced key f g list)
   flags_replaced up Nothing a once k = tt
   flags_replaced up (Branch row kids siblings) a once k = elim (cases_Bool (row.key == key)) [

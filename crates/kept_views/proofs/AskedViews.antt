@@ -4,14 +4,14 @@ use Rattle.std.proofs.lemmas.Bool.{eq-eqb}
 use Rattle.std.specs.Prelude.{if◌then◌else◌}
 use mathlib.Core.Path.{fun_ext}
 use Rattle.kept_views.specs.Kept.{IsKept}
-use Rattle.kept_views.specs.Pressing.{path_of, pressed}
+use Rattle.kept_views.specs.Pressing.{path_of}
 use Rattle.kept_views.proofs.Lines.{IsMoved, put_kept}
 use Rattle.kept_views.proofs.Paths.{unforced_off}
 use Rattle.kept_views.proofs.Requested.{pressed_out}
 use Rattle.view_model.specs.Facts.{is_shown}
 use Rattle.view_model.specs.Forest.{Forest}
 use Rattle.view_model.specs.PlainTree.{PlainView}
-use Rattle.view_tree.specs.Requests.{among, asking, unforced}
+use Rattle.view_tree.specs.Requests.{among, asking, pressed, unforced}
 use Rattle.view_tree.specs.Rows.{Row, ancestors, changed_at_key, head_view, part_from}
 use Rattle.view_tree.specs.Views.{Held, IsLive, IsTree, Views, held_of}
 
@@ -22,7 +22,7 @@ asked_kept mid new view tree made same held k =
     subst (λ t. IsKept (held_of new) t) (sym (same ∙ made))
     (subst (λ h. IsKept h tree) (sym (fun_ext held)) (subst (λ t. IsKept (pressed (held_of mid) (asking (held_of mid) view t)) tree) (sym made) k))
 
--- no view but on the path is pressed
+-- only a view on the path is pressed
 pub asked_same : (held new : ℕ → Held) (view : ℕ) (tree : Forest Row) → ((key : ℕ) → new key ≡ pressed held (asking held view tree) key) → (key : ℕ) → among key (path_of view tree) ≡ false → new key ≡ held key
 asked_same held new view tree is key off = is key ∙ pressed_out held (asking held view tree) key (step (view == key) off)
   where
@@ -30,7 +30,7 @@ asked_same held new view tree is key off = is key ∙ pressed_out held (asking h
     step true e = e
     step false e = unforced_off key held (ancestors view tree) e
 
--- a view that is not on the path is not the one at which the edit asked
+-- a view that is not on the path is not the one at which the edit made its request
 pub off_path : (view key : ℕ) (tree : Forest Row) → among key (path_of view tree) ≡ false → key ≢ view
 off_path view key tree off e = step (view == key) (eq-eqb view key (sym e)) off
   where

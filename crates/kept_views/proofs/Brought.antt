@@ -25,7 +25,7 @@ unfolding offset_within
 brought_again None offset = refl
 brought_again (Some range) offset = grind (arith, ints)
 
--- a view that lies nowhere has no range
+-- a view that has no bounds has no range
 pub no_range : (class : Class) (own : Facts) (child : Option Rect) → range_by class own None child ≡ None
 no_range View own child = refl
 no_range TextView own child = refl
@@ -54,7 +54,7 @@ brought-start old mid new (Branch row kids siblings) same b = (
   brought-start old mid new siblings (λ key here. same key (omega arith)) b.2,
 )
 
--- hidden views have none
+-- hidden views have no range
 pub brought_hidden : (keys : List ℕ) (held : ℕ → Held) (up : Around) (list : Forest Row) → up.hidden ≡ true → Kept keys held up list → Brought held held list
 brought_hidden keys held up Nothing h k = tt
 brought_hidden keys held up (Branch row kids siblings) h k = (

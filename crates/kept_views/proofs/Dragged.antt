@@ -14,7 +14,7 @@ module _ (offsets : ℕ → ℤ) (held : ℕ → Held) where
   abbrev pub with_offsets : ℕ → Held
   with_offsets key = record (held key) { offset = offsets key }
 
-  -- each offset is within the range where the one before it was
+  -- each offset is within the range that it had with the one before
   abbrev pub InRanges : Forest Row → Type 0
   InRanges Nothing = Unit {0}
   InRanges (Branch row kids siblings) =

@@ -1,4 +1,4 @@
--- An edit of a view as it is seen along a tree: the view and what is below it, and all else.
+-- An edit of a view as it is seen along a tree: the view and what is below it, and everything else.
 use Rattle.std.proofs.Common.{◌≡◌, ℕ, ◌+◌, ◌<◌, ◌≤◌, ◌==◌, true, false, List, arith, ap, ◌∙◌, sym, refl, subst, inl, inr}
 use Rattle.std.specs.Prelude.{if◌then◌else◌}
 use Rattle.view_model.specs.Forest.{Forest, Nothing, Branch, or_else}

@@ -1,4 +1,4 @@
--- Each kind of edit keeps what is kept, but at and above a view.
+-- Each kind of edit keeps what is kept, except at and above a view.
 use Rattle.std.proofs.Common.{◌≡◌, ◌≢◌, ℕ, ◌+◌, ◌<◌, ◌≤◌, ◌==◌, Bool, true, false, Some, None, List, [], ◌∷◌, arith, eqb-true, ap, ◌∙◌, sym, refl, subst, inl, inr}
 use Rattle.std.proofs.lemmas.Bool.{cases_Bool}
 use Rattle.std.specs.Prelude.{if◌then◌else◌}
@@ -90,7 +90,7 @@ module _ (key : ℕ) (change : PlainView → PlainView) where
         let own : 0 < count_of_key key (first_tree (part_from key tree)) = rw x.is (subst (λ k. 0 < count_of_key k (Branch x.row x.kids Nothing)) x.key_is (times_self x.row x.kids Nothing)) in
         let z : count_of_key key (first_tree (part_from key tree)) ≡ 0 = subst (λ other. count_of_key other (first_tree (part_from key tree)) ≡ 0) e z in absurd (omega arith))
 
-    -- another view, which takes part in layout as before, with the same flag; it may lie elsewhere in its scroll view
+    -- another view, which takes part in layout as before, with the same flag; its bounds in its scroll view may differ
     pub Kept_put : (up : Around) → is_shown (change (head_view (part_from key tree))).facts ≡ is_shown (head_view (part_from key tree)).facts
         → ((other : ℕ) → other ≢ key → new other ≡ old other) → (new key).state.forced ≡ (old key).state.forced → (HiddenView (old key) → HiddenView (new key))
         → Kept keys old up tree → Kept (key ∷ keys) new up (changed_at_key key change tree)

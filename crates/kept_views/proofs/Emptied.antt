@@ -1,4 +1,4 @@
--- A requester and all above it are forced, so that it is no requester any more.
+-- A requester and all above it are forced, so that it is no longer a requester.
 use Rattle.std.proofs.Common.{◌≡◌, ℕ, ◌+◌, ◌<◌, ◌≤◌, Bool, true, false, List, [], ◌∷◌, arith, ap, ◌∙◌, sym, refl, subst, inl, inr}
 use Rattle.std.specs.Prelude.{if◌then◌else◌, ◌==◌}
 use Rattle.std.proofs.lemmas.Bool.{cases_Bool, cases_eq, eq-eqb}
@@ -9,8 +9,8 @@ use Rattle.view_tree.proofs.forest.KeyLaws.{times_self}
 use Rattle.kept_views.proofs.Keys.{own_more}
 use Rattle.view_tree.specs.Views.{Held}
 use Rattle.kept_views.specs.Kept.{Kept, hidden_in, loose}
-use Rattle.view_tree.specs.Requests.{among}
-use Rattle.kept_views.specs.Pressing.{Pressed, Touched, path_of, pressed}
+use Rattle.view_tree.specs.Requests.{among, pressed}
+use Rattle.kept_views.specs.Pressing.{Pressed, Touched, path_of}
 use Rattle.kept_views.proofs.Paths.{Off, among_first, among_later, among_rest, more_than, reach_few}
 use Rattle.kept_views.proofs.PressedKept.{forced_touched, pressed_kept}
 use Rattle.kept_views.proofs.Requested.{pressed_in, pressed_out}
@@ -18,7 +18,7 @@ use Rattle.kept_views.proofs.Requested.{pressed_in, pressed_out}
 both : {A : Type 0} (v : Bool) → v ≡ true → v ≡ false → A
 both v t f = let n : true ≡ false = sym t ∙ f in absurd (cc)
 
--- those around a list are around each view of it, and with them views of the list alone
+-- those around a list are around each view of it, together with views only of the list
 around_keeps : (key view : ℕ) (acc : List ℕ) (list : Forest Row) → among key acc ≡ true → among key (around acc view list) ≡ true
 around_keeps key view acc Nothing e = e
 around_keeps key view acc (Branch row kids siblings) e = by_test (row.key == view) (count_of_key view kids == 0)
@@ -30,7 +30,7 @@ around_keeps key view acc (Branch row kids siblings) e = by_test (row.key == vie
     by_test false true a b = a
     by_test false false a b = b
 
--- a view that is not in a list is around none of its views
+-- a view that is not in a list is around no view of it
 pub around_off : (key view : ℕ) (acc : List ℕ) (list : Forest Row) → count_of_key key list ≡ 0 → among key acc ≡ false → among key (around acc view list) ≡ false
 around_off key view acc Nothing z e = e
 around_off key view acc (Branch row kids siblings) z e =

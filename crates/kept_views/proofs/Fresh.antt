@@ -13,13 +13,13 @@ use Rattle.kept_views.proofs.Edits.{AllHidden, hidden_kept}
 abbrev pub AllCalm : (ℕ → Held) → Forest Row → Type 0
 AllCalm held list = (key : ℕ) → 0 < count_of_key key list → IsCalm (held key)
 
--- views that are forced, lie nowhere and have empty caches, whatever was there before
+-- views that are forced, have no bounds and have empty caches, whatever was there before
 pub new_tree : (held : ℕ → Held) (tree : Forest Row) → AllHidden held tree → AllCalm held tree → IsKept held tree
 new_tree held tree all calm =
     let clear : (key : ℕ) → 0 < count_of_key key tree → ClearedAt (held key) = λ key here forced. (all key here).cache in
     record { kept = hidden_kept [] held loose tree all (λ shown. refl); reached = reached_each held tree calm; cleared = cleared_each held tree clear }
 
--- so are those that have come
+-- so are the added ones
 pub came_hidden : (old new : Views) (parent : Option ℕ) (added : Forest Row) → Gained old parent added new → AllHidden (held_of new) added
 came_hidden old new parent added came = λ key here. record {
   forced = ap (λ (state : State). state.forced) (came.made key here);

@@ -1,11 +1,11 @@
--- A sapling that comes: with a request at its parent it keeps what every tree keeps between lines.
+-- A sapling is added: with a request at its parent it keeps what every tree keeps between lines.
 use Rattle.std.proofs.Common.{◌≡◌, ℕ, ◌+◌, ◌<◌, ◌≤◌, ◌==◌, Bool, true, false, Some, None, ◌∷◌, arith, ap, ◌∙◌, sym, refl, subst, inl, inr}
 use Rattle.std.specs.Prelude.{if◌then◌else◌}
 use mathlib.Core.Path.{fun_ext}
 use Rattle.view_model.specs.Forest.{Forest, Nothing, Branch}
 use Rattle.view_model.specs.Sprouts.{Seed}
 use Rattle.view_tree.specs.Grafted.{Grafted}
-use Rattle.view_tree.specs.Requests.{among, asking, unforced}
+use Rattle.view_tree.specs.Requests.{among, asking, pressed, unforced}
 use Rattle.view_tree.specs.Rows.{Row, ancestors, count_of_key, first_key, grown_at_key, later_siblings}
 use Rattle.view_tree.specs.Views.{IsLive, IsTree, Views, held_of}
 use Rattle.view_tree.proofs.forest.DepthLaws.{ancestors-grown}
@@ -13,7 +13,7 @@ use Rattle.view_tree.proofs.forest.GrownParts.{count_of_key-grown_more}
 use Rattle.view_tree.proofs.forest.KeyLaws.{times_self, zero_or_more}
 use Rattle.view_tree.proofs.forest.NumberLaws.{sum-grown}
 use Rattle.kept_views.specs.Kept.{IsConsistent, IsKept}
-use Rattle.kept_views.specs.Pressing.{path_of, pressed}
+use Rattle.kept_views.specs.Pressing.{path_of}
 use Rattle.kept_views.proofs.Edits.{AllHidden}
 use Rattle.kept_views.proofs.Fresh.{AllCalm, came_calm, came_hidden, new_tree}
 use Rattle.kept_views.proofs.KeptFrames.{Same}
@@ -22,7 +22,7 @@ use Rattle.kept_views.proofs.Lines.{grow_kept}
 use Rattle.kept_views.proofs.Paths.{unforced_off}
 use Rattle.kept_views.proofs.Requested.{pressed_out}
 
--- a sapling that is all there is
+-- a sapling that is the whole tree
 pub grafted_root : (old new : Views) (sapling : Forest Seed) (key : ℕ) → Grafted old None sapling key new → IsConsistent new
 grafted_root old new sapling key came =
     subst (IsKept (held_of new)) (sym came.gained.tree)
@@ -38,13 +38,13 @@ one_view : (list : Forest Row) (key : ℕ) → first_key list ≡ Some key → l
 one_view Nothing key first alone = absurd (cc)
 one_view (Branch row kids siblings) key first alone = record { row = row; kids = kids; is = ap (Branch row kids) alone }
 
--- the parent of a sapling is there still, so that layout can be requested of it
+-- the parent of a sapling is still there, so that layout can be requested of it
 pub grafted_live : (old mid : Views) (sapling : Forest Seed) (parent key : ℕ) → IsLive old parent → Grafted old (Some parent) sapling key mid → IsLive mid parent
 grafted_live old mid sapling parent key live came =
     let more = count_of_key-grown_more parent parent came.added old.tree in
     subst (λ tree. 0 < count_of_key parent tree) (sym came.gained.tree) (omega arith)
 
--- a sapling below a parent: the tree before it comes, once it has come, and after the request
+-- a sapling below a parent: the tree before it is added, after that, and after the request
 module _ (old mid new : Views) (sapling : Forest Seed) (parent key : ℕ) (is : IsTree old) (after : IsTree mid) (live : IsLive old parent) (came : Grafted old (Some parent) sapling key mid)
     (same : new.tree ≡ mid.tree) (held : (other : ℕ) → held_of new other ≡ pressed (held_of mid) (asking (held_of mid) parent mid.tree) other) where
   -- what was there has other keys

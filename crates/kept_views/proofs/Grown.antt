@@ -1,4 +1,4 @@
--- Views that come below a view keep what is kept, but at and above that view.
+-- Views that are added below a view keep what is kept, except at and above that view.
 use Rattle.std.proofs.Common.{◌≡◌, ℕ, ◌+◌, ◌<◌, ◌≤◌, ◌==◌, Bool, true, false, List, [], ◌∷◌, arith, sym, refl, subst, inl, inr}
 use Rattle.std.proofs.lemmas.Bool.{cases_Bool, eq-eqb}
 use Rattle.std.specs.Prelude.{if◌then◌else◌}
@@ -25,7 +25,7 @@ id_row row = row
 pub id_key : (row : Row) → (id_row row).key ≡ row.key
 id_key row = refl
 
--- one new view with all below it, as it comes
+-- one new view with all below it, as it is added
 module _ (parent : ℕ) (new_row : Row) (below : Forest Row) where
   abbrev pub added : Forest Row
   added = Branch new_row below Nothing
@@ -101,7 +101,7 @@ module _ (parent : ℕ) (new_row : Row) (below : Forest Row) where
       not_own : (row : Row) (kids siblings : Forest Row) (key : ℕ) → count_of_key key (Branch row kids siblings) ≡ 0 → (row.key == key) ≡ false
       not_own row kids siblings key z = elim (cases_Bool (row.key == key)) [ inl e ↦ let no = rw e at z in absurd (omega arith) | inr ne ↦ ne ]
 
-  -- where all above the parent is forced, so it is above the new view
+  -- if all above the parent is forced, so it is above the new view
   pub done_added : (held : ℕ → Held) (up : Around) (list : Forest Row) → count_of_key new_row.key list ≡ 0 → count_of_key new_row.key below ≡ 0 → HiddenView (held new_row.key)
       → Done parent held up (grown_at_key parent added list) → Done new_row.key held up (grown_at_key parent added list)
   done_added held up Nothing z zb own d = tt

@@ -6,8 +6,8 @@ use Rattle.view_model.specs.Forest.{Forest, Nothing, Branch}
 use Rattle.view_tree.specs.Rows.{Row, count_of_key}
 use Rattle.view_tree.specs.Views.{Held}
 use Rattle.kept_views.specs.Kept.{Around, Cleared, firm, inside, loose}
-use Rattle.view_tree.specs.Requests.{among, asking, forced_one}
-use Rattle.kept_views.specs.Pressing.{Pressed, Touched, pressed}
+use Rattle.view_tree.specs.Requests.{among, asking, forced_one, pressed}
+use Rattle.kept_views.specs.Pressing.{Pressed, Touched}
 use Rattle.kept_views.specs.Passes.{settled, settled_at, InPass}
 use Rattle.kept_views.proofs.Paths.{Forces, Way, kept_forces, way}
 use Rattle.kept_views.proofs.PressedKept.{forced_touched, pressed_kept}
@@ -16,7 +16,7 @@ use Rattle.kept_views.proofs.Requested.{Marks, pressed_in, pressed_out, reached-
 both : {A : Type 0} (v : Bool) → v ≡ true → v ≡ false → A
 both v t f = let h : true ≡ false = sym t ∙ f in absurd (cc)
 
--- what is pressed is exempt still
+-- what is pressed is still exempt
 pub pass_pressed : (view : ℕ) (more keys : List ℕ) (held old new : ℕ → Held) (at up : Around) (list : Forest Row) → Way view keys held at list
     → ((key : ℕ) → among key keys ≡ false → new key ≡ old key) → ((key : ℕ) → among key keys ≡ true → Touched (old key) (new key))
     → Pressed (view ∷ more) (view ∷ more) old new up list

@@ -1,4 +1,4 @@
--- What is said of kept views depends on what is kept with them alone.
+-- What holds of kept views depends only on what is kept with them.
 use Rattle.std.proofs.Common.{◌≡◌, ℕ, ◌<◌, Some, List, ◌∷◌, arith, ap, ◌∙◌, sym, refl, subst}
 use Rattle.geom_core.specs.declared.geometry.Rect.{Rect}
 use Rattle.view_model.specs.Forest.{Forest, Nothing, Branch}

@@ -1,4 +1,4 @@
--- Parts of a list of views, and what is said of them where what is kept of views changes elsewhere.
+-- Parts of a list of views, and what holds of them if what is kept of views changes elsewhere.
 use Rattle.std.proofs.Common.{◌≡◌, ℕ, ◌+◌, ◌<◌, ◌≤◌, Bool, true, false, Some, List, [], ◌∷◌, ◌++◌, arith, ap, ◌∙◌, sym, refl, subst, length, length-append, append_assoc}
 use Rattle.std.proofs.lemmas.List.{append-nil}
 use Rattle.std.specs.Prelude.{if◌then◌else◌}
@@ -14,7 +14,7 @@ use Rattle.view_tree.specs.Views.{Held, laid_rows, specs_of}
 use Rattle.view_tree.proofs.values.GeometryLaws.{laid_along}
 use Rattle.view_tree.proofs.forest.KeyLaws.{times_self}
 use Rattle.kept_views.specs.Kept.{IsSized, Kept, Reached, Ready, Sized, firm, hidden_in, last_edges, last_places, last_specs, loose, owed}
-use Rattle.kept_views.specs.Laying.{Fit, IsQuiet, differ, group_kids, group_places, kid_place, kid_sizes, kid_under, last_sizes, some_all}
+use Rattle.kept_views.specs.Laying.{Fit, IsQuiet, IsQuietAs, IsQuietBack, differ, group_kids, group_kids_back, group_places, kid_place, kid_sizes, kid_under, last_sizes, places_all, places_back, sizes_back, some_all}
 use Rattle.kept_views.proofs.Brought.{brought-along, brought-start}
 use Rattle.kept_views.proofs.KeptFrames.{Kept-along, Same, edges-along, places-along, same_kids, same_self, same_siblings, sized-along, specs-along}
 
@@ -97,6 +97,32 @@ group_places-along spot before old new (Branch row kids siblings) same =
     let more = group_places-along spot (before ++ kid_sizes (specs_of (old row.key).state) row kids) old new siblings (λ key live. same key (omega arith)) in
     rw (own, more) refl
 
+pub sizes_back-along : (old new : ℕ → Held) (list : Forest Row) → Same old new list → sizes_back new list ≡ sizes_back old list
+sizes_back-along old new Nothing same = refl
+sizes_back-along old new (Branch row kids siblings) same =
+    rw (same row.key (times_self row kids siblings), sizes_back-along old new siblings (λ key live. same key (omega arith))) refl
+
+pub group_kids_back-along : (spot : Spot) (old new : ℕ → Held) (list : Forest Row) → Same old new list → group_kids_back spot new list ≡ group_kids_back spot old list
+group_kids_back-along spot old new Nothing same = refl
+group_kids_back-along spot old new (Branch row kids siblings) same =
+    rw (
+      same row.key (times_self row kids siblings),
+      sizes_back-along old new siblings (λ key live. same key (omega arith)),
+      group_kids_back-along spot old new siblings (λ key live. same key (omega arith)),
+    ) refl
+
+pub places_back-along : (spot : Spot) (old new : ℕ → Held) (list : Forest Row) → Same old new list → places_back spot new list ≡ places_back spot old list
+places_back-along spot old new Nothing same = refl
+places_back-along spot old new (Branch row kids siblings) same =
+    rw (
+      same row.key (times_self row kids siblings),
+      sizes_back-along old new siblings (λ key live. same key (omega arith)),
+      places_back-along spot old new siblings (λ key live. same key (omega arith)),
+    ) refl
+
+pub places_all-along : (spot : Spot) (old new : ℕ → Held) (list : Forest Row) → Same old new list → places_all spot new list ≡ places_all spot old list
+places_all-along spot old new list same = rw (places_back-along spot old new list same, group_places-along spot [] old new list same) refl
+
 pub last_sizes-along : (old new : ℕ → Held) (list : Forest Row) → Same old new list → last_sizes new list ≡ last_sizes old list
 last_sizes-along old new Nothing same = refl
 last_sizes-along old new (Branch row kids siblings) same =
@@ -113,6 +139,15 @@ last_sizes-few held (Branch row kids siblings) =
     let one = few_if (is_shown row.view.facts) (kid_under specs row kids) in
     let rest = last_sizes-few held siblings in
     let both = length-append (kid_sizes specs row kids) (last_sizes held siblings) in
+    omega arith
+
+pub sizes_back-few : (held : ℕ → Held) (list : Forest Row) → length (sizes_back held list) ≤ count_of list
+sizes_back-few held Nothing = omega arith
+sizes_back-few held (Branch row kids siblings) =
+    let specs = specs_of (held row.key).state in
+    let one = few_if (is_shown row.view.facts) (kid_under specs row kids) in
+    let rest = sizes_back-few held siblings in
+    let both = length-append (sizes_back held siblings) (kid_sizes specs row kids) in
     omega arith
 
 pub laid_rows-along : (old new : ℕ → Held) (list : Forest Row) → Same old new list → laid_rows new list ≡ laid_rows old list
@@ -147,9 +182,9 @@ Fit-below held row kids here m fit =
       sized = (fit.sized.0 here).1 m;
     }
 
-pub IsQuiet-along : (mid end : ℕ → Held) (spot : Spot) (before : List Measured) (start : ℕ → Held) (list : Forest Row) → Same mid end list
-    → IsQuiet mid spot before start list → IsQuiet end spot before start list
-IsQuiet-along mid end spot before start list same q = record {
+pub IsQuietAs-along : {layout : List Laid} {rects : List Rect} (mid end start : ℕ → Held) (list : Forest Row) → Same mid end list
+    → IsQuietAs mid layout rects start list → IsQuietAs end layout rects start list
+IsQuietAs-along mid end start list same q = record {
   kept = Kept-along [] mid end firm list same q.kept;
   reached = Reached-along mid end false list same q.reached;
   specs = specs-along mid end list same ∙ q.specs;
@@ -159,7 +194,7 @@ IsQuiet-along mid end spot before start list same q = record {
   offsets = brought-along start mid end list same q.offsets;
 }
 
--- where the views of a list were the same before
+-- if the views of a list were the same before
 pub IsQuiet-start : (end : ℕ → Held) (spot : Spot) (before : List Measured) (start old : ℕ → Held) (list : Forest Row) → Same start old list
     → IsQuiet end spot before old list → IsQuiet end spot before start list
 IsQuiet-start end spot before start old list same q = record {
@@ -211,6 +246,23 @@ lists_joined own below rest first more e f =
 both : {A : Type 0} {a b c d : List A} → a ≡ c → b ≡ d → a ++ b ≡ c ++ d
 both {b = b} {c = c} e f = ap (λ l. l ++ b) e ∙ ap (λ l. c ++ l) f
 
+-- the first view of a list and the others, each as it is laid
+quiet_parts : {one more whole : List Laid} {first rest places : List Rect} (start end : ℕ → Held) (row : Row) (kids siblings : Forest Row)
+    → IsQuietAs end one first start (Branch row kids Nothing) → IsQuietAs end more rest start siblings
+    → laid_rows end (Branch row kids siblings) ≡ whole → some_all places ≡ some_all first ++ some_all rest
+    → IsQuietAs end whole places start (Branch row kids siblings)
+quiet_parts start end row kids siblings own others lies places =
+    let list = Branch row kids siblings in
+    record {
+      kept = (own.kept.0, own.kept.1, own.kept.2, others.kept);
+      reached = (own.reached.0, own.reached.1, own.reached.2, others.reached);
+      specs = specs_parts end list ∙ both own.specs others.specs ∙ sym (specs_parts start list);
+      edges = edges_parts end list ∙ both own.edges others.edges ∙ sym (edges_parts start list);
+      lies = lies;
+      places = places_parts end list ∙ both own.places others.places ∙ sym places;
+      offsets = (own.offsets.0, own.offsets.1, others.offsets);
+    }
+
 pub quiet_joined : (spot : Spot) (before : List Measured) (start end : ℕ → Held) (list : Forest Row)
     → IsQuiet end spot before start (first_tree list)
     → IsQuiet end spot (before ++ last_sizes start (first_tree list)) start (later_siblings list)
@@ -218,13 +270,23 @@ pub quiet_joined : (spot : Spot) (before : List Measured) (start end : ℕ → H
 quiet_joined spot before start end Nothing first rest = first
 quiet_joined spot before start end (Branch row kids siblings) first rest =
     let sizes = kid_sizes (specs_of (start row.key).state) row kids in
-    let list = Branch row kids siblings in
-    record {
-      kept = (first.kept.0, first.kept.1, first.kept.2, rest.kept);
-      reached = (first.reached.0, first.reached.1, first.reached.2, rest.reached);
-      specs = specs_parts end list ∙ both first.specs rest.specs ∙ sym (specs_parts start list);
-      edges = edges_parts end list ∙ both first.edges rest.edges ∙ sym (edges_parts start list);
-      lies = lists_joined _ _ _ _ _ first.lies (rest.lies ∙ ap (λ more. group_kids spot (before ++ more) start siblings) (append-nil sizes));
-      places = places_parts end list ∙ both first.places rest.places ∙ sym (spots_parts spot before start list);
-      offsets = (first.offsets.0, first.offsets.1, rest.offsets);
-    }
+    quiet_parts start end row kids siblings first rest
+    (lists_joined _ _ _ _ _ first.lies (rest.lies ∙ ap (λ more. group_kids spot (before ++ more) start siblings) (append-nil sizes)))
+    (spots_parts spot before start (Branch row kids siblings))
+
+-- the same where the others were placed before it
+pub quiet_joined_back : (spot : Spot) (start end : ℕ → Held) (row : Row) (kids siblings : Forest Row)
+    → IsQuiet end spot (sizes_back start siblings) start (Branch row kids Nothing) → IsQuietBack end spot start siblings
+    → IsQuietBack end spot start (Branch row kids siblings)
+quiet_joined_back spot start end row kids siblings first rest =
+    quiet_parts start end row kids siblings first rest (lists_joined _ _ _ _ _ first.lies rest.lies) (by_test (is_shown row.view.facts))
+  where
+    rect : Rect
+    rect = kid_place spot (sizes_back start siblings) (start row.key) row kids
+
+    rects : List Rect
+    rects = places_back spot start siblings
+
+    by_test : (v : Bool) → some_all (if v then rect ∷ rects else rects) ≡ some_all (if v then rect ∷ [] else []) ++ some_all rects
+    by_test true = refl
+    by_test false = refl

@@ -17,13 +17,13 @@ use Rattle.view_model.specs.RelativeLayout.{sides_of}
 use Rattle.view_tree.specs.Rows.{Row, count_of_key, views_of}
 use Rattle.view_tree.specs.Views.{Held, laid_at, laid_rows, specs_of}
 use Rattle.kept_views.specs.Kept.{InRange, Kept, Reached, ShownView, firm, first_place, hidden_in, inside, last_edges, last_places, last_specs, loose}
-use Rattle.kept_views.specs.Laying.{Fit, IsPut, IsQuiet, Wrote, group_kids, kid_place, kid_sizes, kid_under, moved_to, ranged_own, same_place, some_all, spot_of}
+use Rattle.kept_views.specs.Laying.{Fit, IsPut, IsQuietAll, Wrote, group_all, group_kids, group_kids_back, kid_place, kid_sizes, kid_under, moved_to, ranged_own, same_place, sizes_back, some_all, spot_of}
 use Rattle.kept_views.specs.Passes.{settled}
 use Rattle.kept_views.proofs.Brought.{brought-along, brought-start, brought_again, brought_calm}
 use Rattle.kept_views.proofs.Keys.{own_more}
 use Rattle.kept_views.proofs.KeptFrames.{Kept-along, Same, edges-along, first-along, places-along, specs-along}
-use Rattle.kept_views.proofs.LaidCalm.{false_unless, laid_calm, not_both, to_firm}
-use Rattle.kept_views.proofs.LaidFrames.{Reached-along, group_places-along, laid_rows-along}
+use Rattle.kept_views.proofs.LaidCalm.{all_calm, false_unless, laid_calm, not_both, to_firm}
+use Rattle.kept_views.proofs.LaidFrames.{Reached-along, laid_rows-along, places_all-along}
 use Rattle.kept_views.proofs.PlacedKids.{cons_head, cons_tail, laid_gone, laid_group, places_group}
 
 some_is : {A : Type 0} {x y : A} → Some x ≡ Some y → x ≡ y
@@ -35,10 +35,10 @@ no_false e = absurd (cc)
 abbrev pub spot_for : Row → Forest Row → Specs → Rect → Spot
 spot_for row kids specs rect = record { view = for_layout row.view; specs = specs; room = size_of_rect rect; total = total_size row.view (views_of kids) specs }
 
--- a view with this rectangle, whose children lie as it places them
+-- a view with this rectangle, whose children are where it places them
 lies_row : (held : ℕ → Held) (row : Row) (kids : Forest Row) (specs : Specs) (rect : Rect) → is_shown row.view.facts ≡ true → (held row.key).state.bounds ≡ Some rect
     → last_specs held kids ≡ final_specs row.view (views_of kids) specs → (row.view.class ≡ RelativeLayout → last_edges held kids ≡ final_edges row.view (views_of kids) specs)
-    → laid_rows held kids ≡ group_kids (spot_for row kids specs rect) [] held kids
+    → laid_rows held kids ≡ group_all (spot_for row kids specs rect) held kids
     → laid_rows held (Branch row kids Nothing) ≡ laid_views row.view (views_of kids) specs rect
 lies_row held row kids specs rect here bounds finals edges kids_lie =
     let entry : Laid = record { number = row.view.number; rect = rect } in
@@ -74,7 +74,7 @@ calm_row old held row kids siblings rect here fit f d bounds same edges offsets 
       bounds = bounds;
       specs = same;
       edges = edges;
-      lies = lies_row held row kids specs rect here bounds (s.finals m) (s.edges m) (laid_calm held spot [] kids below quiet spots)
+      lies = lies_row held row kids specs rect here bounds (s.finals m) (s.edges m) (all_calm held spot kids (laid_calm held kids below quiet) spots)
           ∙ ap (λ (specs : Specs). laid_views row.view (views_of kids) specs rect) same;
       offsets = (
         offsets row.key ∙ sym (ap (brought (range_by row.view.class row.view.facts own.state.bounds (first_place held kids))) (sym (offsets row.key))
@@ -159,13 +159,60 @@ group_kids-specs spot before a b (Branch row kids siblings) e g = elim (cases_Bo
         (laid_gone row kids (specs_of (held row.key).state) (kid_place spot before (held row.key) row kids) gone)
         ∙ ap (λ v. group_kids spot (before ++ (if v then kid_under (specs_of (held row.key).state) row kids ∷ [] else [])) held siblings) gone
 
+-- the same from the last to the first
+abbrev back_of : Specs → Row → Forest Row → List Measured → List Measured
+back_of specs row kids sizes = sizes ++ kid_sizes specs row kids
+
+sizes_back-specs : (a b : ℕ → Held) (list : Forest Row) → last_specs a list ≡ last_specs b list → sizes_back a list ≡ sizes_back b list
+sizes_back-specs a b Nothing e = refl
+sizes_back-specs a b (Branch row kids siblings) e = elim (cases_Bool (is_shown row.view.facts)) [
+  | inl here ↦
+      let all : specs_of (a row.key).state ∷ last_specs a siblings ≡ specs_of (b row.key).state ∷ last_specs b siblings = rw here at e in
+      ap (λ (specs : Specs). back_of specs row kids (sizes_back a siblings)) (cons_head all)
+      ∙ ap (back_of (specs_of (b row.key).state) row kids) (sizes_back-specs a b siblings (cons_tail all))
+  | inr gone ↦
+      let rest : last_specs a siblings ≡ last_specs b siblings = rw gone at e in
+      rw gone (ap (λ (sizes : List Measured). sizes ++ []) (sizes_back-specs a b siblings rest))
+]
+
+group_kids_back-specs : (spot : Spot) (a b : ℕ → Held) (list : Forest Row) → last_specs a list ≡ last_specs b list → last_edges a list ≡ last_edges b list
+    → group_kids_back spot a list ≡ group_kids_back spot b list
+group_kids_back-specs spot a b Nothing e g = refl
+group_kids_back-specs spot a b (Branch row kids siblings) e g = elim (cases_Bool (is_shown row.view.facts)) [
+  | inl here ↦
+      let all : specs_of (a row.key).state ∷ last_specs a siblings ≡ specs_of (b row.key).state ∷ last_specs b siblings = rw here at e in
+      let sides : sides_of (a row.key).state.edges ∷ last_edges a siblings ≡ sides_of (b row.key).state.edges ∷ last_edges b siblings = rw here at g in
+      ap (λ (specs : Specs). one specs (sides_of (a row.key).state.edges) (sizes_back a siblings) ++ group_kids_back spot a siblings) (cons_head all)
+      ∙ ap (λ (edges : Option Rect). one (specs_of (b row.key).state) edges (sizes_back a siblings) ++ group_kids_back spot a siblings) (cons_head sides)
+      ∙ ap (λ (sizes : List Measured). one (specs_of (b row.key).state) (sides_of (b row.key).state.edges) sizes ++ group_kids_back spot a siblings) (sizes_back-specs a b siblings (cons_tail all))
+      ∙ ap (λ (list : List Laid). one (specs_of (b row.key).state) (sides_of (b row.key).state.edges) (sizes_back b siblings) ++ list)
+      (group_kids_back-specs spot a b siblings (cons_tail all) (cons_tail sides))
+  | inr gone ↦
+      let rest : last_specs a siblings ≡ last_specs b siblings = rw gone at e in
+      let sides : last_edges a siblings ≡ last_edges b siblings = rw gone at g in
+      empty a gone ∙ group_kids_back-specs spot a b siblings rest sides ∙ sym (empty b gone)
+]
+  where
+    one : Specs → Option Rect → List Measured → List Laid
+    one specs edges sizes = laid_views row.view (views_of kids) specs (place_in spot sizes (kid_under specs row kids) edges)
+
+    empty : (held : ℕ → Held) → is_shown row.view.facts ≡ false → group_kids_back spot held (Branch row kids siblings) ≡ group_kids_back spot held siblings
+    empty held gone =
+        ap (λ (list : List Laid). list ++ group_kids_back spot held siblings)
+        (laid_gone row kids (specs_of (held row.key).state) (kid_place spot (sizes_back held siblings) (held row.key) row kids) gone)
+
+-- the same in the order of the group
+group_all-specs : (spot : Spot) (a b : ℕ → Held) (list : Forest Row) → last_specs a list ≡ last_specs b list → last_edges a list ≡ last_edges b list
+    → group_all spot a list ≡ group_all spot b list
+group_all-specs spot a b list e g = rw (group_kids_back-specs spot a b list e g, group_kids-specs spot [] a b list e g) refl
+
 -- a view whose children were laid
 pub put_row : (old fit_held moved laid new : ℕ → Held) (row : Row) (kids siblings : Forest Row) (rect : Rect) → is_shown row.view.facts ≡ true
     → ((key : ℕ) → count_of_key key (Branch row kids Nothing) ≤ 1) → Fit fit_held (Branch row kids Nothing)
     → (fit_held row.key).state.measure_first ≡ false → specs_of (fit_held row.key).state ≡ specs_of (old row.key).state
     → (fit_held row.key).state.edges ≡ (old row.key).state.edges → ((key : ℕ) → (fit_held key).offset ≡ (old key).offset)
     → Wrote fit_held moved row.key (moved_to (fit_held row.key) rect)
-    → IsQuiet laid (spot_of (Branch row kids siblings) (moved row.key) (size_of_rect rect)) [] moved kids → ((key : ℕ) → count_of_key key kids ≡ 0 → laid key ≡ moved key)
+    → IsQuietAll laid (spot_of (Branch row kids siblings) (moved row.key) (size_of_rect rect)) moved kids → ((key : ℕ) → count_of_key key kids ≡ 0 → laid key ≡ moved key)
     → Wrote laid new row.key (settled (ranged_own laid row kids (laid row.key)))
     → IsPut old new row.key (Branch row kids siblings) rect
 put_row old fit_held moved laid new row kids siblings rect here once fit m same sides offsets w1 quiet others w2 =
@@ -186,13 +233,13 @@ put_row old fit_held moved laid new row kids siblings rect here once fit m same 
     let spot_is : spot_of (Branch row kids siblings) (moved row.key) (size_of_rect rect) ≡ spot =
     ap (λ (own : Held). spot_of (Branch row kids siblings) own (size_of_rect rect)) w1.at
     ∙ ap (λ (total : ℤ). let s : Spot = record { view = for_layout row.view; specs = specs; room = size_of_rect rect; total = total } in s) total0 in
-    let q : IsQuiet laid spot [] moved kids = subst (λ spot. IsQuiet laid spot [] moved kids) spot_is quiet in
+    let q : IsQuietAll laid spot moved kids = subst (λ spot. IsQuietAll laid spot moved kids) spot_is quiet in
     let finals : last_specs new kids ≡ final_specs row.view (views_of kids) specs = specs-along laid new kids s2 ∙ q.specs ∙ specs-along fit_held moved kids s1 ∙ finals0 in
     let edges : row.view.class ≡ RelativeLayout → last_edges new kids ≡ final_edges row.view (views_of kids) specs = λ c. edges-along laid new kids s2 ∙ q.edges ∙ edges-along fit_held moved kids s1 ∙ edges0 c in
     let spots : last_places new kids ≡ some_all (placement row.view (views_of kids) specs (size_of_rect rect)) =
-    places-along laid new kids s2 ∙ q.places ∙ ap some_all (group_places-along spot [] fit_held moved kids s1 ∙ sym (places_group fit_held row kids specs (size_of_rect rect) spot finals0 edges0 refl)) in
-    let lies : laid_rows new kids ≡ group_kids spot [] new kids =
-    laid_rows-along laid new kids s2 ∙ q.lies ∙ sym (group_kids-specs spot [] new moved kids (specs-along laid new kids s2 ∙ q.specs) (edges-along laid new kids s2 ∙ q.edges)) in
+    places-along laid new kids s2 ∙ q.places ∙ ap some_all (places_all-along spot fit_held moved kids s1 ∙ sym (places_group fit_held row kids specs (size_of_rect rect) spot finals0 edges0 refl)) in
+    let lies : laid_rows new kids ≡ group_all spot new kids =
+    laid_rows-along laid new kids s2 ∙ q.lies ∙ sym (group_all-specs spot new moved kids (specs-along laid new kids s2 ∙ q.specs) (edges-along laid new kids s2 ∙ q.edges)) in
     let first : first_place new kids ≡ first_place laid kids = first-along laid new kids s2 in
     let range = range_by row.view.class row.view.facts (Some rect) (first_place laid kids) in
     let in_range : InRange new own row kids rect =

@@ -12,8 +12,8 @@ use Rattle.view_tree.proofs.forest.NumberLaws.{count_of_key-cut_le, sum-grown, s
 use Rattle.view_tree.specs.Views.{Held}
 use Rattle.kept_views.specs.Kept.{Around, Cleared, HiddenView, IsKept, Kept, Reached, asked, firm, inside, loose, reach}
 use Rattle.kept_views.specs.Passes.{InPass, settled_at}
-use Rattle.view_tree.specs.Requests.{among, asking}
-use Rattle.kept_views.specs.Pressing.{all_pressed, path_of, pressed}
+use Rattle.view_tree.specs.Requests.{among, asking, pressed}
+use Rattle.kept_views.specs.Pressing.{all_pressed, path_of}
 use Rattle.kept_views.proofs.AroundEdits.{ClearedAt, IsCalm, cleared_at, cleared_each, flags_replaced, reached_at, reached_each}
 use Rattle.kept_views.proofs.EditParts.{SameBut, apart_part}
 use Rattle.kept_views.proofs.Edits.{AllHidden, Kept_hide, Kept_put, Kept_show, put_but, row_key, row_put}
@@ -125,7 +125,7 @@ module _ (key : ℕ) (change : PlainView → PlainView) (tree : Forest Row) (onc
     reached = reached_each (settled_at root held) put_tree (λ other here. reached_at (settled_at root held) tree p.reached other (put_back other here));
   })
 
--- a view that goes; its parent asks for layout
+-- a view is removed; its parent requests layout
 pub prune_kept : (parent view : ℕ) (old new : ℕ → Held) (tree : Forest Row) → ((key : ℕ) → count_of_key key tree ≤ 1) → HasChild parent view tree → 0 < count_of_key parent (pruned_at_key view tree)
     → ((key : ℕ) → count_of_key key (first_tree (part_from view tree)) ≡ 0 → new key ≡ old key)
     → ((key : ℕ) → 0 < count_of_key key (pruned_at_key view tree) → count_of_key key (first_tree (part_from view tree)) ≡ 0)
@@ -153,7 +153,7 @@ prune_kept parent view old new tree once h stays others apart k =
           flags_along view old new up siblings (λ key here. same key (omega arith)) f.2,
         )
 
--- views that come; their parent asks for layout
+-- views are added; their parent requests layout
 module _ (parent : ℕ) (new_row : Row) (below : Forest Row) (tree : Forest Row) (old new : ℕ → Held) where
   abbrev grown_tree : Forest Row
   grown_tree = grown_at_key parent (Branch new_row below Nothing) tree

@@ -1,4 +1,4 @@
--- The way up from a view, seen from the root down.
+-- The path up from a view, seen from the root down.
 use Rattle.std.proofs.Common.{◌≡◌, ℕ, zero, suc, ◌+◌, ◌<◌, ◌≤◌, Bool, true, false, List, [], ◌∷◌, ◌++◌, arith, ap, ◌∙◌, sym, refl, subst, ◌⊎◌, inl, inr}
 use Rattle.std.specs.Prelude.{if◌then◌else◌, ◌==◌}
 use Rattle.std.proofs.lemmas.Bool.{cases_Bool, cases_eq, eq-eqb, ne_eqb}
@@ -76,7 +76,7 @@ FlagsAbove view held up (Branch row kids siblings) =
     × FlagsAbove view held (inside up row (held row.key)) kids
     × FlagsAbove view held up siblings
 
--- the way leaves a list: no forced view on it so far, or one
+-- the path leaves a list: no forced view on it so far, or one
 pub record Clear (view : ℕ) (held : ℕ → Held) (acc : List ℕ) (list : Forest Row) : Type 0 where
   pub inner : List ℕ
   pub is : unforced held (around acc view list) ≡ inner ++ unforced held acc
@@ -189,8 +189,8 @@ way_out view held up acc (Branch row kids siblings) once live forces = elim (cas
   ]
 ]
 
--- what a request presses: views that are, or are above, the one where it was made, and of those all but such as are
--- forced
+-- what a request presses: views that are, or are above, the one where it was made, and of those all except the forced
+-- ones
 abbrev pub Way : ℕ → List ℕ → (ℕ → Held) → Around → Forest Row → Type 0
 Way view keys held up Nothing = Unit {0}
 Way view keys held up (Branch row kids siblings) =
@@ -212,7 +212,7 @@ way_off view keys held up (Branch row kids siblings) off z = (
   way_off view keys held up siblings (λ key here. off key (omega arith)) (omega arith),
 )
 
--- the way up holds no view of another part
+-- the path up holds no view of another part
 off_way : (view : ℕ) (held : ℕ → Held) (up : Around) (acc : List ℕ) (list other : Forest Row) → Clear view held acc list ⊎ Blocked view held up acc list
     → ((key : ℕ) → 0 < count_of_key key other → count_of_key key list ≡ 0) → Off acc other → Off (unforced held (around acc view list)) other
 off_way view held up acc list other (inl i) apart off key y =

@@ -1,4 +1,4 @@
--- A view that goes keeps what is kept, but at and above its parent.
+-- Removing a view keeps what is kept, except at and above its parent.
 use Rattle.std.proofs.Common.{◌≡◌, ℕ, ◌<◌, ◌≤◌, ◌==◌, ◌⊎◌, true, false, List, [], ◌∷◌, arith, eqb-true, ap, ◌∙◌, sym, refl, subst, inl, inr}
 use Rattle.std.proofs.lemmas.Bool.{cases_eq, eq-eqb, ne_eqb}
 use Rattle.view_model.specs.Forest.{Forest, Nothing, Branch}

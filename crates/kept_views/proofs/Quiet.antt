@@ -29,7 +29,7 @@ pub record IsUnseen (old new : PlainView) : Type 0 where
   pub places : (below : Forest PlainView) (specs : Specs) (room : Size) → placement new below specs room ≡ placement old below specs room
   pub range : (rect child : Option Rect) → range_by new.class new.facts rect child ≡ range_by old.class old.facts rect child
 
--- by the children of a view alone
+-- given the children of a view alone
 module _ (view : PlainView) (some more : Forest PlainView) (same : children_of some ≡ children_of more) where
   child_with : child_under view some ≡ child_under view more
   child_with = ap (child_by (for_layout view)) same
@@ -41,7 +41,7 @@ module _ (key : ℕ) (change : PlainView → PlainView) where
   put_on : (row : Row) (kids siblings : Forest Row) → (row.key == key) ≡ false → changed_at_key key change (Branch row kids siblings) ≡ Branch row (changed_at_key key change kids) (changed_at_key key change siblings)
   put_on row kids siblings e = rw e refl
 
-  -- the view of the key, if it is there, is unseen to be changed
+  -- the view of the key, if it is there, is changed without layout seeing it
   abbrev pub Unseen : Forest Row → Type 0
   Unseen Nothing = Unit {0}
   Unseen (Branch row kids siblings) = ((row.key == key) ≡ true → IsUnseen row.view (change row.view)) × ((row.key == key) ≡ false → Unseen kids × Unseen siblings)

@@ -18,7 +18,7 @@ use Rattle.kept_views.specs.Kept.{IsKept, loose}
 use Rattle.kept_views.proofs.AroundEdits.{cleared_at, cleared_each, reached_at, reached_each}
 use Rattle.kept_views.proofs.Quiet.{IsUnseen, Kept_unseen, Unseen}
 
--- what layout reads is all that the range of an offset is of
+-- the range of an offset depends only on what layout reads
 range_layout : (class : Class) (own : Facts) (rect child : Option Rect) → range_by class (layout_facts own) rect child ≡ range_by class own rect child
 range_layout View own rect child = refl
 range_layout TextView own rect child = refl

@@ -1,4 +1,4 @@
--- An edit of one view, of what is below it, or of both, keeps what is kept, but at and above that view.
+-- An edit of one view, of what is below it, or of both, keeps what is kept, except at and above that view.
 use Rattle.std.proofs.Common.{◌≡◌, ℕ, ◌==◌, Bool, true, false, Some, List, [], ◌∷◌, arith, ap, ◌∙◌, sym, refl, subst, inl, inr}
 use Rattle.std.proofs.lemmas.Bool.{cases_Bool}
 use Rattle.std.specs.Prelude.{if◌then◌else◌, map}
@@ -72,7 +72,7 @@ module _ (key : ℕ) (f : Row → Row) (g : Forest Row → Forest Row) (f_key : 
   asked-replaced [] list z = refl
   asked-replaced (other ∷ keys) list z = let a = reach-replaced other list z in let b = asked-replaced keys list z in rw (a, b) refl
 
-  -- children of which none is, or is above, the view, but below one that is gone
+  -- children none of which is, or is above, the view, except below one that is gone
   pub alike-replaced : (list : Forest Row) → reach key list ≡ 0 → KidsAlike (children_of (views_of (replaced key f g list))) (children_of (views_of list))
   alike-replaced Nothing z = tt
   alike-replaced (Branch row kids siblings) z = elim (cases_Bool (row.key == key)) [
@@ -116,7 +116,7 @@ module _ (key : ℕ) (f : Row → Row) (g : Forest Row → Forest Row) (f_key : 
       | inr e ↦ ap (first_place new) (on_is row kids siblings e) ∙ ap (λ (own : Held). own.state.bounds) (a.1 e).0
     ]
 
-    -- what becomes of the view itself and of what is below it
+    -- the view itself and what is below it
     pub record Below (keys : List ℕ) (up : Around) (row : Row) (kids : Forest Row) : Type 0 where
       pub hidden : hidden_in up (f row) ≡ true → HiddenView (new row.key)
       pub kept : Kept (key ∷ keys) new (inside up (f row) (new row.key)) (g kids)

@@ -1,4 +1,4 @@
--- A request at a view takes it from among the requesters.
+-- A request at a view removes it from the requesters.
 use Rattle.std.proofs.Common.{◌≡◌, ℕ, ◌<◌, ◌≤◌, Bool, true, false, Some, None, List, [], ◌∷◌, arith, ap, ◌∙◌, sym, refl, subst, inl, inr}
 use Rattle.std.specs.Prelude.{if◌then◌else◌}
 use Rattle.std.proofs.lemmas.Bool.{cases_Bool, cases_eq}
@@ -9,8 +9,8 @@ use Rattle.view_model.specs.Measuring.{Specs}
 use Rattle.view_tree.specs.Rows.{Row, count_of_key}
 use Rattle.view_tree.specs.Views.{Held}
 use Rattle.kept_views.specs.Kept.{Around, Cleared, HiddenView, Kept, Reached, ShownView, hidden_in, inside, loose, reach}
-use Rattle.view_tree.specs.Requests.{among, asking, forced_one}
-use Rattle.kept_views.specs.Pressing.{IsPressed, Pressed, Touched, pressed}
+use Rattle.view_tree.specs.Requests.{among, asking, forced_one, pressed}
+use Rattle.kept_views.specs.Pressing.{IsPressed, Pressed, Touched}
 use Rattle.kept_views.proofs.Paths.{FlagsAbove, Way, kept_forces, more_than, reach_more, way}
 use Rattle.kept_views.proofs.PressedKept.{forced_touched, pressed_kept}
 
@@ -96,7 +96,7 @@ cleared-pressed held keys (Branch row kids siblings) c = (
   cleared-pressed held keys siblings c.2,
 )
 
--- what of a view says how far layout has come in a pass
+-- the state of a view that shows how far layout is in a pass
 pub record Marks (old new : Held) : Type 0 where
   pub needed : new.state.layout_needed ≡ old.state.layout_needed
   pub first : new.state.measure_first ≡ old.state.measure_first
@@ -117,7 +117,7 @@ pressed_marks held keys key = elim (cases_Bool (among key keys)) [
   | inr e ↦ subst (Marks (held key)) (sym (pressed_out held keys key e)) (record { needed = refl; first = refl })
 ]
 
--- a view that was requested is one no more
+-- a view that was requested is no longer one
 pub record Requested (view : ℕ) (held : ℕ → Held) (tree : Forest Row) : Type 0 where
   pub kept : Kept [] held loose tree
   pub done : Done view held loose tree
@@ -135,7 +135,7 @@ module _ (view : ℕ) (held : ℕ → Held) (tree : Forest Row) (once : (key : �
       pressed_kept (view ∷ more) more held (pressed held (asking held view tree)) false true true tree
       (way_pressed view (asking held view tree) held more false true true tree (own_way (view ∷ more) k) (request_done (view ∷ more) k flags clear)) (λ e. e) k
 
--- a view above which all is forced is no requester any more
+-- a view above which everything is forced is no longer a requester
 pub done_kept : (view : ℕ) (more : List ℕ) (held : ℕ → Held) (up : Around) (list : Forest Row) → Done view held up list → Kept (view ∷ more) held up list → Kept more held up list
 done_kept view more held up Nothing d k = tt
 done_kept view more held up (Branch row kids siblings) d k = (

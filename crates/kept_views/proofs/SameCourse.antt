@@ -1,5 +1,5 @@
--- What a view makes of its children, where those are alike: the same but for what is below those that are gone.
-use Rattle.std.proofs.Common.{◌≡◌, List, [], ap, ◌∙◌}
+-- The result of a view for its children, if those are alike: the same except for what is below those that are gone.
+use Rattle.std.proofs.Common.{◌≡◌, List, ap, ◌∙◌}
 use Rattle.std.specs.Prelude.{ℤ, map}
 use Rattle.geom_core.specs.declared.geometry.Size.{Size}
 use Rattle.view_model.proofs.Alike.{CourseAlike, KidsAlike, course_alike, shown_alike}
@@ -7,7 +7,7 @@ use Rattle.view_model.proofs.ChildAlike.{child_alike}
 use Rattle.view_model.proofs.RelativeAlike.{relative_alike}
 use Rattle.view_model.specs.Course.{Child, Requested, last_of}
 use Rattle.view_model.specs.Forest.{Forest}
-use Rattle.view_model.specs.Layout.{Final, Placed, Spot, children_of, course_by, course_in, final_by, final_edges, final_specs, manner_of, measured_size, placed_from, placement, requested_by, total_by, total_size, for_layout}
+use Rattle.view_model.specs.Layout.{Final, Placed, Spot, children_of, course_by, course_in, final_by, final_edges, final_specs, manner_of, measured_size, placed_in, placement, requested_by, total_by, total_size, for_layout}
 use Rattle.view_model.specs.Measuring.{Manner, ByRule, BySiblings, Specs}
 use Rattle.view_model.specs.PlainTree.{PlainView}
 
@@ -40,6 +40,6 @@ module _ (view : PlainView) (some more : Forest PlainView) (alike : KidsAlike (c
 
   pub places_same : (specs : Specs) (room : Size) → placement view some specs room ≡ placement view more specs room
   places_same specs room =
-      let placed = λ (total : ℤ) (l : List Final). map (λ (kid : Placed). kid.rect) (placed_from (let s : Spot = record { view = for_layout view; specs = specs; room = room; total = total } in s) [] l) in
+      let placed = λ (total : ℤ) (l : List Final). map (λ (kid : Placed). kid.rect) (placed_in (let s : Spot = record { view = for_layout view; specs = specs; room = room; total = total } in s) l) in
       ap (λ total. placed total (final_by (for_layout view) (children_of some) specs)) (total_same specs)
       ∙ ap (placed (total_by (for_layout view) (children_of more) specs)) (finals specs)

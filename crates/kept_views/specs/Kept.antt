@@ -26,13 +26,13 @@ last_edges held Nothing = []
 last_edges held (Branch row kids siblings) =
     if is_shown row.view.facts then sides_of (held row.key).state.edges ∷ last_edges held siblings else last_edges held siblings
 
--- where these lie
+-- the bounds of these
 abbrev pub last_places : (ℕ → Held) → Forest Row → List (Option Rect)
 last_places held Nothing = []
 last_places held (Branch row kids siblings) =
     if is_shown row.view.facts then (held row.key).state.bounds ∷ last_places held siblings else last_places held siblings
 
--- where the first view of a list lies
+-- the bounds of the first view of a list
 abbrev pub first_place : (ℕ → Held) → Forest Row → Option Rect
 first_place held Nothing = None
 first_place held (Branch row kids siblings) = (held row.key).state.bounds
@@ -86,7 +86,7 @@ pub record HiddenView (own : Held) : Type 0 where
   pub bounds : own.state.bounds ≡ None
   pub cache : own.cache ≡ []
 
--- the offset of a view that lies in this rectangle is in its range, if it has one
+-- the offset of a view in this rectangle is in its range, if it has one
 abbrev pub InRange : (ℕ → Held) → Held → Row → Forest Row → Rect → Type 0
 InRange held own row kids rect = brought (range_by row.view.class row.view.facts (Some rect) (first_place held kids)) own.offset ≡ own.offset
 
@@ -100,7 +100,7 @@ pub record ShownView (keys : List ℕ) (held : ℕ → Held) (up : Around) (own 
       → found own.cache specs ≡ Some size → size ≡ measured_size row.view (views_of kids) specs
   -- unless it is forced, it has its size
   pub sized : asked keys (Branch row kids Nothing) ≡ 0 → own.state.forced ≡ false → IsSized held own row kids
-  -- unless it is forced or needs layout, its children lie where it places them, and its offset is in range
+  -- unless it is forced or needs layout, its children are where it places them, and its offset is in range
   pub placed : asked keys (Branch row kids Nothing) ≡ 0 → own.state.forced ≡ false → own.state.layout_needed ≡ false
       → (rect : Rect) → own.state.bounds ≡ Some rect
       → last_places held kids ≡ map (λ (place : Rect). Some place) (placement row.view (views_of kids) (specs_of own.state) (size_of_rect rect))
@@ -116,7 +116,7 @@ Kept keys held up (Branch row kids siblings) =
     × Kept keys held (inside up row (held row.key)) kids
     × Kept keys held up siblings
 
--- a mark is below views that need layout alone, up to the list
+-- a mark is only below views that need layout, up to the list
 abbrev pub Reached : (ℕ → Held) → Bool → Forest Row → Type 0
 Reached held up Nothing = Unit {0}
 Reached held up (Branch row kids siblings) =

@@ -1,7 +1,7 @@
 -- Views that are pressed: forced from now on, with their caches emptied.
-use Rattle.std.specs.Prelude.{◌≡◌, ◌⊎◌, ℕ, true, false, if◌then◌else◌, List, [], ◌∷◌}
+use Rattle.std.specs.Prelude.{◌≡◌, ◌⊎◌, ℕ, true, false, List, [], ◌∷◌}
 use Rattle.view_model.specs.Forest.{Forest, Nothing, Branch}
-use Rattle.view_tree.specs.Requests.{among, forced_one}
+use Rattle.view_tree.specs.Requests.{pressed}
 use Rattle.view_tree.specs.Rows.{Row, ancestors}
 use Rattle.view_tree.specs.Views.{Held, specs_of}
 use Rattle.kept_views.specs.Kept.{Around, HiddenView, asked, hidden_in, inside}
@@ -10,16 +10,12 @@ use Rattle.kept_views.specs.Kept.{Around, HiddenView, asked, hidden_in, inside}
 abbrev pub path_of : ℕ → Forest Row → List ℕ
 path_of view tree = view ∷ ancestors view tree
 
--- some views are forced
-abbrev pub pressed : (ℕ → Held) → List ℕ → ℕ → Held
-pressed held keys key = if among key keys then forced_one (held key) else held key
-
 -- one view after the other, each with all above it
 abbrev pub all_pressed : (ℕ → Held) → List ℕ → Forest Row → ℕ → Held
 all_pressed held [] tree = held
 all_pressed held (view ∷ views) tree = all_pressed (pressed held (path_of view tree)) views tree
 
--- what a view keeps that is pressed: where it lies, and for what it was measured
+-- what a pressed view keeps: its bounds, and the specs for which it was measured
 pub record Touched (old new : Held) : Type 0 where
   pub specs : specs_of new.state ≡ specs_of old.state
   pub bounds : new.state.bounds ≡ old.state.bounds
@@ -33,7 +29,7 @@ pub record IsPressed (up : Around) (own : Held) : Type 0 where
   pub cache : own.cache ≡ []
   pub above : up.forced ≡ true
 
--- some views were pressed: those that are exempt no more, and beside these only such as are exempt still
+-- some views were pressed: those that are no longer exempt, and besides these only such as are still exempt
 abbrev pub Pressed : List ℕ → List ℕ → (ℕ → Held) → (ℕ → Held) → Around → Forest Row → Type 0
 Pressed keys more old new up Nothing = Unit {0}
 Pressed keys more old new up (Branch row kids siblings) =

@@ -3,10 +3,10 @@
 //!
 //! - `specs/Kept`: what is kept of each view, and of every tree between lines: its flags, its cache, its size and the
 //!   place of its children. `specs/Pressing`: views that are forced by a request. `specs/Passes`: what is kept in a
-//!   pass. `specs/Laying`: what laying out a part wants and leaves.
+//!   pass. `specs/Laying`: what laying out a part requires and leaves.
 //! - `proofs/Lines`: each kind of edit keeps it with its request, and so does the end of a pass. `proofs/GraftedKept`:
-//!   a sapling that comes; `proofs/Fresh`: a tree of new views; `proofs/Dragged`: offsets; `proofs/QuietEdits`: edits
-//!   that ask for nothing.
+//!   a sapling that is added; `proofs/Fresh`: a tree of new views; `proofs/Dragged`: offsets; `proofs/QuietEdits`:
+//!   edits that request nothing.
 //! - `proofs/Replaced`, `Edits`, `EditParts`, `Pruned`, `Grown`, `AroundEdits`, `SameCourse`: edits before their
 //!   request. `proofs/Paths`, `Requested`, `PressedKept`, `Emptied`: requests. `proofs/InPass`: edits of a hook.
 //! - `proofs/LaidRows`, `LaidFrames`, `LaidCalm`, `PlacedKids`, `Quiet`, `Brought`: laying out.

@@ -2,7 +2,7 @@
 #![tactic(auto)]
 
 /// A layout file with its strings in UTF-8: a View with a width, a height and a style. Its chunks
-/// stand at 8 (the pool), 164 (the resource map), 180, 204, 300 and 324.
+/// are at 8 (the pool), 164 (the resource map), 180, 204, 300 and 324.
 #[rattlefmt::skip]
 pub const NARROW: [u8; 348] = [
     0x03, 0x00, 0x08, 0x00, 0x5c, 0x01, 0x00, 0x00, 0x01, 0x00, 0x1c, 0x00, 0x9c, 0x00, 0x00, 0x00,
@@ -29,8 +29,8 @@ pub const NARROW: [u8; 348] = [
     0xff, 0xff, 0xff, 0xff, 0x02, 0x00, 0x00, 0x00, 0x03, 0x00, 0x00, 0x00,
 ];
 
-/// The same file with its strings in UTF-16. Its chunks stand at 8 (the pool), 252 (the resource map), 268, 292, 388
-/// and 412.
+/// The same file with its strings in UTF-16. Its chunks are at 8 (the pool), 252 (the resource map), 268, 292, 388 and
+/// 412.
 #[rattlefmt::skip]
 pub const WIDE: [u8; 436] = [
     0x03, 0x00, 0x08, 0x00, 0xb4, 0x01, 0x00, 0x00, 0x01, 0x00, 0x1c, 0x00, 0xf4, 0x00, 0x00, 0x00,

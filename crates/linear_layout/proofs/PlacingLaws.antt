@@ -10,6 +10,7 @@ use Rattle.view_model.specs.declared.facts.Facts.{Facts}
 use Rattle.view_model.specs.Geometry.{rect_at, size_of_rect}
 use Rattle.view_model.specs.LinearLayout.{alignment_on, line_begin, low_padding, margins_on, passed, size_on}
 use Rattle.view_model.specs.Measuring.{Measured}
+use Rattle.view_model.specs.Placing.{started}
 
 pub size_of_rect-rect_at : (left top : ℤ) (size : Size) → size_of_rect (rect_at left top size) ≡ size
 size_of_rect-rect_at left top size =
@@ -32,7 +33,7 @@ pub PlacesLinear-push : (cursor : Cursor) (mark : Mark) (own : Facts) (room : Si
 PlacesLinear-push cursor mark own room total before kid one more s =
     let long = length-append before (kid ∷ []) in
     let count = s.count in
-    let begin = line_begin (alignment_on own.vertical own.gravity) (low_padding own.vertical own) (size_on own.vertical room) total in
+    let begin = line_begin (alignment_on own.vertical own.rtl (started own.gravity)) (low_padding own.vertical own) (size_on own.vertical room) total in
     record {
       own_facts = s.own_facts;
       own_size = s.own_size;

@@ -1,4 +1,4 @@
--- What a plan answers and becomes, phase by phase.
+-- What a plan returns and becomes, phase by phase.
 use Rattle.std.proofs.Common.{◌≡◌, ℤ, pos, Bool, true, false, Option, Some, None, List, [], ◌∷◌, ◌++◌, refl, sym, ap, ◌∙◌, subst, inl, inr}
 use Rattle.std.proofs.lemmas.Bool.{cases_Bool}
 use Rattle.std.specs.Option.{option_map}
@@ -17,7 +17,7 @@ use Rattle.view_model.specs.declared.facts.Facts.{Facts}
 use Rattle.view_model.specs.LinearLayout.{breadth_for, breadth_once, breadth_twice, first_pass, full_length, has_weight_pass, is_exact_beside, linear_rule, own_breadth, own_length, size_by, skips, uniform_pass, weight_pass}
 use Rattle.view_model.specs.Measuring.{Measured, Specs, counted_as, pair_of, taken_as}
 
--- a plan at the end of a phase, as TurnsLinear has it, of the group that its line stands for
+-- a plan at the end of a phase, as TurnsLinear has it, of the group that its line represents
 pub record TurnsLine (plan : LinearPlan) (own : Facts) (specs : Specs) (past : List (List Measured)) (taken : List Measured) (answer : Bool) : Type 0 where
   pub answers : answer ≡ (linear_rule own specs).turns (past ++ taken ∷ [])
   pub follows : answer ≡ true → StandsLine plan own specs (past ++ taken ∷ []) []
@@ -29,7 +29,7 @@ plan_of plan own specs (first ∷ []) taken s = s.0
 plan_of plan own specs (first ∷ second ∷ []) taken s = s.0
 plan_of plan own specs (first ∷ second ∷ third ∷ more) taken s = absurd s
 
--- what holds of the facts and the specs that a plan has holds of the group that it stands for
+-- what holds of the facts and the specs that a plan has holds of the group that it represents
 pub of_group : (P : Facts → Specs → Type 0) (plan : LinearPlan) (own : Facts) (specs : Specs) → IsPlanOf plan own specs → P (own_in plan.line) (specs_in plan.line) → P own specs
 of_group P plan own specs is p = subst (λ specs. P own specs) is.own_specs (subst (λ own. P own (specs_in plan.line)) is.own_facts p)
 
@@ -84,7 +84,7 @@ take-first plan own specs (first ∷ []) taken facts size counted next is counts
 take-first plan own specs (first ∷ second ∷ []) taken facts size counted next is counts takes s = first_uniform is s.2.phase
 take-first plan own specs (first ∷ second ∷ third ∷ more) taken facts size counted next is counts takes s = absurd s
 
--- in the uniform pass it takes no note of a child
+-- in the uniform pass it ignores a child
 pub take-uniform : (plan : LinearPlan) (own : Facts) (specs : Specs) (past : List (List Measured)) (taken more : List Measured) (weighed : Option WeightPass)
     → plan.phase ≡ Uniform weighed → StandsLine plan own specs past taken → StandsLine plan own specs past more
 take-uniform plan own specs [] taken more weighed is s = first_uniform s.1 is
@@ -196,7 +196,7 @@ total-is plan own specs (first ∷ second ∷ []) taken total once twice s =
     twice s.2.pass first second (ap weighed_by s.2.phase) s.2.is_pass ∙ ap sum (sym s.2.weighed)
 total-is plan own specs (first ∷ second ∷ third ∷ more) taken total once twice s = absurd s
 
--- from the first pass it turns to the weight pass, where that follows
+-- from the first pass it turns to the weight pass, if that follows
 pub turn-weight : (plan : LinearPlan) (own : Facts) (specs : Specs) (past : List (List Measured)) (taken : List Measured) (pass : WeightPass)
     → plan.phase ≡ First
     → ((first : List Measured) → IsFirstPass plan.first own specs first → has_weight_pass own specs first ≡ true)
@@ -222,7 +222,7 @@ turn-weight plan own specs (first ∷ []) taken pass is runs starts s = elim (ca
 turn-weight plan own specs (first ∷ second ∷ []) taken pass is runs starts s = first_uniform is s.2.phase
 turn-weight plan own specs (first ∷ second ∷ third ∷ more) taken pass is runs starts s = absurd s
 
--- from the weight pass it turns to the uniform pass, where the group's breadth was not told
+-- from the weight pass it turns to the uniform pass, if the group's breadth was not given
 pub turn-uniform : (plan new : LinearPlan) (own : Facts) (specs : Specs) (past : List (List Measured)) (taken : List Measured) (pass : WeightPass) (answer : Bool)
     → plan.phase ≡ Weight pass
     → (is_exact_beside own specs ≡ true → (answer ≡ false) × (new ≡ plan))
@@ -256,7 +256,7 @@ turn-uniform plan new own specs (first ∷ []) taken pass answer is stops goes s
 turn-uniform plan new own specs (first ∷ second ∷ []) taken pass answer is stops goes s = weight_uniform is s.2.phase
 turn-uniform plan new own specs (first ∷ second ∷ third ∷ more) taken pass answer is stops goes s = absurd s
 
--- from the first pass it turns to the uniform pass, where no weight pass follows and the group's breadth was not told
+-- from the first pass it turns to the uniform pass, if no weight pass follows and the group's breadth was not given
 pub turn-first : (plan new : LinearPlan) (own : Facts) (specs : Specs) (past : List (List Measured)) (taken : List Measured) (answer : Bool)
     → plan.phase ≡ First
     → ((kids : List Measured) → IsFirstPass plan.first own specs kids → has_weight_pass own specs kids ≡ false)

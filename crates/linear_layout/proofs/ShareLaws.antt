@@ -1,4 +1,4 @@
--- How far a share goes, and what it leaves.
+-- How large a share can be, and what it leaves.
 use Rattle.std.proofs.Common.{◌≡◌, ℕ, suc, zero, ◌≤◌, ◌*◌, ◌+◌, ◌/◌, ℤ, pos, negsuc, ◌*ℤ◌, ◌-ℤ◌, ◌≤ℤ◌, ◌<ℤ◌, neg_ℤ, int_div, int_lt, unsigned_abs, true, false, arith, refl}
 use Rattle.std.proofs.lemmas.Int.{ints, unsigned_abs-mul}
 use Rattle.std.proofs.Math.Nat.{div-le_of_le-mul, div-le_self, mul-le-mul_left}
@@ -55,7 +55,7 @@ pub share-above : (s d : ℤ) (w : ℕ) → pos 0 <ℤ s → share s d w ≡ int
 unfolding share
 share-above s d w h = let e : int_lt (pos 0) s ≡ true = grind (arith, ints) in rw e refl
 
--- what is left after a share, where a share was given out at all
+-- what is left after a share, if a share was given out at all
 pub rest_near : (s d : ℤ) (w b : ℕ) → (pos 0 <ℤ s → unsigned_abs d ≤ b) → pos 0 <ℤ (s -ℤ pos w) → unsigned_abs (d -ℤ share s d w) ≤ b
 rest_near s d w b near h = share_leaves s d w b (omega (arith, ints)) (near (omega (arith, ints)))
 

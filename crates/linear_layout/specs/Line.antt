@@ -1,4 +1,4 @@
--- The group that a line stands for.
+-- The group that a line represents.
 use Rattle.std.specs.Prelude.{pos}
 use Rattle.linear_layout.specs.declared.line.Line.{Line}
 use Rattle.view_model.specs.declared.facts.Facts.{Facts}
@@ -11,7 +11,7 @@ abbrev pub own_in : Line → Facts
 own_in line =
     record (new_facts (pos 0) (pos 0)) { padding = line.padding; min = line.min; weight_sum = line.weight_sum; vertical = line.vertical }
 
--- that of a group, each padding as it comes out
+-- that of a group, with the paddings that apply
 abbrev pub lined : Facts → Facts
 lined own = record (new_facts (pos 0) (pos 0)) {
   padding = record { left = padding_left own; right = padding_right own; top = own.padding.top; bottom = own.padding.bottom };
@@ -23,6 +23,6 @@ lined own = record (new_facts (pos 0) (pos 0)) {
 abbrev pub specs_in : Line → Specs
 specs_in line = record { across = line.ws; down = line.hs }
 
--- a child that is handed in with this size
+-- a child that is passed in with this size
 abbrev pub kid_with : Facts → Size → Measured
 kid_with facts size = record { facts = layout_facts facts; size = size }

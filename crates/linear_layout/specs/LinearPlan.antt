@@ -1,4 +1,4 @@
--- What a plan stands for: a group, its specs, and the children that it has taken in each phase.
+-- What a plan represents: a group, its specs, and the children that it has taken in each phase.
 use Rattle.std.specs.Prelude.{◌≡◌, true, false, Bool, List, [], ◌∷◌, ◌++◌, Option, Some, None}
 use Rattle.linear_layout.specs.declared.plan.LinearPlan.{LinearPlan}
 use Rattle.linear_layout.specs.declared.plan.Phase.{Phase}
@@ -39,7 +39,7 @@ pub record InThird (plan : LinearPlan) (own : Facts) (specs : Specs) (first seco
   pub phase : plan.phase ≡ Uniform (Some pass)
   pub is_pass : IsWeightPass pass own specs first second
 
--- it has come through these phases, and has taken these children in the one that it is in
+-- it has completed these phases, and has taken these children in the one that it is in
 abbrev pub StandsLine : LinearPlan → Facts → Specs → List (List Measured) → List Measured → Type 0
 StandsLine plan own specs [] taken = IsPlanOf plan own specs × (plan.phase ≡ First) × IsFirstPass plan.first own specs taken
 StandsLine plan own specs (first ∷ []) taken = IsPlanOf plan own specs × IsFirstPass plan.first own specs first × InSecond plan own specs first taken
@@ -50,7 +50,7 @@ StandsLine plan own specs (first ∷ second ∷ third ∷ more) taken = ⊥
 abbrev pub StandsLinear : LinearPlan → Facts → Specs → List (List Measured) → List Measured → Type 0
 StandsLinear plan own specs past taken = StandsLine plan (lined own) specs past taken
 
--- the plan at the end of a phase, where it has answered whether another follows
+-- the plan at the end of a phase, once it has returned whether another follows
 pub record TurnsLinear (plan : LinearPlan) (own : Facts) (specs : Specs) (past : List (List Measured)) (taken : List Measured) (answer : Bool) : Type 0 where
   pub answers : answer ≡ (linear_rule own specs).turns (past ++ taken ∷ [])
   pub follows : answer ≡ true → StandsLinear plan own specs (past ++ taken ∷ []) []

@@ -1,4 +1,4 @@
--- What the passes of a measuring stand for: the children that they have taken.
+-- What the passes of a measuring represent: the children that they have taken.
 use Rattle.std.specs.Prelude.{◌≡◌, pos, not, List, length}
 use Rattle.std.specs.List.{list_all, list_any}
 use Rattle.linear_layout.specs.declared.first_pass.FirstPass.{FirstPass}

@@ -86,16 +86,16 @@ pub fn high_padding(vertical: bool, facts: &Facts) -> i32
 }
 
 #[tactic(auto, unfolding(view_model::specs::LinearLayout::alignment_on))]
-pub fn alignment_on(vertical: bool, gravity: Gravity) -> Alignment
-    ensures { result ≡ alignment_on vertical gravity }
+pub fn alignment_on(vertical: bool, rtl: bool, gravity: Gravity) -> Alignment
+    ensures { result ≡ alignment_on vertical rtl gravity }
 {
     if vertical {
         return gravity.down.alignment();
     }
-    gravity.across.alignment()
+    gravity.across.alignment(rtl)
 }
 
-/// The size of what is so long along a line and so broad beside it.
+/// The size of this length along a line and this breadth across it.
 pub fn size_by(vertical: bool, along: i32, beside: i32) -> Size
     ensures { result ≡ size_by vertical along beside }
 {
@@ -111,7 +111,7 @@ pub fn size_by(vertical: bool, along: i32, beside: i32) -> Size
     }
 }
 
-/// The specs for the width and for the height, of those along and beside a line.
+/// The specs for the width and for the height, given those along and across a line.
 pub fn pair_by(vertical: bool, along: Spec, beside: Spec) -> (Spec, Spec)
     ensures { result ≡ pair_of (specs_by vertical along beside) }
 {

@@ -18,7 +18,7 @@ use crate::weight_pass::WeightPass;
 use geom_core::{Mode, Size, Spec, remaining, resolve, to_size};
 use view_model::Facts;
 
-/// The breadth of a group after its first pass, and after its weight pass where that ran.
+/// The breadth of a group after its first pass, and after its weight pass if that ran.
 pub fn own_breadth(line: &Line, first: &FirstPass, weighed: Option<WeightPass>) -> i32
     ensures once { (kids : List Measured)
         → weighed ≡ None
@@ -40,7 +40,7 @@ pub fn own_breadth(line: &Line, first: &FirstPass, weighed: Option<WeightPass>) 
     )
 }
 
-/// What the children need beside the line.
+/// What the children need across the line.
 #[tactic(auto, unfolding(view_model::specs::LinearLayout::needed_breadth))]
 fn needed_breadth(line: &Line, first: &FirstPass, weighed: Option<WeightPass>) -> i64
     ensures once { (kids : List Measured)
@@ -85,7 +85,7 @@ fn resolved_breadth(least: i32, padding: i64, needed: i64, spec: Spec) -> i32
     resolve(i64::from(least).max(padding + needed), spec)
 }
 
-/// The specs of a child of this size in the uniform pass of a group of this breadth, or None where it does not want to
+/// The specs of a child of this size in the uniform pass of a group of this breadth, or `None` if it does not want to
 /// be as broad as the group.
 pub fn ask_uniform(line: &Line, breadth: i32, kid: &Facts, size: Size) -> Option<(Spec, Spec)>
     ensures { result ≡ option_map pair_of (uniform_pass (own_in line.now) breadth (kid_with kid.now size)) }

@@ -1,4 +1,4 @@
-//! Where a linear layout places its children, one behind the other. Lengths are in pixels.
+//! Where a linear layout places its children, one after the other. Lengths are in pixels.
 ghost use Rattle.std.specs.Prelude.{◌≡◌, ℤ, ◌<◌, ◌≤◌, ◌+◌, ◌*◌, ◌^◌, ◌+ℤ◌, ◌-ℤ◌, ◌≤ℤ◌, pos, negsuc, not, unsigned_abs, [], ◌∷◌, ◌++◌, List, length};
 ghost use Rattle.geom_core.specs.Limits.{IsCoordinate, IsSide, clamp_coordinate};
 ghost use Rattle.linear_layout.specs.Line.{kid_with};
@@ -6,7 +6,7 @@ ghost use Rattle.view_model.specs.declared.facts.Facts.{Facts as FactsValue};
 ghost use Rattle.view_model.specs.declared.limits.TheConstants.{MAX_VIEWS};
 ghost use Rattle.view_model.specs.Facts.{layout_facts};
 ghost use Rattle.view_model.specs.Geometry.{size_of_rect};
-ghost use Rattle.view_model.specs.LinearLayout.{edge_beside, gravity_for, line_begin, linear_place, low_margin, rect_by};
+ghost use Rattle.view_model.specs.LinearLayout.{edge_beside, is_backwards, line_begin, linear_place, low_margin, rect_by};
 ghost use Rattle.view_model.specs.Measuring.{Measured};
 ghost use Rattle.geom_core.specs.declared.geometry.Size.{Size as SizeValue};
 
@@ -15,15 +15,23 @@ use crate::axis::{
 };
 use crate::mark::Mark;
 use geom_core::{Rect, Size, to_coordinate};
-use view_model::{Alignment, Facts, Gravity, rect_at};
+use view_model::{Alignment, Facts, rect_at};
 
-/// The placing of the children of one group. They are handed in in order.
+/// The placing of the children of one group. They are passed in order; in a horizontal line
+/// whose group runs from right to left, from the last to the first.
 #[derive(Clone, Copy, Debug)]
 pub struct Cursor {
     own: Facts,
     room: Size,
     /// Where the next child's low margin begins.
     mark: Mark,
+}
+
+/// Whether a group with these facts places its children from the last to the first.
+pub fn is_backwards(own: &Facts) -> bool
+    ensures { result ≡ is_backwards own.now }
+{
+    !own.vertical && own.rtl
 }
 
 impl Cursor {
@@ -38,7 +46,7 @@ impl Cursor {
             own: *own,
             room,
             mark: Mark::new(line_begin(
-                alignment_on(along, own.gravity),
+                alignment_on(along, own.rtl, own.gravity.started()),
                 low_padding(along, own),
                 size_on(along, room),
                 total,
@@ -99,13 +107,14 @@ fn behind(padding: i32, spare: i128) -> i128
     i128::from(padding) + spare
 }
 
-/// The low edge of a child of this size beside the line.
+/// The low edge of a child of this size across the line.
 fn edge_beside(own: &Facts, room: Size, kid: &Facts, size: Size) -> i32
     ensures value { result ≡ clamp_coordinate (edge_beside (layout_facts own.now) room (kid_with kid.now size)) }
     ensures edge { IsCoordinate result }
 {
     let beside = !own.vertical;
-    to_coordinate(alignment_on(beside, gravity_for(own, kid)).low_edge(
+    let gravity = own.gravity.for_child(kid.layout_gravity);
+    to_coordinate(alignment_on(beside, own.rtl, gravity).low_edge(
         size_on(beside, room),
         low_padding(beside, own),
         high_padding(beside, own),
@@ -115,17 +124,7 @@ fn edge_beside(own: &Facts, room: Size, kid: &Facts, size: Size) -> i32
     ))
 }
 
-/// The gravity by which a child is placed beside the line: its own, if it has one.
-fn gravity_for(own: &Facts, kid: &Facts) -> Gravity
-    ensures { result ≡ gravity_for (layout_facts own.now) (layout_facts kid.now) }
-{
-    if kid.layout_gravity.given {
-        return kid.layout_gravity;
-    }
-    own.gravity
-}
-
-/// The rectangle of this size whose low edges are these, along the line and beside it.
+/// The rectangle of this size whose low edges are these, along the line and across it.
 fn rect_by(vertical: bool, along: i32, beside: i32, size: Size) -> Rect
     requires along { IsCoordinate along }
     requires beside { IsCoordinate beside }

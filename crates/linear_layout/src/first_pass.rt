@@ -1,4 +1,4 @@
-//! The first pass: every child is measured, but for those that get their length by weight alone. Lengths are in pixels.
+//! The first pass: every child is measured, except those that get their length by weight alone. Lengths are in pixels.
 ghost use Rattle.std.specs.Prelude.{◌≡◌, ◌<◌, ◌≤◌, ◌≤ℤ◌, ◌+◌, ◌+ℤ◌, ◌^◌, pos, negsuc, unsigned_abs, [], ◌∷◌, ◌++◌, List, length};
 ghost use Rattle.std.specs.Option.{option_map};
 ghost use Rattle.geom_core.specs.Limits.{IsSide};
@@ -15,7 +15,7 @@ use crate::running::{Greatest, Total, Weights, greater};
 use geom_core::{Size, Spec, WRAP, child_spec, resolve};
 use view_model::Facts;
 
-/// What the children of the first pass come to.
+/// The sums and maxima of the children of the first pass.
 #[derive(Clone, Copy, Debug)]
 pub struct FirstPass {
     /// What they take of the length.
@@ -70,7 +70,7 @@ impl FirstPass {
         }
     }
 
-    /// The specs of a child, or None where it is left out.
+    /// The specs of a child, or `None` if it is left out.
     pub fn ask(&self, line: &Line, kid: &Facts, size: Size) -> Option<(Spec, Spec)>
         ensures { (kids : List Measured)
             → IsFirstPass self.now (own_in line.now) (specs_in line.now) kids
@@ -137,7 +137,7 @@ impl FirstPass {
         resolve(greater(self.full_length(line), least), line.spec_along())
     }
 
-    /// What is left of it; below 0 where the children take more.
+    /// What is left of it; below 0 if the children take more.
     pub fn spare(&self, line: &Line) -> i64
         ensures value { (kids : List Measured)
             → IsFirstPass self.now (own_in line.now) (specs_in line.now) kids
@@ -170,7 +170,7 @@ impl FirstPass {
     }
 }
 
-/// The spec of a child of this dimension behind others that count as `used`.
+/// The spec of a child of this dimension after others that count as `used`.
 fn spec_behind(spec: Spec, padding: i64, margins: i64, used: i64, dim: i32) -> Spec
     requires padding_low { negsuc 4294967295 ≤ℤ padding }
     requires padding_high { padding ≤ℤ pos 4294967294 }

@@ -1,4 +1,4 @@
-//! A group whose children stand in a line, under its specs, and what a child takes of it. Lengths are in pixels.
+//! A group whose children form a line, under its specs, and what a child takes of it. Lengths are in pixels.
 ghost use Rattle.std.specs.Prelude.{◌≡◌, ◌+ℤ◌, ◌≤ℤ◌, ◌^◌, pos, negsuc, not};
 ghost use Rattle.view_model.specs.declared.facts.Facts.{Facts as FactsValue};
 ghost use Rattle.view_model.specs.Facts.{is_match, layout_facts};
@@ -13,7 +13,7 @@ use view_model::{Facts, child_spec_within, is_exact};
 /// that a plan takes little room while what is below is measured.
 #[derive(Clone, Copy, Debug)]
 pub struct Line {
-    /// On each side, as it comes out.
+    /// On each side, the one that applies.
     pub padding: Insets,
     pub min: Size,
     pub weight_sum: u32,
@@ -86,7 +86,7 @@ impl Line {
         spec_on(!self.vertical(), self.ws, self.hs)
     }
 
-    /// Whether the breadth of the group is told.
+    /// Whether the breadth of the group is given.
     pub fn is_exact_beside(&self) -> bool
         ensures { result ≡ is_exact_beside (own_in self.now) (specs_in self.now) }
     {
@@ -107,7 +107,7 @@ impl Line {
         dim_on(!self.vertical(), kid) == MATCH
     }
 
-    /// The spec of a child beside the line.
+    /// The spec of a child across the line.
     pub fn kid_spec_beside(&self, kid: &Facts) -> Spec
         ensures { result ≡ spec_beside (own_in self.now) (specs_in self.now) (layout_facts kid.now) }
     {

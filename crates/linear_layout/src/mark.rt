@@ -25,7 +25,7 @@ impl Mark {
         Mark { count: 0, at }
     }
 
-    /// Behind one child more, of this size and with both these margins.
+    /// The place after one child more, of this size and with both these margins.
     pub fn past(self, size: i32, margins: i64) -> Mark
         requires low { negsuc 4294967295 ≤ℤ margins }
         requires high { margins ≤ℤ pos 4294967294 }

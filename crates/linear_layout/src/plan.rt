@@ -17,7 +17,7 @@ use crate::weight_pass::WeightPass;
 use geom_core::{Size, Spec};
 use view_model::Facts;
 
-/// Where a measuring is.
+/// The phase of a measuring.
 #[derive(Clone, Copy, Debug)]
 pub enum Phase {
     First,
@@ -26,8 +26,8 @@ pub enum Phase {
     Uniform(Option<WeightPass>),
 }
 
-/// The measuring of one linear layout. In each phase the children that take part in layout are handed in in order:
-/// `ask`, measuring, `take`; `turn` ends it. What these three work with leaves the stack before what is below is measured.
+/// The measuring of one linear layout. In each phase the children that take part in layout are passed in order: `ask`,
+/// measuring, `take`; `turn` ends it. The locals of these three leave the stack before what is below is measured.
 #[derive(Clone, Copy, Debug)]
 pub struct LinearPlan {
     line: Line,
@@ -53,8 +53,8 @@ impl LinearPlan {
         }
     }
 
-    /// The specs of a child in this phase, or None where it is not measured in it. The size is the child's present
-    /// measured size, at which the first phase does not look.
+    /// The specs of a child in this phase, or `None` if it is not measured in it. The size is the child's present
+    /// measured size, which the first phase ignores.
     #[inline(never)]
     pub fn ask(&self, kid: &Facts, size: Size) -> Option<(Spec, Spec)>
         ensures { (own : FactsValue) (specs : Specs) (past : List (List Measured)) (taken : List Measured)
@@ -69,7 +69,7 @@ impl LinearPlan {
         }
     }
 
-    /// Takes the size that a child has got; where `ask` answered None, the one that was handed to it.
+    /// Takes the size that a child has got; if `ask` returned `None`, the one that was passed to it.
     #[inline(never)]
     pub fn take(&mut self, kid: &Facts, size: Size)
         ensures { (own : FactsValue) (specs : Specs) (past : List (List Measured)) (taken : List Measured)
@@ -88,7 +88,7 @@ impl LinearPlan {
         }
     }
 
-    /// Ends a phase: true where another follows.
+    /// Ends a phase: true if another follows.
     #[inline(never)]
     pub fn turn(&mut self) -> bool
         ensures { (own : FactsValue) (specs : Specs) (past : List (List Measured)) (taken : List Measured)
@@ -108,7 +108,7 @@ impl LinearPlan {
         }
     }
 
-    /// Goes on to the uniform pass, where that follows.
+    /// Goes on to the uniform pass, if that follows.
     fn turn_uniform(&mut self, weighed: Option<WeightPass>) -> bool
         ensures told { is_exact_beside (own_in self.old.line) (specs_in self.old.line) ≡ true → (result ≡ false) × (self.new ≡ self.old) }
         ensures untold { is_exact_beside (own_in self.old.line) (specs_in self.old.line) ≡ false
@@ -177,7 +177,7 @@ impl LinearPlan {
     }
 }
 
-/// The size with which a child counts in the first pass.
+/// The size that counts for a child in the first pass.
 fn counted(skipped: bool, size: Size) -> Size
     ensures { result ≡ (if skipped then record { w = pos 0; h = pos 0 } else size) }
 {

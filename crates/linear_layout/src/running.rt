@@ -1,4 +1,4 @@
-//! Running numbers of a pass, each with what bounds it. Once `MAX_VIEWS` children have come they stay as they are.
+//! Running numbers of a pass, each with its bounds. Once `MAX_VIEWS` children have come they stay as they are.
 ghost use Rattle.std.specs.Prelude.{◌≡◌, ℤ, pos, ◌+◌, ◌<◌, ◌≤◌, ◌*◌, ◌^◌, ◌+ℤ◌, ◌≤ℤ◌};
 ghost use Rattle.view_model.specs.LinearLayout.{greater};
 ghost use Rattle.view_model.specs.declared.limits.TheConstants.{MAX_VIEWS};

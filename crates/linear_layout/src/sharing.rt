@@ -10,9 +10,9 @@ use view_model::limits::MAX_VIEWS;
 pub struct Sharing {
     /// How many children have had their turn.
     pub count: usize,
-    /// What the weights of the others are counted against, in 256ths; below 0 where they are more than it was.
+    /// What the weights of the others are counted against, in 256ths; below 0 if they are more than it was.
     pub weight: i64,
-    /// Pixels; below 0 where the children are to get shorter.
+    /// Pixels; below 0 if the children are to get shorter.
     pub spare: i128,
     ghost few: { count ≤ MAX_VIEWS },
     ghost low: { neg_ℤ (pos (2 ^ 32 * count)) ≤ℤ weight },
@@ -77,8 +77,8 @@ fn share(whole: i64, spare: i128, weight: u32) -> i128
     }
 }
 
-/// What one number divided by another comes to, towards 0. A division of 64 bits takes a small part of the time of one of
-/// 128, and mostly serves.
+/// The quotient of one number by another, towards 0. A division of 64 bits takes a small part of the time of one of
+/// 128, and is mostly enough.
 fn quotient(product: i128, whole: i64) -> i128
     requires { pos 0 <ℤ whole }
     ensures { result ≡ int_div product whole }

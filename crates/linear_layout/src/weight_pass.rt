@@ -14,7 +14,7 @@ use crate::wide::wide_to_size;
 use geom_core::{Mode, Size, Spec};
 use view_model::Facts;
 
-/// What the children of the weight pass come to.
+/// The sums and maxima of the children of the weight pass.
 #[derive(Clone, Copy, Debug)]
 pub struct WeightPass {
     pub sharing: Sharing,
@@ -59,7 +59,7 @@ impl WeightPass {
         }
     }
 
-    /// The specs of a child of this size, or None where it has no weight.
+    /// The specs of a child of this size, or `None` if it has no weight.
     pub fn ask(&self, line: &Line, kid: &Facts, size: Size) -> Option<(Spec, Spec)>
         ensures { (first kids : List Measured)
             → IsWeightPass self.now (own_in line.now) (specs_in line.now) first kids

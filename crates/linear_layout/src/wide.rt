@@ -1,4 +1,4 @@
-//! Numbers of 128 bits on their way to sizes and coordinates.
+//! Numbers of 128 bits that are brought into the ranges of sizes and coordinates.
 ghost use Rattle.std.specs.Prelude.{◌≡◌, pos, negsuc};
 ghost use Rattle.std.specs.Int.{int_max, int_min};
 ghost use Rattle.geom_core.specs.Limits.{IsCoordinate, IsSide, clamp_coordinate, clamp_size};

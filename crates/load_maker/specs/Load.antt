@@ -47,7 +47,7 @@ unfoldable pub margins_line : ℕ → ℕ → ℕ → List ℕ
 margins_line view across down =
     codes "margins v" ⧺ decimal view ⧺ codes " " ⧺ decimal across ⧺ codes " " ⧺ decimal down ⧺ codes " " ⧺ decimal across ⧺ codes " " ⧺ decimal down
 
--- a root with six children, in which the views lie
+-- a root with six children, which hold the views
 abbrev pub opening : ℕ → Load
 opening n = record {
   state = n;
@@ -107,17 +107,17 @@ with_frame step load =
     let framed = with_line load (codes "frame") in
     if step % 16 == 0 then with_line framed (codes "digest") else framed
 
--- an edit of one of so many views, and a frame
+-- an edit of one of n views, and a frame
 unfoldable pub with_step : ℕ → ℕ → Load → Load
 with_step views step load =
     drawing views load (λ view load. drawing 5 load (λ choice load. with_frame step (with_edit choice (8 + view) load)))
 
--- so many views more; seven are there before
+-- n views more; seven are there before
 abbrev pub with_views : ℕ → Load → Load
 with_views zero load = load
 with_views (suc k) load = with_view (8 + k) (with_views k load)
 
--- so many steps
+-- n steps
 abbrev pub with_steps : ℕ → ℕ → Load → Load
 with_steps views zero load = load
 with_steps views (suc k) load = with_step views (k + 1) (with_steps views k load)

@@ -1,4 +1,4 @@
--- How a load on its way and its lines belong together.
+-- How an unfinished load and its lines belong together.
 use Rattle.std.specs.Prelude.{◌≡◌, ℕ, false, List, ◌++◌}
 use Rattle.load_maker.specs.declared.making.Maker.{Maker}
 use Rattle.load_maker.specs.Load.{Load, text_of}

@@ -146,7 +146,7 @@ impl Maker {
         self.put(b"\n");
     }
 
-    /// An edit of one of so many views, and a frame.
+    /// An edit of one of `count` views, and a frame.
     pub fn step(&mut self, views: u64, step: u64)
         requires some { 0 < views }
         requires few { views < 2 ^ 40 }

@@ -1,5 +1,5 @@
-//! The load: a script that makes many views and edits them over many frames, always the same for a size. `making` has what a
-//! load is on its way, `tree` and `edits` its lines, and `writing` the whole of it.
+//! The load: a script that makes many views and edits them over many frames, always the same for a size. `making` has
+//! the unfinished load, `tree` and `edits` its lines, and `writing` the whole of it.
 #![tactic(auto)]
 
 mod edits;

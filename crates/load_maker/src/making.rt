@@ -1,4 +1,4 @@
-//! A load on its way.
+//! A load while it is made.
 
 ghost use Rattle.std.specs.Prelude.{◌≡◌, ◌<◌, decimal};
 ghost use Rattle.text_lines.specs.Hex.{hex_text};
@@ -8,8 +8,8 @@ ghost use Rattle.load_maker.specs.Made.{Puts};
 use itoa::Buffer;
 use text_lines::hex_digits;
 
-/// A load on its way: the state of its draws, and its text so far. Once there was no memory, nothing more is put, and `failed`
-/// reports it at the end.
+/// A load while it is made: the state of its draws, and its text so far. Once there was no memory, nothing more is put,
+/// and `failed` reports it at the end.
 #[derive(Debug, Drop)]
 pub struct Maker {
     pub state: u32,

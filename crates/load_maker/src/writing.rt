@@ -19,7 +19,7 @@ add v1 LinearLayout match wrap
 add v1 LinearLayout match wrap
 ";
 
-/// A load of this size so far as the lines that make the root and its six children.
+/// The unfinished load of this size: the lines that make the root and its six children.
 fn begun(alloc: Global, n: u32) -> Maker
     ensures { Makes result (opening n) }
 {

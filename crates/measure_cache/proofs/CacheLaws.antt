@@ -62,7 +62,7 @@ is_of-is entry specs e =
     let both = if_both (same_spec entry.ws specs.across) (same_spec entry.hs specs.down) e in
     of_both (specs_for entry) specs (same_spec-is _ _ both.0) (same_spec-is _ _ both.1)
 
--- the answer is of an entry, or was there before
+-- the result is that of an entry, or was there before
 found_after-some : (before : Option Size) (cache : List Entry) (specs : Specs) (size : Size) → found_after before cache specs ≡ Some size
     → (found cache specs ≡ Some size) ⊎ (before ≡ Some size)
 found_after-some before [] specs size h = inr h
@@ -110,7 +110,7 @@ found-put_in cache entry specs size h =
     some_is : {A : Type 0} {x y : A} → Some x ≡ Some y → x ≡ y
     some_is e = cc
 
--- the last of the first entries decides, and else the ones before it
+-- the last of the first entries decides, otherwise the ones before it
 found-last_kept : (kept : List Kept) (place : ℕ) (unused : Kept) (specs : Specs) → place < length kept
     → found (map entry_of (take (place + 1) kept)) specs ≡ (if is_of (entry_of (get_or kept place unused)) specs then Some (get_or kept place unused).size else found (map entry_of (take place kept)) specs)
 found-last_kept kept place unused specs there =

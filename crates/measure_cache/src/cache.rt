@@ -15,7 +15,7 @@ pub struct Entry {
     pub size: Size,
 }
 
-/// An entry as it is kept: the two modes lie side by side, so that it takes 20 bytes and not 24.
+/// An entry as it is kept: the two modes are side by side, so that it takes 20 bytes and not 24.
 #[derive(Clone, Copy, Debug, PartialEq, Eq)]
 struct Kept {
     across: i32,
@@ -82,7 +82,7 @@ impl Cache {
         None
     }
 
-    /// Keeps a size for these specs, as the newest; where eight are kept already, the oldest of them goes.
+    /// Keeps a size for these specs, as the newest; if eight are kept already, the oldest of them is dropped.
     pub fn put(&mut self, ws: Spec, hs: Spec, size: Size)
         ensures { self.new ≡ put_in self.old (record { ws = ws; hs = hs; size = size }) }
     {

@@ -4,7 +4,7 @@ use Rattle.std.proofs.lemmas.Bool.{cases_lt}
 use Rattle.std.proofs.lemmas.Bool.Decides.{nat_tests}
 use Rattle.std.proofs.lemmas.List.{length-map}
 use Rattle.std.specs.Option.{option_and_then, option_map}
-use Rattle.std.specs.Prelude.{◌==◌, if◌then◌else◌, slice_index_or}
+use Rattle.std.specs.Prelude.{ℤ, ◌==◌, if◌then◌else◌, slice_index_or}
 use Rattle.measure_pass.specs.Siblings.{IsKidAt, edge_on, first_child, first_span, kept_spans, kids_in}
 use Rattle.measure_pass.proofs.Places.{kid_at}
 use Rattle.measure_pass.proofs.SiblingTurns.{links_same}
@@ -19,7 +19,7 @@ use Rattle.view_model.specs.Course.{Child}
 use Rattle.view_model.specs.Facts.{is_shown, layout_facts}
 use Rattle.view_model.specs.Forest.{Forest, Nothing, Branch, count_of}
 use Rattle.view_model.specs.RelativeCourse.{anchor_by, anchor_with, child_at, link_of, links_of}
-use Rattle.view_model.specs.RelativeLayout.{span_or_none, tied_on}
+use Rattle.view_model.specs.RelativeLayout.{span_or_none, near_margin, far_margin}
 use Rattle.view_model.specs.SiblingRules.{anchor_id, anchor_of, anchor_within, last_with_id, named_sibling, nobody, other_than, shown_or}
 use Rattle.view_model.specs.Cycles.{links_in}
 use Rattle.view_tree.specs.Rows.{Row, children_of_first, count_of_key, first_key, head_view, part_from, siblings_from, views_of}
@@ -181,21 +181,24 @@ pub record AnchorWalk (tree list : Forest Row) (shown : ℕ → Bool) (named : �
   pub same : anchor_within left shown named here ≡ anchor
 
 -- what an axis reads of facts
-pub tied_same : (axis : Axis) (facts : Facts) → tied_on axis (layout_facts facts) ≡ tied_on axis facts
-tied_same Horizontal facts = refl
-tied_same Vertical facts = refl
+abbrev pub margins_of : Axis → Facts → ℤ × ℤ
+margins_of axis facts = (near_margin axis facts, far_margin axis facts)
+
+pub margins_same : (axis : Axis) (facts : Facts) → margins_of axis (layout_facts facts) ≡ margins_of axis facts
+margins_same Horizontal facts = refl
+margins_same Vertical facts = refl
 
 -- the sibling that a child names, by its key
-pub named_by : (tree : Forest Row) (view kid place : ℕ) (axis : Axis) (tie : Tie) (id : ℕ) (found : Option ℕ) → 0 < count_of_key view tree → 0 < count_of_key kid tree
+pub named_by : (tree : Forest Row) (view kid place : ℕ) (rtl : Bool) (axis : Axis) (tie : Tie) (id : ℕ) (found : Option ℕ) → 0 < count_of_key view tree → 0 < count_of_key kid tree
     → ((key : ℕ) → count_of_key key tree ≤ 1)
     → (let list = children_of_first (part_from view tree) in
     part_from kid tree ≡ siblings_from place list
-    → id ≡ anchor_id axis tie (head_view (part_from kid tree)).facts.rules
+    → id ≡ anchor_id rtl axis tie (head_view (part_from kid tree)).facts.rules
     → found ≡ option_and_then (λ place. first_key (siblings_from place list)) (last_with_id (links_in (views_of list)) id)
-    → IsKidAt tree list (last_with_id (links_of (kids_in list)) (anchor_id axis tie (slice_index_or (links_of (kids_in list)) place nobody).rules)) found)
-named_by tree view kid place axis tie id found live alive once part id_is is =
+    → IsKidAt tree list (last_with_id (links_of (kids_in list)) (anchor_id rtl axis tie (slice_index_or (links_of (kids_in list)) place nobody).rules)) found)
+named_by tree view kid place rtl axis tie id found live alive once part id_is is =
     let list = children_of_first (part_from view tree) in
-    subst (λ id. IsKidAt tree list (last_with_id (links_of (kids_in list)) id) found) (id_is ∙ ap (anchor_id axis tie) (sym (rules_at tree list kid place alive part)))
+    subst (λ id. IsKidAt tree list (last_with_id (links_of (kids_in list)) id) found) (id_is ∙ ap (anchor_id rtl axis tie) (sym (rules_at tree list kid place alive part)))
     (last_kid tree view id found live once is)
 
 pub named_none : (tree list : Forest Row) (place : ℕ) (last : Option ℕ) → IsKidAt tree list last None → IsKidAt tree list (other_than place last) None
@@ -216,12 +219,12 @@ named_other tree list place (Some named) kid other live part ne h =
     subst (λ found. IsKidAt tree list found (Some other)) (sym (other_stays place named apart)) h
 
 -- a step of the walk
-pub walk_start : (tree list : Forest Row) (kids : List Child) (axis : Axis) (tie : Tie) (kid place left : ℕ) → left ≡ length kids → part_from kid tree ≡ siblings_from place list
-    → AnchorWalk tree list (λ sibling. is_shown (child_at kids sibling).facts) (named_sibling axis tie (links_of kids)) (anchor_of axis tie (links_of kids) (λ sibling. is_shown (child_at kids sibling).facts) place) kid left
-walk_start tree list kids axis tie kid place left size part = record {
+pub walk_start : (tree list : Forest Row) (kids : List Child) (rtl : Bool) (axis : Axis) (tie : Tie) (kid place left : ℕ) → left ≡ length kids → part_from kid tree ≡ siblings_from place list
+    → AnchorWalk tree list (λ sibling. is_shown (child_at kids sibling).facts) (named_sibling rtl axis tie (links_of kids)) (anchor_of rtl axis tie (links_of kids) (λ sibling. is_shown (child_at kids sibling).facts) place) kid left
+walk_start tree list kids rtl axis tie kid place left size part = record {
   here = place;
   part = part;
-  same = ap (λ left. anchor_within left (λ sibling. is_shown (child_at kids sibling).facts) (named_sibling axis tie (links_of kids)) place)
+  same = ap (λ left. anchor_within left (λ sibling. is_shown (child_at kids sibling).facts) (named_sibling rtl axis tie (links_of kids)) place)
       (size ∙ sym (length-map kids (λ (kid : Child). link_of kid.facts)));
 }
 
@@ -255,18 +258,18 @@ walk_end tree list shown named anchor at left w none =
     subst (λ anchor. IsKidAt tree list anchor None) (sym (ap (λ left. anchor_within left shown named w.here) none) ∙ w.same) tt
 
 -- an anchor with its sides
-pub anchor_none : (tree list : Forest Row) (axis : Axis) (held : ℕ → Held) (tie : Tie) (place : ℕ)
-    → IsKidAt tree list (anchor_of axis tie (links_of (kids_in list)) (λ sibling. is_shown (child_at (kids_in list) sibling).facts) place) None
-    → None ≡ anchor_by axis (kids_in list) (kept_spans axis held list) tie place
-anchor_none tree list axis held tie place h =
+pub anchor_none : (tree list : Forest Row) (rtl : Bool) (axis : Axis) (held : ℕ → Held) (tie : Tie) (place : ℕ)
+    → IsKidAt tree list (anchor_of rtl axis tie (links_of (kids_in list)) (λ sibling. is_shown (child_at (kids_in list) sibling).facts) place) None
+    → None ≡ anchor_by rtl axis (kids_in list) (kept_spans axis held list) tie place
+anchor_none tree list rtl axis held tie place h =
     sym (ap (option_map (λ sibling. anchor_with axis (child_at (kids_in list) sibling).facts (kept_spans axis held list sibling))) (kid_none tree list _ h))
 
-pub anchor_some : (tree list : Forest Row) (axis : Axis) (held : ℕ → Held) (tie : Tie) (place key : ℕ) (anchor : Anchor)
-    → IsKidAt tree list (anchor_of axis tie (links_of (kids_in list)) (λ sibling. is_shown (child_at (kids_in list) sibling).facts) place) (Some key)
+pub anchor_some : (tree list : Forest Row) (rtl : Bool) (axis : Axis) (held : ℕ → Held) (tie : Tie) (place key : ℕ) (anchor : Anchor)
+    → IsKidAt tree list (anchor_of rtl axis tie (links_of (kids_in list)) (λ sibling. is_shown (child_at (kids_in list) sibling).facts) place) (Some key)
     → anchor ≡ anchor_with axis (layout_facts (head_view (part_from key tree)).facts) (first_span axis held (part_from key tree))
-    → Some anchor ≡ anchor_by axis (kids_in list) (kept_spans axis held list) tie place
-anchor_some tree list axis held tie place key anchor h is =
-    let at = anchor_of axis tie (links_of (kids_in list)) (λ sibling. is_shown (child_at (kids_in list) sibling).facts) place in
+    → Some anchor ≡ anchor_by rtl axis (kids_in list) (kept_spans axis held list) tie place
+anchor_some tree list rtl axis held tie place key anchor h is =
+    let at = anchor_of rtl axis tie (links_of (kids_in list)) (λ sibling. is_shown (child_at (kids_in list) sibling).facts) place in
     let k = kid_some tree list at key h in
     let same : anchor ≡ anchor_with axis (child_at (kids_in list) k.place).facts (kept_spans axis held list k.place) =
     is ∙ ap (λ (facts : Facts). anchor_with axis facts (first_span axis held (part_from key tree))) (sym (facts_at tree list key k.place k.live k.part))
@@ -279,13 +282,13 @@ span_at_key axis tree key held live =
     let x = located key tree live in
     rw x.is (ap (λ key. span_or_none (edge_on axis (held key).state.edges)) x.key_is)
 
--- a child whose rule names nobody has no anchor
-pub unnamed : (tree list : Forest Row) (kid place : ℕ) (axis : Axis) (held : ℕ → Held) (tie : Tie) (id : ℕ) → 0 < count_of_key kid tree → part_from kid tree ≡ siblings_from place list
-    → id ≡ anchor_id axis tie (head_view (part_from kid tree)).facts.rules → id ≡ 0
-    → None ≡ anchor_by axis (kids_in list) (kept_spans axis held list) tie place
-unnamed tree list kid place axis held tie id alive part id_is none_is =
+-- a child whose rule names no sibling has no anchor
+pub unnamed : (tree list : Forest Row) (kid place : ℕ) (rtl : Bool) (axis : Axis) (held : ℕ → Held) (tie : Tie) (id : ℕ) → 0 < count_of_key kid tree → part_from kid tree ≡ siblings_from place list
+    → id ≡ anchor_id rtl axis tie (head_view (part_from kid tree)).facts.rules → id ≡ 0
+    → None ≡ anchor_by rtl axis (kids_in list) (kept_spans axis held list) tie place
+unnamed tree list kid place rtl axis held tie id alive part id_is none_is =
     let links = links_of (kids_in list) in
     let shown : ℕ → Bool = λ sibling. is_shown (child_at (kids_in list) sibling).facts in
-    let none : named_sibling axis tie links place ≡ None =
-    subst (λ id. other_than place (last_with_id links id) ≡ None) (sym none_is ∙ id_is ∙ ap (anchor_id axis tie) (sym (rules_at tree list kid place alive part))) refl in
-    anchor_none tree list axis held tie place (subst (λ at. IsKidAt tree list at None) (sym (within_none (length links) shown (named_sibling axis tie links) place none)) tt)
+    let none : named_sibling rtl axis tie links place ≡ None =
+    subst (λ id. other_than place (last_with_id links id) ≡ None) (sym none_is ∙ id_is ∙ ap (anchor_id rtl axis tie) (sym (rules_at tree list kid place alive part))) refl in
+    anchor_none tree list rtl axis held tie place (subst (λ at. IsKidAt tree list at None) (sym (within_none (length links) shown (named_sibling rtl axis tie links) place none)) tt)

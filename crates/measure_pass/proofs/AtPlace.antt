@@ -12,7 +12,7 @@ use Rattle.view_tree.specs.Rows.{Row, count_of_key, first_tree, later_siblings, 
 use Rattle.view_tree.specs.Views.{Held, KeepsInside, KeepsOutside}
 use Rattle.view_tree.proofs.forest.Walks.{KeepsInside-rest, count_of_key-parts}
 
--- the first tree is the same where the tree of a later place changes
+-- the first tree is the same if the tree of a later place changes
 first_same : (old new : ℕ → Held) (place : ℕ) (list : Forest Row) → ((key : ℕ) → count_of_key key list ≤ 1)
     → KeepsOutside old new (first_tree (siblings_from place (later_siblings list))) → KeepsInside old new (first_tree list)
 first_same old new place list once others = λ key here.

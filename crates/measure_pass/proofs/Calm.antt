@@ -73,7 +73,7 @@ pub Reached-loose : (held : ℕ → Held) (up : Bool) (list : Forest Row) → Re
 Reached-loose held up Nothing k = tt
 Reached-loose held up (Branch row kids siblings) k = (λ h. ((k.0 h).0, refl), k.1, k.2, Reached-loose held up siblings k.3)
 
--- what is below a shown view is ready where the view is
+-- what is below a shown view is ready if the view is
 pub Ready-below : (held : ℕ → Held) (list : Forest Row) → is_shown (head_view list).facts ≡ true → Ready held (first_tree list) → Ready held (children_of_first list)
 Ready-below held Nothing here h = h
 Ready-below held (Branch row kids siblings) here h = record {

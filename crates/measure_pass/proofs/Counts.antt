@@ -13,7 +13,7 @@ use Rattle.view_tree.proofs.forest.Walks.{KeepsInside-first, KeepsInside-rest}
 pub costs_nothing : (list : Forest Row) (held : ℕ → Held) (count : ℕ) → Costs list held held count 0 count
 costs_nothing list held count = record { spent = omega arith; owing = omega arith }
 
--- as many calls, otherwise written
+-- the same number of calls, written differently
 pub costs_same : (list : Forest Row) (before held : ℕ → Held) (old calls all new : ℕ) → all ≡ calls → Costs list before held old calls new
     → Costs list before held old all new
 costs_same list before held old calls all new is c = let s = c.spent in let o = c.owing in record { spent = omega arith; owing = omega arith }

@@ -1,4 +1,4 @@
--- What is said of kept views depends on what is kept with them alone, and is said of the first one and of the others.
+-- What holds of kept views depends only on what is kept with them, and holds of the first one and of the others.
 use Rattle.std.proofs.Common.{◌≡◌, ℕ, ◌+◌, Bool, true, List, [], arith, ◌∙◌, sym, refl, subst}
 use Rattle.kept_views.specs.Kept.{Around, HiddenView, Kept, Reached, Ready, ShownView, inside, last_places, loose, owed}
 use Rattle.kept_views.proofs.KeptFrames.{in_range-along}

@@ -1,5 +1,5 @@
--- What measuring wants of a rule: that it measures every child that takes part in layout, and never looks at a size of
--- an earlier measuring; and general halves of that.
+-- What measuring requires of a rule: that it measures every child that takes part in layout, and never looks at a size
+-- of an earlier measuring; and general halves of that.
 use Rattle.std.proofs.Common.{◌≡◌, Bool, true, false, Option, Some, None, List, [], ◌∷◌, ◌++◌, ap, ◌∙◌, sym, refl}
 use Rattle.std.specs.Prelude.{pos, if◌then◌else◌}
 use Rattle.std.specs.Option.{is_some}

@@ -1,4 +1,4 @@
--- The rule of each class is lawful: one arm a class.
+-- The rule of each class is lawful, one arm per class.
 use Rattle.std.proofs.Common.{◌≡◌, ℕ, ℤ, Bool, List, subst}
 use Rattle.geom_core.proofs.Sides.{default_size_of-is_side, resolve_of-is_side}
 use Rattle.geom_core.specs.Limits.{IsSide}
@@ -26,7 +26,7 @@ text_height-is_side : (own : Facts) (text : List ℕ) (spec : Spec) (width : ℤ
 unfolding text_height
 text_height-is_side own text spec width = resolve_of-is_side _ spec
 
--- so is a view that measures in this manner, as far as it goes by a rule
+-- so is a view that measures in this manner, if it measures by a rule
 abbrev pub IsLawfulIn : Bool → Manner → Type 0
 IsLawfulIn group (ByRule rule) = IsLawful group rule
 IsLawfulIn group BySiblings = Unit {0}

@@ -1,5 +1,5 @@
--- The law of a linear layout: where the first pass leaves a child out, the weight pass runs and asks for it, and does
--- not look at its size.
+-- The law of a linear layout: if the first pass leaves a child out, the weight pass runs and asks for it, and does not
+-- look at its size.
 use Rattle.std.proofs.Common.{◌≡◌, ℕ, Bool, true, false, inl, inr, Option, Some, None, List, [], ◌∷◌, ◌++◌, ap, ◌∙◌, sym, refl, arith}
 use Rattle.std.proofs.lemmas.Bool.{cases_Bool}
 use Rattle.std.proofs.lemmas.Bool.Decides.{nat_tests}
@@ -60,7 +60,7 @@ any_more p true m more none = second (p m) none
     second false e = e
 any_more p false m more none = none
 
--- where none was passed over, all were asked
+-- if no child was passed over, all were asked
 all_but : (skip : Facts → Bool) (kids : List Requested) → AskedBut skip kids → list_any (λ (kid : Measured). skip kid.facts) (sizes_of kids) ≡ false → AllAsked kids
 all_but skip [] but none = tt
 all_but skip (kid ∷ kids) but none = (

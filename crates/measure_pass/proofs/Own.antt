@@ -1,4 +1,4 @@
--- What becomes of a view that is measured: it stays, its size is taken from its cache, or what is below it is measured.
+-- A view that is measured: it stays, its size is taken from its cache, or what is below it is measured.
 use Rattle.std.proofs.Common.{◌≡◌, ◌≢◌, ℤ, ℕ, ◌+◌, ◌<◌, ◌≤◌, Bool, true, false, Some, None, List, [], ◌∷◌, arith, ap, ◌∙◌, sym, refl, subst, inl, inr}
 use Rattle.std.specs.Prelude.{if◌then◌else◌}
 use Rattle.std.proofs.lemmas.Bool.{cases_eq}

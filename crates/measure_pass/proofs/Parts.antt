@@ -1,4 +1,4 @@
--- What is said of a list of views: it depends on these views alone, and is said of the first one and of the others.
+-- What holds of a list of views: it depends on these views alone, and holds of the first one and of the others.
 use Rattle.std.proofs.Common.{◌≡◌, ℕ, ◌+◌, false, List, [], ◌∷◌, ◌++◌, append_assoc, arith, ap, ◌∙◌, sym, refl, subst}
 use Rattle.std.specs.Prelude.{Option}
 use Rattle.std.proofs.lemmas.List.{append-nil}

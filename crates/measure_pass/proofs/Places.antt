@@ -44,12 +44,12 @@ apart key list place other ne once here = elim (cases_lt place other) [
   | inr le ↦ let both = apart_from key list other place (omega arith) in omega arith
 ]
 
--- what is kept of the tree of one place stays where that of another is written
+-- what is kept of the tree of one place stays if that of another is written
 pub still_there : (old new : ℕ → Held) (list : Forest Row) (place other : ℕ) → ((key : ℕ) → count_of_key key list ≤ 1) → place ≢ other
     → KeepsOutside old new (first_tree (siblings_from other list)) → KeepsInside old new (first_tree (siblings_from place list))
 still_there old new list place other once ne others = λ key here. others key (apart key list place other ne (once key) here)
 
--- and with it what is said of its view
+-- and with it what holds of its view
 pub FirstHasEdges-along : (old new : ℕ → Held) (specs : Specs) (edges : Edges) (list : Forest Row) → KeepsInside old new (first_tree list)
     → FirstHasEdges old specs edges list → FirstHasEdges new specs edges list
 FirstHasEdges-along old new specs edges Nothing same h = tt

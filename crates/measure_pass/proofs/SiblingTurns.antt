@@ -88,7 +88,7 @@ kept_over Vertical own specs held list place over here =
     let phase = phase_of Vertical own specs (kids_in list) in
     kept_first Vertical held (phase.asks place) (phase.before place) (phase.spans place) (siblings_from place list) (ap (λ (kid : Child). is_shown kid.facts) (sym (kid_at list place)) ∙ here) over
 
--- so that all is known where a turn comes
+-- so that everything is known when a turn comes
 pub turn_fixed : (axis : Axis) (own : Facts) (specs : Specs) (held : ℕ → Held) (list : Forest Row) (orders : PlainOrders) (p : ℕ) → AreOrders (links_in (views_of list)) orders
     → p < length (order_on axis orders)
     → ((q : ℕ) → q < p → TurnIsOver (phase_of axis own specs (kids_in list)) held list (get_or (order_on axis orders) q 0))
@@ -98,7 +98,7 @@ turn_fixed Horizontal own specs held list orders p are inside over =
     let phase = phase_of Horizontal own specs (kids_in list) in
     record {
       fixed = spans_across-fixed own specs (kids_in list) orders.across is p inside;
-      anchored = anchors_same Horizontal (kids_in list) orders.across is (kept_spans Horizontal held list) phase.spans p inside (λ q before here.
+      anchored = anchors_same own.rtl Horizontal (kids_in list) orders.across is (kept_spans Horizontal held list) phase.spans p inside (λ q before here.
           kept_over Horizontal own specs held list (get_or orders.across q 0) (over q before) here);
     }
 turn_fixed Vertical own specs held list orders p are inside over =
@@ -106,7 +106,7 @@ turn_fixed Vertical own specs held list orders p are inside over =
     let phase = phase_of Vertical own specs (kids_in list) in
     record {
       fixed = spans_down-fixed own specs (kids_in list) phase-across orders.down is p inside;
-      anchored = anchors_same Vertical (kids_in list) orders.down is (kept_spans Vertical held list) phase.spans p inside (λ q before here.
+      anchored = anchors_same own.rtl Vertical (kids_in list) orders.down is (kept_spans Vertical held list) phase.spans p inside (λ q before here.
           kept_over Vertical own specs held list (get_or orders.down q 0) (over q before) here);
     }
   where
@@ -119,7 +119,7 @@ no_axis e = absurd (cc)
 
 pub asked_is : (axis : Axis) (past : List (List Spanned)) (own : Facts) (specs : Specs) (kids : List Child) (place : ℕ) (facts : Facts) (edges : Edges) (anchors : Anchors)
     → phase_axis past ≡ axis → facts ≡ (child_at kids place).facts → edges ≡ (phase_of axis own specs kids).before place
-    → anchors ≡ anchors_by axis kids (phase_of axis own specs kids).spans place
+    → anchors ≡ anchors_by own.rtl axis kids (phase_of axis own specs kids).spans place
     → phase_specs own specs past facts edges anchors ≡ (phase_of axis own specs kids).asks place
 asked_is Horizontal [] own specs kids place facts edges anchors is same known tied = rw (same, tied) refl
 asked_is Vertical [] own specs kids place facts edges anchors is same known tied = no_axis is
@@ -127,7 +127,7 @@ asked_is Horizontal (first ∷ more) own specs kids place facts edges anchors is
 asked_is Vertical (first ∷ more) own specs kids place facts edges anchors is same known tied = rw (same, known, tied) refl
 
 pub span_is : (axis : Axis) (past : List (List Spanned)) (own : Facts) (specs : Specs) (kids : List Child) (place : ℕ) (facts : Facts) (anchors : Anchors) (size : Size)
-    → phase_axis past ≡ axis → facts ≡ (child_at kids place).facts → anchors ≡ anchors_by axis kids (phase_of axis own specs kids).spans place
+    → phase_axis past ≡ axis → facts ≡ (child_at kids place).facts → anchors ≡ anchors_by own.rtl axis kids (phase_of axis own specs kids).spans place
     → size ≡ (child_at kids place).measure ((phase_of axis own specs kids).asks place)
     → (phase_of axis own specs kids).spans place ≡ step_on axis own specs kids (phase_of axis own specs kids).spans place
     → span_on (phase_axis past) own specs facts anchors size ≡ (phase_of axis own specs kids).spans place
@@ -149,7 +149,7 @@ edges_kept mid held row kids specs edges once here sized last w =
       sides = rw w.at refl;
     }
 
--- a walk over the children of a relative layout in the turns of an order, of which so many are over
+-- a walk over the children of a relative layout in the turns of an order, of which n are over
 pub record Turning (plan : RelativePlan) (axis : Axis) (own : Facts) (specs : Specs) (past : List (List Spanned)) (order : List ℕ) (turn : ℕ) (start now : ℕ → Held) (list : Forest Row)
     (old count : ℕ) : Type 0 where
   pub plan_stands : StandsRelative plan own specs past (spanned_in (kids_in list) (phase_of axis own specs (kids_in list)).spans (take turn order))
@@ -273,7 +273,7 @@ module _ (axis : Axis) (own : Facts) (specs : Specs) (past : List (List Spanned)
       → phase_axis past ≡ axis → TurnIsFixed axis own specs (kids_in list) (kept_spans axis before list) place
       → is_shown row.view.facts ≡ true → facts ≡ layout_facts row.view.facts
       → edges ≡ (phase_of axis own specs (kids_in list)).before place
-      → anchors ≡ anchors_by axis (kids_in list) (kept_spans axis before list) place
+      → anchors ≡ anchors_by own.rtl axis (kids_in list) (kept_spans axis before list) place
       → pair_of asked ≡ pair_of (phase_specs own specs past facts edges anchors)
       → size ≡ measured_size row.view (views_of below) asked
       → Sized mid (Branch row below Nothing) → specs_of (mid row.key).state ≡ asked
@@ -288,7 +288,7 @@ module _ (axis : Axis) (own : Facts) (specs : Specs) (past : List (List Spanned)
       let kids = kids_in list in
       let phase = phase_of axis own specs kids in
       let same : facts ≡ (child_at kids place).facts = facts_are ∙ ap (λ (kid : Child). kid.facts) (sym kid_here) in
-      let tied : anchors ≡ anchors_by axis kids phase.spans place = anchored ∙ fixed.anchored in
+      let tied : anchors ≡ anchors_by own.rtl axis kids phase.spans place = anchored ∙ fixed.anchored in
       let asked_same : asked ≡ phase.asks place = pairs_same asked (phase_specs own specs past facts edges anchors) asks ∙ asked_is axis past own specs kids place facts edges anchors is same known tied in
       let size_same : size ≡ (child_at kids place).measure (phase.asks place) =
       measured ∙ ap (measured_size row.view (views_of below)) asked_same ∙ ap (λ (kid : Child). kid.measure (phase.asks place)) (sym kid_here) in
@@ -311,7 +311,7 @@ module _ (axis : Axis) (own : Facts) (specs : Specs) (past : List (List Spanned)
             (λ other is. (ap (λ (kid : Child). is_shown kid.facts) kid_here ∙ here, is ∙ asked_same)) caches);
       }
 
--- what the second phase goes by is what the first has left
+-- what the second phase uses is what the first has left
 first_known : (held : ℕ → Held) (specs : Specs) (edges : Edges) (part : Forest Row) → FirstHasEdges held specs edges part → FirstIsKnown Vertical held edges part
 first_known held specs edges Nothing h = tt
 first_known held specs edges (Branch row kids siblings) h = λ here. (h here).sides
@@ -347,7 +347,7 @@ once_below view tree live once key =
     let all : count_of_key key (Branch x.row x.kids x.siblings) ≤ 1 = rw x.is at (once_from tree view once live key) in
     rw x.is (omega arith)
 
--- a child that is moved to where it lies in the end
+-- a child that is moved to its final place
 pub moved_row : (row : Row) (kids siblings : Forest Row) (old new : ℕ → Held) (own : Facts) (specs asked : Specs) (room : Size) (edges : Edges) (rect : Rect)
     → count_of_key row.key (Branch row kids Nothing) ≤ 1
     → rect ≡ final_rect own specs room (layout_facts row.view.facts) (old row.key).state.edges (old row.key).state.measured
@@ -417,7 +417,7 @@ not_in key kid tree live none same =
     let none : count_of_key key (Branch x.row x.kids Nothing) ≡ 0 = rw x.is at none in
     not_own x.row x.kids Nothing key none (same ∙ sym x.key_is)
 
--- a child whose turns are over, moved to where it lies in the end
+-- a child whose turns are over, moved to its final place
 pub settled_here : (own : Facts) (specs : Specs) (list : Forest Row) (place : ℕ) (held : ℕ → Held) (room : Size) → room ≡ (arranged own specs (kids_in list)).size
     → (let high = phase_of Vertical own specs (kids_in list) in
     let edges = edges_with Vertical (high.spans place) (high.before place) in

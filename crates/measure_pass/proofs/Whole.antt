@@ -98,7 +98,7 @@ ends_at_0 group left progress none = ap (λ left. phases_on left (rule_in group)
 pub ends_here : (group : Group) (left : ℕ) (progress : Progress) → (rule_in group).turns progress.past ≡ false → phases_on left (rule_in group) progress ≡ progress
 ends_here group left progress over = phases_stop left (rule_in group) progress over
 
--- after a phase and those that follow on it
+-- after a phase and those that follow it
 pub phases_more : (plan : Plan) (group : Group) (left : ℕ) (past : List (List Measured)) (kids : List Requested) (before mid held : ℕ → Held) (list : Forest Row) (answer : Size) (total : ℤ)
     (old between new : ℕ)
     → (let progress : Progress = record { past = past; kids = kids } in
@@ -151,7 +151,7 @@ pub asked_on : (ask : List Measured → Measured → Option Specs) (taken : List
 asked_on ask taken [] h = tt
 asked_on ask taken (kid ∷ kids) h = (asked_turn (is_shown kid.child.facts) (ask taken (measured_of kid)) kid h.0, asked_on ask (taken ++ size_in (after_turn ask taken kid)) kids h.1)
 
--- what each phase keeps of the children is so after all phases
+-- what each phase keeps of the children holds after all phases
 kept_through : (P : List Requested → Type 0)
     → ((ask : List Measured → Measured → Option Specs) (taken : List Measured) (kids : List Requested) → P kids → P (after_phase ask taken kids))
     → (left : ℕ) (rule : Rule) (progress : Progress) → P progress.kids → P (phases_on left rule progress).kids

@@ -48,7 +48,7 @@ asked_under (Branch row kids siblings) specs place other = AskedAt (course_under
 abbrev pub AskedBy : Row → Forest Row → (Specs → Type 0) → ℕ → Specs → Type 0
 AskedBy row kids ok place other = (specs : Specs) × ok specs × AskedAt (course_under row kids specs) place other
 
--- the caches of a list, where these pairs are good for the view at each place
+-- the caches of a list, if these pairs are good for the view at each place
 abbrev pub Grown : (ℕ → Specs → Type 0) → (ℕ → Held) → (ℕ → Held) → Forest Row → Type 0
 Grown ok old new Nothing = Unit {0}
 Grown ok old new (Branch row kids siblings) =

@@ -38,9 +38,9 @@ abbrev pub has_requests : List Specs → Bool
 has_requests [] = false
 has_requests (specs ∷ more) = true
 
--- a child whose turn comes: what its group asks, and with which size it is taken, are the same where it is given the
--- size that is kept of it, which is of an earlier measuring of the whole group where this one did not measure it so
--- far
+-- a child whose turn comes: what its group asks, and the size with which it is taken, are the same if the child is
+-- given the size that is kept of it, which is of an earlier measuring of the whole group if this one did not measure it
+-- so far
 pub record TurnIsKnown (rule : Rule) (past : List (List Measured)) (kid : Requested) : Type 0 where
   pub asked : (taken : List Measured) (present : Size) → (has_requests kid.requests ≡ true → present ≡ size_after kid.child kid.requests)
       → rule.ask past taken (record { facts = kid.child.facts; size = present }) ≡ rule.ask past taken (measured_of kid)
@@ -60,7 +60,7 @@ StaysReady rule zero progress = CanTurn rule progress.past progress.kids
 StaysReady rule (suc left) progress =
     CanTurn rule progress.past progress.kids × (rule.turns (one_phase rule progress).past ≡ true → StaysReady rule left (one_phase rule progress))
 
--- how many views are measured where a child gets these specs, if any
+-- how many views are measured if a child gets these specs, if any
 abbrev pub calls_for : Option Specs → Child → ℕ
 calls_for None kid = 0
 calls_for (Some specs) kid = kid.calls specs
@@ -98,11 +98,11 @@ pub record AfterPhase (plan : Plan) (group : Group) (past : List (List Measured)
   pub costs : Costs list before held old (phase_calls ((rule_in group).ask past) taken kids) new
   pub caches : Grown (AskedAt (after_phase ((rule_in group).ask past) taken kids)) before held list
 
--- what follows for the children of a group from phases that are over and the next one, up to so many more
+-- what follows for the children of a group from completed phases and the next one, up to n more
 abbrev pub from_here : Group → ℕ → Progress → Progress
 from_here group left progress = phases_on left (rule_in group) (one_phase (rule_in group) progress)
 
--- a group's whole measuring, from phases that are over
+-- a group's whole measuring, from completed phases
 pub record AfterAll (group : Group) (left : ℕ) (progress : Progress) (before held : ℕ → Held) (list : Forest Row) (answer : Size) (total : ℤ)
     (old new : ℕ) : Type 0 where
   pub size : answer ≡ (rule_in group).size (from_here group left progress).past

@@ -29,7 +29,7 @@ abbrev pub finals_under : Forest Row → Specs → List Specs
 finals_under Nothing specs = []
 finals_under (Branch row kids siblings) specs = final_specs row.view (views_of kids) specs
 
--- how many views are measured where it is
+-- how many views are measured for it
 abbrev pub calls_under : Forest Row → Specs → ℕ
 calls_under Nothing specs = 0
 calls_under (Branch row kids siblings) specs = measure_calls row.view (views_of kids) specs
@@ -39,13 +39,13 @@ abbrev pub edges_under : Forest Row → Specs → List (Option Rect)
 edges_under Nothing specs = []
 edges_under (Branch row kids siblings) specs = final_edges row.view (views_of kids) specs
 
--- what a view has to be so that it can be measured
+-- the conditions under which a view can be measured
 pub record IsReady (views : Views) (view : ℕ) : Type 0 where
   pub live : IsLive views view
   pub shown : is_shown (head_view (part_from view views.tree)).facts ≡ true
   pub ready : Ready (held_of views) (first_tree (part_from view views.tree))
 
--- and so that its children can be measured for its last specs
+-- and those under which its children can be measured for its last specs
 pub record IsFit (views : Views) (view : ℕ) : Type 0 where
   pub live : IsLive views view
   pub shown : is_shown (head_view (part_from view views.tree)).facts ≡ true
@@ -59,13 +59,13 @@ pub record IsMeasured (views : Views) (view : ℕ) (specs : Specs) : Type 0 wher
   pub sized : Sized (held_of views) (first_tree (part_from view views.tree))
   pub ready : Ready (held_of views) (first_tree (part_from view views.tree))
 
--- a measuring leaves where views lie, how far they have scrolled, and whether they are forced
+-- a measuring leaves the bounds of views, how far they have scrolled, and whether they are forced
 pub record Keeps (old new : ℕ → Held) : Type 0 where
   pub bounds : (key : ℕ) → (new key).state.bounds ≡ (old key).state.bounds
   pub offsets : (key : ℕ) → (new key).offset ≡ (old key).offset
   pub forced : (key : ℕ) → (new key).state.forced ≡ (old key).state.forced
 
--- nothing of what is kept of views is other, but their sides in a relative layout
+-- nothing that is kept of views changes except their sides in a relative layout
 abbrev pub KeepsAllButEdges : (ℕ → Held) → (ℕ → Held) → Type 0
 KeepsAllButEdges old new =
     (key : ℕ) → new key ≡ record (old key) { state = record (old key).state { edges = (new key).state.edges } }
@@ -105,8 +105,8 @@ pub record Costs (list : Forest Row) (before held : ℕ → Held) (old calls new
   pub spent : new ≤ old + calls
   pub owing : new + owed held list ≤ old + owed before list + calls
 
--- each measuring, of which there were so many at least, was counted both in the work and in the tree; a count stays at
--- the greatest number once it is there. Nothing else was
+-- each measuring, at least n of them, was counted both in the work and in the tree; a count stays at the greatest
+-- number once it is there. Nothing else was counted
 pub record Counted (least : ℕ) (before after : Views) (old new : Work) : Type 0 where
   pub by : ℕ
   pub enough : least ≤ by

@@ -52,7 +52,7 @@ pub record IsLeaf (view : PlainView) (specs : Specs) (size : Size) : Type 0 wher
   pub is : manner_of view specs ≡ ByRule (leaf_rule size)
   pub alone : is_group view.class ≡ false
 
--- a plan at the end of a phase: whether another follows, and then the plan is at its begin
+-- a plan at the end of a phase: whether another follows, and then the plan is at its start
 pub record Turned (plan : Plan) (group : Group) (past : List (List Measured)) (taken : List Measured) (answer : Bool) : Type 0 where
   pub answers : answer ≡ (rule_in group).turns (past ++ taken ∷ [])
   pub follows : answer ≡ true → Stands plan group (past ++ taken ∷ []) []

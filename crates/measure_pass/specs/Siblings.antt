@@ -1,5 +1,5 @@
 -- What is left with the children of a relative layout in the course of its measuring. They are measured out of order,
--- so that all is said of the child of a place.
+-- so that everything is stated of the child of a place.
 use Rattle.std.specs.Prelude.{◌≡◌, ℕ, ◌<◌, ℤ, true, false, if◌then◌else◌, List, [], ◌∷◌, ◌++◌, length, Option, Some, None, sum_by}
 use Rattle.geom_core.specs.Limits.{IsSide}
 use Rattle.geom_core.specs.declared.geometry.Rect.{Rect}
@@ -99,7 +99,7 @@ calls_in_turn phase kids place = if is_shown (child_at kids place).facts then (c
 abbrev pub asked_in : Phase → List Child → ℕ → Specs → Type 0
 asked_in phase kids place other = (is_shown (child_at kids place).facts ≡ true) × (other ≡ phase.asks place)
 
--- what a phase goes by is known of the first view of a list, if it takes part in layout: nothing in the first phase
+-- what a phase uses is known of the first view of a list, if it takes part in layout: nothing in the first phase
 abbrev pub FirstIsKnown : Axis → (ℕ → Held) → Edges → Forest Row → Type 0
 FirstIsKnown Horizontal held edges list = Unit {0}
 FirstIsKnown Vertical held edges Nothing = Unit {0}
@@ -111,16 +111,15 @@ FirstHasSize held Nothing = Unit {0}
 FirstHasSize held (Branch row kids siblings) =
     is_shown row.view.facts ≡ true → IsSide (held row.key).state.measured.w × IsSide (held row.key).state.measured.h
 
--- what a step makes of a child by the sides of its anchors, on an axis
+-- the result of a step for a child, given the sides of its anchors, on an axis
 abbrev pub step_on : Axis → Facts → Specs → List Child → (ℕ → ℤ × ℤ) → ℕ → ℤ × ℤ
 step_on Horizontal own specs kids = span_across own specs kids
 step_on Vertical own specs kids = span_down own specs kids (spans_across own specs kids)
 
--- where the turn of a child comes, its sides are what the step makes of them, and the kept sides of its anchors are
--- theirs
+-- when the turn of a child comes, its sides are the result of the step, and the kept sides of its anchors are theirs
 pub record TurnIsFixed (axis : Axis) (own : Facts) (specs : Specs) (kids : List Child) (kept : ℕ → ℤ × ℤ) (place : ℕ) : Type 0 where
   pub fixed : (phase_of axis own specs kids).spans place ≡ step_on axis own specs kids (phase_of axis own specs kids).spans place
-  pub anchored : anchors_by axis kids kept place ≡ anchors_by axis kids (phase_of axis own specs kids).spans place
+  pub anchored : anchors_by own.rtl axis kids kept place ≡ anchors_by own.rtl axis kids (phase_of axis own specs kids).spans place
 
 -- the order of an axis
 abbrev pub order_on : Axis → PlainOrders → List ℕ
@@ -152,7 +151,7 @@ pub record AfterTurns (plan : RelativePlan) (own : Facts) (specs : Specs) (past 
   pub costs : Costs list before held old (sum_by (calls_in_turn phase (kids_in list)) order) new
   pub caches : Grown (asked_in phase (kids_in list)) before held list
 
--- a key is that of the child of a place, where there is one
+-- a key is that of the child of a place, if there is one
 abbrev pub IsKidAt : Forest Row → Forest Row → Option ℕ → Option ℕ → Type 0
 IsKidAt tree list None None = Unit {0}
 IsKidAt tree list None (Some key) = ⊥

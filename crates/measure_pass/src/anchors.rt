@@ -10,43 +10,51 @@ ghost use Rattle.view_tree.specs.Rows.{children_of_first, head_view, part_from, 
 ghost use Rattle.view_tree.specs.Views.{IsLive, class_of, held_of, state_of};
 
 use crate::siblings::turns;
-use view_model::{Anchor, Anchors, Axis, Tie, Tied};
+use view_model::{Anchor, Anchors, Axis, Tie};
 use view_tree::{Key, ViewTree};
 
-/// The anchors of a child on an axis, with the sides that are kept of them. What the search works with leaves the stack
-/// before the child is measured.
+/// The anchors of a child on an axis, with the sides that are kept of them, in a group of this direction. What the search
+/// works with leaves the stack before the child is measured.
 #[inline(never)]
-pub fn anchors_of(tree: &ViewTree, view: Key, kid: Key, axis: Axis) -> Anchors
+pub fn anchors_of(tree: &ViewTree, view: Key, kid: Key, rtl: bool, axis: Axis) -> Anchors
     requires live { IsLive tree.now view }
     requires siblings { class_of tree.now view ≡ RelativeLayout }
     requires kid { IsLive tree.now kid }
     ensures { (place : ℕ) → part_from kid tree.now.tree ≡ siblings_from place (children_of_first (part_from view tree.now.tree))
-        → result ≡ anchors_by axis (kids_in (children_of_first (part_from view tree.now.tree)))
+        → result ≡ anchors_by rtl axis (kids_in (children_of_first (part_from view tree.now.tree)))
         (kept_spans axis (held_of tree.now) (children_of_first (part_from view tree.now.tree))) place }
 {
     Anchors {
-        before: anchor_of(tree, view, kid, axis, Tie::Before),
-        after: anchor_of(tree, view, kid, axis, Tie::After),
-        align_near: anchor_of(tree, view, kid, axis, Tie::AlignNear),
-        align_far: anchor_of(tree, view, kid, axis, Tie::AlignFar),
+        before: anchor_of(tree, view, kid, rtl, axis, Tie::Before),
+        after: anchor_of(tree, view, kid, rtl, axis, Tie::After),
+        align_near: anchor_of(tree, view, kid, rtl, axis, Tie::AlignNear),
+        align_far: anchor_of(tree, view, kid, rtl, axis, Tie::AlignFar),
     }
 }
 
-/// The anchor to which a child is tied so, if there is one. Most children have no such rule, which is seen without a
+/// The anchor to which such a rule ties a child, if there is one. Most children have no such rule, which is seen
+/// without a look-up.
 /// look-up.
-fn anchor_of(tree: &ViewTree, view: Key, kid: Key, axis: Axis, tie: Tie) -> Option<Anchor>
+fn anchor_of(
+    tree: &ViewTree,
+    view: Key,
+    kid: Key,
+    rtl: bool,
+    axis: Axis,
+    tie: Tie,
+) -> Option<Anchor>
     requires live { IsLive tree.now view }
     requires siblings { class_of tree.now view ≡ RelativeLayout }
     requires kid { IsLive tree.now kid }
     ensures { (place : ℕ) → part_from kid tree.now.tree ≡ siblings_from place (children_of_first (part_from view tree.now.tree))
-        → result ≡ anchor_by axis (kids_in (children_of_first (part_from view tree.now.tree)))
+        → result ≡ anchor_by rtl axis (kids_in (children_of_first (part_from view tree.now.tree)))
         (kept_spans axis (held_of tree.now) (children_of_first (part_from view tree.now.tree))) tie place }
 {
-    let id = tie.anchor_id(axis, &tree.facts(kid).rules);
+    let id = tie.anchor_id(rtl, axis, &tree.facts(kid).rules);
     if id == 0 {
         return None;
     }
-    match anchor_key(tree, view, kid, axis, tie) {
+    match anchor_key(tree, view, kid, rtl, axis, tie) {
         None => None,
         Some(anchor) => Some(anchor_with(tree, anchor, axis)),
     }
@@ -57,19 +65,19 @@ fn anchor_with(tree: &ViewTree, kid: Key, axis: Axis) -> Anchor
     requires { IsLive tree.now kid }
     ensures { result ≡ anchor_with axis (layout_facts (head_view (part_from kid tree.now.tree)).facts) (first_span axis (held_of tree.now) (part_from kid tree.now.tree)) }
 {
-    let tied = axis.tied(tree.facts(kid));
-    anchor_between(kept_span(tree, kid, axis), tied)
+    let margins = axis.margins(tree.facts(kid));
+    anchor_between(kept_span(tree, kid, axis), margins)
 }
 
-/// A sibling with these sides on an axis.
-fn anchor_between(span: (i32, i32), tied: Tied) -> Anchor
-    ensures { result ≡ record { near = span.0; far = span.1; margin_near = tied.margin_near; margin_far = tied.margin_far } }
+/// A sibling with these sides and margins on an axis.
+fn anchor_between(span: (i32, i32), margins: (i32, i32)) -> Anchor
+    ensures { result ≡ record { near = span.0; far = span.1; margin_near = margins.0; margin_far = margins.1 } }
 {
     Anchor {
         near: span.0,
         far: span.1,
-        margin_near: tied.margin_near,
-        margin_far: tied.margin_far,
+        margin_near: margins.0,
+        margin_far: margins.1,
     }
 }
 
@@ -85,22 +93,22 @@ fn kept_span(tree: &ViewTree, kid: Key, axis: Axis) -> (i32, i32)
     }
 }
 
-/// The sibling to which a child is tied so. Where the one that it names is gone, it is the one that is named by that
+/// The sibling to which such a rule ties a child. If the one that it names is gone, it is the one that is named by that
 /// one's rule, and so on.
-fn anchor_key(tree: &ViewTree, view: Key, kid: Key, axis: Axis, tie: Tie) -> Option<Key>
+fn anchor_key(tree: &ViewTree, view: Key, kid: Key, rtl: bool, axis: Axis, tie: Tie) -> Option<Key>
     requires live { IsLive tree.now view }
     requires siblings { class_of tree.now view ≡ RelativeLayout }
     requires kid { IsLive tree.now kid }
     ensures key { (place : ℕ) → part_from kid tree.now.tree ≡ siblings_from place (children_of_first (part_from view tree.now.tree))
         → IsKidAt tree.now.tree (children_of_first (part_from view tree.now.tree))
-        (anchor_of axis tie (links_of (kids_in (children_of_first (part_from view tree.now.tree))))
+        (anchor_of rtl axis tie (links_of (kids_in (children_of_first (part_from view tree.now.tree))))
         (λ sibling. is_shown (child_at (kids_in (children_of_first (part_from view tree.now.tree))) sibling).facts) place) result }
     ensures live { IfSome result (λ kid. IsLive tree.now kid) }
 {
     let mut at = kid;
     let mut left = turns(tree, view);
     while left > 0 {
-        let Some(named) = named_sibling(tree, view, at, axis, tie) else {
+        let Some(named) = named_sibling(tree, view, at, rtl, axis, tie) else {
             return None;
         };
         if tree.facts(named).is_shown() {
@@ -113,16 +121,23 @@ fn anchor_key(tree: &ViewTree, view: Key, kid: Key, axis: Axis, tie: Tie) -> Opt
 }
 
 /// The sibling that a child's own rule names: the last child with the id, if it is not the child itself.
-fn named_sibling(tree: &ViewTree, view: Key, kid: Key, axis: Axis, tie: Tie) -> Option<Key>
+fn named_sibling(
+    tree: &ViewTree,
+    view: Key,
+    kid: Key,
+    rtl: bool,
+    axis: Axis,
+    tie: Tie,
+) -> Option<Key>
     requires live { IsLive tree.now view }
     requires siblings { class_of tree.now view ≡ RelativeLayout }
     requires kid { IsLive tree.now kid }
     ensures key { (place : ℕ) → part_from kid tree.now.tree ≡ siblings_from place (children_of_first (part_from view tree.now.tree))
         → IsKidAt tree.now.tree (children_of_first (part_from view tree.now.tree))
-        (named_sibling axis tie (links_of (kids_in (children_of_first (part_from view tree.now.tree)))) place) result }
+        (named_sibling rtl axis tie (links_of (kids_in (children_of_first (part_from view tree.now.tree)))) place) result }
     ensures live { IfSome result (λ kid. IsLive tree.now kid) }
 {
-    let id = tie.anchor_id(axis, &tree.facts(kid).rules);
+    let id = tie.anchor_id(rtl, axis, &tree.facts(kid).rules);
     let Some(named) = tree.last_child_with_id(view, id) else {
         return None;
     };

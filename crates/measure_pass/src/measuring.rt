@@ -40,10 +40,10 @@ use view_tree::{Key, State, ViewTree};
 /// Measures a view that takes part in layout under these specs, for its width and for its height; the result is its
 /// size in pixels. Layout calls it for the root, and a group for its children as its class asks for them.
 ///
-/// Nothing is done where the view was last measured under these specs and is not forced. Where its size for them is in
-/// its cache it gets that size and is marked: what is below it stays as it is, and `remeasure` makes up for it before
-/// it is laid out. Otherwise what is below it is measured, its size is remembered, and the measuring is counted. An
-/// exact spec that is the measured size is no reason to skip it. Views below it that are gone are not measured.
+/// Nothing is done if the view was last measured under these specs and is not forced. If its size for them is in its
+/// cache it gets that size and is marked: what is below it stays as it is, and `remeasure` makes up for it before it is
+/// laid out. Otherwise what is below it is measured, its size is remembered, and the measuring is counted. An exact
+/// spec that is the measured size is no reason to skip it. Views below it that are gone are not measured.
 #[cycle(measure)]
 pub fn measure(tree: &mut ViewTree, view: Key, ws: Spec, hs: Spec, work: &mut Work) -> Size
     requires ready { IsReady tree.old view }
@@ -106,7 +106,7 @@ fn hit(tree: &mut ViewTree, view: Key, ws: Spec, hs: Spec, size: Size)
     tree.set_state(view, state);
 }
 
-/// Measures a view through what is below it. Most calls of `measure` don't come here.
+/// Measures a view through what is below it. Most calls of `measure` don't get here.
 #[cycle(measure)]
 #[inline(never)]
 fn measure_anew(tree: &mut ViewTree, view: Key, ws: Spec, hs: Spec, work: &mut Work) -> Size
@@ -153,7 +153,7 @@ pub fn remeasure(tree: &mut ViewTree, view: Key, work: &mut Work)
     make_up(tree, view, outcome, work);
 }
 
-/// Keeps what the measuring of a marked view's children came to, and counts it.
+/// Keeps the result of measuring a marked view's children, and counts it.
 fn make_up(tree: &mut ViewTree, view: Key, outcome: Outcome, work: &mut Work)
     requires { IsLive tree.old view }
     ensures same { SameTree tree.old tree.new }
@@ -169,14 +169,14 @@ fn make_up(tree: &mut ViewTree, view: Key, outcome: Outcome, work: &mut Work)
     tree.set_measured(view, outcome.size, state.ws, state.hs, work);
 }
 
-/// What a measuring comes to: the view's size, and what its children took along its axis, with its padding, in pixels.
+/// The result of a measuring: the view's size, and what its children took along its axis, with its padding, in pixels.
 #[derive(Clone, Copy, Debug)]
 struct Outcome {
     size: Size,
     total: i64,
 }
 
-/// Keeps what a measuring came to, remembers the size, and counts it.
+/// Keeps the result of a measuring, remembers the size, and counts it.
 fn finish(tree: &mut ViewTree, view: Key, ws: Spec, hs: Spec, outcome: Outcome, work: &mut Work)
     requires live { IsLive tree.old view }
     ensures same { SameTree tree.old tree.new }
@@ -194,8 +194,8 @@ fn finish(tree: &mut ViewTree, view: Key, ws: Spec, hs: Spec, outcome: Outcome, 
     tree.remember(view, ws, hs, outcome.size);
 }
 
-/// Measures what is below a view that is measured under these specs, and says what that comes to. A view without
-/// children comes to its size at once. It has no frame of its own on the stack.
+/// Measures what is below a view that is measured under these specs, and returns the result. A view without children
+/// has its size at once. It has no frame of its own on the stack.
 #[cycle(measure)]
 #[inline(always)]
 fn measure_below(tree: &mut ViewTree, view: Key, ws: Spec, hs: Spec, work: &mut Work) -> Outcome
@@ -227,8 +227,8 @@ fn measure_below(tree: &mut ViewTree, view: Key, ws: Spec, hs: Spec, work: &mut 
     }
 }
 
-/// Measures what is below a frame layout, and says what that comes to. What a plan holds is cleared where the function
-/// that holds it begins, and stays on the stack while what is below is measured, so each class has functions of its own.
+/// Measures what is below a frame layout, and returns the result. What a plan holds is cleared where the function that
+/// holds it begins, and stays on the stack while what is below is measured, so each class has functions of its own.
 #[cycle(measure)]
 #[inline(never)]
 fn measure_frame(tree: &mut ViewTree, view: Key, ws: Spec, hs: Spec, work: &mut Work) -> Outcome
@@ -384,7 +384,7 @@ fn measure_in_turn(
     if !tree.facts(kid).is_shown() {
         return;
     }
-    let anchors = anchors_of(tree, view, kid, axis);
+    let anchors = anchors_of(tree, view, kid, plan.is_rtl(), axis);
     let edges = edges_before(tree, kid, axis);
     let (across, down) = plan.ask(tree.facts(kid), edges, &anchors);
     let got = measure(tree, kid, across, down, work);
@@ -392,7 +392,7 @@ fn measure_in_turn(
     keep_edges(tree, kid, edges);
 }
 
-/// The phases of a frame layout's measuring that are left, up to so many after the next, and what they come to.
+/// The remaining phases of a frame layout's measuring, at most this many after the next, and their result.
 #[cycle(measure)]
 fn frame_phases(
     tree: &mut ViewTree,
@@ -481,7 +481,7 @@ fn frame_kid(tree: &mut ViewTree, kid: Key, plan: &mut FramePlan, work: &mut Wor
     frame_take(plan, tree.facts(kid), size);
 }
 
-/// What the plan of a frame layout comes to after its last phase.
+/// The result of a frame layout's plan after its last phase.
 fn frame_outcome(plan: &FramePlan) -> Outcome
     ensures size { (group : Group) (past : List (List Measured)) (taken : List Measured)
         → Stands (Frame plan.now) group past taken
@@ -496,7 +496,7 @@ fn frame_outcome(plan: &FramePlan) -> Outcome
     }
 }
 
-/// The phases of a linear layout's measuring that are left, up to so many after the next, and what they come to.
+/// The remaining phases of a linear layout's measuring, at most this many after the next, and their result.
 #[cycle(measure)]
 fn linear_phases(
     tree: &mut ViewTree,
@@ -585,7 +585,7 @@ fn linear_kid(tree: &mut ViewTree, kid: Key, plan: &mut LinearPlan, work: &mut W
     linear_take(plan, tree.facts(kid), size);
 }
 
-/// What the plan of a linear layout comes to after its last phase.
+/// The result of a linear layout's plan after its last phase.
 fn linear_outcome(plan: &LinearPlan) -> Outcome
     ensures size { (group : Group) (past : List (List Measured)) (taken : List Measured)
         → Stands (Linear plan.now) group past taken
@@ -600,7 +600,7 @@ fn linear_outcome(plan: &LinearPlan) -> Outcome
     }
 }
 
-/// The phases of a scroll view's measuring that are left, up to so many after the next, and what they come to.
+/// The remaining phases of a scroll view's measuring, at most this many after the next, and their result.
 #[cycle(measure)]
 fn scroll_phases(
     tree: &mut ViewTree,
@@ -689,7 +689,7 @@ fn scroll_kid(tree: &mut ViewTree, kid: Key, plan: &mut ScrollPlan, work: &mut W
     scroll_take(plan, tree.facts(kid), size);
 }
 
-/// What the plan of a scroll view comes to after its last phase.
+/// The result of a scroll view's plan after its last phase.
 fn scroll_outcome(plan: &ScrollPlan) -> Outcome
     ensures size { (group : Group) (past : List (List Measured)) (taken : List Measured)
         → Stands (Scroll plan.now) group past taken

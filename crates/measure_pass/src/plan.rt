@@ -13,7 +13,7 @@ use linear_layout::LinearPlan;
 use scroll_view::ScrollPlan;
 use view_model::Facts;
 
-/// The specs of a child in this phase of a frame layout, or None where it is not measured in it. The size is the child's
+/// The specs of a child in this phase of a frame layout, or `None` if it is not measured in it. The size is the child's
 /// measured size at this moment.
 #[inline(always)]
 pub fn frame_ask(plan: &FramePlan, kid: &Facts, size: Size) -> Option<(Spec, Spec)>
@@ -44,7 +44,7 @@ pub fn scroll_ask(plan: &ScrollPlan, kid: &Facts, size: Size) -> Option<(Spec, S
     plan.ask(kid, size)
 }
 
-/// Takes the size that a child of a frame layout has got; where the plan asked for none, the one that was given to it.
+/// Takes the size that a child of a frame layout has got; if the plan asked for none, the one that was given to it.
 #[inline(always)]
 pub fn frame_take(plan: &mut FramePlan, kid: &Facts, size: Size)
     ensures { (group : Group) (past : List (List Measured)) (taken : List Measured)
@@ -77,7 +77,7 @@ pub fn scroll_take(plan: &mut ScrollPlan, kid: &Facts, size: Size)
     plan.take(kid, size);
 }
 
-/// Ends a phase of a frame layout: true where another follows.
+/// Ends a phase of a frame layout: true if another follows.
 #[inline(always)]
 pub fn frame_turn(frame: &mut FramePlan) -> bool
     ensures { (group : Group) (past : List (List Measured)) (taken : List Measured)

@@ -21,7 +21,7 @@ use relative_layout::RelativePlan;
 use view_model::{Axis, Edges};
 use view_tree::{Key, ViewTree};
 
-/// How many turns a phase of a relative layout has: one a child.
+/// How many turns a phase of a relative layout has: one per child.
 pub fn turns(tree: &ViewTree, view: Key) -> usize
     requires live { IsLive tree.now view }
     requires siblings { class_of tree.now view ≡ RelativeLayout }
@@ -91,8 +91,8 @@ pub fn keep_edges(tree: &mut ViewTree, kid: Key, edges: Edges)
     tree.set_state(kid, state);
 }
 
-/// Moves the children of a relative layout to where they lie in the end, once its own size is known: those in its
-/// middle and those at its far sides.
+/// Moves the children of a relative layout to their final places, once its own size is known: those in its middle and
+/// those at its far sides.
 #[inline(never)]
 pub fn settle(tree: &mut ViewTree, view: Key, plan: &RelativePlan)
     requires live { IsLive tree.old view }

@@ -9,7 +9,7 @@ use geom_core::{Size, Spec};
 use view_model::limits::{CELL_HEIGHT, CELL_WIDTH};
 use view_model::{Facts, Text, own_side};
 
-/// The size of a view with this text. How many lines the text takes depends on the width that comes out.
+/// The size of a view with this text. How many lines the text takes depends on the width that results.
 pub fn text_size(own: &Facts, text: &Text, ws: Spec, hs: Spec) -> Size
     ensures { result ≡ text_size (layout_facts own.now) text.now (record { across = ws; down = hs }) }
 {
@@ -37,7 +37,7 @@ fn text_height(own: &Facts, text: &Text, spec: Spec, width: i32) -> i32
     own_side(own.min.h, most, own.padding_down(), spec)
 }
 
-/// The length of so many cells on an axis on which each has this side.
+/// The length of this many cells on an axis on which each has this side.
 fn length_of(side: u32, cells: u32) -> i64
     requires { side ≤ CELL_HEIGHT }
     ensures { result ≡ pos (side * cells) }

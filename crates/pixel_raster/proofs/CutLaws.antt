@@ -46,7 +46,7 @@ pub by_rect-none : (width height x y : ℕ) (rect : Rect) (cut : Cut) (on off : 
 by_rect-none width height x y rect cut on off column row is none =
     by_rect width height x y rect cut off on off column row is (ap (λ (test : Bool). if test then on else off) (sym (has_pixel-none cut x y none)))
 
--- a point of a picture has a place in its rows
+-- each point of a picture has a place in its rows
 pub place-inside : (width height : ℕ) (x y : ℤ) → pos 0 ≤ℤ x → x <ℤ pos width → pos 0 ≤ℤ y → y <ℤ pos height
     → from_zero y * width + from_zero x < width * height
 unfolding from_zero

@@ -27,7 +27,7 @@ edges_turned_round : area_within 4 3 (rect (pos 3) (pos 0) (pos 1) (pos 3)) ≡ 
 unfolding from_zero edge_within cut_of
 edges_turned_round = refl
 
--- the alpha is none of the bytes
+-- the alpha is not written
 two_pixels : bytes_of (record { 0 = 0xff61_6263 } ∷ record { 0 = 0xff00_0102 } ∷ []) ≡ 0x61 ∷ 0x62 ∷ 0x63 ∷ 0 ∷ 1 ∷ 2 ∷ []
 unfolding red_of green_of blue_of
 two_pixels = refl

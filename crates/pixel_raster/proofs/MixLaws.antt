@@ -47,7 +47,7 @@ pub channels : (color : Argb) → AreBytes color
 unfolding red_of green_of blue_of
 channels color = record { red = omega arith; green = omega arith; blue = omega arith }
 
--- what is made of a pair of shares
+-- the result of a pair of shares
 module _ (alpha : ℕ) (over under : Argb) (a : alpha < 2 ^ 8) where
   abbrev red_share : ℕ
   red_share = share_of alpha (red_of over) (red_of under)

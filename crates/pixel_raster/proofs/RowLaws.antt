@@ -68,7 +68,7 @@ pixel_at-next_row f start now width left right top z x y ordered fits begun insi
     (pixel_at width start x y) (pixel_at width now x y) _ (rows_apart top z y) (rows_more top z y begun) was
     (mapped ∙ ap (λ (test : Bool). if test then f (pixel_at width now x y) else pixel_at width now x y) (place_in_run width left right x y z fits column))
 
--- a picture stays opaque where a run becomes so
+-- a picture stays opaque if a run becomes so
 pub opaque_run : (f : Argb → Argb) (now : List Argb) (low high : ℕ) → low ≤ high → high ≤ length now → ((under : Argb) → alpha_of (f under) ≡ 255)
     → AllOpaque now → AllOpaque (put_mid low (high - low) now (map f (between low high now)))
 opaque_run f now low high ordered inside opaque was place =

@@ -28,7 +28,7 @@ get_or-written items at place value default inside =
     let other : place ≢ at = elim (beside at (at + 1) place is) [ inl lt ↦ (λ e. omega (arith, lt, e)) | inr le ↦ (λ e. omega (arith, le, e)) ] in
     get_or-set_other items at place value default other)
 
--- one more row of what is changed in one column where it is set
+-- one more row of what is changed in one column if its bit is set
 one_row_more : {A : Type 0} (f : A → A) (across was now next bit here : Bool) (start old new : A) → (now ≡ true → was ≡ false) → next ≡ (was || now)
     → (now ≡ true → bit ≡ here) → old ≡ (if across && (was && bit) then f start else start) → new ≡ (if across && now then (if here then f old else old) else old)
     → new ≡ (if across && (next && bit) then f start else start)
@@ -73,7 +73,7 @@ pixel_at-next_place f start now width column top z bits x y within begun inside 
     at_place true false here value other same = refl
     at_place false t here value other same = refl
 
--- a picture stays opaque where an opaque pixel is written
+-- a picture stays opaque if an opaque pixel is written
 pub opaque_place : (now : List Argb) (at : ℕ) (value : Argb) → at < length now → alpha_of value ≡ 255 → AllOpaque now → AllOpaque (set now at value)
 opaque_place now at value inside opaque was place =
     ap (λ (color : Argb). alpha_of color) (get_or-written now at place value BLACK inside) ∙ either (is_between at (at + 1) place) (get_or now place BLACK) (was place)

@@ -3,7 +3,7 @@ use Rattle.std.specs.Prelude.{ℕ, ◌-◌, ◌*◌, ℤ, pos, negsuc, min, Bool
 use Rattle.pixel_raster.specs.declared.cut.Cut.{Cut}
 use Rattle.geom_core.specs.declared.geometry.Rect.{Rect}
 
--- a number, and 0 where it is negative
+-- a number, or 0 if it is negative
 unfoldable pub from_zero : ℤ → ℕ
 from_zero (pos n) = n
 from_zero (negsuc n) = 0

@@ -13,7 +13,7 @@ raster_of surface = record {
   filled = surface.filled;
 }
 
--- a picture, its digest where that is kept, and whether no pixel was painted since all were made black
+-- a picture, its digest if that is kept, and whether no pixel was painted since all were made black
 pub record IsSurface (surface : Inside) : Type 0 where
   pub raster : IsRaster (raster_of surface)
   pub digest : IfSome surface.digest (λ digest. digest ≡ digest_of surface.pixels.items)

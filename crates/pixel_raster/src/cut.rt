@@ -4,7 +4,7 @@ ghost use Rattle.pixel_raster.specs.Cuts.{area_of, cut_of, edge_within, from_zer
 
 use geom_core::Rect;
 
-/// The pixels between these columns and rows of a picture; right and bottom are exclusive. Where an edge lies before the
+/// The pixels between these columns and rows of a picture; right and bottom are exclusive. If an edge is before the
 /// opposite one there is no pixel.
 #[derive(Clone, Copy)]
 pub struct Cut {
@@ -14,7 +14,7 @@ pub struct Cut {
     pub bottom: usize,
 }
 
-/// A number of pixels, and 0 where it is negative.
+/// A number of pixels, or 0 if it is negative.
 #[tactic(auto, unfolding(crate::specs::Cuts::from_zero))]
 pub fn from_zero(number: i32) -> usize
     ensures value { result ≡ from_zero number }

@@ -24,7 +24,7 @@ pub fn digest_of(pixels: &[Argb]) -> [u8; 32]
     hasher.finalize()
 }
 
-/// Hands a run of at most `PIECE` pixels to the hasher.
+/// Passes a run of at most `PIECE` pixels to the hasher.
 fn absorb(hasher: &mut Sha256, run: &[Argb])
     requires { length run.now ≤ 1024 }
     ensures { (message : List ℕ) → Holds256 hasher.old message → Holds256 hasher.new (message ++ bytes_of run.now) }
@@ -34,7 +34,7 @@ fn absorb(hasher: &mut Sha256, run: &[Argb])
     hasher.update(&bytes[..3 * run.len()]);
 }
 
-/// Puts the red, green and blue of each pixel of a run where the bytes begin; what follows them may be anything.
+/// Writes the red, green and blue of each pixel of a run at the start of the bytes; what follows them may be anything.
 fn put_bytes(run: &[Argb], bytes: &mut [u8])
     requires { 3 * length run.now ≤ length bytes.old }
     ensures { take (3 * length run.now) bytes.new ≡ bytes_of run.now }

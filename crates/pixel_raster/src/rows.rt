@@ -1,4 +1,4 @@
-//! How a colour comes over the rows of a part of a picture.
+//! How a colour is blended over the rows of a part of a picture.
 ghost use Rattle.std.specs.Prelude.{◌≡◌, ◌<◌, ◌≤◌, ◌*◌, ℕ, IsOk, OnErr, OnOk, length, map, replicate, if◌then◌else◌};
 ghost use Rattle.geom_core.specs.declared.color.TheConstants.{BLACK};
 ghost use Rattle.geom_core.specs.Color.{blend_of};
@@ -10,7 +10,7 @@ use crate::cut::Cut;
 use geom_core::{Argb, BLACK};
 use std::alloc::AllocError;
 
-/// Makes this many black pixels of what is there. It takes memory only where there are more of them than before.
+/// Turns the buffer into this many black pixels. It takes memory only if there are more of them than before.
 pub fn cover_black(pixels: &mut Vec<Argb>, count: usize) -> Result<(), AllocError>
     ensures black { OnOk result (pixels.new.items ≡ replicate count BLACK) }
     ensures unchanged { OnErr result (pixels.new.items ≡ pixels.old.items) }
@@ -22,7 +22,7 @@ pub fn cover_black(pixels: &mut Vec<Argb>, count: usize) -> Result<(), AllocErro
     Ok(())
 }
 
-/// Puts a colour in the place of each pixel of a run.
+/// Replaces each pixel of a run by a colour.
 fn cover_run(run: &mut [Argb], color: Argb)
     ensures { run.new ≡ map (λ _. color) run.old }
 {

@@ -33,7 +33,8 @@ fn one_if(set: bool) -> u64
     if set { 1 } else { 0 }
 }
 
-/// What is seen of a pixel over which a colour is blended where it is set. An opaque colour needn't look at what was there.
+/// What is seen of a pixel over which a colour is blended if its bit is set. An opaque colour needn't look at what was
+/// there.
 #[inline(always)]
 fn inked(set: bool, color: Argb, under: Argb) -> Argb
     ensures { result ≡ (if set then blend_of color under else under) }
@@ -44,8 +45,8 @@ fn inked(set: bool, color: Argb, under: Argb) -> Argb
     blend(color, under)
 }
 
-/// Blends a colour over the set pixels of a strip of a picture whose rows have this many pixels. The answer is how many
-/// they are.
+/// Blends a colour over the set pixels of a strip of a picture whose rows have this many pixels. Returns how many they
+/// are.
 pub fn ink_strip(pixels: &mut [Argb], width: usize, strip: Strip, bits: u8, color: Argb) -> u64
     requires column { strip.column < width }
     requires down { strip.top ≤ strip.bottom }

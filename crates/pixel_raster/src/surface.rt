@@ -24,9 +24,9 @@ pub struct Surface {
     /// Row by row, from the top.
     pixels: Vec<Argb>,
     filled: u64,
-    /// The digest of the pixels, where it was taken since the last of them was painted.
+    /// The digest of the pixels, if it was taken since the last of them was painted.
     digest: Option<[u8; 32]>,
-    /// Set where no pixel was painted since all were made black.
+    /// Set if no pixel was painted since all were made black.
     black: bool,
 }
 
@@ -67,8 +67,8 @@ impl Surface {
         }
     }
 
-    /// Makes the picture black again, as a new one of this size is. It takes memory only where there are more pixels than
-    /// before, and no time where they are as many and still black.
+    /// Makes the picture black again, as a new one of this size is. It takes memory only if there are more pixels than
+    /// before, and no time if they are as many and still black.
     pub fn reset(&mut self, size: Size) -> Result<(), AllocError>
         ensures value { OnOk result (self.new ≡ black_raster size) }
         ensures unchanged { OnErr result (self.new ≡ self.old) }
@@ -129,8 +129,8 @@ impl Surface {
         self.black && color.0 == BLACK.0
     }
 
-    /// Blends a colour over the pixels of a rectangle, in window coordinates, as far as they are in the picture. Both
-    /// counts rise by the number of these pixels, also where the colour covers nothing of them.
+    /// Blends a colour over the pixels of a rectangle, in window coordinates, that are in the picture. Both counts rise
+    /// by the number of these pixels, also if the colour covers nothing of them.
     pub fn fill(&mut self, rect: Rect, color: Argb, work: &mut Work)
         ensures fills { Fills rect color self.old self.new }
         ensures raster { IsRaster self.new }
@@ -209,8 +209,8 @@ impl Surface {
         from_zero(y) * self.width + from_zero(x)
     }
 
-    /// The SHA-256 of the red, green and blue of each pixel, row by row from the top. It is computed only where pixels were
-    /// painted since it was kept.
+    /// The SHA-256 of the red, green and blue of each pixel, row by row from the top. It is computed only if pixels
+    /// were painted since it was kept.
     pub fn digest(&self) -> [u8; 32]
         ensures { result ≡ digest_of self.now.pixels }
     {

@@ -1,4 +1,4 @@
--- Anchors stand before their children in an order, also where they are looked for through siblings that are gone.
+-- Anchors come before their children in an order, also if they are found through siblings that are gone.
 use Rattle.std.proofs.Common.{◌≡◌, ◌≢◌, ℕ, zero, suc, ◌<◌, Bool, true, false, Option, Some, None, List, length, get_or, refl, sym, ◌∙◌, arith}
 use Rattle.std.specs.Prelude.{◌==◌, if◌then◌else◌}
 use Rattle.std.proofs.lemmas.Bool.Decides.{nat_tests}
@@ -12,6 +12,7 @@ use Rattle.view_model.specs.declared.relative.Tie.{Tie}
 use Rattle.view_model.specs.declared.relative.Tie.TheVariants.{Before, After, AlignNear, AlignFar}
 use Rattle.view_model.specs.declared.relative.Link.{Link}
 use Rattle.view_model.specs.declared.verbs.TheConstants.{LEFT_OF, RIGHT_OF, ALIGN_LEFT, ALIGN_RIGHT, START_OF, END_OF, ALIGN_START, ALIGN_END}
+use Rattle.view_model.specs.Direction.{left_of_two, right_of_two}
 use Rattle.view_model.specs.Orders.{IsAnchorsFirst, Reaches, AtOnce, Through}
 use Rattle.view_model.specs.SiblingRules.{anchor_id, anchor_of, anchor_within, form_of, last_with_id, leads, named_sibling, names, other_than, shown_or, value_of}
 
@@ -28,22 +29,32 @@ form_padded rules start left s l = by_test (start == 0)
     by_test true = l
     by_test false = s
 
+one_padded : (rules : Rules) (rtl : Bool) (start end : ℕ) → IsPadded Horizontal rules (value_of rules start) → IsPadded Horizontal rules (value_of rules end)
+    → IsPadded Horizontal rules (left_of_two rtl (value_of rules start) (value_of rules end))
+one_padded rules true start end s e = e
+one_padded rules false start end s e = s
+
+other_padded : (rules : Rules) (rtl : Bool) (start end : ℕ) → IsPadded Horizontal rules (value_of rules start) → IsPadded Horizontal rules (value_of rules end)
+    → IsPadded Horizontal rules (right_of_two rtl (value_of rules start) (value_of rules end))
+other_padded rules true start end s e = s
+other_padded rules false start end s e = e
+
 padded : (axis : Axis) (rules : Rules) (at : ℕ) → at < 8 → IsPadded axis rules (get_or (padded_ids axis rules) at 0)
 padded axis rules at below = record { at = at; below = below; is = refl }
 
-anchor_padded : (axis : Axis) (tie : Tie) (rules : Rules) → IsPadded axis rules (anchor_id axis tie rules)
-anchor_padded Horizontal Before rules = form_padded rules (value_of rules START_OF) (value_of rules LEFT_OF) (padded Horizontal rules 4 (omega arith)) (padded Horizontal rules 0 (omega arith))
-anchor_padded Horizontal After rules = form_padded rules (value_of rules END_OF) (value_of rules RIGHT_OF) (padded Horizontal rules 5 (omega arith)) (padded Horizontal rules 1 (omega arith))
-anchor_padded Horizontal AlignNear rules = form_padded rules (value_of rules ALIGN_START) (value_of rules ALIGN_LEFT) (padded Horizontal rules 6 (omega arith)) (padded Horizontal rules 2 (omega arith))
-anchor_padded Horizontal AlignFar rules = form_padded rules (value_of rules ALIGN_END) (value_of rules ALIGN_RIGHT) (padded Horizontal rules 7 (omega arith)) (padded Horizontal rules 3 (omega arith))
-anchor_padded Vertical Before rules = padded Vertical rules 0 (omega arith)
-anchor_padded Vertical After rules = padded Vertical rules 1 (omega arith)
-anchor_padded Vertical AlignNear rules = padded Vertical rules 2 (omega arith)
-anchor_padded Vertical AlignFar rules = padded Vertical rules 3 (omega arith)
+anchor_padded : (rtl : Bool) (axis : Axis) (tie : Tie) (rules : Rules) → IsPadded axis rules (anchor_id rtl axis tie rules)
+anchor_padded rtl Horizontal Before rules = form_padded rules _ _ (one_padded rules rtl START_OF END_OF (padded Horizontal rules 4 (omega arith)) (padded Horizontal rules 5 (omega arith))) (padded Horizontal rules 0 (omega arith))
+anchor_padded rtl Horizontal After rules = form_padded rules _ _ (other_padded rules rtl START_OF END_OF (padded Horizontal rules 4 (omega arith)) (padded Horizontal rules 5 (omega arith))) (padded Horizontal rules 1 (omega arith))
+anchor_padded rtl Horizontal AlignNear rules = form_padded rules _ _ (one_padded rules rtl ALIGN_START ALIGN_END (padded Horizontal rules 6 (omega arith)) (padded Horizontal rules 7 (omega arith))) (padded Horizontal rules 2 (omega arith))
+anchor_padded rtl Horizontal AlignFar rules = form_padded rules _ _ (other_padded rules rtl ALIGN_START ALIGN_END (padded Horizontal rules 6 (omega arith)) (padded Horizontal rules 7 (omega arith))) (padded Horizontal rules 3 (omega arith))
+anchor_padded rtl Vertical Before rules = padded Vertical rules 0 (omega arith)
+anchor_padded rtl Vertical After rules = padded Vertical rules 1 (omega arith)
+anchor_padded rtl Vertical AlignNear rules = padded Vertical rules 2 (omega arith)
+anchor_padded rtl Vertical AlignFar rules = padded Vertical rules 3 (omega arith)
 
-anchor_named : (axis : Axis) (tie : Tie) (rules : Rules) → anchor_id axis tie rules ≢ 0 → names axis rules (anchor_id axis tie rules) ≡ true
-anchor_named axis tie rules some =
-    let p = anchor_padded axis tie rules in
+anchor_named : (rtl : Bool) (axis : Axis) (tie : Tie) (rules : Rules) → anchor_id rtl axis tie rules ≢ 0 → names axis rules (anchor_id rtl axis tie rules) ≡ true
+anchor_named rtl axis tie rules some =
+    let p = anchor_padded rtl axis tie rules in
     rw (sym p.is) (names-at axis rules p.at p.below (λ zero. some (sym p.is ∙ zero)))
 
 other_than_is : (place other : ℕ) (found : Option ℕ) → other_than place found ≡ Some other → (found ≡ Some other) × (place ≢ other)
@@ -55,38 +66,38 @@ other_than_is place other (Some sibling) h = by_test (sibling == place) refl h
     by_test false is h = (h, λ same. let e : sibling ≡ other = cc in let t : (sibling == place) ≡ true = grind (arith, nat_tests) in absurd (cc))
 
 -- a child leads to the sibling that it names
-pub named_leads : (axis : Axis) (tie : Tie) (kids : List Link) (place sibling : ℕ) → named_sibling axis tie kids place ≡ Some sibling → leads axis kids place sibling ≡ true
-named_leads axis tie kids place sibling h =
+pub named_leads : (rtl : Bool) (axis : Axis) (tie : Tie) (kids : List Link) (place sibling : ℕ) → named_sibling rtl axis tie kids place ≡ Some sibling → leads axis kids place sibling ≡ true
+named_leads rtl axis tie kids place sibling h =
     let rules = (link_at kids place).rules in
-    let o = other_than_is place sibling (last_with_id kids (anchor_id axis tie rules)) h in
-    let last = last_is kids (anchor_id axis tie rules) sibling o.0 in
-    leads_whole axis kids place sibling o.1 (rw last.has (anchor_named axis tie rules last.some))
+    let o = other_than_is place sibling (last_with_id kids (anchor_id rtl axis tie rules)) h in
+    let last = last_is kids (anchor_id rtl axis tie rules) sibling o.0 in
+    leads_whole axis kids place sibling o.1 (rw last.has (anchor_named rtl axis tie rules last.some))
 
 -- and reaches its anchor
-within_reaches : (axis : Axis) (tie : Tie) (kids : List Link) (shown : ℕ → Bool) (left place anchor : ℕ) → anchor_within left shown (named_sibling axis tie kids) place ≡ Some anchor
+within_reaches : (rtl : Bool) (axis : Axis) (tie : Tie) (kids : List Link) (shown : ℕ → Bool) (left place anchor : ℕ) → anchor_within left shown (named_sibling rtl axis tie kids) place ≡ Some anchor
     → Reaches (leads axis kids) place anchor
-within_reaches axis tie kids shown zero place anchor h = absurd (let none : None ≡ Some anchor = h in cc)
-within_reaches axis tie kids shown (suc left) place anchor h =
-    by_name (named_sibling axis tie kids place) refl (λ sibling. within_reaches axis tie kids shown left sibling anchor) h
+within_reaches rtl axis tie kids shown zero place anchor h = absurd (let none : None ≡ Some anchor = h in cc)
+within_reaches rtl axis tie kids shown (suc left) place anchor h =
+    by_name (named_sibling rtl axis tie kids place) refl (λ sibling. within_reaches rtl axis tie kids shown left sibling anchor) h
   where
     by_test : (sibling : ℕ) → leads axis kids place sibling ≡ true → (v : Bool)
-        → (anchor_within left shown (named_sibling axis tie kids) sibling ≡ Some anchor → Reaches (leads axis kids) sibling anchor)
-        → (if v then Some sibling else anchor_within left shown (named_sibling axis tie kids) sibling) ≡ Some anchor → Reaches (leads axis kids) place anchor
+        → (anchor_within left shown (named_sibling rtl axis tie kids) sibling ≡ Some anchor → Reaches (leads axis kids) sibling anchor)
+        → (if v then Some sibling else anchor_within left shown (named_sibling rtl axis tie kids) sibling) ≡ Some anchor → Reaches (leads axis kids) place anchor
     by_test sibling led true behind h = let same : sibling ≡ anchor = cc in AtOnce (rw (sym same) led)
     by_test sibling led false behind h = Through led (behind h)
 
-    by_name : (name : Option ℕ) → named_sibling axis tie kids place ≡ name
-        → ((sibling : ℕ) → anchor_within left shown (named_sibling axis tie kids) sibling ≡ Some anchor → Reaches (leads axis kids) sibling anchor)
-        → shown_or shown (anchor_within left shown (named_sibling axis tie kids)) name ≡ Some anchor → Reaches (leads axis kids) place anchor
+    by_name : (name : Option ℕ) → named_sibling rtl axis tie kids place ≡ name
+        → ((sibling : ℕ) → anchor_within left shown (named_sibling rtl axis tie kids) sibling ≡ Some anchor → Reaches (leads axis kids) sibling anchor)
+        → shown_or shown (anchor_within left shown (named_sibling rtl axis tie kids)) name ≡ Some anchor → Reaches (leads axis kids) place anchor
     by_name None is behind h = absurd (let none : None ≡ Some anchor = h in cc)
-    by_name (Some sibling) is behind h = by_test sibling (named_leads axis tie kids place sibling is) (shown sibling) (behind sibling) h
+    by_name (Some sibling) is behind h = by_test sibling (named_leads rtl axis tie kids place sibling is) (shown sibling) (behind sibling) h
 
-pub anchor_reached : (axis : Axis) (tie : Tie) (kids : List Link) (shown : ℕ → Bool) (place anchor : ℕ) → anchor_of axis tie kids shown place ≡ Some anchor
+pub anchor_reached : (rtl : Bool) (axis : Axis) (tie : Tie) (kids : List Link) (shown : ℕ → Bool) (place anchor : ℕ) → anchor_of rtl axis tie kids shown place ≡ Some anchor
     → Reaches (leads axis kids) place anchor
-anchor_reached axis tie kids shown place anchor h = within_reaches axis tie kids shown (length kids) place anchor h
+anchor_reached rtl axis tie kids shown place anchor h = within_reaches rtl axis tie kids shown (length kids) place anchor h
 
--- so that it stands before it in each order
-pub anchor_before : (axis : Axis) (tie : Tie) (kids : List Link) (shown : ℕ → Bool) (order : List ℕ) → IsAnchorsFirst (leads axis kids) order → (p anchor : ℕ) → p < length order
-    → anchor_of axis tie kids shown (get_or order p 0) ≡ Some anchor → (q : ℕ) × (q < p) × (get_or order q 0 ≡ anchor)
-anchor_before axis tie kids shown order is p anchor inside h =
-    reach_before (leads axis kids) order is p inside refl (anchor_reached axis tie kids shown (get_or order p 0) anchor h)
+-- so that it comes before it in each order
+pub anchor_before : (rtl : Bool) (axis : Axis) (tie : Tie) (kids : List Link) (shown : ℕ → Bool) (order : List ℕ) → IsAnchorsFirst (leads axis kids) order → (p anchor : ℕ) → p < length order
+    → anchor_of rtl axis tie kids shown (get_or order p 0) ≡ Some anchor → (q : ℕ) × (q < p) × (get_or order q 0 ≡ anchor)
+anchor_before rtl axis tie kids shown order is p anchor inside h =
+    reach_before (leads axis kids) order is p inside refl (anchor_reached rtl axis tie kids shown (get_or order p 0) anchor h)

@@ -168,7 +168,7 @@ waits_false kids taken place id b small fresh h some ne inside same =
       | inr f ↦ let left = left_whole kids taken id b f same in let e = sym (apart_other (is_left kids taken id) place b ne) in absurd (let bad : true ≡ false = sym left ∙ e ∙ false_at in cc)
     ]
 
--- where no child has an id, none waits for one
+-- if no child has an id, no child waits for one
 pub waits_none : (kids : List Link) (taken : List Bool) (own id : ℕ) → last_with_id kids id ≡ None → waits_for kids taken own id ≡ false
 unfolding waits_for
 waits_none kids taken own id none = elim (cases_Bool (id == 0)) [
@@ -316,7 +316,7 @@ few_below kids place last left found counts =
     let was = counts.each last (rw is.has found) in
     omega (arith, was, count_below-most (λ k. id_at kids k == id_at kids last) place)
 
--- where none is taken, the counts are those of all
+-- if no child is taken, the counts are those of all
 pub AreCounts-all : (kids : List Link) (taken : List Bool) (left : List ℕ) → ((k : ℕ) → is_marked taken k ≡ false) → CountsBelow kids (length kids) left → AreCounts kids taken left
 AreCounts-all kids taken left none counts = record {
   size = counts.size;

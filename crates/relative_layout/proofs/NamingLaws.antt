@@ -57,7 +57,7 @@ last_id kids id last false t h =
 pub last_is : (kids : List Link) (id last : ℕ) → last_with_id kids id ≡ Some last → IsLast kids id last
 last_is kids id last h = last_id kids id last (id == 0) refl h
 
--- where an id has no last child, no child has it
+-- if an id has no last child, no child has it
 no_last : (kids : List Link) (id place : ℕ) (b : Bool) → (id == 0) ≡ b → cond b None (last_below (λ place. id_at kids place == id) (length kids)) ≡ None → id ≢ 0 → place < length kids → id_at kids place ≢ id
 no_last kids id place true t h some l = λ same. some (grind (arith, nat_tests))
 no_last kids id place false t h some l = λ same. let f = last_below_none (λ place. id_at kids place == id) (length kids) place h l in grind (arith, nat_tests)
@@ -238,7 +238,7 @@ leads_inside axis kids a b h = elim (cases_lt b (length kids)) [
       absurd (named_some axis (link_at kids a).rules (id_at kids b) named (ap (λ (kid : Link). kid.id) past))
 ]
 
--- a child that leads to another is there: nobody names no id
+-- a child that leads to another is there: no child has the id 0
 leads_from_case : (axis : Axis) (b : ℕ) → names axis nobody.rules b ≡ false
 unfolding names
 leads_from_case Horizontal b = grind (arith, nat_tests)
@@ -309,14 +309,14 @@ last_most_case kids id place last false t h l e = last_below-most (λ place. id_
 id_same : (a : ℕ) → (a == a) ≡ true
 id_same a = grind (arith, nat_tests)
 
--- a child stands at the last with its id, or before it
+-- a child is the last with its id, or comes before it
 last_most : (kids : List Link) (place : ℕ) (last : Option ℕ) (end : ℕ) → last ≡ last_with_id kids (id_at kids place) → place < length kids → id_at kids place ≢ 0 → IfSome last (λ last. last < end) → place < end
 last_most kids place None end e l some before = absurd (none_is kids (id_at kids place) place (sym e) some l refl)
 last_most kids place (Some last) end e l some before =
     let most = last_most_case kids (id_at kids place) place last (id_at kids place == 0) refl (sym e) l (id_same (id_at kids place)) in
     omega arith
 
--- who names only children before it leads to such alone
+-- a child that names only children before it leads only to those
 pub leads_before : (axis : Axis) (kids : List Link) → ((place : ℕ) → place < length kids → NamesBack axis kids place) → (a b : ℕ) → leads axis kids a b ≡ true → b < a
 leads_before axis kids back a b led =
     let parts = leads_parts axis kids a b led in

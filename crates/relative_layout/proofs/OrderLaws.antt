@@ -1,4 +1,4 @@
--- Orders that have all children, and cycles where there is none.
+-- Orders that have all children, and a cycle if there is no such order.
 use Rattle.std.proofs.Common.{◌≡◌, ◌≢◌, ℕ, zero, suc, ◌+◌, ◌<◌, ◌≤◌, Bool, true, false, cond, List, [], ◌∷◌, ◌++◌, ◌&&◌, ◌||◌, length, get_or, refl, sym, ◌∙◌, arith, inl, inr, length-append}
 use Rattle.std.proofs.lemmas.Bool.{cases_Bool, cases_lt}
 use Rattle.std.proofs.lemmas.List.{get_or_push, get_or_append_left}
@@ -12,7 +12,7 @@ use Rattle.view_model.specs.declared.relative.Link.{Link}
 use Rattle.view_model.specs.Orders.{AreMembers, IsAcyclic, IsAnchorsFirst, IsCycle, IsOrder, Reaches, AtOnce, Through}
 use Rattle.view_model.specs.SiblingRules.{leads}
 
--- what is reached stands before, in an order with anchors first
+-- what is reached comes before, in an order with anchors first
 pub reach_before : (r : ℕ → ℕ → Bool) (order : List ℕ) → IsAnchorsFirst r order → {a b : ℕ} (p : ℕ) → p < length order → get_or order p 0 ≡ a → Reaches r a b → (q : ℕ) × (q < p) × (get_or order q 0 ≡ b)
 reach_before r order is p h e (AtOnce f) = is.first p _ h (rw e f)
 reach_before r order is p h e (Through f w) =
@@ -30,7 +30,7 @@ reaches_from : (axis : Axis) (kids : List Link) {a b : ℕ} → Reaches (leads a
 reaches_from axis kids (AtOnce e) = leads_from axis kids _ _ e
 reaches_from axis kids (Through e w) = leads_from axis kids _ _ e
 
--- where there is an order, nobody reaches itself
+-- if there is an order, no place reaches itself
 pub acyclic : (axis : Axis) (kids : List Link) (order : List ℕ) → IsOrder (leads axis kids) (length kids) order → IsAcyclic (leads axis kids)
 acyclic axis kids order is = λ place w.
     let p = is.each place (reaches_from axis kids w) in
@@ -44,7 +44,7 @@ longest axis kids left taken order is = record {
   waits = λ k small fresh. elim (is.pending k small fresh) [ inl has ↦ absurd (let h = has.1 in omega arith) | inr w ↦ w ];
 }
 
--- all are marked where as many are as there are
+-- all are marked if the marks are as many as the places
 all_marked : (marks : List Bool) → marked marks ≡ length marks → (k : ℕ) → k < length marks → is_marked marks k ≡ true
 all_marked [] e k h = absurd (omega arith)
 all_marked (true ∷ marks) e zero h = refl
@@ -59,13 +59,13 @@ IsOrder-whole r count order size is = record {
   anchors = is.partial.anchors;
 }
 
--- somebody is not marked where fewer are than there are
+-- a place is not marked if there are fewer marks than places
 some_unmarked : (marks : List Bool) → marked marks < length marks → (k : ℕ) × (k < length marks) × (is_marked marks k ≡ false)
 some_unmarked [] h = absurd (omega arith)
 some_unmarked (false ∷ marks) h = (0, omega arith, refl)
 some_unmarked (true ∷ marks) h = let k = some_unmarked marks (omega (arith, marked-cons true marks)) in (suc k.0, omega (arith, k.1), k.2)
 
--- one way behind the other
+-- one path after the other
 pub reach_both : {r : ℕ → ℕ → Bool} {a b c : ℕ} → Reaches r a b → Reaches r b c → Reaches r a c
 reach_both (AtOnce e) v = Through e v
 reach_both (Through e w) v = Through e (reach_both w v)
@@ -91,7 +91,7 @@ or_true : (b : Bool) → (b || true) ≡ true
 or_true true = refl
 or_true false = refl
 
--- where each place that is left below a number leads to another such, one of them reaches itself
+-- if each place that is left below a number leads to another such, one of them reaches itself
 stuck : (m : ℕ) (r : ℕ → ℕ → Bool) (gone : ℕ → Bool) → ((a : ℕ) → a < m → gone a ≡ false → (b : ℕ) × (b < m) × (gone b ≡ false) × (r a b ≡ true))
     → (a : ℕ) → a < m → gone a ≡ false → (c : ℕ) × (c < m) × Reaches r c c
 stuck zero r gone on a h left = absurd (omega arith)
@@ -169,7 +169,7 @@ AreMembers-next r count place marks members marked small are = by_mark (is_marke
     by_mark true t = AreMembers-push r place members (marked.sound place t) are
     by_mark false f = AreMembers-skip r place members (λ way. let t = marked.whole place small way in let bad : true ≡ false = sym t ∙ f in cc) are
 
--- the order of the list is one where nobody leads to a place behind it
+-- the order of the list is one if no place leads to a later one
 pub IsOrder-listed : (r : ℕ → ℕ → Bool) (count : ℕ) (order : List ℕ) → length order ≡ count → ((place : ℕ) → place < count → get_or order place 0 ≡ place) → ((a b : ℕ) → r a b ≡ true → b < a)
     → IsOrder r count order
 IsOrder-listed r count order size each back = record {

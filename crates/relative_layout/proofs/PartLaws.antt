@@ -29,7 +29,7 @@ IsSearch-none heads standing path todo parts held fresh no_path no_todo no_parts
   back_in = λ p q o h. absurd (omega arith);
 })
 
--- what is known of a point is so for another list to be looked at, if that has what this one had
+-- what is known of a point stays known for another list of edges, if that has what this one had
 known_with : (standing : List Standing) (old new : List ℕ) (was held : Option ℕ) (start todo_start a : ℕ)
     → (HasFrom old todo_start a → Known standing new held start todo_start a) → (was ≡ Some a → Known standing new held start todo_start a)
     → Known standing old was start todo_start a → Known standing new held start todo_start a
@@ -38,7 +38,7 @@ known_with standing old new was held start todo_start a todo hand known = elim k
   | inr more ↦ elim more [ inl on ↦ inr (inl on) | inr rest ↦ elim rest [ inl has ↦ todo has | inr is ↦ hand is ] ]
 ]
 
--- a point more in the hand
+-- one point more is current
 pub IsSearch-hold : (heads : ℕ → List ℕ) (standing : List Standing) (path todo : List ℕ) (parts : List Part) (held : Option ℕ) → IsSearch heads standing path todo parts None → IsSearch heads standing path todo parts held
 IsSearch-hold heads standing path todo parts held is = record {
   there = is.there;
@@ -53,7 +53,7 @@ IsSearch-hold heads standing path todo parts held is = record {
   back_in = is.back_in;
 }
 
--- the point in the hand is done, or is in the last part or before it
+-- the current point is done, or is in the last part or before it
 pub IsSearch-drop : (heads : ℕ → List ℕ) (standing : List Standing) (path todo : List ℕ) (parts : List Part) (point : ℕ)
     → ((i : ℕ) → i < length parts → (standing_of standing point ≡ Done) ⊎ OnFrom standing (start_of parts i) point)
     → IsSearch heads standing path todo parts (Some point) → IsSearch heads standing path todo parts None
@@ -76,7 +76,7 @@ IsSearch-drop heads standing path todo parts point seen is = record {
 shorter : (xs : List ℕ) (a k : ℕ) → k < length xs → k < length (xs ++ a ∷ [])
 shorter xs a k h = omega (arith, length-append xs (a ∷ []))
 
--- the last that is to be looked at is taken into the hand
+-- the last edge of the list gives the current point
 pub IsSearch-next : (heads : ℕ → List ℕ) (standing : List Standing) (path todo : List ℕ) (parts : List Part) (part : Part) (point : ℕ)
     → IsLastPart parts part → part.todo ≤ length todo → IsSearch heads standing path (todo ++ point ∷ []) parts None → IsSearch heads standing path todo parts (Some point)
 IsSearch-next heads standing path todo parts part point last room is = record {
@@ -115,7 +115,7 @@ LedTo-next heads standing path todo parts part point last room is =
       goes = rw (get_or_push todo point 0 (length todo) refl) at was.goes;
     }
 
--- where the last part goes, the whole path goes
+-- where the last part leads, the whole path leads
 pub goes_along : (heads : ℕ → List ℕ) (standing : List Standing) (path todo : List ℕ) (parts : List Part) (held : Option ℕ) (point place : ℕ)
     → IsSearch heads standing path todo parts held → LedTo heads path parts point → place < length path → Goes heads (get_or path place 0) point
 goes_along heads standing path todo parts held point place is led h =
@@ -125,7 +125,7 @@ goes_along heads standing path todo parts held point place is led h =
     ] in
     goes_both there (Steps led.goes Stays)
 
--- parts that begin behind a point to which the last one goes are one with the part that has it
+-- parts that begin after a point to which the last one leads are joined to the part that has it
 pub IsSearch-join : (heads : ℕ → List ℕ) (standing : List Standing) (path todo : List ℕ) (old new : List Part) (held : Option ℕ) (point place : ℕ)
     → LedTo heads path old point → standing_of standing point ≡ OnPath place → Joins place old new → IsSearch heads standing path todo old held → IsSearch heads standing path todo new held
 IsSearch-join heads standing path todo old new held point place led on joins is =
@@ -363,7 +363,7 @@ IsSearch-enter heads standing path todo parts point small fresh led is = record 
           ];
         }
 
--- what is found of a point is one of three
+-- a point is in one of three states
 pub data Found (standing : List Standing) (a : ℕ) : Type 0 where
   IsFresh : standing_of standing a ≡ Fresh → Found standing a
   IsOn : (p : ℕ) → standing_of standing a ≡ OnPath p → Found standing a
@@ -377,7 +377,7 @@ found_case standing a Done e = IsDone e
 pub found : (standing : List Standing) (a : ℕ) → Found standing a
 found standing a = found_case standing a (standing_of standing a) refl
 
--- the last part of a path, with nothing of it left to be looked at
+-- the last part of a path, with no edge of it left to follow
 pub record IsWhole (heads : ℕ → List ℕ) (standing : List Standing) (path : List ℕ) (start : ℕ) : Type 0 where
   pub there : (place : ℕ) → place < length path → standing_of standing (get_or path place 0) ≡ OnPath place
   pub back : (point place : ℕ) → standing_of standing point ≡ OnPath place → (place < length path) × (get_or path place 0 ≡ point)
@@ -417,7 +417,7 @@ IsWhole-last heads standing path todo parts part last room is =
           rw (from.1, there.1) at way;
     }
 
--- a point of a part that is settled is done, and any other is what it was
+-- a point of a part that is finished is done, and any other is what it was
 pub settled : (heads : ℕ → List ℕ) (two : Bool) (count start : ℕ) (path : List ℕ) (old new : List Standing) (old_marks marks : List Bool)
     → Settles two count start (length path) path old new old_marks marks → IsWhole heads old path start → (a : ℕ)
     → (OnFrom old start a × (standing_of new a ≡ Done)) ⊎ ((OnFrom old start a → ⊥) × (standing_of new a ≡ standing_of old a))
@@ -567,7 +567,7 @@ IsSearch-leave heads two count path todo parts part old new old_marks marks last
       ]
     ]
 
--- what is told stays so while no point is done
+-- the members found so far stay so while no point becomes done
 pub IsTold-keep : (heads : ℕ → List ℕ) (count : ℕ) (old new : List Standing) (marks : List Bool) → ((a : ℕ) → standing_of new a ≡ Done → standing_of old a ≡ Done)
     → IsTold heads count old marks → IsTold heads count new marks
 IsTold-keep heads count old new marks was told = record { size = told.size; sound = told.sound; whole = λ a small e circles. told.whole a small (was a e) circles }
@@ -585,7 +585,7 @@ has_two heads count start path standing whole a b on to ne a_child b_child =
           record { one = to.0; other = on.0; from = to.1; apart = omega arith; inside = from.0; one_child = rw there.1 b_child; other_child = rw from.1 a_child }
     ]
 
--- who circles in a part that is left has another child beside it there
+-- a member of a cycle in a part that is left has another child beside it there
 circles_two : (heads : ℕ → List ℕ) (two : Bool) (count start : ℕ) (path : List ℕ) (old new : List Standing) (old_marks marks : List Bool)
     → Settles two count start (length path) path old new old_marks marks → IsWhole heads old path start
     → (a : ℕ) → a < count → OnFrom old start a → Circles heads count a → HasTwo count start path
@@ -604,7 +604,7 @@ circles_two heads two count start path old new old_marks marks settles whole a s
           cc)
     ]
 
--- what is told once the last part is left
+-- the members found once the last part is left
 pub IsTold-leave : (heads : ℕ → List ℕ) (two : Bool) (count start : ℕ) (path : List ℕ) (old new : List Standing) (old_marks marks : List Bool)
     → (two ≡ true → HasTwo count start path) → (HasTwo count start path → two ≡ true) → Settles two count start (length path) path old new old_marks marks → IsWhole heads old path start
     → IsTold heads count old old_marks → IsTold heads count new marks

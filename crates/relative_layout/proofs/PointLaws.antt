@@ -1,4 +1,4 @@
--- Where points go, and that children go to one another where they reach one another.
+-- Where points lead, and that children lead to one another if they reach one another.
 use Rattle.std.proofs.Common.{◌≡◌, ◌⊎◌, ℕ, zero, suc, ◌+◌, ◌-◌, ◌<◌, ◌≤◌, Bool, true, false, List, [], ◌∷◌, length, get_or, Option, Some, None, refl, sym, ap, ◌∙◌, arith, inl, inr}
 use Rattle.std.specs.Prelude.{nat_lt}
 use Rattle.std.proofs.lemmas.Bool.{cases_lt}
@@ -18,12 +18,12 @@ use Rattle.view_model.specs.declared.relative.Link.{Link}
 use Rattle.view_model.specs.Orders.{Reaches, AtOnce, Through}
 use Rattle.view_model.specs.SiblingRules.{last_with_id, leads, names}
 
--- one way behind the other
+-- one path after the other
 pub goes_both : {heads : ℕ → List ℕ} {a b c : ℕ} → Goes heads a b → Goes heads b c → Goes heads a c
 goes_both Stays v = v
 goes_both (Steps e w) v = Steps e (goes_both w v)
 
--- what holds of a point and goes over to all to which one goes holds wherever it goes
+-- what holds of a point and of all to which such points lead holds wherever it leads
 pub goes_on : {heads : ℕ → List ℕ} (P : ℕ → Type 0) → ((a b : ℕ) → P a → Has (heads a) b → P b) → {a b : ℕ} → P a → Goes heads a b → P b
 goes_on P next here Stays = here
 goes_on P next here (Steps e w) = goes_on P next (next _ _ here e) w
@@ -58,7 +58,7 @@ heads_inside axis kids rows a b naming has = elim (cases_lt a (length kids)) [
       omega arith
 ]
 
--- who is named goes to who names it
+-- a child that is named leads to the ones that name it
 leads_last : (axis : Axis) (kids : List Link) (rows : List (List ℕ)) (a b : ℕ) (last : Option ℕ) → last ≡ last_with_id kids (id_at kids b) → AreNamers axis kids (length kids) rows
     → leads axis kids a b ≡ true → Goes (heads_of kids rows) b a
 leads_last axis kids rows a b None found naming led =
@@ -81,7 +81,7 @@ reaches_goes axis kids rows naming (Through e w) = goes_both (reaches_goes axis 
 abbrev pub IsOrReaches : Axis → List Link → ℕ → ℕ → Type 0
 IsOrReaches axis kids a b = (a ≡ b) ⊎ Reaches (leads axis kids) a b
 
--- what a child has to do with a point that goes to it: it is that child or reaches it, or all that have that id
+-- the relation of a child to a point that leads to it: it is that child or reaches it, or all that have that id
 record Follows (axis : Axis) (kids : List Link) (child point : ℕ) : Type 0 where
   pub of_child : point < length kids → IsOrReaches axis kids child point
   pub of_id : length kids ≤ point → (b : ℕ) → b < length kids → last_with_id kids (id_at kids b) ≡ Some (point - length kids) → IsOrReaches axis kids child b
@@ -120,7 +120,7 @@ marked_inside marks place t = elim (cases_lt place (length marks)) [
   | inr le ↦ absurd (let f : is_marked marks place ≡ false = get_or_past marks place false le in let bad : true ≡ false = sym t ∙ f in cc)
 ]
 
--- who goes to another child and back reaches itself
+-- a child that leads to another child and back reaches itself
 circles_reaches : (axis : Axis) (kids : List Link) (rows : List (List ℕ)) (place : ℕ) → AreNamers axis kids (length kids) rows → place < length kids
     → Circles (heads_of kids rows) (length kids) place → Reaches (leads axis kids) place place
 circles_reaches axis kids rows place naming small circles =

@@ -34,7 +34,7 @@ IsSearching-start kids naming search standing path todo parts members = record {
 pub IsSearching-hold : (kids : List Link) (naming : Naming) (search : Search) (point : ℕ) → IsSearching kids naming search None → IsSearching kids naming search (Some point)
 IsSearching-hold kids naming search point is = record { size = is.size; path = IsSearch-hold _ _ _ _ _ (Some point) is.path; told = is.told }
 
--- no point is on the path where there is no part
+-- no point is on the path if there is no part
 pub nothing_on : (kids : List Link) (naming : Naming) (search : Search) → search.parts.items ≡ [] → IsSearching kids naming search None → (place : ℕ) → place < length search.path.items → ⊥
 nothing_on kids naming search none is place h =
     let c = is.path.covered place h in
@@ -55,7 +55,7 @@ IsSearching-enter kids naming old new point small is_fresh led standing path par
       told = rw (standing, members) (IsTold-keep (heads_in kids naming) (length kids) old.standing.items _ old.members.items (Enters-fresh old.standing.items old.path.items point fits is_fresh).was_done is.told);
     }
 
--- where a search is the same but for what is to be looked at
+-- a search that is the same except for the edges to follow
 pub IsSearching-next : (kids : List Link) (naming : Naming) (old new : Search) (part : Part) (point : ℕ) → IsLastPart old.parts.items part → part.todo < length old.todo.items
     → old.todo.items ≡ new.todo.items ++ point ∷ [] → new.standing ≡ old.standing → new.path ≡ old.path → new.parts ≡ old.parts → new.members ≡ old.members
     → IsSearching kids naming old None → IsSearching kids naming new (Some point)
@@ -79,7 +79,7 @@ next_led kids naming old new part point last more todo path parts is =
 pub led_inside : (kids : List Link) (naming : Naming) (path : List ℕ) (parts : List Part) (point : ℕ) → IsNaming kids naming → LedTo (heads_in kids naming) path parts point → point < length kids + length kids
 led_inside kids naming path parts point are led = heads_inside naming.axis kids (lists_of naming.namers.items) (get_or path led.from 0) point are.rows led.goes
 
--- the point in the hand is done
+-- the current point is done
 pub IsSearching-done : (kids : List Link) (naming : Naming) (search : Search) (point : ℕ) → standing_of search.standing.items point ≡ Done → IsSearching kids naming search (Some point) → IsSearching kids naming search None
 IsSearching-done kids naming search point done is = record {
   size = is.size;
@@ -94,7 +94,7 @@ begins_no_later place parts f some =
     let g = rw t at f in
     grind (arith, nat_tests)
 
--- the point in the hand is on the path
+-- the current point is on the path
 pub IsSearching-join : (kids : List Link) (naming : Naming) (old new : Search) (point place : ℕ) → standing_of old.standing.items point ≡ OnPath place → LedTo (heads_in kids naming) old.path.items old.parts.items point
     → Joins place old.parts.items new.parts.items → begins_after place new.parts.items ≡ false
     → new.standing ≡ old.standing → new.path ≡ old.path → new.todo ≡ old.todo → new.members ≡ old.members
@@ -166,7 +166,7 @@ begins_later place parts t = elim (cases_lt 0 (length parts)) [
 pub Joins-none : (place : ℕ) (parts : List Part) → Joins place parts parts
 Joins-none place parts = record { fewer = omega arith; same = λ i h. refl; behind = λ h. absurd (omega arith) }
 
--- one part more that begins behind the place
+-- one part more that begins after the place
 pub Joins-more : (place : ℕ) (old mid new : List Part) → begins_after place mid ≡ true → new ≡ take (length mid - 1) mid → Joins place old mid → Joins place old new
 Joins-more place old mid new later is joins =
     let after = begins_later place mid later in

@@ -1,4 +1,4 @@
--- Points that are done one after the other, and what is still to be done of a search.
+-- Points that become done one after the other, and what remains of a search.
 use Rattle.std.proofs.Common.{◌≡◌, ◌⊎◌, ℕ, ◌+◌, ◌-◌, ◌*◌, ◌<◌, ◌≤◌, Bool, true, false, cond, List, [], ◌∷◌, ◌++◌, length, get_or, set, take, Option, Some, None, refl, sym, ap, ◌∙◌, arith, inl, inr, length-append, get_or-set_same, get_or-set_other}
 use Rattle.std.specs.Prelude.{sum_by}
 use Rattle.std.proofs.Math.ListN.{length-set}
@@ -108,7 +108,7 @@ Settles-next two count start place path old mid new old_marks mid_marks marks fr
       fewer_fresh = let less = fresh_no_more mid (get_or path place 0) fits in omega (arith, was.fewer_fresh);
     })
 
--- a point goes to one more than the longest list has, at most
+-- the number of edges of a point is at most one more than the length of the longest list
 heads_most : (kids : List Link) (rows : List (List ℕ)) (point : ℕ) → length (heads_of kids rows point) ≤ 1 + sum_by length rows
 heads_most kids rows point = elim (cases_lt point (length kids)) [
   | inl lt ↦ rw (heads-child kids rows point lt) (one (last_with_id kids (id_at kids point)))

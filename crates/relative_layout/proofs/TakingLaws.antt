@@ -49,7 +49,7 @@ set_misses marks place other h f =
     let ne : other ≢ place = (λ same. let t = rw (← same) at (set_sets marks place h) in cc) in
     (ne, sym (get_or-set_other marks place other true false ne) ∙ f)
 
--- an order with one place more, to whose anchors all are taken
+-- an order with one place more, all of whose anchors are taken
 pub IsPartial-push : (leads : ℕ → ℕ → Bool) (count : ℕ) (order : List ℕ) (taken : List Bool) (a : ℕ) → a < count → length taken ≡ count
     → is_marked taken a ≡ false → LeadsIn leads a taken → IsPartial leads count order taken → IsPartial leads count (order ++ a ∷ []) (set taken a true)
 IsPartial-push leads count order taken a small size fresh ready before =
@@ -81,7 +81,7 @@ IsPartial-push leads count order taken a small size fresh ready before =
       size = long ∙ ap (λ k. k + 1) before.size ∙ sym (marked-set taken a fits fresh);
     }
 
--- what stands before the last of a list
+-- what comes before the last of a list
 pub before_last : (xs : List ℕ) (a c : ℕ) → c ≢ a → Has (xs ++ a ∷ []) c → Has xs c
 before_last xs a c ne has = elim (pushed xs a has.0 has.1) [
   | inl w ↦ (has.0, w.0, sym w.1 ∙ has.2)
@@ -120,7 +120,7 @@ inside_both xs ys count left right p h = elim (cases_lt p (length xs)) [
       rw e (right (p - length xs) there)
 ]
 
--- nobody has the id of the child that is taken, or it has none
+-- no child has the id of the child that is taken, or it has none
 pub IsTaking-alone : (axis : Axis) (kids : List Link) (left : List ℕ) (taken : List Bool) (todo order : List ℕ) (place : ℕ)
     → place < length kids → is_marked taken place ≡ false → LeadsIn (leads axis kids) place taken → last_with_id kids (id_at kids place) ≡ None
     → IsTaking axis kids left taken (todo ++ place ∷ []) order → IsTaking axis kids left (set taken place true) todo (order ++ place ∷ [])
@@ -142,7 +142,7 @@ IsTaking-alone axis kids left taken todo order place small fresh ready none is =
           ];
     }
 
--- the child that is taken has an id: where at most one is left with it, those that name it are to be looked at
+-- the child that is taken has an id: if at most one is left with it, those that name it are to be looked at
 pub IsTaking-one_of : (axis : Axis) (kids : List Link) (rows : List (List ℕ)) (left : List ℕ) (taken : List Bool) (todo order : List ℕ) (place last : ℕ)
     → place < length kids → is_marked taken place ≡ false → LeadsIn (leads axis kids) place taken → last_with_id kids (id_at kids place) ≡ Some last
     → AreNamers axis kids (length kids) rows → (more : Bool) → nat_lt 1 (get_or left last 0 - 1) ≡ more
@@ -193,7 +193,7 @@ IsTaking-one_of axis kids rows left taken todo order place last small fresh read
         inr (b.0, leads_whole axis kids k b.0 (λ same. b.1 (sym same)) (rw b.4 named), b.3)
     released axis kids taken todo row last k inside named has false test = inl (Has-right todo row k has)
 
--- what is still to be done gets less
+-- less remains to be done
 
 pub row-least : (rows : List (List ℕ)) (q : ℕ) → length (row_at rows q) ≤ sum_by length rows
 row-least [] q = omega arith

@@ -1,4 +1,5 @@
--- What is gathered in the turns of an order is what is gathered place by place, where it makes no difference who comes first.
+-- What is gathered in the turns of an order is what is gathered place by place, if it makes no difference which comes
+-- first.
 use Rattle.std.proofs.Common.{◌≡◌, ◌≢◌, ◌⊎◌, ℕ, zero, suc, ◌+◌, ◌-◌, ◌<◌, ◌≤◌, Bool, true, false, List, [], ◌∷◌, ◌++◌, length, get_or, refl, sym, ap, ◌∙◌, arith, subst, inl, inr}
 use Rattle.std.proofs.lemmas.Bool.{cases_Bool, cases_lt}
 use Rattle.std.proofs.lemmas.Int.{int_max_is, ints}
@@ -156,7 +157,7 @@ max_swaps true false x a b = refl
 max_swaps false true x a b = refl
 max_swaps false false x a b = refl
 
--- they reach as far as those of the list
+-- they reach no further than those of the list
 reach_in : (axis : Axis) (kids : List Child) (spans : ℕ → ℤ × ℤ) (leads : ℕ → ℕ → Bool) (order : List ℕ) → IsOrder leads (length kids) order
     → greatest_reach axis (spanned_in kids spans order) ≡ greatest_reach axis (spanned_by kids spans)
 reach_in axis kids spans leads order is =

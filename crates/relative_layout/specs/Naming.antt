@@ -40,7 +40,7 @@ with_place (Some at) place rows = slice_set rows at (row_at rows at ++ place ∷
 abbrev pub Has : List ℕ → ℕ → Type 0
 Has row place = (p : ℕ) × (p < length row) × (slice_index row p ≡ place)
 
--- what a table has of an id, once a child with this one is the last so far
+-- the entry of a table for an id, once a child with this one is the last so far
 unfoldable pub with_last : ℕ → ℕ → Option ℕ → ℕ → Option ℕ
 with_last id place before i = if id == 0 then before else if id == i then Some place else before
 
@@ -48,11 +48,11 @@ with_last id place before i = if id == 0 then before else if id == i then Some p
 abbrev pub NamesId : Axis → List Link → ℕ → ℕ → Type 0
 NamesId axis kids named place = names axis (link_at kids place).rules (id_at kids named) ≡ true
 
--- the ids that a child names on an axis are of children before it alone
+-- the ids that a child names on an axis are only those of children before it
 abbrev pub NamesBack : Axis → List Link → ℕ → Type 0
 NamesBack axis kids place = (k : ℕ) → k < 8 → IfSome (last_with_id kids (slice_index (padded_ids axis (link_at kids place).rules) k)) (λ last. last < place)
 
--- for the last child with an id the children below a number that name it; no other children stand in any list
+-- for the last child with an id, the children below a number that name it; no other children are in any list
 pub record AreNamers (axis : Axis) (kids : List Link) (below : ℕ) (rows : List (List ℕ)) : Type 0 where
   pub size : length rows ≡ length kids
   pub inside : (q p : ℕ) → p < length (row_at rows q) → slice_index (row_at rows q) p < length kids

@@ -1,4 +1,4 @@
--- A search for cycles: a path of points, cut into parts whose points all go to one another.
+-- A search for cycles: a path of points, cut into parts whose points all lead to one another.
 use Rattle.std.specs.Prelude.{◌≡◌, ◌≢◌, ◌⊎◌, ℕ, ◌+◌, ◌-◌, ◌*◌, ◌<◌, ◌≤◌, Bool, true, false, ◌&&◌, if◌then◌else◌, List, [], ◌∷◌, ◌++◌, length, Option, Some, count_by, nat_lt, slice_index, slice_index_or, sum_by}
 use Rattle.relative_layout.specs.declared.naming.Naming.{Naming}
 use Rattle.relative_layout.specs.declared.parts.Part.{Part}
@@ -17,7 +17,7 @@ standing_of standing point = slice_index_or standing point Fresh
 abbrev pub no_part : Part
 no_part = record { path = 0; todo = 0 }
 
--- where a part begins on the path, and among what is to be looked at
+-- where a part begins on the path, and in the list of edges to follow
 abbrev pub start_of : List Part → ℕ → ℕ
 start_of parts i = (slice_index_or parts i no_part).path
 
@@ -32,12 +32,12 @@ OnFrom standing start point = (place : ℕ) × (start ≤ place) × (standing_of
 abbrev pub HasFrom : List ℕ → ℕ → ℕ → Type 0
 HasFrom todo start point = (place : ℕ) × (start ≤ place) × (place < length todo) × (slice_index todo place ≡ point)
 
--- a point to which a part goes is done, or on the path and not before the part, or still to be looked at, or in the hand
+-- a point to which a part leads is done, or on the path and not before the part, or still to be followed, or current
 abbrev pub Known : List Standing → List ℕ → Option ℕ → ℕ → ℕ → ℕ → Type 0
 Known standing todo held start todo_start point =
     (standing_of standing point ≡ Done) ⊎ OnFrom standing start point ⊎ HasFrom todo todo_start point ⊎ (held ≡ Some point)
 
--- something to be looked at is where a point of the path goes, which stands in the same part
+-- an edge to follow is one of a point of the path, which is in the same part
 pub record IsPending (heads : ℕ → List ℕ) (path : List ℕ) (parts : List Part) (at point : ℕ) : Type 0 where
   pub from : ℕ
   pub inside : from < length path
@@ -45,7 +45,7 @@ pub record IsPending (heads : ℕ → List ℕ) (path : List ℕ) (parts : List 
   pub after : (i : ℕ) → i < length parts → todo_of parts i ≤ at → start_of parts i ≤ from
   pub before : (i : ℕ) → i < length parts → at < todo_of parts i → from < start_of parts i
 
--- a search that holds a point in its hand, or none
+-- a search with a current point, or none
 pub record IsSearch (heads : ℕ → List ℕ) (standing : List Standing) (path todo : List ℕ) (parts : List Part) (held : Option ℕ) : Type 0 where
   pub there : (place : ℕ) → place < length path → standing_of standing (slice_index path place) ≡ OnPath place
   pub back : (point place : ℕ) → standing_of standing point ≡ OnPath place → (place < length path) × (slice_index path place ≡ point)
@@ -60,7 +60,7 @@ pub record IsSearch (heads : ℕ → List ℕ) (standing : List Standing) (path 
   pub back_in : (p q : ℕ) → p ≤ q → q < length path → ((i : ℕ) → i < length parts → start_of parts i ≤ q → start_of parts i ≤ p)
       → Goes heads (slice_index path q) (slice_index path p)
 
--- of all points that are done those are marked that go to another child and back
+-- of all points that are done those are marked that lead to another child and back
 pub record IsTold (heads : ℕ → List ℕ) (count : ℕ) (standing : List Standing) (marks : List Bool) : Type 0 where
   pub size : length marks ≡ count
   pub sound : (place : ℕ) → is_marked marks place ≡ true → Circles heads count place
@@ -75,7 +75,7 @@ pub record IsSearching (kids : List Link) (naming : Naming) (search : Search) (h
   pub path : IsSearch (heads_in kids naming) search.standing.items search.path.items search.todo.items search.parts.items held
   pub told : IsTold (heads_in kids naming) (length kids) search.standing.items search.members.items
 
--- who is not fresh does not become so
+-- a point that is not fresh does not become so
 abbrev pub Visits : List Standing → List Standing → Type 0
 Visits old new = (point : ℕ) → standing_of old point ≢ Fresh → standing_of new point ≢ Fresh
 
@@ -83,20 +83,20 @@ pub record IsLastPart (parts : List Part) (part : Part) : Type 0 where
   pub some : 0 < length parts
   pub is : slice_index_or parts (length parts - 1) no_part ≡ part
 
--- the last part has a point that goes to this one
+-- the last part has a point that leads to this one
 pub record LedTo (heads : ℕ → List ℕ) (path : List ℕ) (parts : List Part) (point : ℕ) : Type 0 where
   pub from : ℕ
   pub inside : from < length path
   pub last : (i : ℕ) → i < length parts → start_of parts i ≤ from
   pub goes : Has (heads (slice_index path from)) point
 
--- parts of which those that begin behind a place were joined to the last one before
+-- parts of which those that begin after a place were joined to the last one before
 pub record Joins (place : ℕ) (old new : List Part) : Type 0 where
   pub fewer : length new ≤ length old
   pub same : (i : ℕ) → i < length new → slice_index_or new i no_part ≡ slice_index_or old i no_part
   pub behind : length new < length old → place < start_of old (length new)
 
--- whether the last of some parts begins behind a place
+-- whether the last of some parts begins after a place
 unfoldable pub begins_after : ℕ → List Part → Bool
 begins_after place parts = nat_lt 0 (length parts) && nat_lt place (start_of parts (length parts - 1))
 
@@ -131,14 +131,14 @@ pub record Settles (two : Bool) (count start end : ℕ) (path : List ℕ) (old n
       → (is_marked old_marks point ≡ true) ⊎ ((two ≡ true) × (place : ℕ) × (start ≤ place) × (place < end) × (slice_index path place ≡ point) × (point < count))
   pub fewer_fresh : fresh new ≤ fresh old
 
--- points of a path from a place on that are done now, and the children among them marked where they are two
+-- points of a path from a place on that are done now, and the children among them marked if they are two
 pub record Leaves (count start : ℕ) (path : List ℕ) (old new : List Standing) (old_marks new_marks : List Bool) : Type 0 where
   pub two : Bool
   pub yes : two ≡ true → HasTwo count start path
   pub no : HasTwo count start path → two ≡ true
   pub settles : Settles two count start (length path) path old new old_marks new_marks
 
--- what is still to be done: what is to be looked at, the parts, and for each fresh point itself and the longest list at most
+-- what remains: the edges to follow, the parts, and for each fresh point itself and at most the longest list
 unfoldable pub search_effort : List (List ℕ) → List Standing → ℕ → ℕ → ℕ
 search_effort rows standing todo parts = fresh standing * (3 + sum_by length rows) + todo + parts
 

@@ -1,4 +1,4 @@
--- What a plan stands for: a group, its specs, and the children that it has taken in each phase, with their sides.
+-- What a plan represents: a group, its specs, and the children that it has taken in each phase, with their sides.
 use Rattle.std.specs.Prelude.{◌≡◌, ℕ, ℤ, Bool, true, false, List, [], ◌∷◌, ◌++◌, filter, map}
 use Rattle.geom_core.specs.declared.geometry.Size.{Size}
 use Rattle.relative_layout.specs.declared.extent.Extent.{Extent}
@@ -14,7 +14,7 @@ use Rattle.view_model.specs.Measuring.{Specs}
 use Rattle.view_model.specs.RelativeCourse.{child_at}
 use Rattle.view_model.specs.RelativeLayout.{Spanned, band_on, edges_with, greatest_reach, phase_axis, span_on}
 
--- an axis of a group on which these children lie
+-- an axis of a group with these children
 pub record IsExtent (extent : Extent) (axis : Axis) (own : Facts) (specs : Specs) (kids : List Spanned) : Type 0 where
   pub of_band : extent.band ≡ band_on axis own specs
   pub of_most : extent.most ≡ greatest_reach axis kids
@@ -22,10 +22,11 @@ pub record IsExtent (extent : Extent) (axis : Axis) (own : Facts) (specs : Specs
 -- a plan in a phase of this axis, with these children taken from left to right and these from top to bottom
 pub record HasTaken (plan : RelativePlan) (axis : Axis) (own : Facts) (specs : Specs) (across down : List Spanned) : Type 0 where
   pub of_axis : plan.axis ≡ axis
+  pub of_rtl : plan.rtl ≡ own.rtl
   pub of_across : IsExtent plan.across Horizontal own specs across
   pub of_down : IsExtent plan.down Vertical own specs down
 
--- it has come through these phases, and has taken these children in the one that it is in
+-- it has completed these phases, and has taken these children in the one that it is in
 abbrev pub StandsRelative : RelativePlan → Facts → Specs → List (List Spanned) → List Spanned → Type 0
 StandsRelative plan own specs [] taken = HasTaken plan Horizontal own specs taken []
 StandsRelative plan own specs (first ∷ []) taken = HasTaken plan Vertical own specs first taken
@@ -43,7 +44,7 @@ abbrev pub is_first : List (List Spanned) → Bool
 is_first [] = true
 is_first (first ∷ more) = false
 
--- the plan at the end of a phase, where it has answered whether another follows: one does on the first
+-- the plan at the end of a phase, once it has returned whether another follows: one does after the first
 pub record TurnsRelative (plan : RelativePlan) (own : Facts) (specs : Specs) (past : List (List Spanned)) (taken : List Spanned) (answer : Bool) : Type 0 where
   pub answers : answer ≡ is_first past
   pub follows : answer ≡ true → StandsRelative plan own specs (past ++ taken ∷ []) []

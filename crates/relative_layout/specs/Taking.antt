@@ -17,14 +17,14 @@ marked marks = count_by (λ b. b) marks
 abbrev pub Grows : List Bool → List Bool → Type 0
 Grows old new = (place : ℕ) → is_marked old place ≡ true → is_marked new place ≡ true
 
--- all to which a place leads is marked; something to which it leads is not
+-- all to which a place leads is marked; some place to which it leads is not
 abbrev pub LeadsIn : (ℕ → ℕ → Bool) → ℕ → List Bool → Type 0
 LeadsIn leads place marks = (anchor : ℕ) → leads place anchor ≡ true → is_marked marks anchor ≡ true
 
 abbrev pub Waits : (ℕ → ℕ → Bool) → List Bool → ℕ → Type 0
 Waits leads marks place = (anchor : ℕ) × (leads place anchor ≡ true) × (is_marked marks anchor ≡ false)
 
--- some places, with anchors first, and the marks of which they are
+-- some places, with anchors first, and the marks for exactly these
 pub record IsPartial (leads : ℕ → ℕ → Bool) (count : ℕ) (order : List ℕ) (taken : List Bool) : Type 0 where
   pub anchors : IsAnchorsFirst leads order
   pub inside : (p : ℕ) → p < length order → slice_index order p < count
@@ -63,7 +63,7 @@ abbrev pub counted_up : Option ℕ → List ℕ → List ℕ
 counted_up None left = left
 counted_up (Some last) left = slice_set left last (slice_index left last + 1)
 
--- whether more than so many are left with the id of a last child, if it is given
+-- whether more than n are left with the id of a last child, if it is given
 abbrev pub has_more : Option ℕ → ℕ → List ℕ → Bool
 has_more None own left = false
 has_more (Some last) own left = nat_lt own (slice_index left last)
@@ -76,6 +76,6 @@ pub record IsTaking (axis : Axis) (kids : List Link) (left : List ℕ) (taken : 
   pub inside : (p : ℕ) → p < length todo → slice_index todo p < length kids
   pub pending : (place : ℕ) → place < length kids → is_marked taken place ≡ false → Has todo place ⊎ Waits (leads axis kids) taken place
 
--- how much is still to be done: what is to be looked at, and for each that is not taken itself and the longest list at most
+-- what remains: what is to be looked at, and for each that is not taken itself and at most the longest list
 unfoldable pub effort : List (List ℕ) → List Bool → ℕ → ℕ
 effort rows taken todo = (length taken - marked taken) * (1 + sum_by length rows) + todo

@@ -10,11 +10,11 @@ use crate::spans::{moved_span, span_of};
 use geom_core::Spec;
 use view_model::{Anchors, Band, Tied, greater_need, own_side};
 
-/// A group on an axis, and how far its children reach there.
+/// A group on an axis, and how far its children extend there.
 #[derive(Clone, Copy, Debug)]
 pub struct Extent {
     pub band: Band,
-    /// The farthest reach so far of a child with its margin, at least 0.
+    /// The farthest extent so far of a child with its margin, at least 0.
     pub most: i64,
 }
 
@@ -27,7 +27,7 @@ impl Extent {
         Extent { band, most: 0 }
     }
 
-    /// Takes in a child with these anchors that was measured with this length, and answers its sides.
+    /// Takes in a child with these anchors that was measured with this length, and returns its sides.
     pub fn take(&mut self, kid: &Tied, anchors: &Anchors, length: i32) -> (i32, i32)
         requires { IsSide length }
         ensures band { self.new.band ≡ self.old.band }
@@ -71,7 +71,7 @@ impl Extent {
         span_of(&self.band, kid, near, far, length)
     }
 
-    /// The sides in the end of a child of this length, which had these after it was measured.
+    /// The final sides of a child of this length, which had these after it was measured.
     pub fn final_span(&self, kid: &Tied, span: Option<(i32, i32)>, length: i32) -> (i32, i32)
         requires { IsSide length }
         ensures { result ≡ moved_span self.now.band kid.now

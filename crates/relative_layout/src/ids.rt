@@ -13,7 +13,7 @@ use view_model::verbs::{
 };
 use view_model::{Axis, Link, Rules};
 
-/// The ids that rules name on an axis; 0 names nobody.
+/// The ids that rules name on an axis; 0 means none.
 pub fn named_ids(axis: Axis, rules: &Rules) -> [u32; 8]
     ensures { result ≡ padded_ids axis rules.now }
 {
@@ -54,7 +54,7 @@ pub fn last_places(alloc: Global, kids: &[Link]) -> Result<IndexMap<u32, u32>, A
     Ok(lasts)
 }
 
-/// Notes that a child is the last so far with its id.
+/// Records that a child is the last so far with its id.
 fn note_last(lasts: &mut IndexMap<u32, u32>, id: u32, place: u32) -> Result<(), AllocError>
     ensures { OnOk result ((i : ℕ) → place_in nat_eq lasts.new i ≡ with_last id place (place_in nat_eq lasts.old i) i) }
 {

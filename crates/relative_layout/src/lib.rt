@@ -1,9 +1,9 @@
 //! A relative layout: the orders in which its children are measured, and how it measures and places them, one call at a
 //! time.
 //!
-//! `order` puts a child after all siblings that its rules name, on each axis. The plan never sees a sibling: whoever
-//! holds the tree goes along these orders, hands in a child together with the sides of its anchors, measures it as the
-//! plan asks, and hands the size back.
+//! `order` puts a child after all siblings that its rules name, on each axis. The plan never sees a sibling: the owner
+//! of the tree goes along these orders, passes a child together with the sides of its anchors, measures it as the plan
+//! asks, and passes the size back.
 #![tactic(auto)]
 
 mod extent;

@@ -1,4 +1,4 @@
-//! Children that are in order as they are listed.
+//! Children whose order is that of the list.
 ghost use Rattle.std.specs.Prelude.{◌≡◌, ◌<◌, ◌≤◌, ℕ, IfOk, IfSome, length, nat_eq, slice_index, true};
 ghost use Rattle.indexmap.specs.IndexMap.{get as place_in};
 ghost use Rattle.relative_layout.specs.Naming.{NamesBack};
@@ -11,7 +11,7 @@ use indexmap::IndexMap;
 use std::alloc::{AllocError, Global};
 use view_model::{Axis, Link};
 
-/// Whether it is seen at once that each child leads only to children before it, as in most layouts.
+/// Whether a quick look shows that each child leads only to children before it, as in most layouts.
 pub fn leads_back(axis: Axis, kids: &[Link], lasts: &IndexMap<u32, u32>) -> bool
     requires { (id : ℕ) → place_in nat_eq lasts.now id ≡ last_with_id kids.now id }
     ensures { result ≡ true → (place anchor : ℕ) → leads axis kids.now place anchor ≡ true → anchor < place }

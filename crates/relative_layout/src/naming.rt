@@ -10,7 +10,7 @@ use indexmap::IndexMap;
 use std::alloc::{AllocError, Global};
 use view_model::{Axis, Link};
 
-/// Which children name which ids on an axis. A child stands for its id that is the last one with it.
+/// Which children name which ids on an axis. The last child with an id represents it.
 #[derive(Drop)]
 pub struct Naming {
     pub axis: Axis,
@@ -70,7 +70,7 @@ fn namers(
     Ok(rows)
 }
 
-/// Notes the ids that a child names.
+/// Records the ids that a child names.
 fn add_names(
     rows: &mut Vec<Vec<u32>>,
     axis: Axis,
@@ -90,7 +90,7 @@ fn add_names(
     Ok(())
 }
 
-/// The last child with an id, by the table of them. Most rules name 0, which nobody has: that is known without a
+/// The last child with an id, by the table of them. Most rules name 0, which no child has: that is known without a
 /// look-up.
 pub fn last_in(lasts: &IndexMap<u32, u32>, id: u32) -> Option<usize>
     requires { place_in nat_eq lasts.now 0 ≡ None }
@@ -117,7 +117,7 @@ fn add_to_row(rows: &mut Vec<Vec<u32>>, last: Option<usize>, place: u32) -> Resu
     Ok(())
 }
 
-/// As many empty lists.
+/// `count` empty lists.
 fn empty_rows(alloc: Global, count: usize) -> Result<Vec<Vec<u32>>, AllocError>
     ensures { IfOk result (λ rows. lists_of rows.items ≡ replicate count []) }
 {

@@ -33,7 +33,7 @@ pub enum OrderFault {
     NoMemory,
 }
 
-/// What comes of the children on one axis.
+/// The result for the children on one axis.
 #[derive(Debug, Drop)]
 enum Sorting {
     Order(Vec<u32>),
@@ -72,7 +72,8 @@ pub fn order(alloc: Global, kids: &[Link]) -> Result<Orders, OrderFault>
     }
 }
 
-/// The order of the children on an axis, or the members of its cycles: the order of the list, where that is seen to do.
+/// The order of the children on an axis, or the members of its cycles: the order of the list, if a quick look allows
+/// it.
 fn sorted_on(
     alloc: Global,
     axis: Axis,
@@ -104,7 +105,7 @@ fn sorted_by_names(alloc: Global, axis: Axis, kids: &[Link]) -> Result<Sorting, 
     Ok(Sorting::Cycle(members))
 }
 
-/// The children in order as far as they can be taken.
+/// The children in order, as many as can be taken.
 fn longest_order(alloc: Global, kids: &[Link], naming: &Naming) -> Result<Vec<u32>, AllocError>
     requires few { length kids.now ≤ MAX_VIEWS }
     requires naming { IsNaming kids.now naming.now }
@@ -130,7 +131,7 @@ fn members(alloc: Global, kids: &[Link], naming: &Naming) -> Result<Vec<u32>, Al
     Ok(members)
 }
 
-/// Notes a child if it is marked.
+/// Appends a child if it is marked.
 fn note_member(members: &mut Vec<u32>, marks: &[bool], place: usize) -> Result<(), AllocError>
     requires few { place < MAX_VIEWS }
     requires place { place < length marks.now }

@@ -1,4 +1,5 @@
-//! Which children reach themselves: a search that goes along each rule once.
+//! Which children reach themselves: a search for strong components that follows each rule once (Gabow 2000,
+//! path-based).
 ghost use Rattle.std.specs.Prelude.{◌≡◌, ◌≢◌, ◌<◌, ◌≤◌, ◌-◌, ◌+◌, ◌++◌, ◌∷◌, ℕ, [], Bool, IfNone, IfOk, IfSome, List, None, OnOk, Some, false, if◌then◌else◌, length, nat_lt, replicate, slice_index, slice_set, take, true};
 ghost use Rattle.relative_layout.specs.Naming.{IsNaming, lists_of};
 ghost use Rattle.relative_layout.specs.Parts.{AreMarked, HasTwo, IsLastPart, IsSearch, IsSearching, IsTold, Joins, Leaves, LedTo, Visits, begins_after, fresh, heads_in, search_effort, standing_of, start_of};
@@ -13,29 +14,29 @@ use crate::points::put_heads;
 use std::alloc::{AllocError, Global};
 use view_model::Link;
 
-/// What the search has found of a point.
+/// The state of a point in the search.
 #[derive(Debug, Clone, Copy)]
 pub enum Standing {
     Fresh,
     /// On the path, at this place.
     OnPath(usize),
-    /// Behind it, as all to which it goes.
+    /// Finished, with everything reachable from it.
     Done,
 }
 
-/// Where a part of the path begins, and what is to be looked at of it.
+/// Where a part of the path begins, and its edges that are not followed yet.
 #[derive(Debug, Clone, Copy)]
 pub struct Part {
     pub path: usize,
     pub todo: usize,
 }
 
-/// How far the search has come. The path is cut into parts, and all points of one go to one another.
+/// The state of the search. The path is cut into parts, and all points of one lead to one another.
 #[derive(Drop)]
 pub struct Search {
     standing: Vec<Standing>,
     path: Vec<u32>,
-    /// Where points of the path go, as far as it was not looked at.
+    /// The edges of points of the path that are not followed yet.
     todo: Vec<u32>,
     parts: Vec<Part>,
     /// For each child, whether it is known to reach itself.
@@ -143,7 +144,7 @@ impl Search {
         Some(self.parts[self.parts.len() - 1])
     }
 
-    /// Looks at one point to which the last part goes, or finishes the part where there is none.
+    /// Follows one edge of the last part, or finishes the part if there is none.
     fn step(&mut self, kids: &[Link], naming: &Naming, part: Part) -> Result<(), AllocError>
         requires few { length kids.now ≤ MAX_VIEWS }
         requires naming { IsNaming kids.now naming.now }
@@ -163,7 +164,7 @@ impl Search {
         Ok(())
     }
 
-    /// The next point that is to be looked at.
+    /// The next edge to follow.
     fn take_next(&mut self) -> usize
         requires { 0 < length self.old.todo.items }
         ensures todo { self.old.todo.items ≡ self.new.todo.items ++ result ∷ [] }
@@ -178,7 +179,7 @@ impl Search {
         }
     }
 
-    /// Looks at a point to which the last part goes.
+    /// Follows an edge of the last part to this point.
     fn look_at(&mut self, kids: &[Link], naming: &Naming, point: usize) -> Result<(), AllocError>
         requires few { length kids.now ≤ MAX_VIEWS }
         requires point { point < length kids.now + length kids.now }
@@ -237,7 +238,7 @@ impl Search {
         Ok(())
     }
 
-    /// Joins all parts that begin behind a place to the one that has it.
+    /// Joins all parts that begin after a place to the one that has it.
     fn join(&mut self, place: usize)
         ensures joins { Joins place self.old.parts.items self.new.parts.items }
         ensures last { begins_after place self.new.parts.items ≡ false }
@@ -251,7 +252,7 @@ impl Search {
         }
     }
 
-    /// Leaves the last part, whose points go nowhere else but to such as are done.
+    /// Leaves the last part, whose points lead nowhere else but to finished ones.
     fn finish(&mut self, count: usize, start: usize)
         requires start { start ≤ length self.old.path.items }
         requires inside { (place : ℕ) → place < length self.old.path.items → slice_index self.old.path.items place < length self.old.standing.items }
@@ -269,7 +270,7 @@ impl Search {
         self.parts.pop();
     }
 
-    /// Notes that a point of the path is done, and marks it if it is a child that is not alone.
+    /// Marks a point of the path as done, and as a member if it is a child that is not alone.
     fn settle(&mut self, count: usize, place: usize, two: bool)
         requires place { place < length self.old.path.items }
         requires inside { slice_index self.old.path.items place < length self.old.standing.items }
@@ -290,7 +291,7 @@ impl Search {
     }
 }
 
-/// Whether the last part begins behind a place.
+/// Whether the last part begins after a place.
 fn begins_after(place: usize, parts: &[Part]) -> bool
     ensures { result ≡ begins_after place parts.now }
 {
@@ -300,7 +301,7 @@ fn begins_after(place: usize, parts: &[Part]) -> bool
     parts[parts.len() - 1].path > place
 }
 
-/// Whether two children stand on the path, from a place on.
+/// Whether two children are on the path, from a place on.
 fn has_two(count: usize, start: usize, path: &[u32]) -> bool
     requires { start ≤ length path.now }
     ensures yes { result ≡ true → HasTwo count start path.now }

@@ -13,12 +13,14 @@ use geom_core::{Rect, Size, Spec};
 use view_model::{Anchors, Axis, Edges, Facts};
 
 /// The measuring of one relative layout, on the horizontal axis and then on the vertical one. In each of the two phases
-/// every child that takes part in layout is handed in once, after its anchors on that axis: `ask`, measuring, `take`.
-/// `edges` is what `take` answered for that child last, and none on either axis before; `anchors` are those of the
+/// every child that takes part in layout is passed once, after its anchors on that axis: `ask`, measuring, `take`.
+/// `edges` is what `take` returned last for that child, and none on either axis before; `anchors` are those of the
 /// phase's axis, with the sides that they have there.
 #[derive(Clone, Copy, Debug)]
 pub struct RelativePlan {
     axis: Axis,
+    /// Whether the group runs from right to left.
+    rtl: bool,
     across: Extent,
     down: Extent,
 }
@@ -32,9 +34,19 @@ impl RelativePlan {
     {
         RelativePlan {
             axis: Axis::Horizontal,
+            rtl: own.rtl,
             across: Extent::start(Axis::Horizontal.band(own, ws, hs)),
             down: Extent::start(Axis::Vertical.band(own, ws, hs)),
         }
+    }
+
+    /// Whether the group runs from right to left, by which the anchors of its children are found.
+    pub fn is_rtl(&self) -> bool
+        ensures { (own : FactsValue) (specs : Specs) (past : List (List Spanned)) (taken : List Spanned)
+            → StandsRelative self.now own specs past taken
+            → result ≡ own.rtl }
+    {
+        self.rtl
     }
 
     /// The specs of a child in this phase.
@@ -50,7 +62,7 @@ impl RelativePlan {
         }
     }
 
-    /// Takes the size that a child has got, and answers its sides as far as they are known then.
+    /// Takes the size that a child has got, and returns its sides that are known then.
     #[inline(never)]
     pub fn take(&mut self, kid: &Facts, edges: Edges, anchors: &Anchors, size: Size) -> Edges
         requires width { IsSide size.w }
@@ -66,14 +78,16 @@ impl RelativePlan {
             Axis::Horizontal => {
                 let span = self
                     .across
-                    .take(&Axis::Horizontal.tied(kid), anchors, size.w);
+                    .take(&Axis::Horizontal.tied(self.rtl, kid), anchors, size.w);
                 Edges {
                     across: Some(span),
                     down: edges.down,
                 }
             }
             Axis::Vertical => {
-                let span = self.down.take(&Axis::Vertical.tied(kid), anchors, size.h);
+                let span = self
+                    .down
+                    .take(&Axis::Vertical.tied(self.rtl, kid), anchors, size.h);
                 Edges {
                     across: edges.across,
                     down: Some(span),
@@ -82,7 +96,7 @@ impl RelativePlan {
         }
     }
 
-    /// Ends a phase: true where another follows.
+    /// Ends a phase: true if another follows.
     pub fn turn(&mut self) -> bool
         ensures { (own : FactsValue) (specs : Specs) (past : List (List Spanned)) (taken : List Spanned)
             → StandsRelative self.old own specs past taken
@@ -111,7 +125,7 @@ impl RelativePlan {
         }
     }
 
-    /// Where a child of this size lies that has these sides after the second phase, in the group's coordinates.
+    /// The rectangle of a child of this size that has these sides after the second phase, in the group's coordinates.
     pub fn settle(&self, kid: &Facts, edges: Edges, size: Size) -> Rect
         requires width { IsSide size.w }
         requires height { IsSide size.h }
@@ -120,10 +134,9 @@ impl RelativePlan {
             → result ≡ final_rect own specs (relative_size own specs first second) (layout_facts kid.now) edges size }
     {
         rect_between(
-            self.across
-                .final_span(&Axis::Horizontal.tied(kid), edges.across, size.w),
+            self.across.final_span(&Axis::Horizontal.tied(self.rtl, kid), edges.across, size.w),
             self.down
-                .final_span(&Axis::Vertical.tied(kid), edges.down, size.h),
+                .final_span(&Axis::Vertical.tied(self.rtl, kid), edges.down, size.h),
         )
     }
 
@@ -134,8 +147,9 @@ impl RelativePlan {
             → result ≡ pair_of (across_specs own specs kid.now anchors.now) }
     {
         (
-            self.across.spec(&Axis::Horizontal.tied(kid), anchors),
-            loose_spec(&self.down.band, &Axis::Vertical.tied(kid)),
+            self.across
+                .spec(&Axis::Horizontal.tied(self.rtl, kid), anchors),
+            loose_spec(&self.down.band, &Axis::Vertical.tied(self.rtl, kid)),
         )
     }
 
@@ -147,7 +161,7 @@ impl RelativePlan {
     {
         (
             told_spec(edges.across.unwrap_or((0, 0))),
-            self.down.spec(&Axis::Vertical.tied(kid), anchors),
+            self.down.spec(&Axis::Vertical.tied(self.rtl, kid), anchors),
         )
     }
 }

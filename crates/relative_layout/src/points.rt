@@ -1,4 +1,4 @@
-//! The points among which cycles are searched: the children, and behind them the ids.
+//! The points among which cycles are searched: the children, and after them the ids.
 ghost use Rattle.std.specs.Prelude.{◌≡◌, ◌<◌, ◌≤◌, ◌+◌, ◌++◌, IfSome, OnOk, length};
 ghost use Rattle.relative_layout.specs.Naming.{IsNaming, lists_of};
 ghost use Rattle.relative_layout.specs.Points.{heads_of, id_point};
@@ -8,8 +8,8 @@ use crate::naming::Naming;
 use std::alloc::AllocError;
 use view_model::Link;
 
-/// Appends the points to which a point goes: from a child the one of its id, from an id those of the children that name
-/// it. Each child is a point by its place, and each id by the place of the last child with it, behind all children.
+/// Appends the points to which a point leads: from a child the one of its id, from an id those of the children that
+/// name it. Each child is a point by its place, and each id by the place of the last child with it, after all children.
 pub fn put_heads(
     points: &mut Vec<u32>,
     kids: &[Link],

@@ -204,8 +204,7 @@ fn far_limit(band: &Band, kid: &Tied, far: Option<i32>, room: i32) -> i64
     }
 }
 
-/// How much is between the sides of a child, as far as they are set, and otherwise between those of a group of this
-/// size.
+/// How much is between the sides of a child, if they are set, and otherwise between those of a group of this size.
 #[tactic(auto, unfolding(view_model::specs::RelativeLayout::available_to))]
 fn available(band: &Band, kid: &Tied, near: Option<i32>, far: Option<i32>, room: i32) -> i64
     ensures { result ≡ available_to band.now kid.now near far room }

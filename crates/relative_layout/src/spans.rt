@@ -1,9 +1,9 @@
 //! Both sides of a child on an axis, once it is measured. Lengths are in pixels.
 ghost use Rattle.std.specs.Prelude.{◌≡◌, ◌+ℤ◌, ◌-ℤ◌, ◌≤ℤ◌, IfSome, negsuc, pos};
 ghost use Rattle.geom_core.specs.Limits.{IsCoordinate, IsSide};
-ghost use Rattle.view_model.specs.RelativeLayout.{centered_in, free_near, moved_span, rect_between, span_at, span_of};
+ghost use Rattle.view_model.specs.RelativeLayout.{centered_in, far_inset, free_near, moved_span, rect_between, rest_near, span_at, span_of};
 
-use crate::sides::near_inset;
+use crate::sides::{far_inset, near_inset};
 use geom_core::{Rect, to_coordinate};
 use view_model::{Band, Tied, is_exact};
 
@@ -23,13 +23,34 @@ fn centered_in(room: i32, length: i32) -> i64
     (i64::from(room) - i64::from(length)) / 2
 }
 
+/// What a child of this length takes before the far side, with its margin.
+fn rest_share(band: &Band, kid: &Tied, length: i32) -> i64
+    ensures value { result ≡ far_inset band.now kid.now +ℤ length }
+    ensures low { negsuc 8589934591 ≤ℤ result }
+    ensures high { result ≤ℤ pos 8589934591 }
+{
+    far_inset(band, kid) + i64::from(length)
+}
+
+/// The near side of a child of this length that rests at the far side of a group of this size.
+fn rest_near(band: &Band, kid: &Tied, room: i32, length: i32) -> i64
+    ensures { result ≡ rest_near band.now kid.now room length }
+{
+    i64::from(room) - rest_share(band, kid, length)
+}
+
 /// The near side of a child of which no rule sets a side.
 #[tactic(auto, unfolding(view_model::specs::RelativeLayout::free_near))]
 fn free_near(band: &Band, kid: &Tied, length: i32) -> i64
     ensures { result ≡ free_near band.now kid.now length }
 {
-    if is_exact(band.spec) && kid.centered {
-        return centered_in(band.spec.size, length);
+    if is_exact(band.spec) {
+        if kid.centered {
+            return centered_in(band.spec.size, length);
+        }
+        if kid.rests_far {
+            return rest_near(band, kid, band.spec.size, length);
+        }
     }
     near_inset(band, kid)
 }
@@ -71,7 +92,7 @@ fn at_far_side(band: &Band, own: i32, length: i32) -> i64
     i64::from(own) - far_share(band, length)
 }
 
-/// The sides of a child in the end, once the group has this size.
+/// The final sides of a child, once the group has this size.
 #[tactic(auto, unfolding(view_model::specs::RelativeLayout::moved_span))]
 pub fn moved_span(band: &Band, kid: &Tied, own: i32, span: (i32, i32), length: i32) -> (i32, i32)
     requires { IsSide length }
@@ -83,6 +104,8 @@ pub fn moved_span(band: &Band, kid: &Tied, own: i32, span: (i32, i32), length: i
         span_at(centered_in(own, length), length)
     } else if kid.at_far {
         span_at(at_far_side(band, own, length), length)
+    } else if kid.rests_far {
+        span_at(rest_near(band, kid, own, length), length)
     } else {
         span
     }

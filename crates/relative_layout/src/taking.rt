@@ -1,4 +1,4 @@
-//! Taking children into an order, each after all to which it leads.
+//! Taking children into an order, each after all to which it leads (Kahn 1962).
 ghost use Rattle.std.specs.Prelude.{◌≡◌, ◌==◌, ◌<◌, ◌≤◌, ◌-◌, ◌+◌, ◌++◌, ◌∷◌, ◌⊎◌, ℕ, [], Bool, IfNone, IfOk, IfSome, OnOk, Some, false, if◌then◌else◌, length, nat_eq, nat_lt, replicate, slice_index, slice_set, true};
 ghost use Rattle.indexmap.specs.IndexMap.{get as place_in};
 ghost use Rattle.relative_layout.specs.Naming.{Has, IsNaming, id_at, lists_of, row_at};
@@ -12,7 +12,7 @@ use crate::naming::Naming;
 use std::alloc::{AllocError, Global};
 use view_model::Link;
 
-/// How far the taking of children has come.
+/// The state while children are taken.
 #[derive(Drop)]
 pub struct Taking {
     /// For the last child with an id, how many with it are not taken.
@@ -40,7 +40,7 @@ impl Taking {
         })
     }
 
-    /// Takes children as long as there is one that can be taken.
+    /// Takes children while there is one that can be taken.
     pub fn take_all(&mut self, kids: &[Link], naming: &Naming) -> Result<(), AllocError>
         requires few { length kids.now ≤ MAX_VIEWS }
         requires naming { IsNaming kids.now naming.now }
@@ -114,7 +114,7 @@ impl Taking {
         }
     }
 
-    /// Takes a child that leads only to such that are taken.
+    /// Takes a child that leads only to taken ones.
     fn take(&mut self, kids: &[Link], naming: &Naming, place: usize) -> Result<(), AllocError>
         requires few { length kids.now ≤ MAX_VIEWS }
         requires place { place < length kids.now }
@@ -150,7 +150,7 @@ impl Taking {
         Ok(())
     }
 
-    /// Notes that a child was taken with the id of which this one is the last: where at most one is left, all that name
+    /// Records that a child was taken with the id of which this one is the last: if at most one is left, all that name
     /// it are to be looked at.
     fn count_down(&mut self, naming: &Naming, last: usize) -> Result<(), AllocError>
         requires last { last < length self.old.left.items }

@@ -61,7 +61,7 @@ found_is values now id found same is = resource_in found ∙ ap (option_map reso
     resource_in None = refl
     resource_in (Some value) = refl
 
--- why an id gets no resource is seen of the table's length and of such a look-up
+-- why an id gets no resource follows from the table's length and such a look-up
 pub refusal_is : (values : List (ℕ × Value)) (now : Entries) (id count : ℕ) (found : Option (Bor Value)) → entries values ≡ now
     → count ≡ length values → option_copied found ≡ lookup (nat_eq id) values → definition_refusal_of now id ≡ definition_refusal count (is_some found)
 refusal_is values now id count found same len is =
@@ -79,7 +79,7 @@ pub defined : (values after : List (ℕ × Value)) (now : Entries) (id : ℕ) (v
     → entries after ≡ with_resource now id (resource value)
 defined values after now id value same is = ap entries is ∙ entries-insert values id value ∙ ap (λ all. with_resource all id (resource value)) same
 
--- want of memory, where there is no reason to refuse
+-- out of memory, if there is no reason to refuse
 pub no_memory : (reason : Option PlainRefusal) (result : Result (Unit {0}) ResFault) → reason ≡ None → IsErrAnd result (λ fault. fault ≡ NoMemory)
     → IsRefusedExactlyFor reason result
 no_memory reason (Ok answer) none is = absurd is

@@ -4,7 +4,7 @@ use Rattle.view_model.specs.Resources.{Entries, Resource, Color, Dimen, Text}
 use Rattle.res_values.specs.declared.value.Value.{Value}
 use Rattle.res_values.specs.declared.value.Value.TheVariants as value
 
--- the plain resource that a value stands for
+-- the plain resource that a value represents
 abbrev pub resource : Value → Resource
 resource (value.Color color) = Color color
 resource (value.Dimen word) = Dimen word

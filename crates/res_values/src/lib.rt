@@ -1,4 +1,5 @@
-//! The resources that layout files may name: what `define` gave an id, in a table whose look-ups do not go over it.
+//! The resources that layout files may name: the values that `define` gave to ids, in a table whose look-ups do not
+//! search it.
 //!
 //! `value` is what a resource is, `resources` the table, `fault` why one is not defined.
 #![tactic(auto)]

@@ -61,7 +61,7 @@ impl Resources {
     }
 }
 
-/// Whether one more may be defined where there are so many, or its id is defined already.
+/// Whether one more may be defined in a table of this length, or its id is defined already.
 #[tactic(auto, unfolding(view_model::specs::Resources::definition_refusal))]
 fn may_define(count: usize, defined: bool) -> Result<(), Refusal>
     ensures { Refuses (definition_refusal count defined) result }

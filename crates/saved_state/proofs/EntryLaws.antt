@@ -1,5 +1,5 @@
 -- Entries by rising ids: where an id is among them, and what an entry more makes of them.
-use Rattle.std.proofs.Common.{◌≡◌, ◌≢◌, ℕ, zero, suc, ◌+◌, ◌<◌, ◌≤◌, Some, None, Result, Ok, Err, refl, sym, ◌∙◌, ap, arith, inl, inr, List, [], ◌∷◌, ◌++◌, length, Bool, true, false, ◌||◌, slice_set, slice_index_or}
+use Rattle.std.proofs.Common.{◌≡◌, ◌≢◌, ℕ, zero, suc, ◌+◌, ◌<◌, ◌≤◌, Some, None, Result, Ok, Err, refl, sym, subst, ◌∙◌, ap, arith, inl, inr, List, [], ◌∷◌, ◌++◌, length, Bool, true, false, ◌||◌, ◌&&◌, slice_set, slice_index_or}
 use Rattle.std.proofs.Math.Bool.{or-false}
 use Rattle.std.proofs.lemmas.Bool.{cases_Bool, cases_eq, cases_lt, eq-eqb, le-ltb, lt-ltb, ne_eqb}
 use Rattle.std.proofs.lemmas.Bool.Decides.{nat_tests}
@@ -10,76 +10,88 @@ use Rattle.std.proofs.lemmas.List.Sorted.{IsNonDecreasingBy-from_default}
 use Rattle.std.specs.BTreeMap.{insert_entry}
 use Rattle.std.specs.List.Sorted.{IsBinarySearchResult, IsNonDecreasingBy, IsSearchInRange}
 use Rattle.std.specs.Ordering.{nat_cmp, ordering_index}
-use Rattle.std.specs.Prelude.{◌==◌, replicate, ℤ, pos, negsuc, ◌≤ℤ◌, unsigned_abs}
+use Rattle.std.specs.Prelude.{◌==◌, replicate, slice_get, ℤ, pos, negsuc, ◌≤ℤ◌, unsigned_abs}
 use Rattle.std.specs.Result.{MatchResult}
-use Rattle.saved_state.specs.Restoring.{IsEntry, entry_at, offset_for, scrolls_as}
-use Rattle.saved_state.specs.State.{RisesFrom}
-use Rattle.view_model.specs.Offsets.{scrolls}
+use Rattle.saved_state.specs.Restoring.{IsEntry, entry_at, meets, suits, value_for}
+use Rattle.saved_state.specs.State.{IsValue, IsValueOf, RisesFrom, StateEntry}
+use Rattle.saved_state.specs.declared.value.Value.{Value}
+use Rattle.saved_state.specs.declared.value.Value.TheVariants.{Offset, Text}
 use Rattle.view_model.specs.PlainTree.{PlainView}
+use Rattle.view_tree.proofs.forest.Forests.{some_is}
 
 -- the ids of entries are above the one from which they rise, and each is above those before it
-pub ids_above : (before : ℕ) (entries : List (ℕ × ℕ)) (j : ℕ) → RisesFrom before entries → j < length entries → before < (entry_at entries j).0
-ids_above before [] j rises there = absurd (omega arith)
-ids_above before (entry ∷ entries) zero rises there = rises.0
-ids_above before (entry ∷ entries) (suc j) rises there = let above = ids_above entry.0 entries j rises.3 (omega arith) in let own = rises.0 in omega arith
+pub ids_above : (version before : ℕ) (entries : List StateEntry) (j : ℕ) → RisesFrom version before entries → j < length entries → before < (entry_at entries j).0
+ids_above version before [] j rises there = absurd (omega arith)
+ids_above version before (entry ∷ entries) zero rises there = rises.0
+ids_above version before (entry ∷ entries) (suc j) rises there = let above = ids_above version entry.0 entries j rises.3 (omega arith) in let own = rises.0 in omega arith
 
-pub ids_rise : (before : ℕ) (entries : List (ℕ × ℕ)) (i j : ℕ) → RisesFrom before entries → i < j → j < length entries → (entry_at entries i).0 < (entry_at entries j).0
-ids_rise before [] i j rises lower there = absurd (omega arith)
-ids_rise before (entry ∷ entries) i zero rises lower there = absurd (omega arith)
-ids_rise before (entry ∷ entries) zero (suc j) rises lower there = ids_above entry.0 entries j rises.3 (omega arith)
-ids_rise before (entry ∷ entries) (suc i) (suc j) rises lower there = ids_rise entry.0 entries i j rises.3 (omega arith) (omega arith)
+pub ids_rise : (version before : ℕ) (entries : List StateEntry) (i j : ℕ) → RisesFrom version before entries → i < j → j < length entries → (entry_at entries i).0 < (entry_at entries j).0
+ids_rise version before [] i j rises lower there = absurd (omega arith)
+ids_rise version before (entry ∷ entries) i zero rises lower there = absurd (omega arith)
+ids_rise version before (entry ∷ entries) zero (suc j) rises lower there = ids_above version entry.0 entries j rises.3 (omega arith)
+ids_rise version before (entry ∷ entries) (suc i) (suc j) rises lower there = ids_rise version entry.0 entries i j rises.3 (omega arith) (omega arith)
 
-pub offsets_few : (before : ℕ) (entries : List (ℕ × ℕ)) (j : ℕ) → RisesFrom before entries → j < length entries → (entry_at entries j).1 ≤ 16777215
-offsets_few before [] j rises there = absurd (omega arith)
-offsets_few before (entry ∷ entries) zero rises there = rises.2
-offsets_few before (entry ∷ entries) (suc j) rises there = offsets_few entry.0 entries j rises.3 (omega arith)
+-- a value of any version is one that may be
+value_fits : (version : ℕ) (value : Value) → IsValueOf version value → IsValue value
+value_fits version (Offset offset) fits = fits
+value_fits version (Text text) fits = fits.1
 
--- an id that no entry has has no offset, and the first entry that has it gives its offset
-offset_absent : (entries : List (ℕ × ℕ)) (id : ℕ) → ((j : ℕ) → j < length entries → (entry_at entries j).0 ≢ id) → offset_for entries id ≡ None
-offset_absent [] id apart = refl
-offset_absent (entry ∷ entries) id apart = rw (ne_eqb entry.0 id (apart 0 (omega arith))) (offset_absent entries id (λ j there. apart (suc j) (omega arith)))
+pub values_fit : (version before : ℕ) (entries : List StateEntry) (j : ℕ) → RisesFrom version before entries → j < length entries → IsValue (entry_at entries j).1
+values_fit version before [] j rises there = absurd (omega arith)
+values_fit version before (entry ∷ entries) zero rises there = value_fits version entry.1 rises.2
+values_fit version before (entry ∷ entries) (suc j) rises there = values_fit version entry.0 entries j rises.3 (omega arith)
 
-offset_present : (entries : List (ℕ × ℕ)) (id place : ℕ) → place < length entries → (entry_at entries place).0 ≡ id → ((j : ℕ) → j < place → (entry_at entries j).0 ≢ id)
-    → offset_for entries id ≡ Some (entry_at entries place).1
-offset_present [] id place there is apart = absurd (omega arith)
-offset_present (entry ∷ entries) id zero there is apart = rw (eq-eqb entry.0 id is) refl
-offset_present (entry ∷ entries) id (suc place) there is apart =
-    rw (ne_eqb entry.0 id (apart 0 (omega arith))) (offset_present entries id place (omega arith) is (λ j lower. apart (suc j) (omega arith)))
+pub value_got : (version before : ℕ) (entries : List StateEntry) (j : ℕ) (entry : StateEntry) → RisesFrom version before entries → slice_get entries j ≡ Some entry → IsValue entry.1
+value_got version before [] j entry rises is = absurd cc
+value_got version before (first ∷ entries) zero entry rises is = subst (λ (entry : StateEntry). IsValue entry.1) (some_is is) (value_fits version first.1 rises.2)
+value_got version before (first ∷ entries) (suc j) entry rises is = value_got version first.0 entries j entry rises.3 is
 
--- no entry has an id that has no offset
-absent_apart : (entries : List (ℕ × ℕ)) (id j : ℕ) → offset_for entries id ≡ None → j < length entries → (entry_at entries j).0 ≢ id
+-- an id that no entry has has no value, and the first entry that has it gives its value
+value_absent : (entries : List StateEntry) (id : ℕ) → ((j : ℕ) → j < length entries → (entry_at entries j).0 ≢ id) → value_for entries id ≡ None
+value_absent [] id apart = refl
+value_absent (entry ∷ entries) id apart = rw (ne_eqb entry.0 id (apart 0 (omega arith))) (value_absent entries id (λ j there. apart (suc j) (omega arith)))
+
+value_present : (entries : List StateEntry) (id place : ℕ) → place < length entries → (entry_at entries place).0 ≡ id → ((j : ℕ) → j < place → (entry_at entries j).0 ≢ id)
+    → value_for entries id ≡ Some (entry_at entries place).1
+value_present [] id place there is apart = absurd (omega arith)
+value_present (entry ∷ entries) id zero there is apart = rw (eq-eqb entry.0 id is) refl
+value_present (entry ∷ entries) id (suc place) there is apart =
+    rw (ne_eqb entry.0 id (apart 0 (omega arith))) (value_present entries id place (omega arith) is (λ j lower. apart (suc j) (omega arith)))
+
+-- no entry has an id that has no value
+absent_apart : (entries : List StateEntry) (id j : ℕ) → value_for entries id ≡ None → j < length entries → (entry_at entries j).0 ≢ id
 absent_apart [] id j none there is = absurd (omega arith)
 absent_apart (entry ∷ entries) id zero none there is = absurd (let e = rw (eq-eqb entry.0 id is) at none in cc)
 absent_apart (entry ∷ entries) id (suc j) none there is = elim (cases_eq entry.0 id) [
   | inl e ↦ absurd (let e = rw (eq-eqb entry.0 id e) at none in cc)
-  | inr ne ↦ let rest : offset_for entries id ≡ None = rw (ne_eqb entry.0 id ne) at none in absent_apart entries id j rest (omega arith) is
+  | inr ne ↦ let rest : value_for entries id ≡ None = rw (ne_eqb entry.0 id ne) at none in absent_apart entries id j rest (omega arith) is
 ]
 
-module _ (entries : List (ℕ × ℕ)) (rises : RisesFrom 0 entries) (id : ℕ) where
-  -- the comparisons with the id rise along the entries, as a binary search asks
-  comparisons_rise : IsNonDecreasingBy (λ (entry : ℕ × ℕ). ordering_index (nat_cmp entry.0 id)) entries
-  comparisons_rise = IsNonDecreasingBy-from_default (λ (entry : ℕ × ℕ). ordering_index (nat_cmp entry.0 id)) entries (0, 0) (λ i j le there.
-      let ids : (entry_at entries i).0 ≤ (entry_at entries j).0 = grind (arith, ids_rise 0 entries i j rises, λ (same : i ≡ j). ap (λ k. (entry_at entries k).0) same) in
+module _ (version : ℕ) (entries : List StateEntry) (rises : RisesFrom version 0 entries) (id : ℕ) where
+  -- the comparisons with the id rise along the entries, as a binary search requires
+  comparisons_rise : IsNonDecreasingBy (λ (entry : StateEntry). ordering_index (nat_cmp entry.0 id)) entries
+  comparisons_rise = IsNonDecreasingBy-from_default (λ (entry : StateEntry). ordering_index (nat_cmp entry.0 id)) entries (0, Offset 0) (λ i j le there.
+      let ids : (entry_at entries i).0 ≤ (entry_at entries j).0 = grind (arith, ids_rise version 0 entries i j rises, λ (same : i ≡ j). ap (λ k. (entry_at entries k).0) same) in
       grind (arith, nat_tests))
 
   one_place : (place other : ℕ) → place < length entries → (entry_at entries place).0 ≡ id → other < length entries → (entry_at entries other).0 ≡ id → other ≡ place
-  one_place place other there is here same = grind (arith, ids_rise 0 entries place other rises, ids_rise 0 entries other place rises)
+  one_place place other there is here same = grind (arith, ids_rise version 0 entries place other rises, ids_rise version 0 entries other place rises)
 
   -- a binary search by id ends at the entry of the id, or there is none
-  pub searched : (r : Result ℕ ℕ) → IsSearchInRange r (length entries) → IsBinarySearchResult (λ (entry : ℕ × ℕ). nat_cmp entry.0 id) entries r
-      → MatchResult r (IsEntry entries id) (λ _. offset_for entries id ≡ None)
+  pub searched : (r : Result ℕ ℕ) → IsSearchInRange r (length entries) → IsBinarySearchResult (λ (entry : StateEntry). nat_cmp entry.0 id) entries r
+      → MatchResult r (IsEntry entries id) (λ _. value_for entries id ≡ None)
   searched (Ok place) there equal =
-      let is : (entry_at entries place).0 ≡ id = ranked _ id _ (sym (equal (0, 0))) in
+      let is : (entry_at entries place).0 ≡ id = ranked _ id _ (sym (equal (0, Offset 0))) in
       record {
         there = there;
         id_is = is;
-        offset = offset_present entries id place there is (λ j lower same. let below = ids_rise 0 entries j place rises lower there in absurd (omega arith));
+        value = value_present entries id place there is (λ j lower same. let below = ids_rise version 0 entries j place rises lower there in absurd (omega arith));
         alone = λ other here same. one_place place other there is here same;
       }
   searched (Err place) there parted =
-      offset_absent entries id (λ j here same. elim (cases_lt j place) [
-        | inl lower ↦ let below : (entry_at entries j).0 < id = ranked _ id _ (sym ((parted comparisons_rise).0 j (0, 0) (omega arith) lower)) in absurd (omega arith)
-        | inr upper ↦ let above : id < (entry_at entries j).0 = ranked _ id _ (sym ((parted comparisons_rise).1 j (0, 0) upper here)) in absurd (omega arith)
+      value_absent entries id (λ j here same. elim (cases_lt j place) [
+        | inl lower ↦ let below : (entry_at entries j).0 < id = ranked _ id _ (sym ((parted comparisons_rise).0 j (0, Offset 0) (omega arith) lower)) in absurd (omega arith)
+        | inr upper ↦ let above : id < (entry_at entries j).0 = ranked _ id _ (sym ((parted comparisons_rise).1 j (0, Offset 0) upper here)) in absurd (omega arith)
       ])
 
 -- before any mark
@@ -88,16 +100,23 @@ unmarked zero place = refl
 unmarked (suc n) zero = refl
 unmarked (suc n) (suc place) = unmarked n place
 
+-- a view that lacks the id of an entry leaves its mark
+unmet : (mark fits : Bool) → mark ≡ (mark || (fits && false))
+unmet true fits = refl
+unmet false true = refl
+unmet false false = refl
+
 -- a mark more
-pub mark_set : (entries : List (ℕ × ℕ)) (marks : List Bool) (view : PlainView) (place : ℕ) → scrolls view.class ≡ true → IsEntry entries view.facts.id place → place < length marks
-    → (other : ℕ) → other < length entries → slice_index_or (slice_set marks place true) other false ≡ (slice_index_or marks other false || scrolls_as (entry_at entries other).0 view)
-mark_set entries marks view place moves is there other here = elim (cases_eq other place) [
+pub mark_set : (entries : List StateEntry) (marks : List Bool) (view : PlainView) (place : ℕ) → suits (entry_at entries place).1 view.class ≡ true → IsEntry entries view.facts.id place
+    → place < length marks
+    → (other : ℕ) → other < length entries → slice_index_or (slice_set marks place true) other false ≡ (slice_index_or marks other false || meets (entry_at entries other) view)
+mark_set entries marks view place fits is there other here = elim (cases_eq other place) [
   | inl e ↦
-      let same : (view.facts.id == (entry_at entries other).0) ≡ true = eq-eqb view.facts.id (entry_at entries other).0 (sym (ap (λ k. (entry_at entries k).0) e ∙ is.id_is)) in
-      rw (e, get_or-set_same marks place true false there) (rw (moves, rw e at same) (all_true (slice_index_or marks place false)))
+      let same : (view.facts.id == (entry_at entries place).0) ≡ true = eq-eqb view.facts.id (entry_at entries place).0 (sym is.id_is) in
+      rw (e, get_or-set_same marks place true false there) (rw (fits, same) (all_true (slice_index_or marks place false)))
   | inr ne ↦
       let apart : (view.facts.id == (entry_at entries other).0) ≡ false = ne_eqb view.facts.id (entry_at entries other).0 (λ e. ne (is.alone other here (sym e))) in
-      rw (get_or-set_other marks place other true false ne, moves, apart) (sym (or-false (slice_index_or marks other false)))
+      rw (get_or-set_other marks place other true false ne, apart) (unmet (slice_index_or marks other false) (suits (entry_at entries other).1 view.class))
 ]
   where
     all_true : (b : Bool) → true ≡ (b || true)
@@ -105,54 +124,43 @@ mark_set entries marks view place moves is there other here = elim (cases_eq oth
     all_true false = refl
 
 -- no mark more
-pub mark_kept : (entries : List (ℕ × ℕ)) (mark : Bool) (view : PlainView) → offset_for entries view.facts.id ≡ None → (other : ℕ) → other < length entries
-    → mark ≡ (mark || scrolls_as (entry_at entries other).0 view)
+pub mark_kept : (entries : List StateEntry) (mark : Bool) (view : PlainView) → value_for entries view.facts.id ≡ None → (other : ℕ) → other < length entries
+    → mark ≡ (mark || meets (entry_at entries other) view)
 mark_kept entries mark view none other here =
     let apart : (view.facts.id == (entry_at entries other).0) ≡ false = ne_eqb view.facts.id (entry_at entries other).0 (λ e. absent_apart entries view.facts.id other none here (sym e)) in
-    rw apart (elim (cases_Bool (scrolls view.class)) [
-      | inl e ↦ rw e (sym (or-false mark))
-      | inr e ↦ rw e (sym (or-false mark))
-    ])
+    rw apart (unmet mark (suits (entry_at entries other).1 view.class))
 
--- the id of the last entry, or the one from which they rise
-abbrev pub last_id : ℕ → List (ℕ × ℕ) → ℕ
-last_id before [] = before
-last_id before (entry ∷ entries) = last_id entry.0 entries
+-- the entry of a view's id does not suit it
+pub mark_left : (entries : List StateEntry) (mark : Bool) (view : PlainView) (place : ℕ) → suits (entry_at entries place).1 view.class ≡ false → IsEntry entries view.facts.id place
+    → (other : ℕ) → other < length entries → mark ≡ (mark || meets (entry_at entries other) view)
+mark_left entries mark view place fits is other here = elim (cases_eq other place) [
+  | inl e ↦ rw (e, fits) (sym (or-false mark))
+  | inr ne ↦
+      let apart : (view.facts.id == (entry_at entries other).0) ≡ false = ne_eqb view.facts.id (entry_at entries other).0 (λ e. ne (is.alone other here (sym e))) in
+      rw apart (unmet mark (suits (entry_at entries other).1 view.class))
+]
 
-pub rises_push : (before : ℕ) (entries : List (ℕ × ℕ)) (entry : ℕ × ℕ) → RisesFrom before entries → last_id before entries < entry.0 → entry.0 < 4294967296 → entry.1 ≤ 16777215
-    → RisesFrom before (entries ++ entry ∷ [])
-rises_push before [] entry rises above fits few = (above, fits, few, tt)
-rises_push before (first ∷ entries) entry rises above fits few = (rises.0, rises.1, rises.2, rises_push first.0 entries entry rises.3 above fits few)
-
-pub last_push : (before : ℕ) (entries : List (ℕ × ℕ)) (entry : ℕ × ℕ) → last_id before (entries ++ entry ∷ []) ≡ entry.0
-last_push before [] entry = refl
-last_push before (first ∷ entries) entry = last_push first.0 entries entry
-
-pub length_push : (entries : List (ℕ × ℕ)) (entry : ℕ × ℕ) → length (entries ++ entry ∷ []) ≡ length entries + 1
-length_push [] entry = refl
-length_push (first ∷ entries) entry = let more = length_push entries entry in omega arith
-
--- an entry that comes in at its place
-pub insert_rises : (before : ℕ) (entries : List (ℕ × ℕ)) (id offset : ℕ) → RisesFrom before entries → before < id → id < 4294967296 → offset ≤ 16777215
-    → RisesFrom before (insert_entry nat_cmp entries id offset)
-insert_rises before [] id offset rises above fits few = (above, fits, few, tt)
-insert_rises before (first ∷ entries) id offset rises above fits few = elim (cases_lt id first.0) [
+-- an entry that is inserted at its place
+pub insert_rises : (version before : ℕ) (entries : List StateEntry) (id : ℕ) (value : Value) → RisesFrom version before entries → before < id → id < 4294967296 → IsValueOf version value
+    → RisesFrom version before (insert_entry nat_cmp entries id value)
+insert_rises version before [] id value rises above fits few = (above, fits, few, tt)
+insert_rises version before (first ∷ entries) id value rises above fits few = elim (cases_lt id first.0) [
   | inl lower ↦ rw (lt-ltb id first.0 lower) (above, fits, few, (lower, rises.1, rises.2, rises.3))
   | inr upper ↦ elim (cases_eq id first.0) [
     | inl same ↦ rw (le-ltb id first.0 upper, eq-eqb id first.0 same) (rises.0, rises.1, few, rises.3)
     | inr ne ↦
         rw (le-ltb id first.0 upper, ne_eqb id first.0 ne)
-        (rises.0, rises.1, rises.2, insert_rises first.0 entries id offset rises.3 (omega arith) fits few)
+        (rises.0, rises.1, rises.2, insert_rises version first.0 entries id value rises.3 (omega arith) fits few)
   ]
 ]
 
-pub insert_more : (entries : List (ℕ × ℕ)) (id offset : ℕ) → length (insert_entry nat_cmp entries id offset) ≤ length entries + 1
-insert_more [] id offset = omega arith
-insert_more (first ∷ entries) id offset = elim (cases_lt id first.0) [
+pub insert_more : (entries : List StateEntry) (id : ℕ) (value : Value) → length (insert_entry nat_cmp entries id value) ≤ length entries + 1
+insert_more [] id value = omega arith
+insert_more (first ∷ entries) id value = elim (cases_lt id first.0) [
   | inl lower ↦ rw (lt-ltb id first.0 lower) (omega arith)
   | inr upper ↦ elim (cases_eq id first.0) [
     | inl same ↦ rw (le-ltb id first.0 upper, eq-eqb id first.0 same) (omega arith)
-    | inr ne ↦ let more = insert_more entries id offset in rw (le-ltb id first.0 upper, ne_eqb id first.0 ne) (omega arith)
+    | inr ne ↦ let more = insert_more entries id value in rw (le-ltb id first.0 upper, ne_eqb id first.0 ne) (omega arith)
   ]
 ]
 

@@ -3,6 +3,10 @@ mod Examples
 mod FoundLaws
 mod OffsetLaws
 pub mod RestoredLaws
+mod ReadingLaws
 mod RestoringLaws
+pub mod RetoldLaws
+pub mod RetoldParts
 mod SavingLaws
 mod StateLaws
+mod TextLaws

@@ -1,22 +1,29 @@
--- What is kept with the views of a tree while the offsets are set that a state gives.
-use Rattle.std.proofs.Common.{◌≡◌, ◌≢◌, ℕ, ◌<◌, ◌≤◌, ℤ, Bool, true, false, Option, Some, None, refl, sym, ◌∙◌, ap, subst, arith, inl, inr, List, [], ◌∷◌, drop}
+-- What is kept with the views of a tree while they are given what a state has.
+use Rattle.std.proofs.Common.{◌≡◌, ◌≢◌, ℕ, ◌+◌, ◌<◌, ◌≤◌, ℤ, pos, Bool, true, false, Option, Some, None, refl, sym, ◌∙◌, ap, subst, arith, inl, inr, List, [], ◌∷◌, ◌++◌}
 use Rattle.std.proofs.lemmas.Bool.{cases_Bool, cases_eq, eq-eqb, ne_eqb}
-use Rattle.std.specs.Prelude.{◌==◌, if◌then◌else◌, is_some, unwrap_or}
+use Rattle.std.proofs.lemmas.List.Elements.{All-head, All-tail, All-weaker}
+use Rattle.std.specs.List.{All, fold}
+use Rattle.std.specs.Prelude.{◌==◌, if◌then◌else◌, is_some}
 use mathlib.Core.Path.{fun_ext}
 use Rattle.kept_views.proofs.AskedViews.{asked_same, off_path}
 use Rattle.kept_views.proofs.Lines.{IsMoved, put_kept}
 use Rattle.kept_views.proofs.Requested.{pressed_in, pressed_out}
 use Rattle.kept_views.specs.Kept.{IsConsistent, IsKept}
-use Rattle.kept_views.specs.Pressing.{path_of, pressed}
-use Rattle.saved_state.specs.Restored.{all_given, given_held, given_keys, moved_one, on_paths, set_by, wanted}
+use Rattle.kept_views.specs.Pressing.{path_of}
+use Rattle.saved_state.proofs.RetoldLaws.{put_once}
+use Rattle.saved_state.specs.Restored.{all_given, all_set, given_held, given_keys, given_values, moved_one, on_paths, paired, retold, set_by, wanted, with_text_at, with_text_of}
+use Rattle.saved_state.specs.Restoring.{given}
+use Rattle.saved_state.specs.State.{StateEntry}
+use Rattle.saved_state.specs.declared.value.Value.{Value}
+use Rattle.saved_state.specs.declared.value.Value.TheVariants.{Offset, Text}
 use Rattle.view_model.specs.Forest.{Forest, Nothing, Branch, rows}
 use Rattle.view_model.specs.PlainTree.{PlainView}
-use Rattle.view_tree.proofs.forest.PreorderLaws.{key_count, key_count-rows, standing}
+use Rattle.view_tree.proofs.forest.PreorderLaws.{key_count, key_count-rows}
 use Rattle.view_tree.proofs.values.GeometryLaws.{laid_along}
-use Rattle.view_tree.specs.Preorder.{rows_from}
-use Rattle.view_tree.specs.Requests.{among, asking}
-use Rattle.view_tree.specs.Rows.{Row, changed_at_key, count_of_key}
-use Rattle.view_tree.specs.Views.{Held, IsTree, Views, geometry_of, held_of, laid_rows}
+use Rattle.view_tree.proofs.values.KeptLaws.{ancestors-put}
+use Rattle.view_tree.specs.Requests.{among, asking, pressed, unforced}
+use Rattle.view_tree.specs.Rows.{Row, ancestors, count_of_key}
+use Rattle.view_tree.specs.Views.{Held, IsTree, Views, geometry_of, held_of, laid_at, laid_rows}
 
 moved_at : (view : ℕ) (offset : ℤ) (held : ℕ → Held) → moved_one view offset held view ≡ record (held view) { offset = offset }
 moved_at view offset held = rw (eq-eqb view view refl) refl
@@ -33,12 +40,12 @@ one_moved view offset old new own others key = elim (cases_eq key view) [
 ]
 
 -- a request after that
-pub one_given : (view : ℕ) (offset : ℤ) (old mid new : ℕ → Held) (tree now : Forest Row) → ((key : ℕ) → mid key ≡ moved_one view offset old key) → now ≡ tree
-    → ((key : ℕ) → new key ≡ pressed mid (asking mid view now) key) → (key : ℕ) → new key ≡ given_held (Some offset) view tree old key
-one_given view offset old mid new tree now moved same asked key =
+pub one_asked : (view : ℕ) (old mid new : ℕ → Held) (set : ℕ → Held) (tree now : Forest Row) → ((key : ℕ) → mid key ≡ set key) → ancestors view now ≡ ancestors view tree
+    → ((key : ℕ) → new key ≡ pressed mid (asking mid view now) key) → (key : ℕ) → new key ≡ pressed set (asking set view tree) key
+one_asked view old mid new set tree now moved same asked key =
     asked key
-    ∙ ap (λ (tree : Forest Row). pressed mid (asking mid view tree) key) same
-    ∙ ap (λ (held : ℕ → Held). pressed held (asking held view tree) key) (let e : mid ≡ moved_one view offset old = fun_ext moved in e)
+    ∙ ap (λ (above : List ℕ). pressed mid (view ∷ unforced mid above) key) same
+    ∙ ap (λ (held : ℕ → Held). pressed held (asking held view tree) key) (let e : mid ≡ set = fun_ext moved in e)
 
 -- what a request leaves of a view
 pressed_offset : (held : ℕ → Held) (keys : List ℕ) (key : ℕ) → (pressed held keys key).offset ≡ (held key).offset
@@ -56,90 +63,180 @@ pressed_bounds held keys key = elim (cases_Bool (among key keys)) [
 moved_bounds : (view : ℕ) (offset : ℤ) (held : ℕ → Held) (key : ℕ) → (moved_one view offset held key).state.bounds ≡ (held key).state.bounds
 moved_bounds view offset held key = elim (cases_Bool (key == view)) [ inl e ↦ rw e refl | inr e ↦ rw e refl ]
 
-pub given_own : (given : Option ℤ) (view : ℕ) (tree : Forest Row) (held : ℕ → Held) → (given_held given view tree held view).offset ≡ unwrap_or given (held view).offset
+-- an offset, or what it was before
+abbrev pub offset_by : Option Value → ℤ → ℤ
+offset_by None before = before
+offset_by (Some (Offset offset)) before = pos offset
+offset_by (Some (Text text)) before = before
+
+given_own : (given : Option Value) (view : ℕ) (tree : Forest Row) (held : ℕ → Held) → (given_held given view tree held view).offset ≡ offset_by given (held view).offset
 given_own None view tree held = refl
-given_own (Some offset) view tree held =
-    let set = moved_one view offset held in
-    pressed_offset set (asking set view tree) view ∙ ap (λ (own : Held). own.offset) (moved_at view offset held)
+given_own (Some (Offset offset)) view tree held =
+    let set = moved_one view (pos offset) held in
+    pressed_offset set (asking set view tree) view ∙ ap (λ (own : Held). own.offset) (moved_at view (pos offset) held)
+given_own (Some (Text text)) view tree held = pressed_offset held (asking held view tree) view
 
-pub given_others : (given : Option ℤ) (view : ℕ) (tree : Forest Row) (held : ℕ → Held) (key : ℕ) → key ≢ view → (given_held given view tree held key).offset ≡ (held key).offset
+given_others : (given : Option Value) (view : ℕ) (tree : Forest Row) (held : ℕ → Held) (key : ℕ) → key ≢ view → (given_held given view tree held key).offset ≡ (held key).offset
 given_others None view tree held key ne = refl
-given_others (Some offset) view tree held key ne =
-    let set = moved_one view offset held in
-    pressed_offset set (asking set view tree) key ∙ ap (λ (own : Held). own.offset) (moved_other view offset held key ne)
+given_others (Some (Offset offset)) view tree held key ne =
+    let set = moved_one view (pos offset) held in
+    pressed_offset set (asking set view tree) key ∙ ap (λ (own : Held). own.offset) (moved_other view (pos offset) held key ne)
+given_others (Some (Text text)) view tree held key ne = pressed_offset held (asking held view tree) key
 
-given_bounds : (given : Option ℤ) (view : ℕ) (tree : Forest Row) (held : ℕ → Held) (key : ℕ) → (given_held given view tree held key).state.bounds ≡ (held key).state.bounds
+given_bounds : (given : Option Value) (view : ℕ) (tree : Forest Row) (held : ℕ → Held) (key : ℕ) → (given_held given view tree held key).state.bounds ≡ (held key).state.bounds
 given_bounds None view tree held key = refl
-given_bounds (Some offset) view tree held key =
-    let set = moved_one view offset held in
-    pressed_bounds set (asking set view tree) key ∙ moved_bounds view offset held key
+given_bounds (Some (Offset offset)) view tree held key =
+    let set = moved_one view (pos offset) held in
+    pressed_bounds set (asking set view tree) key ∙ moved_bounds view (pos offset) held key
+given_bounds (Some (Text text)) view tree held key = pressed_bounds held (asking held view tree) key
 
 -- a view that is not on its path stays as it is
-given_off : (given : Option ℤ) (view : ℕ) (tree : Forest Row) (held : ℕ → Held) (key : ℕ) → among key (path_of view tree) ≡ false → given_held given view tree held key ≡ held key
+given_off : (given : Option Value) (view : ℕ) (tree : Forest Row) (held : ℕ → Held) (key : ℕ) → among key (path_of view tree) ≡ false → given_held given view tree held key ≡ held key
 given_off None view tree held key off = refl
-given_off (Some offset) view tree held key off =
-    let set = moved_one view offset held in
-    asked_same set (pressed set (asking set view tree)) view tree (λ key. refl) key off ∙ moved_other view offset held key (off_path view key tree off)
+given_off (Some (Offset offset)) view tree held key off =
+    let set = moved_one view (pos offset) held in
+    asked_same set (pressed set (asking set view tree)) view tree (λ key. refl) key off ∙ moved_other view (pos offset) held key (off_path view key tree off)
+given_off (Some (Text text)) view tree held key off = asked_same held (pressed held (asking held view tree)) view tree (λ key. refl) key off
 
--- a view that is changed to itself
-same_put : (view : ℕ) (tree : Forest Row) → changed_at_key view (λ (own : PlainView). own) tree ≡ tree
-same_put view Nothing = refl
-same_put view (Branch row kids siblings) = elim (cases_Bool (row.key == view)) [
-  | inl e ↦ rw e refl
-  | inr e ↦ rw (e, same_put view kids, same_put view siblings) refl
-]
+-- a view asks by the views above it alone
+same_asked : (value : Value) (view : ℕ) (tree now : Forest Row) (held : ℕ → Held) → ancestors view now ≡ ancestors view tree
+    → given_held (Some value) view now held ≡ given_held (Some value) view tree held
+same_asked (Offset offset) view tree now held same = ap (λ (above : List ℕ). pressed (moved_one view (pos offset) held) (view ∷ unforced (moved_one view (pos offset) held) above)) same
+same_asked (Text text) view tree now held same = ap (λ (above : List ℕ). pressed held (view ∷ unforced held above)) same
 
-given_kept : (given : Option ℤ) (view : ℕ) (tree : Forest Row) (held : ℕ → Held) → ((key : ℕ) → count_of_key key tree ≤ 1) → 0 < count_of_key view tree
-    → IsKept held tree → IsKept (given_held given view tree held) tree
-given_kept None view tree held once live k = k
-given_kept (Some offset) view tree held once live k =
-    let set = moved_one view offset held in
-    let own : IsMoved (held view) (set view) = record { state = ap (λ (own : Held). own.state) (moved_at view offset held); cache = ap (λ (own : Held). own.cache) (moved_at view offset held) } in
-    subst (λ (tree : Forest Row). IsKept (pressed set (asking set view tree)) tree) (same_put view tree)
-    (put_kept view (λ (own : PlainView). own) tree once live held set refl (moved_other view offset held) own k)
+-- a tree keeps what it does between lines while a view is given something
+set_kept : (value : Value) (view : ℕ) (tree : Forest Row) (held : ℕ → Held) → ((key : ℕ) → count_of_key key tree ≤ 1) → 0 < count_of_key view tree
+    → IsKept held tree → IsKept (given_held (Some value) view tree held) (with_text_at tree (view, value))
+set_kept (Offset offset) view tree held once live k =
+    let set = moved_one view (pos offset) held in
+    let change = with_text_of (Some (Offset offset)) in
+    let own : IsMoved (held view) (set view) = record { state = ap (λ (own : Held). own.state) (moved_at view (pos offset) held); cache = ap (λ (own : Held). own.cache) (moved_at view (pos offset) held) } in
+    subst (λ (above : List ℕ). IsKept (pressed set (view ∷ unforced set above)) (with_text_at tree (view, Offset offset))) (ancestors-put view view change tree)
+    (put_kept view change tree once live held set refl (moved_other view (pos offset) held) own k)
+set_kept (Text text) view tree held once live k =
+    let change = with_text_of (Some (Text text)) in
+    let own : IsMoved (held view) (held view) = record { state = refl; cache = refl } in
+    subst (λ (above : List ℕ). IsKept (pressed held (view ∷ unforced held above)) (with_text_at tree (view, Text text))) (ancestors-put view view change tree)
+    (put_kept view change tree once live held held refl (λ other ne. refl) own k)
+
+abbrev pub IsLiveIn : Forest Row → ℕ × Value → Type 0
+IsLiveIn tree set = 0 < count_of_key set.0 tree
+
+-- and while one view after the other is; they ask by the views of the tree before that
+pub all_kept : (first : Forest Row) (sets : List (ℕ × Value)) (tree : Forest Row) (held : ℕ → Held) → ((key : ℕ) → ancestors key tree ≡ ancestors key first) → ((key : ℕ) → count_of_key key tree ≤ 1)
+    → All (IsLiveIn tree) sets → IsKept held tree → IsKept (all_set first sets held) (fold with_text_at tree sets)
+all_kept first [] tree held paths once live k = k
+all_kept first (set ∷ more) tree held paths once live k =
+    all_kept first more (with_text_at tree set) (given_held (Some set.1) set.0 first held)
+    (λ key. ancestors-put key set.0 (with_text_of (Some set.1)) tree ∙ paths key)
+    (λ key. let a = put_once set tree key in let b = once key in omega arith)
+    (All-weaker (IsLiveIn tree) (IsLiveIn (with_text_at tree set)) (λ other here. let a = put_once set tree other.0 in omega arith) more (All-tail (IsLiveIn tree) set more live))
+    (subst (λ (held : ℕ → Held). IsKept held (with_text_at tree set)) (same_asked set.1 set.0 first tree held (paths set.0))
+    (set_kept set.1 set.0 tree held once (All-head (IsLiveIn tree) set more live) k))
+
+-- one view more
+pub all_set_push : (tree : Forest Row) (sets : List (ℕ × Value)) (set : ℕ × Value) (held : ℕ → Held)
+    → all_set tree (sets ++ set ∷ []) held ≡ given_held (Some set.1) set.0 tree (all_set tree sets held)
+all_set_push tree [] set held = refl
+all_set_push tree (first ∷ more) set held = all_set_push tree more set (given_held (Some first.1) first.0 tree held)
+
+pub set_on : (first now : Forest Row) (done : List (ℕ × Value)) (set : ℕ × Value) (start old new : ℕ → Held) → now ≡ fold with_text_at first done
+    → ((key : ℕ) → old key ≡ all_set first done start key) → ((key : ℕ) → new key ≡ given_held (Some set.1) set.0 now old key)
+    → (key : ℕ) → new key ≡ all_set first (done ++ set ∷ []) start key
+set_on first now done set start old new same was came key =
+    let paths : ancestors set.0 now ≡ ancestors set.0 first = ap (ancestors set.0) same ∙ set_paths set.0 done first in
+    came key
+    ∙ ap (λ (held : ℕ → Held). held key) (same_asked set.1 set.0 first now old paths)
+    ∙ ap (λ (held : ℕ → Held). given_held (Some set.1) set.0 first held key) (let e : old ≡ all_set first done start = fun_ext was in e)
+    ∙ ap (λ (held : ℕ → Held). held key) (sym (all_set_push first done set start))
+  where
+    set_paths : (key : ℕ) (sets : List (ℕ × Value)) (tree : Forest Row) → ancestors key (fold with_text_at tree sets) ≡ ancestors key tree
+    set_paths key [] tree = refl
+    set_paths key (set ∷ more) tree = set_paths key more (with_text_at tree set) ∙ ancestors-put key set.0 (with_text_of (Some set.1)) tree
+
+-- what was set is what the state gives
+pub set_given : (entries : List StateEntry) (tree : Forest Row) (list : List Row) (held : ℕ → Held)
+    → all_set tree (given_values entries tree list) held ≡ all_given entries tree (given_keys entries tree list) held
+set_given entries tree [] held = refl
+set_given entries tree (row ∷ more) held = step (set_given entries tree more) (wanted entries tree row.key) refl
+  where
+    step : ((held : ℕ → Held) → all_set tree (given_values entries tree more) held ≡ all_given entries tree (given_keys entries tree more) held)
+        → (given : Option Value) → wanted entries tree row.key ≡ given
+        → all_set tree (paired row.key given ++ given_values entries tree more) held
+        ≡ all_given entries tree (if is_some given then row.key ∷ given_keys entries tree more else given_keys entries tree more) held
+    step rest None e = rest held
+    step rest (Some value) e =
+        rest (given_held (Some value) row.key tree held)
+        ∙ ap (λ (given : Option Value). all_given entries tree (given_keys entries tree more) (given_held given row.key tree held)) (sym e)
 
 -- the first of some views, and then the others
-given_first : (entries : List (ℕ × ℕ)) (tree : Forest Row) (row : Row) (more : List Row) (held : ℕ → Held)
+given_first : (entries : List StateEntry) (tree : Forest Row) (row : Row) (more : List Row) (held : ℕ → Held)
     → all_given entries tree (given_keys entries tree (row ∷ more)) held ≡ all_given entries tree (given_keys entries tree more) (given_held (wanted entries tree row.key) row.key tree held)
 given_first entries tree row more held = step (wanted entries tree row.key) refl
   where
-    step : (given : Option ℤ) → wanted entries tree row.key ≡ given
+    step : (given : Option Value) → wanted entries tree row.key ≡ given
         → all_given entries tree (if is_some given then row.key ∷ given_keys entries tree more else given_keys entries tree more) held
         ≡ all_given entries tree (given_keys entries tree more) (given_held given row.key tree held)
     step None e = refl
-    step (Some offset) e = ap (λ (given : Option ℤ). all_given entries tree (given_keys entries tree more) (given_held given row.key tree held)) e
+    step (Some value) e = ap (λ (given : Option Value). all_given entries tree (given_keys entries tree more) (given_held given row.key tree held)) e
 
--- one view more was set
-pub given_on : (entries : List (ℕ × ℕ)) (tree : Forest Row) (view : ℕ) (next : Option ℕ) (old new : ℕ → Held) → 0 < count_of_key view tree
-    → rows_from next tree ≡ drop 1 (rows_from (Some view) tree)
-    → ((key : ℕ) → new key ≡ given_held (wanted entries tree view) view tree old key)
-    → (key : ℕ) → all_given entries tree (given_keys entries tree (rows_from next tree)) new key ≡ all_given entries tree (given_keys entries tree (rows_from (Some view) tree)) old key
-given_on entries tree view next old new live is came key =
-    let f = standing view tree live in
-    let parts : rows_from (Some view) tree ≡ f.row ∷ rows_from next tree = f.is ∙ ap (λ (list : List Row). f.row ∷ list) (sym is) in
-    let left = given_keys entries tree (rows_from next tree) in
-    ap (λ (held : ℕ → Held). all_given entries tree left held key) (let e : new ≡ given_held (wanted entries tree view) view tree old = fun_ext came in e)
-    ∙ ap (λ (view : ℕ). all_given entries tree left (given_held (wanted entries tree view) view tree old) key) (sym f.key_is)
-    ∙ ap (λ (held : ℕ → Held). held key) (sym (given_first entries tree f.row (rows_from next tree) old))
-    ∙ ap (λ (list : List Row). all_given entries tree (given_keys entries tree list) old key) (sym parts)
+-- the offset of a view that occurs this often among those that are given something
+abbrev pub set_at : ℕ → Option Value → ℤ → ℤ
+set_at count given offset = if count == 0 then offset else offset_by given offset
 
-pub all_bounds : (entries : List (ℕ × ℕ)) (tree : Forest Row) (keys : List ℕ) (held : ℕ → Held) (key : ℕ) → (all_given entries tree keys held key).state.bounds ≡ (held key).state.bounds
+pub set_more : (n : ℕ) (given : Option Value) (offset : ℤ) → 0 < n → set_at n given offset ≡ offset_by given offset
+set_more n given offset more = let some : n ≢ 0 = omega arith in rw ne_eqb
+
+set_again : (given : Option Value) (before : ℤ) → offset_by given (offset_by given before) ≡ offset_by given before
+set_again None before = refl
+set_again (Some (Offset offset)) before = refl
+set_again (Some (Text text)) before = refl
+
+set_twice : (n : ℕ) (given : Option Value) (before : ℤ) → set_at n given (offset_by given before) ≡ offset_by given before
+set_twice n given before = elim (cases_eq n 0) [
+  | inl none ↦ rw none refl
+  | inr some ↦ set_more n given (offset_by given before) (omega arith) ∙ set_again given before
+]
+
+pub given_offsets : (entries : List StateEntry) (tree : Forest Row) (list : List Row) (held : ℕ → Held) (key : ℕ)
+    → (all_given entries tree (given_keys entries tree list) held key).offset ≡ set_at (key_count key list) (wanted entries tree key) (held key).offset
+given_offsets entries tree [] held key = refl
+given_offsets entries tree (row ∷ more) held key =
+    let next : ℕ → Held = given_held (wanted entries tree row.key) row.key tree held in
+    let given = wanted entries tree key in
+    ap (λ (all : ℕ → Held). (all key).offset) (given_first entries tree row more held)
+    ∙ given_offsets entries tree more next key
+    ∙ elim (cases_eq row.key key) [
+      | inl e ↦
+          let some : 0 < key_count key (row ∷ more) = rw (eq-eqb row.key key e) (omega arith) in
+          let own : (next key).offset ≡ offset_by given (held key).offset =
+          subst (λ (key : ℕ). (next key).offset ≡ offset_by (wanted entries tree key) (held key).offset) e (given_own (wanted entries tree row.key) row.key tree held) in
+          ap (set_at (key_count key more) given) own
+          ∙ set_twice (key_count key more) given (held key).offset
+          ∙ sym (set_more (key_count key (row ∷ more)) given (held key).offset some)
+      | inr ne ↦
+          let none : key_count key more ≡ key_count key (row ∷ more) = rw (ne_eqb row.key key ne) (omega arith) in
+          ap (set_at (key_count key more) given) (given_others (wanted entries tree row.key) row.key tree held key (λ same. ne (sym same)))
+          ∙ ap (λ n. set_at n given (held key).offset) none
+    ]
+
+pub all_bounds : (entries : List StateEntry) (tree : Forest Row) (keys : List ℕ) (held : ℕ → Held) (key : ℕ) → (all_given entries tree keys held key).state.bounds ≡ (held key).state.bounds
 all_bounds entries tree [] held key = refl
 all_bounds entries tree (view ∷ views) held key =
     all_bounds entries tree views (given_held (wanted entries tree view) view tree held) key ∙ given_bounds (wanted entries tree view) view tree held key
 
--- a view that is given no offset keeps its own
-pub all_offsets : (entries : List (ℕ × ℕ)) (tree : Forest Row) (keys : List ℕ) (held : ℕ → Held) (key : ℕ) → wanted entries tree key ≡ None
+-- a view that is given nothing keeps its offset
+pub all_offsets : (entries : List StateEntry) (tree : Forest Row) (keys : List ℕ) (held : ℕ → Held) (key : ℕ) → wanted entries tree key ≡ None
     → (all_given entries tree keys held key).offset ≡ (held key).offset
 all_offsets entries tree [] held key none = refl
 all_offsets entries tree (view ∷ views) held key none =
     all_offsets entries tree views (given_held (wanted entries tree view) view tree held) key none
     ∙ elim (cases_eq key view) [
-      | inl e ↦ ap (λ (given : Option ℤ). (given_held given view tree held key).offset) (ap (wanted entries tree) (sym e) ∙ none)
+      | inl e ↦ ap (λ (given : Option Value). (given_held given view tree held key).offset) (ap (wanted entries tree) (sym e) ∙ none)
       | inr ne ↦ given_others (wanted entries tree view) view tree held key ne
     ]
 
-all_off : (entries : List (ℕ × ℕ)) (tree : Forest Row) (keys : List ℕ) (held : ℕ → Held) (key : ℕ) → on_paths key keys tree ≡ false → all_given entries tree keys held key ≡ held key
+all_off : (entries : List StateEntry) (tree : Forest Row) (keys : List ℕ) (held : ℕ → Held) (key : ℕ) → on_paths key keys tree ≡ false → all_given entries tree keys held key ≡ held key
 all_off entries tree [] held key off = refl
 all_off entries tree (view ∷ views) held key off =
     let both = neither (among key (path_of view tree)) (on_paths key views tree) off in
@@ -149,29 +246,26 @@ all_off entries tree (view ∷ views) held key off =
     neither true two e = absurd (let no : true ≡ false = e in cc)
     neither false two e = (refl, e)
 
-all_kept : (entries : List (ℕ × ℕ)) (tree : Forest Row) (list : List Row) (held : ℕ → Held) → ((key : ℕ) → count_of_key key tree ≤ 1)
-    → ((key : ℕ) → 0 < key_count key list → 0 < count_of_key key tree) → IsKept held tree → IsKept (all_given entries tree (given_keys entries tree list) held) tree
-all_kept entries tree [] held once live k = k
-all_kept entries tree (row ∷ more) held once live k =
-    let own : 0 < key_count row.key (row ∷ more) = rw (eq-eqb row.key row.key refl) (omega arith) in
-    subst (λ (held : ℕ → Held). IsKept held tree) (sym (given_first entries tree row more held))
-    (all_kept entries tree more (given_held (wanted entries tree row.key) row.key tree held) once (λ key there. live key (omega arith))
-    (given_kept (wanted entries tree row.key) row.key tree held once (live row.key own) k))
+-- texts move no view
+with_text_number : (given : Option Value) (view : PlainView) → (with_text_of given view).number ≡ view.number
+with_text_number None view = refl
+with_text_number (Some (Offset offset)) view = refl
+with_text_number (Some (Text text)) view = refl
+
+pub laid-retold : (entries : List StateEntry) (held : ℕ → Held) (list : Forest Row) → laid_rows held (retold entries list) ≡ laid_rows held list
+laid-retold entries held Nothing = refl
+laid-retold entries held (Branch row kids siblings) =
+    rw (with_text_number (given entries row.view) row.view, laid-retold entries held kids, laid-retold entries held siblings) refl
 
 -- a tree of the code, once all are set
-module _ (old new : Views) (entries : List (ℕ × ℕ)) (same : new.tree ≡ old.tree)
+module _ (old new : Views) (entries : List StateEntry)
     (came : (key : ℕ) → held_of new key ≡ all_given entries old.tree (set_by entries old.tree) (held_of old) key) where
-  pub restored_geometry : geometry_of new ≡ geometry_of old
-  restored_geometry =
-      ap (laid_rows (held_of new)) same
+  pub restored_geometry : new.tree ≡ retold entries old.tree → geometry_of new ≡ geometry_of old
+  restored_geometry told =
+      ap (laid_rows (held_of new)) told
+      ∙ laid-retold entries (held_of new) old.tree
       ∙ laid_along (held_of old) (held_of new) old.tree
       (λ key live. ap (λ (own : Held). own.state.bounds) (came key) ∙ all_bounds entries old.tree (set_by entries old.tree) (held_of old) key)
 
   pub restored_off : (key : ℕ) → on_paths key (set_by entries old.tree) old.tree ≡ false → held_of new key ≡ held_of old key
   restored_off key off = came key ∙ all_off entries old.tree (set_by entries old.tree) (held_of old) key off
-
-  pub restored_kept : IsTree old → IsConsistent old → IsConsistent new
-  restored_kept is kept =
-      subst (IsKept (held_of new)) (sym same)
-      (subst (λ (held : ℕ → Held). IsKept held old.tree) (sym (fun_ext came))
-      (all_kept entries old.tree (rows old.tree) (held_of old) is.keys (λ key there. let all = key_count-rows key old.tree in omega arith) kept))

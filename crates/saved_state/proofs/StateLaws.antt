@@ -1,55 +1,66 @@
 -- A state that is read entry by entry, and one that was written.
-use Rattle.std.proofs.Common.{◌≡◌, ℕ, suc, ◌+◌, ◌-◌, ◌<◌, ◌≤◌, List, [], ◌∷◌, ◌++◌, length, drop, Result, Ok, Err, refl, sym, subst, ◌∙◌, ap, arith, append_assoc, length-drop}
-use Rattle.std.proofs.lemmas.Bool.{lt-ltb, le-ltb}
+use Rattle.std.proofs.Common.{◌≡◌, ◌≢◌, ℕ, suc, ◌+◌, ◌-◌, ◌<◌, ◌≤◌, true, false, List, [], ◌∷◌, ◌++◌, length, take, drop, Result, Ok, Err, refl, sym, subst, ◌∙◌, ◌⊎◌, ap, arith, ltb, inl, inr, append_assoc, length-append, length-drop}
+use Rattle.std.proofs.lemmas.Bool.{eq-eqb, lt-ltb, le-ltb, ne_eqb}
+use lib.Utf8.{scalars}
+use Rattle.std.proofs.lemmas.Str.{chars-encodes, is_utf8-from_IsUtf8}
 use Rattle.std.proofs.lemmas.List.{append-nil, drop-drop}
-use Rattle.std.specs.Prelude.{slice_index}
+use Rattle.std.specs.Prelude.{◌==◌, chars, encode_utf8_all, slice_index}
+use Rattle.std.specs.Str.{is_utf8}
 use Rattle.std.specs.List.{flat_map}
 use Rattle.byteorder.specs.Endian.{little_bytes, little_number}
 use Rattle.byteorder.specs.Numbers.{little_number-reads_back}
 use Rattle.saved_state.specs.Answers.{FailsAs, ReadAs, is_bad_at}
-use Rattle.saved_state.specs.State.{◌>>=◌, IsState, RisesFrom, decoded, encoded, entries_of, entry_bytes, entry_count, entry_of}
+use Rattle.saved_state.specs.State.{◌>>=◌, IsState, IsValueOf, RisesFrom, StateEntry, decoded, encoded_as, entries_of, entry_bytes, entry_of, entry_size, has_kind, head_of, id_of, kind_of, offset_of, text_of, value_bytes, value_of, words_of}
 use Rattle.saved_state.specs.declared.fault.StateFault.{StateFault}
 use Rattle.saved_state.specs.declared.fault.StateFault.TheVariants as faults
+use Rattle.saved_state.specs.declared.value.Value.{Value}
+use Rattle.saved_state.specs.declared.value.Value.TheVariants.{Offset, Text}
+
+-- a list before another one, and the other one
+take-front : (front rest : List ℕ) → take (length front) (front ++ rest) ≡ front
+take-front [] rest = refl
+take-front (x ∷ front) rest = ap (λ (list : List ℕ). x ∷ list) (take-front front rest)
+
+drop-front : (front rest : List ℕ) → drop (length front) (front ++ rest) ≡ rest
+drop-front [] rest = refl
+drop-front (x ∷ front) rest = drop-front front rest
 
 -- entries that were read before those that are still to be read
-abbrev pub ahead : List (ℕ × ℕ) → Result (List (ℕ × ℕ)) ℕ → Result (List (ℕ × ℕ)) ℕ
+abbrev pub ahead : List StateEntry → Result (List StateEntry) ℕ → Result (List StateEntry) ℕ
 ahead done (Ok more) = Ok (done ++ more)
 ahead done (Err place) = Err place
 
-ahead_more : (done : List (ℕ × ℕ)) (entry : ℕ × ℕ) (rest : Result (List (ℕ × ℕ)) ℕ)
-    → ahead done (rest >>= λ (list : List (ℕ × ℕ)). Ok (entry ∷ list)) ≡ ahead (done ++ entry ∷ []) rest
-ahead_more done entry (Ok more) = ap (λ (l : List (ℕ × ℕ)). let r : Result (List (ℕ × ℕ)) ℕ = Ok l in r) (sym (append_assoc done (entry ∷ []) more))
+ahead_more : (done : List StateEntry) (entry : StateEntry) (rest : Result (List StateEntry) ℕ)
+    → ahead done (rest >>= λ (list : List StateEntry). Ok (entry ∷ list)) ≡ ahead (done ++ entry ∷ []) rest
+ahead_more done entry (Ok more) = ap (λ (l : List StateEntry). let r : Result (List StateEntry) ℕ = Ok l in r) (sym (append_assoc done (entry ∷ []) more))
 ahead_more done entry (Err place) = refl
 
-module _ (done : List (ℕ × ℕ)) (before place : ℕ) (bytes : List ℕ) (count counter : ℕ) (more : counter < count) where
+module _ (version : ℕ) (done : List StateEntry) (before place : ℕ) (bytes : List ℕ) (count counter : ℕ) (more : counter < count) where
   -- one entry more
-  pub read_more : (entry : ℕ × ℕ) → entry_of before place (drop place bytes) ≡ Ok entry
-      → ahead done (entries_of (count - counter) before place (drop place bytes)) ≡ ahead (done ++ entry ∷ []) (entries_of (count - (counter + 1)) entry.0 (place + 9) (drop (place + 9) bytes))
+  pub read_more : (entry : StateEntry) → entry_of version before place (drop place bytes) ≡ Ok entry
+      → ahead done (entries_of version (count - counter) before place (drop place bytes)) ≡ ahead (done ++ entry ∷ []) (entries_of version (count - (counter + 1)) entry.0 (place + entry_size entry.1) (drop (place + entry_size entry.1) bytes))
   read_more entry is =
       let next : count - counter ≡ suc (count - (counter + 1)) = omega arith in
       rw (next, is)
-      (ahead_more done entry (entries_of (count - (counter + 1)) entry.0 (place + 9) (drop 9 (drop place bytes)))
-      ∙ ap (λ (rest : List ℕ). ahead (done ++ entry ∷ []) (entries_of (count - (counter + 1)) entry.0 (place + 9) rest)) (drop_both place bytes))
-    where
-      drop_both : (n : ℕ) (xs : List ℕ) → drop 9 (drop n xs) ≡ drop (n + 9) xs
-      drop_both n xs = drop-drop 9 n xs
+      (ahead_more done entry (entries_of version (count - (counter + 1)) entry.0 (place + entry_size entry.1) (drop (entry_size entry.1) (drop place bytes)))
+      ∙ ap (λ (rest : List ℕ). ahead (done ++ entry ∷ []) (entries_of version (count - (counter + 1)) entry.0 (place + entry_size entry.1) rest)) (drop-drop (entry_size entry.1) place bytes))
 
-  pub read_fault : (wrong : ℕ) → entry_of before place (drop place bytes) ≡ Err wrong → ahead done (entries_of (count - counter) before place (drop place bytes)) ≡ Err wrong
+  pub read_fault : (wrong : ℕ) → entry_of version before place (drop place bytes) ≡ Err wrong → ahead done (entries_of version (count - counter) before place (drop place bytes)) ≡ Err wrong
   read_fault wrong is =
       let next : count - counter ≡ suc (count - (counter + 1)) = omega arith in
       rw (next, is) refl
 
 -- nothing is left to be read
-pub read_end : (done : List (ℕ × ℕ)) (before place : ℕ) (bytes : List ℕ) (count counter : ℕ) → count ≤ counter → length bytes ≤ place
-    → ahead done (entries_of (count - counter) before place (drop place bytes)) ≡ Ok done
-read_end done before place bytes count counter none over =
+pub read_end : (version : ℕ) (done : List StateEntry) (before place : ℕ) (bytes : List ℕ) (count counter : ℕ) → count ≤ counter → length bytes ≤ place
+    → ahead done (entries_of version (count - counter) before place (drop place bytes)) ≡ Ok done
+read_end version done before place bytes count counter none over =
     let zero_left : count - counter ≡ 0 = omega arith in
     let empty : length (drop place bytes) ≡ 0 = length-drop place bytes ∙ omega arith in
-    rw (zero_left, empty) (ap (λ (l : List (ℕ × ℕ)). let r : Result (List (ℕ × ℕ)) ℕ = Ok l in r) (append-nil done))
+    rw (zero_left, empty) (ap (λ (l : List StateEntry). let r : Result (List StateEntry) ℕ = Ok l in r) (append-nil done))
 
-pub read_over : (done : List (ℕ × ℕ)) (before place : ℕ) (bytes : List ℕ) (count counter : ℕ) → count ≤ counter → place < length bytes
-    → ahead done (entries_of (count - counter) before place (drop place bytes)) ≡ Err place
-read_over done before place bytes count counter none over =
+pub read_over : (version : ℕ) (done : List StateEntry) (before place : ℕ) (bytes : List ℕ) (count counter : ℕ) → count ≤ counter → place < length bytes
+    → ahead done (entries_of version (count - counter) before place (drop place bytes)) ≡ Err place
+read_over version done before place bytes count counter none over =
     let zero_left : count - counter ≡ 0 = omega arith in
     let some : 0 < length (drop place bytes) = rw length-drop (omega arith) in
     rw (zero_left, lt-ltb 0 (length (drop place bytes)) some) refl
@@ -64,59 +75,101 @@ pub told_at : {A : Type 0} (fault : StateFault) (read : Result A ℕ) (place : �
 told_at (faults.Refused refusal) read place wrong bad = (place, wrong, bad)
 told_at faults.NoMemory read place wrong bad = absurd bad
 
-pub counted : (bytes : List ℕ) (count : ℕ) → entry_count bytes ≡ Ok count → decoded bytes ≡ entries_of count 0 5 (drop 5 bytes)
+pub counted : (bytes : List ℕ) (version count : ℕ) → head_of bytes ≡ Ok (version, count) → decoded bytes ≡ entries_of version count 0 5 (drop 5 bytes)
 unfolding decoded
-counted bytes count is = rw is refl
+counted bytes version count is = rw is refl
 
-entry_is : (before place : ℕ) (rest : List ℕ) (id offset : ℕ) → 9 ≤ length rest → little_number 4 rest ≡ id → before < id → slice_index rest 4 ≡ 1
-    → little_number 4 (drop 5 rest) ≡ offset → offset ≤ 16777215 → entry_of before place rest ≡ Ok (id, offset)
+-- the fields of a state that was written are read back
+
+id_back : (before place id : ℕ) (rest : List ℕ) → before < id → id < 4294967296 → id_of before place (little_bytes 4 id ++ rest) ≡ Ok id
+unfolding id_of
+id_back before place id rest above fits =
+    rw (le-ltb (length (little_bytes 4 id ++ rest)) 4 (omega arith), little_number-reads_back 4 id rest (omega arith), lt-ltb before id above) refl
+
+kind_back : (version place kind : ℕ) (rest : List ℕ) → has_kind version kind ≡ true → kind_of version place (kind ∷ rest) ≡ Ok kind
+unfolding kind_of
+kind_back version place kind rest has = rw (le-ltb (length (kind ∷ rest)) 1 (omega arith), has) refl
+
+offset_back : (place offset : ℕ) (rest : List ℕ) → offset ≤ 16777215 → offset_of place (little_bytes 4 offset ++ rest) ≡ Ok offset
+unfolding offset_of
+offset_back place offset rest few =
+    rw (le-ltb (length (little_bytes 4 offset ++ rest)) 4 (omega arith), little_number-reads_back 4 offset rest (omega arith), le-ltb 16777215 offset few) refl
+
+-- a text is what its bytes encode
+module _ (text : List ℕ) (valid_text : scalars text ≡ true) where
+  valid : is_utf8 (encode_utf8_all text) ≡ true
+  valid = is_utf8-from_IsUtf8 (encode_utf8_all text) (text, (valid_text, refl))
+
+  back : chars (encode_utf8_all text) ≡ text
+  back = chars-encodes text valid_text
+
+  words_back : (place : ℕ) (rest : List ℕ) → words_of (length (encode_utf8_all text)) place (encode_utf8_all text ++ rest) ≡ Ok text
+  unfolding words_of
+  words_back place rest =
+      rw (
+        le-ltb (length (encode_utf8_all text ++ rest)) (length (encode_utf8_all text)) (omega (arith, length-append (encode_utf8_all text) rest)),
+        take-front (encode_utf8_all text) rest,
+        valid,
+        back,
+      ) refl
+
+  text_back : (place : ℕ) (rest : List ℕ) → length (encode_utf8_all text) ≤ 65535
+      → text_of place (little_bytes 2 (length (encode_utf8_all text)) ++ (encode_utf8_all text ++ rest)) ≡ Ok text
+  unfolding text_of
+  text_back place rest few =
+      let bytes = encode_utf8_all text in
+      rw (
+        le-ltb (length (little_bytes 2 (length bytes) ++ (bytes ++ rest))) 2 (omega arith),
+        little_number-reads_back 2 (length bytes) (bytes ++ rest) (omega arith),
+      ) (words_back (place + 2) rest)
+
+entry_back : (version before place : ℕ) (entry : StateEntry) (rest : List ℕ) → before < entry.0 → entry.0 < 4294967296 → IsValueOf version entry.1
+    → entry_of version before place (entry_bytes entry ++ rest) ≡ Ok entry
 unfolding entry_of
-entry_is before place rest id offset there id_is above one offset_is few =
+entry_back version before place (id, Offset offset) rest above fits few =
+    rw (id_back before place id ((1 ∷ little_bytes 4 offset) ++ rest) above fits, kind_back version (place + 4) 1 (little_bytes 4 offset ++ rest) refl, offset_back (place + 5) offset rest few) refl
+entry_back version before place (id, Text text) rest above fits few =
+    let bytes = encode_utf8_all text in
+    let kind : has_kind version 2 ≡ true = rw (ne_eqb version 1 few.0) refl in
     rw (
-      le-ltb (length rest) 4 (omega arith),
-      id_is,
-      lt-ltb before id above,
-      le-ltb (length rest) 5 (omega arith),
-      one,
-      le-ltb (length rest) 9 there,
-      offset_is,
-      le-ltb 16777215 offset few,
+      append_assoc (little_bytes 4 id) (2 ∷ (little_bytes 2 (length bytes) ++ bytes)) rest,
+      id_back before place id (2 ∷ ((little_bytes 2 (length bytes) ++ bytes) ++ rest)) above fits,
+      kind_back version (place + 4) 2 ((little_bytes 2 (length bytes) ++ bytes) ++ rest) kind,
+      append_assoc (little_bytes 2 (length bytes)) bytes rest,
+      text_back text few.1.0 (place + 5) rest few.1.1,
     ) refl
 
-entry_back : (before place : ℕ) (entry : ℕ × ℕ) (rest : List ℕ) → before < entry.0 → entry.0 < 4294967296 → entry.1 ≤ 16777215
-    → entry_of before place (entry_bytes entry ++ rest) ≡ Ok entry
-entry_back before place entry rest above fits few =
-    entry_is before place (entry_bytes entry ++ rest) entry.0 entry.1 (omega arith)
-    (little_number-reads_back 4 entry.0 ((1 ∷ little_bytes 4 entry.1) ++ rest) (omega arith)) above refl
-    (little_number-reads_back 4 entry.1 rest (omega arith)) few
+entry_rest : (entry : StateEntry) (rest : List ℕ) → drop (entry_size entry.1) (entry_bytes entry ++ rest) ≡ rest
+entry_rest (id, Offset offset) rest = refl
+entry_rest (id, Text text) rest = sym (drop-drop (length (encode_utf8_all text)) 7 (entry_bytes (id, Text text) ++ rest)) ∙ drop-front (encode_utf8_all text) rest
 
-entry_rest : (entry : ℕ × ℕ) (rest : List ℕ) → drop 9 (entry_bytes entry ++ rest) ≡ rest
-entry_rest entry rest = refl
+long : (version count : ℕ) (rest : List ℕ) (n : ℕ) → n ≤ 5 → ltb (length (86 ∷ 83 ∷ version ∷ (little_bytes 2 count ++ rest))) n ≡ false
+long version count rest n few = le-ltb (length (86 ∷ 83 ∷ version ∷ (little_bytes 2 count ++ rest))) n (omega arith)
 
-count_is : (bytes : List ℕ) (count : ℕ) → 5 ≤ length bytes → slice_index bytes 0 ≡ 86 → slice_index bytes 1 ≡ 83 → slice_index bytes 2 ≡ 1
-    → little_number 2 (drop 3 bytes) ≡ count → entry_count bytes ≡ Ok count
-unfolding entry_count
-count_is bytes count there v s version is =
-    rw (le-ltb (length bytes) 2 (omega arith), v, s, le-ltb (length bytes) 3 (omega arith), version, le-ltb (length bytes) 5 there, is) refl
+head_back : (version count : ℕ) (rest : List ℕ) → (version ≡ 1) ⊎ (version ≡ 2) → count < 65536 → head_of (86 ∷ 83 ∷ version ∷ (little_bytes 2 count ++ rest)) ≡ Ok (version, count)
+unfolding head_of
+head_back version count rest (inl one) few = rw (one, long version count rest 2 (omega arith), long version count rest 3 (omega arith), long version count rest 5 (omega arith), little_number-reads_back 2 count rest (omega arith)) refl
+head_back version count rest (inr two) few = rw (two, long version count rest 2 (omega arith), long version count rest 3 (omega arith), long version count rest 5 (omega arith), little_number-reads_back 2 count rest (omega arith)) refl
 
-entries_back : (list : List (ℕ × ℕ)) (before place : ℕ) → RisesFrom before list → entries_of (length list) before place (flat_map entry_bytes list) ≡ Ok list
-entries_back [] before place rises = refl
-entries_back (entry ∷ list) before place rises =
+entries_back : (version : ℕ) (list : List StateEntry) (before place : ℕ) → RisesFrom version before list
+    → entries_of version (length list) before place (flat_map entry_bytes list) ≡ Ok list
+entries_back version [] before place rises = refl
+entries_back version (entry ∷ list) before place rises =
     rw (
-      entry_back before place entry (flat_map entry_bytes list) rises.0 rises.1 rises.2,
+      entry_back version before place entry (flat_map entry_bytes list) rises.0 rises.1 rises.2,
       entry_rest entry (flat_map entry_bytes list),
-      entries_back list entry.0 (place + 9) rises.3,
+      entries_back version list entry.0 (place + entry_size entry.1) rises.3,
     ) refl
 
 -- what was written is read back
-pub decoded_encoded : (list : List (ℕ × ℕ)) → IsState list → decoded (encoded list) ≡ Ok list
-decoded_encoded list is =
-    let few = is.few in
-    counted (encoded list) (length list)
-    (count_is (encoded list) (length list) (omega arith) refl refl refl (little_number-reads_back 2 (length list) (flat_map entry_bytes list) (omega arith)))
-    ∙ entries_back list 0 5 is.rises
+pub decoded_encoded : (version : ℕ) (list : List StateEntry) → IsState version list → decoded (encoded_as version list) ≡ Ok list
+decoded_encoded version list is =
+    counted (encoded_as version list) version (length list)
+    (head_back version (length list) (flat_map entry_bytes list) is.known (let few = is.few in omega arith))
+    ∙ entries_back version list 0 5 is.rises
 
--- the bytes of a state are answered as that, where decoded is the answer
-pub read_again : (bytes : List ℕ) (list : List (ℕ × ℕ)) (result : Result (List (ℕ × ℕ)) StateFault) → IsState list → bytes ≡ encoded list → ReadAs (decoded bytes) result → ReadAs (Ok list) result
-read_again bytes list result state is read =
-    subst (λ (all : Result (List (ℕ × ℕ)) ℕ). ReadAs all result) (ap decoded is ∙ decoded_encoded list state) read
+-- the bytes of a state result in that state, if the decoded state is returned
+pub read_again : (version : ℕ) (bytes : List ℕ) (list : List StateEntry) (result : Result (List StateEntry) StateFault) → IsState version list → bytes ≡ encoded_as version list
+    → ReadAs (decoded bytes) result → ReadAs (Ok list) result
+read_again version bytes list result state is read =
+    subst (λ (all : Result (List StateEntry) ℕ). ReadAs all result) (ap decoded is ∙ decoded_encoded version list state) read

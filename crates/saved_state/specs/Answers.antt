@@ -1,4 +1,4 @@
--- What calls answer, by what is defined. Memory may be wanting where something is read.
+-- What calls return, by what is defined. Memory may run out where something is read.
 use Rattle.std.specs.Prelude.{◌≡◌, ℕ, Bool, true, false, Result, Ok, Err}
 use Rattle.view_model.specs.Refusals.{AtPlace, plain_refusal, refusal_numbered}
 use Rattle.view_model.specs.declared.refusals.TheConstants.{BAD_STATE, STATE_CLASS}
@@ -20,12 +20,13 @@ abbrev pub FailsAs : {A : Type 0} → Result A ℕ → StateFault → Type 0
 FailsAs read (fault.Refused refusal) = (place : ℕ) × (read ≡ Err place) × is_bad_at place (fault.Refused refusal)
 FailsAs read fault.NoMemory = Unit {0}
 
--- something was read, or its first wrong place is the answer
+-- something was read, or its first wrong place is returned
 abbrev pub ReadAs : {A : Type 0} → Result A ℕ → Result A StateFault → Type 0
 ReadAs read (Ok made) = read ≡ Ok made
 ReadAs read (Err failed) = FailsAs read failed
 
--- a state is refused exactly where it is for a view of another class; memory is never wanting
+-- a state is refused exactly where it is for a view of another class; only where it is not, there may be no memory
 abbrev pub RestoredUnless : {A : Type 0} → Bool → Result A StateFault → Type 0
 RestoredUnless is_for_other (Ok done) = is_for_other ≡ false
-RestoredUnless is_for_other (Err failed) = (is_for_other ≡ true) × is_other_class failed
+RestoredUnless is_for_other (Err (fault.Refused refusal)) = (is_for_other ≡ true) × is_other_class (fault.Refused refusal)
+RestoredUnless is_for_other (Err fault.NoMemory) = is_for_other ≡ false

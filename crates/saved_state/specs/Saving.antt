@@ -1,22 +1,45 @@
 -- What is saved of a tree.
-use Rattle.std.specs.Prelude.{◌≡◌, ℕ, ◌==◌, pos, ◌≤ℤ◌, true, ◌&&◌, not, if◌then◌else◌, List, [], unsigned_abs}
+use Rattle.std.specs.Prelude.{◌≡◌, ℕ, ◌==◌, pos, ◌≤ℤ◌, true, if◌then◌else◌, nat_lt, List, [], length, Option, Some, None, unsigned_abs, encode_utf8_all}
 use Rattle.std.specs.BTreeMap.{insert_entry}
 use Rattle.std.specs.List.{fold}
 use Rattle.std.specs.Ordering.{nat_cmp}
 use Rattle.view_model.specs.Forest.{Forest, EveryRow, rows}
 use Rattle.view_model.specs.Offsets.{scrolls}
 use Rattle.view_model.specs.PlainTree.{PlainView}
-use Rattle.saved_state.specs.declared.format.TheConstants.{MAX_OFFSET}
+use Rattle.view_model.specs.declared.kinds.Class.{Class}
+use Rattle.view_model.specs.declared.kinds.Class.TheVariants.{View, TextView, FrameLayout, LinearLayout, ScrollView, RelativeLayout}
+use Rattle.saved_state.specs.State.{StateEntry}
+use Rattle.saved_state.specs.declared.format.TheConstants.{MAX_OFFSET, MAX_TEXT_BYTES}
+use Rattle.saved_state.specs.declared.value.Value.{Value}
+use Rattle.saved_state.specs.declared.value.Value.TheVariants.{Offset, Text}
 
--- the entries with that of a view, where it scrolls and has an id: by rising ids, in the place of one of the same id
-abbrev pub with_view : List (ℕ × ℕ) → PlainView → List (ℕ × ℕ)
-with_view entries view =
-    if scrolls view.class && not (view.facts.id == 0)
-    then insert_entry nat_cmp entries view.facts.id (unsigned_abs view.facts.offset)
-    else entries
+-- what is saved of a text, unless it is too long
+abbrev pub text_value : List ℕ → Option Value
+text_value text = if nat_lt MAX_TEXT_BYTES (length (encode_utf8_all text)) then None else Some (Text text)
 
--- the offset of each scroll view that has an id, by rising ids; of those with the same id the last in preorder
-abbrev pub saved_of : Forest PlainView → List (ℕ × ℕ)
+-- what is saved of a view of this class that has an id
+abbrev pub value_by : Class → PlainView → Option Value
+value_by View view = None
+value_by TextView view = text_value view.text
+value_by FrameLayout view = None
+value_by LinearLayout view = None
+value_by ScrollView view = Some (Offset (unsigned_abs view.facts.offset))
+value_by RelativeLayout view = None
+
+abbrev pub value_saved : PlainView → Option Value
+value_saved view = if view.facts.id == 0 then None else value_by view.class view
+
+-- the entries with that of an id, by rising ids, in the place of one of the same id
+abbrev pub with_entry : List StateEntry → ℕ → Option Value → List StateEntry
+with_entry entries id None = entries
+with_entry entries id (Some value) = insert_entry nat_cmp entries id value
+
+abbrev pub with_view : List StateEntry → PlainView → List StateEntry
+with_view entries view = with_entry entries view.facts.id (value_saved view)
+
+-- the offset of each scroll view and the text of each text view that has an id, by rising ids; of those with the same id the
+-- last in preorder
+abbrev pub saved_of : Forest PlainView → List StateEntry
 saved_of tree = fold with_view [] (rows tree)
 
 -- a scroll view has an offset that may be saved

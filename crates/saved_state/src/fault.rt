@@ -1,7 +1,7 @@
 //! Why a state is not read, or not restored.
 ghost use Rattle.saved_state.specs.Answers.{is_bad_at, is_other_class};
 
-use std::alloc::AllocFailed;
+use std::alloc::{AllocError, AllocFailed};
 use view_model::refusals::{BAD_STATE, STATE_CLASS};
 use view_model::{Detail, Refusal};
 
@@ -10,6 +10,17 @@ use view_model::{Detail, Refusal};
 pub enum StateFault {
     Refused(Refusal),
     NoMemory,
+}
+
+impl From<AllocError> for StateFault {
+    ghost use Rattle.std.specs.Prelude.{◌≡◌};
+    ghost use Rattle.saved_state.specs.declared.fault.StateFault.TheVariants.{NoMemory};
+
+    ghost from_gives = { λ _ fault. fault ≡ NoMemory };
+
+    fn from(_error: AllocError) -> StateFault {
+        StateFault::NoMemory
+    }
 }
 
 impl<T: Drop> From<AllocFailed<T>> for StateFault {
@@ -33,7 +44,7 @@ pub fn bad_state(place: usize) -> StateFault
     })
 }
 
-/// Some view has the id of an entry, and no scroll view has it.
+/// Some view has the id of an entry, and no view that suits the entry has it.
 pub fn other_class() -> StateFault
     ensures { is_other_class result }
 {

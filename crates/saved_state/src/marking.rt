@@ -1,18 +1,19 @@
-//! Whether a state fits a tree: its entries are marked for which there is a scroll view.
-ghost use Rattle.std.specs.Prelude.{◌≡◌, ◌≤◌, ◌<◌, ◌||◌, ◌&&◌, ℕ, false, length, not, is_some, slice_index_or};
-ghost use Rattle.saved_state.specs.Restoring.{AreMarks, entry_at, is_for_other_class, offset_for, scroll_has, scrolls_as};
+//! Whether a state fits a tree: its entries are marked for which there is a view that suits them.
+ghost use Rattle.std.specs.Prelude.{◌≡◌, ◌≤◌, ◌<◌, ◌||◌, ℕ, false, length, slice_index_or};
+ghost use Rattle.saved_state.specs.Restoring.{AreMarks, entry_at, is_for_other_class, is_unmet, meets};
 ghost use Rattle.saved_state.specs.declared.format.TheConstants.{MAX_ENTRIES};
 ghost use Rattle.view_model.specs.Forest.{rows};
 ghost use Rattle.view_tree.specs.Views.{IsLive, plain_of, view_at};
 
 use crate::format::MAX_ENTRIES;
 use crate::states::States;
+use crate::value::suits;
 use view_tree::{Key, ViewTree};
 
 /// The most entries of a state for which marks are few.
 const FEW_ENTRIES: usize = 64;
 
-/// Whether some view has the id of an entry, and no scroll view has it.
+/// Whether some view has the id of an entry, and no view that suits the entry has it.
 pub fn is_for_other_class(tree: &ViewTree, states: &States) -> bool
     ensures { result ≡ is_for_other_class states.now (rows (plain_of tree.now)) }
 {
@@ -44,7 +45,7 @@ fn many_are_for_other_class(tree: &ViewTree, states: &States) -> bool
     has_unmarked(&marks, tree, states)
 }
 
-/// Marks each entry whose id a scroll view has.
+/// Marks each entry whose id a view has that suits it.
 fn mark_all(marks: &mut [bool], tree: &ViewTree, states: &States)
     requires sized { length states.now ≤ length marks.old }
     requires none { (place : ℕ) → slice_index_or marks.old place false ≡ false }
@@ -58,17 +59,17 @@ fn mark_all(marks: &mut [bool], tree: &ViewTree, states: &States)
     }
 }
 
-/// Marks the entry whose id a view has, if that is a scroll view.
+/// Marks the entry whose id a view has, if the view suits it.
 fn mark_one(marks: &mut [bool], tree: &ViewTree, states: &States, view: Key)
     requires live { IsLive tree.now view }
     requires sized { length states.now ≤ length marks.old }
     ensures sized { length states.now ≤ length marks.new }
-    ensures marks { (place : ℕ) → place < length states.now → slice_index_or marks.new place false ≡ (slice_index_or marks.old place false || scrolls_as (entry_at states.now place).0 (view_at tree.now view)) }
+    ensures marks { (place : ℕ) → place < length states.now → slice_index_or marks.new place false ≡ (slice_index_or marks.old place false || meets (entry_at states.now place) (view_at tree.now view)) }
 {
-    if !tree.class(view).scrolls() {
+    let Some(place) = states.place_of(tree.facts(view).id) else {
         return;
-    }
-    if let Some(place) = states.place_of(tree.facts(view).id) {
+    };
+    if suits(states.value_at(place), tree.class(view)) {
         marks[place] = true;
     }
 }
@@ -94,7 +95,7 @@ fn is_unmarked(marks: &[bool], tree: &ViewTree, states: &States, view: Key) -> b
     requires live { IsLive tree.now view }
     requires sized { length states.now ≤ length marks.now }
     requires marks { AreMarks states.now (rows (plain_of tree.now)) marks.now }
-    ensures { result ≡ (is_some (offset_for states.now (view_at tree.now view).facts.id) && not (scroll_has (view_at tree.now view).facts.id (rows (plain_of tree.now)))) }
+    ensures { result ≡ is_unmet states.now (rows (plain_of tree.now)) (view_at tree.now view) }
 {
     match states.place_of(tree.facts(view).id) {
         None => false,

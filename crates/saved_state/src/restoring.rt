@@ -1,26 +1,31 @@
-//! Restoring of offsets.
-ghost use Rattle.std.specs.Prelude.{◌≡◌, ℕ, false, OnErr, OnOk};
+//! Restoring of offsets and texts.
+ghost use Rattle.std.specs.Prelude.{◌≡◌, ℕ, ◌++◌, All, Some, false, fold, is_some, IfOk, IfSome, OnErr, OnOk};
+ghost use Rattle.std.specs.Option.{option_map};
 ghost use Rattle.kept_views.specs.Kept.{IsConsistent};
 ghost use Rattle.saved_state.specs.Answers.{RestoredUnless};
-ghost use Rattle.saved_state.specs.Restored.{all_given, given_held, moved_one, on_paths, set_by, wanted};
-ghost use Rattle.saved_state.specs.Restoring.{given_offset, is_for_other_class, restored};
+ghost use Rattle.saved_state.specs.Restored.{Retells, all_given, all_set, given_held, given_values, moved_one, on_paths, paired, set_by, wanted, with_text_at};
+ghost use Rattle.saved_state.specs.Restoring.{given, is_for_other_class, restored};
 ghost use Rattle.saved_state.specs.Saving.{OffsetsFit};
+ghost use Rattle.saved_state.specs.State.{IsValue};
 ghost use Rattle.view_model.specs.Forest.{rows};
-ghost use Rattle.view_tree.specs.Views.{IsLive, SameTree, geometry_of, held_of, plain_of, view_at};
+ghost use Rattle.view_tree.specs.Views.{IsLive, IsTree, SameTree, geometry_of, held_of, plain_of, view_at};
 
 use crate::fault::{StateFault, other_class};
 use crate::marking::is_for_other_class;
 use crate::states::States;
+use crate::value::{Value, suits};
+use std::alloc::{AllocError, Global};
 use view_model::Facts;
 use view_tree::{Key, ViewTree};
 
-/// Sets the offset of each scroll view whose id a state has, and requests layout at each of them, in preorder. It is
-/// refused where a view of another class has such an id, and no scroll view has it. It takes no memory.
-pub fn restore(tree: &mut ViewTree, states: &States) -> Result<(), StateFault>
+/// Sets the offset of each scroll view and the text of each text view for which a state has one, and requests layout at each
+/// of them, in preorder. It is refused where some view has the id of an entry, and no view that suits the entry has it.
+/// All texts are made before anything changes.
+pub fn restore(alloc: Global, tree: &mut ViewTree, states: &States) -> Result<(), StateFault>
     ensures plain { OnOk result (plain_of tree.new ≡ restored states.now (plain_of tree.old)) }
     ensures refused { RestoredUnless (is_for_other_class states.now (rows (plain_of tree.old))) result }
     ensures unchanged { OnErr result (tree.new ≡ tree.old) }
-    ensures same { SameTree tree.old tree.new }
+    ensures retells { OnOk result (Retells states.now tree.old tree.new) }
     ensures counts { tree.new.counts ≡ tree.old.counts }
     ensures geometry { geometry_of tree.new ≡ geometry_of tree.old }
     ensures consistent { IsConsistent tree.old → IsConsistent tree.new }
@@ -32,36 +37,83 @@ pub fn restore(tree: &mut ViewTree, states: &States) -> Result<(), StateFault>
     if is_for_other_class(tree, states) {
         return Err(other_class());
     }
-    set_offsets(tree, states);
+    let values = copied_values(alloc, tree, states)?;
+    set_values(tree, values);
     Ok(())
 }
 
-/// Sets the offset of each scroll view whose id a state has, and requests layout there.
-fn set_offsets(tree: &mut ViewTree, states: &States)
-    ensures plain { plain_of tree.new ≡ restored states.now (plain_of tree.old) }
-    ensures same { SameTree tree.old tree.new }
-    ensures counts { tree.new.counts ≡ tree.old.counts }
-    ensures geometry { geometry_of tree.new ≡ geometry_of tree.old }
-    ensures consistent { IsConsistent tree.old → IsConsistent tree.new }
-    ensures held { (key : ℕ) → held_of tree.new key ≡ all_given states.now tree.old.tree (set_by states.now tree.old.tree) (held_of tree.old) key }
+/// What a state gives the views of a tree, in preorder.
+fn copied_values(
+    alloc: Global,
+    tree: &ViewTree,
+    states: &States,
+) -> Result<Vec<(Key, Value)>, AllocError>
+    ensures values { IfOk result (λ values. values.items ≡ given_values states.now tree.now.tree (rows tree.now.tree)) }
+    ensures fit { IfOk result (λ values. All (λ set. IsValue set.1) values.items) }
+    ensures is_tree { IsTree tree.now }
 {
+    let mut values = Vec::new(alloc);
     let mut next = tree.root();
     while let Some(view) = next {
         next = tree.next_in_preorder(view);
-        set_one(tree, states, view);
+        copy_value(alloc, &mut values, tree, states, view)?;
+    }
+    Ok(values)
+}
+
+/// Adds what a state gives a view, if it gives it something.
+fn copy_value(
+    alloc: Global,
+    values: &mut Vec<(Key, Value)>,
+    tree: &ViewTree,
+    states: &States,
+    view: Key,
+) -> Result<(), AllocError>
+    requires { IsLive tree.now view }
+    ensures values { OnOk result (values.new.items ≡ values.old.items ++ paired view (wanted states.now tree.now.tree view)) }
+    ensures fit { OnOk result (All (λ set. IsValue set.1) values.old.items → All (λ set. IsValue set.1) values.new.items) }
+{
+    if let Some(value) = given(tree, states, view) {
+        let copy = value.copy(alloc)?;
+        values.push((view, copy))?;
+    }
+    Ok(())
+}
+
+/// Gives each of these views its value, and requests layout there.
+fn set_values(tree: &mut ViewTree, values: Vec<(Key, Value)>)
+    requires live { All (λ set. IsLive tree.old set.0) values.items }
+    requires fit { All (λ set. IsValue set.1) values.items }
+    ensures tree { tree.new.tree ≡ fold with_text_at tree.old.tree values.items }
+    ensures orders { tree.new.orders ≡ tree.old.orders }
+    ensures next { tree.new.next ≡ tree.old.next }
+    ensures counts { tree.new.counts ≡ tree.old.counts }
+    ensures held { (key : ℕ) → held_of tree.new key ≡ all_set tree.old.tree values.items (held_of tree.old) key }
+{
+    for (view, value) in values {
+        set_value(tree, view, value);
     }
 }
 
 /// The same of a view alone.
-fn set_one(tree: &mut ViewTree, states: &States, view: Key)
-    requires { IsLive tree.old view }
-    ensures same { SameTree tree.old tree.new }
+fn set_value(tree: &mut ViewTree, view: Key, value: Value)
+    requires live { IsLive tree.old view }
+    requires fits { IsValue value }
+    ensures tree { tree.new.tree ≡ with_text_at tree.old.tree (view, value) }
+    ensures orders { tree.new.orders ≡ tree.old.orders }
+    ensures next { tree.new.next ≡ tree.old.next }
     ensures counts { tree.new.counts ≡ tree.old.counts }
-    ensures held { (key : ℕ) → held_of tree.new key ≡ given_held (wanted states.now tree.old.tree view) view tree.old.tree (held_of tree.old) key }
+    ensures held { (key : ℕ) → held_of tree.new key ≡ given_held (Some value) view tree.old.tree (held_of tree.old) key }
 {
-    if let Some(offset) = given_offset(tree, states, view) {
-        set_offset(tree, view, offset);
-        tree.request(view);
+    match value {
+        Value::Offset(offset) => {
+            set_offset(tree, view, offset as i32);
+            tree.request(view);
+        }
+        Value::Text(text) => {
+            tree.set_text(view, text);
+            tree.request(view);
+        }
     }
 }
 
@@ -83,14 +135,25 @@ fn moved(facts: &Facts, offset: i32) -> Facts
     Facts { offset, ..*facts }
 }
 
-/// The offset in pixels that a state gives a view, if it gives one: to each scroll view whose id it has.
-pub fn given_offset(tree: &ViewTree, states: &States, view: Key) -> Option<i32>
+/// What a state gives a view, if it gives it something: what the entry of its id has, if that suits the view.
+fn given<'a>(tree: &ViewTree, states: &'a States, view: Key) -> Option<&'a Value>
     requires { IsLive tree.now view }
-    ensures { result ≡ given_offset states.now (view_at tree.now view) }
+    ensures value { option_map (λ value. value.now) result ≡ given states.now (view_at tree.now view) }
+    ensures fits { IfSome result (λ value. IsValue value.now) }
 {
-    if !tree.class(view).scrolls() {
-        return None;
-    }
     let place = states.place_of(tree.facts(view).id)?;
-    Some(states.offset_at(place))
+    let value = states.value_at(place);
+    if suits(value, tree.class(view)) {
+        Some(value)
+    } else {
+        None
+    }
+}
+
+/// Whether a state gives a view something.
+pub fn is_given(tree: &ViewTree, states: &States, view: Key) -> bool
+    requires { IsLive tree.now view }
+    ensures { result ≡ is_some (given states.now (view_at tree.now view)) }
+{
+    given(tree, states, view).is_some()
 }

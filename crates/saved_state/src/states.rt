@@ -1,28 +1,31 @@
 //! A saved state that was read.
-ghost use Rattle.std.specs.Prelude.{◌≡◌, ◌<◌, ◌≤◌, [], length, pos};
+ghost use Rattle.std.specs.Prelude.{◌≡◌, ◌<◌, ◌≤◌, [], length};
 ghost use Rattle.saved_state.specs.Restoring.{FindsEntry, entry_at};
-ghost use Rattle.saved_state.specs.State.{IsState};
-ghost use Rattle.saved_state.specs.declared.format.TheConstants.{MAX_ENTRIES};
+ghost use Rattle.saved_state.specs.State.{IsState, IsValue};
+ghost use Rattle.saved_state.specs.declared.format.TheConstants.{MAX_ENTRIES, VERSION};
 
+use crate::value::Value;
 use std::alloc::Global;
 use std::marker::Model;
 
-/// A saved state that was read: offsets in pixels by the ids of the scroll views that have them. Contracts see it as
-/// the list of its entries, whose ids rise.
+/// A saved state that was read: offsets and texts by the ids of the views that have them. Contracts see it as the list of
+/// its entries, whose ids rise.
 #[derive(Drop)]
 pub struct States {
-    pub(crate) entries: Vec<(u32, u32)>,
+    pub(crate) entries: Vec<(u32, Value)>,
 }
 
 impl Model for States {
     ghost use Rattle.std.specs.Prelude.{List, ℕ};
     ghost use Rattle.saved_state.specs.State.{IsState};
+    ghost use Rattle.saved_state.specs.declared.format.TheConstants.{VERSION};
+    ghost use Rattle.saved_state.specs.declared.value.Value.{Value as ValueHere};
 
-    ghost Value = { List (ℕ × ℕ) };
+    ghost Value = { List (ℕ × ValueHere) };
 
     ghost view = { λ states. states.entries.items };
 
-    ghost invariant = { λ states. IsState states.entries.items };
+    ghost invariant = { λ states. IsState VERSION states.entries.items };
 }
 
 impl States {
@@ -35,9 +38,9 @@ impl States {
         }
     }
 
-    /// Every state is one. This is for contracts alone.
+    /// The invariant of every state, for contracts alone.
     pub(crate) fn tell(&self)
-        ensures { IsState self.now }
+        ensures { IsState VERSION self.now }
     {
         let _count = self.entries.len();
     }
@@ -55,17 +58,18 @@ impl States {
         ensures entry { FindsEntry self.now id result }
         ensures few { length self.now ≤ MAX_ENTRIES }
     {
-        match self.entries.binary_search_by_key(&id, |&(own, _)| own) {
+        match self.entries.binary_search_by_key(&id, |entry| entry.0) {
             Ok(place) => Some(place),
             Err(_) => None,
         }
     }
 
-    /// The offset in pixels of the entry at a place.
-    pub(crate) fn offset_at(&self, place: usize) -> i32
+    /// What the entry at a place has for a view.
+    pub(crate) fn value_at(&self, place: usize) -> &Value
         requires { place < length self.now }
-        ensures { result ≡ pos (entry_at self.now place).1 }
+        ensures value { result.now ≡ (entry_at self.now place).1 }
+        ensures fits { IsValue result.now }
     {
-        self.entries[place].1 as i32
+        &self.entries[place].1
     }
 }

@@ -34,7 +34,7 @@ rest_is : (r : Result ℕ LineFault) (ws rest : List (List ℕ)) (action : ℕ) 
 rest_is (Ok a) ws rest action h = ap left h
 rest_is (Err fault) ws rest action h = absurd (cc)
 
--- a word, and those behind it
+-- a word, and those after it
 pub actions_go : (actions action : ℕ) (ws rest : List (List ℕ)) → action_in ws ≡ Ok (action, rest) → with_actions actions ws ≡ with_actions (bit_or actions action) rest
 unfolding with_actions
 actions_go actions action [] rest h = absurd (cc)
@@ -52,7 +52,7 @@ unfolding with_actions
 actions_stop actions [] fault e h = absurd (cc)
 actions_stop actions (w ∷ ws) fault e h = fault_then (action_of w) ws fault (λ action. with_actions (bit_or actions action) ws) h
 
--- what stands behind a word is shorter than all from that word on
+-- what comes after a word is shorter than all from that word on
 pub shorter : (bytes w : List ℕ) (ws : List (List ℕ)) → word_in (words bytes) ≡ Ok (w, ws) → length (after_word bytes) < length bytes
 unfolding first_word after_word
 shorter bytes w ws h = elim (cases_lt 0 (length (first_word bytes))) [
@@ -73,7 +73,7 @@ dropped_again xs n = elim (cases_lt n (length xs)) [
 dropped_twice : (bytes : List ℕ) (at q p : ℕ) → drop p (drop q (drop at bytes)) ≡ drop (at + (q + p)) bytes
 dropped_twice bytes at q p = drop-drop p q (drop at bytes) ∙ drop-drop (q + p) at bytes
 
--- the place behind a word
+-- the place after a word
 pub behind : (bytes : List ℕ) (at : ℕ) → drop (length bytes - length (after_word (drop at bytes))) bytes ≡ after_word (drop at bytes)
 unfolding after_word
 behind bytes at =
@@ -82,7 +82,7 @@ behind bytes at =
     let e : after_word (drop at bytes) ≡ drop (at + (q + p)) bytes = dropped_twice bytes at q p in
     ap (λ rest. drop (length bytes - length rest) bytes) e ∙ dropped_again bytes (at + (q + p)) ∙ sym e
 
--- an action, and the place behind its word
+-- an action, and the place after its word
 pub read_behind : (bytes : List ℕ) (at action : ℕ) (name rest : List ℕ) → word_in (words (drop at bytes)) ≡ Ok (name, words rest) → rest ≡ after_word (drop at bytes) → action_of name ≡ Ok action
     → action_in (words (drop at bytes)) ≡ Ok (action, words (drop (length bytes - length rest) bytes))
 read_behind bytes at action name rest is behind_is named =

@@ -1,4 +1,4 @@
--- Words that bars part.
+-- Words that bars separate.
 use Rattle.std.proofs.Common.{◌≡◌, ℕ, ◌+◌, ◌-◌, ◌<◌, ◌≤◌, Bool, refl, ap, sym, ◌∙◌, inl, inr, List, [], ◌∷◌, length, take, drop, arith, length-drop}
 use Rattle.std.specs.Prelude.{fold, Ok, Err}
 use Rattle.std.specs.List.{slice_split, onto_first, position_or_len}
@@ -36,7 +36,7 @@ words_end g words len e h =
     ap (fold word_step (Ok g)) (split_whole is_bar words (sym e ∙ h))
     ∙ ap (with_word g) (sym (take_all len words (omega (arith, h))))
 
--- a word and those behind its bar
+-- a word and those after its bar
 pub words_go : (g more : Gravity) (words : List ℕ) (len : ℕ) → len ≡ position_or_len is_bar words → len < length words → with_word g (take len words) ≡ Ok more
     → with_words g words ≡ with_words more (drop (len + 1) words)
 unfolding with_words
@@ -50,7 +50,7 @@ words_stop g words len fault e h k = elim (cases_lt len (length words)) [
   | inr l ↦ words_end g words len e (omega (arith, h, l)) ∙ k
 ]
 
--- the same for a slice behind the bar
+-- the same for a slice after the bar
 pub words_go_on : (g more : Gravity) (words : List ℕ) (len : ℕ) → len ≡ position_or_len is_bar words → len < length words → with_word g (take len words) ≡ Ok more
     → with_words more (take (length words - (len + 1)) (drop (len + 1) words)) ≡ with_words g words
 words_go_on g more words len e h k =

@@ -16,7 +16,7 @@ take_short k m ys e = elim (cases_lt k (length ys)) [
   | inr h ↦ ap (λ i. take i ys) (let q : m ≡ length ys = omega (arith, e, h) in q) ∙ take_all (length ys) ys (omega arith) ∙ sym (take_all k ys h)
 ]
 
--- as many bytes behind others as have room
+-- as many bytes after others as have room
 pub take_room : (n m : ℕ) (xs ys : List ℕ) → length xs ≤ n → m ≡ min (length ys) (n - length xs) → xs ++ take m ys ≡ take n (xs ++ ys)
 take_room n m xs ys h e =
     ap (λ l. xs ++ l) (take_short (n - length xs) m ys e) ∙ sym (take-append-add xs ys (n - length xs))
@@ -104,7 +104,7 @@ none_held n buffer old rest e eo h = ap (λ i. take i buffer) (sym e) ∙ eo ∙
 lent_now : (rest body : List ℕ) → [] ≡ held_of rest → held_of (held_of rest ++ body) ≡ held_of body
 lent_now rest body e = ap (λ l. held_of (l ++ body)) (sym e)
 
--- a line that lies whole in the piece
+-- a line that is whole in the piece
 pub lent_long-lines : (before piece : List ℕ) (at : ℕ) → at ≡ position_or_len is_line_feed piece → at < length piece → [] ≡ held_of (cut_of before).rest → max_line < at
     → (cut_of (before ++ take (at + 1) piece)).lines ≡ (cut_of before).lines ++ LongLine ∷ []
 lent_long-lines before piece at p h e l =

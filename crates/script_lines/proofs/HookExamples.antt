@@ -195,9 +195,13 @@ pub two_separators_in_a_word : command_of (codes "hook v1 frame ;; frame") ≡ O
 unfolding is_utf8 chars encode words natural_of integer_of within_of pair_of natural_within hex_digit_of hex_of id_of name_of dimension_of extents_of sides_of insets_of last_number weight_of across_of down_of one_across one_down with_word with_words gravity_of kids_of gravity_change_of color_of last_color change_of begins_line begins_edit asked_of unmade_of edit_of joined edits_of hook_of command_by command_in command_of after_word
 two_separators_in_a_word = refl
 
-pub a_direction_is_no_line : command_of (codes "hook v1 direction v1 ltr") ≡ Err Syntax
+pub a_direction_is_no_edit : command_of (codes "hook v1 direction v1 ltr") ≡ Ok (Hook (Number 1) [] true)
 unfolding is_utf8 chars encode words natural_of integer_of within_of pair_of natural_within hex_digit_of hex_of id_of name_of dimension_of extents_of sides_of insets_of last_number weight_of across_of down_of one_across one_down with_word with_words gravity_of kids_of gravity_change_of color_of last_color change_of begins_line begins_edit asked_of unmade_of edit_of joined edits_of hook_of command_by command_in command_of after_word
-a_direction_is_no_line = refl
+a_direction_is_no_edit = refl
+
+pub directions_are_no_line : command_of (codes "hook v1 directions v1 ltr") ≡ Err Syntax
+unfolding is_utf8 chars encode words natural_of integer_of within_of pair_of natural_within hex_digit_of hex_of id_of name_of dimension_of extents_of sides_of insets_of last_number weight_of across_of down_of one_across one_down with_word with_words gravity_of kids_of gravity_change_of color_of last_color change_of begins_line begins_edit asked_of unmade_of edit_of joined edits_of hook_of command_by command_in command_of after_word
+directions_are_no_line = refl
 
 pub an_edit_by_a_capital_letter : command_of (codes "hook v1 Size v1 1 1") ≡ Err Syntax
 unfolding is_utf8 chars encode words natural_of integer_of within_of pair_of natural_within hex_digit_of hex_of id_of name_of dimension_of extents_of sides_of insets_of last_number weight_of across_of down_of one_across one_down with_word with_words gravity_of kids_of gravity_change_of color_of last_color change_of begins_line begins_edit asked_of unmade_of edit_of joined edits_of hook_of command_by command_in command_of after_word
@@ -208,12 +212,12 @@ unfolding is_utf8 chars encode words natural_of integer_of within_of pair_of nat
 bytes_that_are_no_text = refl
 
 -- the first words of all lines
-pub words_that_begin_lines : list_all begins_line (codes "window" ∷ codes "dpi" ∷ codes "res" ∷ codes "inflate" ∷ codes "add" ∷ codes "remove" ∷ codes "size" ∷ codes "min" ∷ codes "margins" ∷ codes "padding" ∷ codes "weight" ∷ codes "weightsum" ∷ codes "gravity" ∷ codes "orient" ∷ codes "flag" ∷ codes "visible" ∷ codes "bg" ∷ codes "ink" ∷ codes "text" ∷ codes "id" ∷ codes "rule" ∷ codes "answer" ∷ codes "intercept" ∷ codes "disallow" ∷ codes "hook" ∷ codes "scroll" ∷ codes "down" ∷ codes "move" ∷ codes "up" ∷ codes "cancel" ∷ codes "frame" ∷ codes "bounds" ∷ codes "pixels" ∷ codes "digest" ∷ codes "save" ∷ codes "restore" ∷ []) ≡ true
+pub words_that_begin_lines : list_all begins_line (codes "window" ∷ codes "dpi" ∷ codes "res" ∷ codes "inflate" ∷ codes "add" ∷ codes "remove" ∷ codes "size" ∷ codes "min" ∷ codes "margins" ∷ codes "padding" ∷ codes "weight" ∷ codes "weightsum" ∷ codes "gravity" ∷ codes "orient" ∷ codes "direction" ∷ codes "flag" ∷ codes "visible" ∷ codes "bg" ∷ codes "ink" ∷ codes "text" ∷ codes "id" ∷ codes "rule" ∷ codes "answer" ∷ codes "intercept" ∷ codes "disallow" ∷ codes "hook" ∷ codes "scroll" ∷ codes "down" ∷ codes "move" ∷ codes "up" ∷ codes "cancel" ∷ codes "frame" ∷ codes "bounds" ∷ codes "pixels" ∷ codes "digest" ∷ codes "save" ∷ codes "restore" ∷ []) ≡ true
 unfolding begins_line
 words_that_begin_lines = refl
 
 -- words with which no line begins
-pub no_line_begins-1 : begins_line (codes "direction") ≡ false
+pub no_line_begins-1 : begins_line (codes "directions") ≡ false
 unfolding begins_line
 no_line_begins-1 = refl
 

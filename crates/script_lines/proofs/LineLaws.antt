@@ -13,7 +13,7 @@ step_feed cut b e = rw e refl
 step_other : (cut : Cut) (b : ℕ) → is_line_feed b ≡ false → cut_step cut b ≡ record { lines = cut.lines; rest = cut.rest ++ b ∷ [] }
 step_other cut b e = rw e refl
 
--- lines that stand before a cut stay before it
+-- lines before a cut stay before it
 step_onto : (before : List Line) (cut : Cut) (b : ℕ)
     → cut_step (record { lines = before ++ cut.lines; rest = cut.rest }) b ≡ record { lines = before ++ (cut_step cut b).lines; rest = (cut_step cut b).rest }
 step_onto before cut b = elim (cases_Bool (is_line_feed b)) [
@@ -26,7 +26,7 @@ fold_onto : (before : List Line) (cut : Cut) (bytes : List ℕ)
 fold_onto before cut [] = refl
 fold_onto before cut (b ∷ bs) = ap (λ c. fold cut_step c bs) (step_onto before cut b) ∙ fold_onto before (cut_step cut b) bs
 
--- what has come of a line is cut further
+-- the beginning of a line is cut further
 abbrev pub cut_behind : List ℕ → List ℕ → Cut
 cut_behind rest bytes = fold cut_step (record { lines = []; rest = rest }) bytes
 
@@ -52,7 +52,7 @@ place_feed b bs e = rw e refl
 place_other : (b : ℕ) (bs : List ℕ) → is_line_feed b ≡ false → position_or_len is_line_feed (b ∷ bs) ≡ suc (position_or_len is_line_feed bs)
 place_other b bs e = (let q : position_or_len is_line_feed (b ∷ bs) ≡ 1 + position_or_len is_line_feed bs = rw e refl in q) ∙ one_add (position_or_len is_line_feed bs)
 
--- bytes without a line feed go onto the rest
+-- bytes without a line feed are appended to the rest
 pub behind_none : (held bytes : List ℕ) → position_or_len is_line_feed bytes ≡ length bytes → cut_behind held bytes ≡ record { lines = []; rest = held ++ bytes }
 behind_none held [] h = ap (λ (r : List ℕ). record { lines = []; rest = r }) (sym (append-nil held))
 behind_none held (b ∷ bs) h = elim (cases_Bool (is_line_feed b)) [

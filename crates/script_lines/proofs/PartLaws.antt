@@ -1,4 +1,4 @@
--- The words before a place and those behind it, and the edits that the word `;` parts.
+-- The words before a place and those after it, and the edits that the word `;` separates.
 use Rattle.std.proofs.Common.{◌≡◌, ℕ, ◌+◌, ◌<◌, Bool, true, false, refl, ap, sym, ◌∙◌, ◌-◌, ◌≤◌, inl, inr, List, [], ◌∷◌, ◌++◌, length, take, drop, arith, append_assoc, length-drop}
 use Rattle.std.specs.Prelude.{filter, Result, Ok, Err}
 use Rattle.std.specs.List.{All, onto_first, prefix_len, slice_split}
@@ -37,7 +37,7 @@ words_nil : words [] ≡ []
 unfolding words
 words_nil = refl
 
--- where a word does not go on, words part
+-- where a word does not go on, words are separated
 words-append : (xs ys : List ℕ) → prefix_len in_word ys ≡ 0 → words (xs ++ ys) ≡ words xs ++ words ys
 words-append xs [] h = ap words (append-nil xs) ∙ sym (append-nil (words xs)) ∙ ap (λ ws. words xs ++ ws) (sym words_nil)
 words-append xs (b ∷ ys) h = elim (cases_Bool (is_space b)) [
@@ -54,7 +54,7 @@ word_ended (b ∷ bs) = elim (cases_Bool (is_space b)) [
       ap (λ n. prefix_len in_word (drop n (b ∷ bs))) (q ∙ one_add (prefix_len in_word bs)) ∙ word_ended bs)
 ]
 
--- a word does not go on behind it
+-- a word does not go on after it
 pub after_word-ended : (bytes : List ℕ) → prefix_len in_word (after_word bytes) ≡ 0
 unfolding after_word
 after_word-ended bytes = word_ended (after_spaces bytes)
@@ -63,7 +63,7 @@ after_word-ended bytes = word_ended (after_spaces bytes)
 pub words-parted : (bytes : List ℕ) (at : ℕ) → prefix_len in_word (drop at bytes) ≡ 0 → words bytes ≡ words (take at bytes) ++ words (drop at bytes)
 words-parted bytes at ended = ap words (sym (take-append-drop at bytes)) ∙ words-append (take at bytes) (drop at bytes) ended
 
--- words, none of which parts edits, before a place, and the words behind it
+-- words, none of which separates edits, before a place, and the words after it
 pub record IsOneEdit (bytes : List ℕ) (at : ℕ) : Type 0 where
   pub whole : words bytes ≡ words (take at bytes) ++ words (drop at bytes)
   pub none : All (λ word. parts_edits word ≡ false) (words (take at bytes))
@@ -83,7 +83,7 @@ one_edit_more bytes word at behind i next ended other =
     (sym parts ∙ i.whole ∙ ap (λ ws. words (take at bytes) ++ ws) next ∙ sym (append_assoc (words (take at bytes)) (word ∷ []) (words (drop behind bytes)))) in
     record { whole = parts; none = rw front (All-push (λ word. parts_edits word ≡ false) (words (take at bytes)) word i.none other) }
 
--- the edit ends before the word that parts it from the next
+-- the edit ends before the word that separates it from the next
 pub edit_ends : (bytes word : List ℕ) (at behind : ℕ) → IsOneEdit bytes at → words (drop at bytes) ≡ word ∷ words (drop behind bytes) → parts_edits word ≡ true
     → slice_split parts_edits (words bytes) ≡ words (take at bytes) ∷ slice_split parts_edits (words (drop behind bytes))
 edit_ends bytes word at behind i next parts =
@@ -107,7 +107,7 @@ pub word_in-none : (ws : List (List ℕ)) (fault : LineFault) → word_in ws ≡
 word_in-none [] fault h = refl
 word_in-none (w ∷ ws) fault h = ap words_in h
 
--- a word from a place on, and the place behind it
+-- a word from a place on, and the place after it
 pub record IsNext (bytes : List ℕ) (at : ℕ) (word rest : List ℕ) : Type 0 where
   pub next : words (drop at bytes) ≡ word ∷ words (drop (length bytes - length rest) bytes)
   pub ended : prefix_len in_word (drop (length bytes - length rest) bytes) ≡ 0
@@ -126,7 +126,7 @@ word_next bytes at word rest h is behind_is =
       within = omega (arith, less, long, length-drop at bytes);
     }
 
--- the same where the word was read from what stands behind the place
+-- the same if the word was read from what comes after the place
 pub word_read : (bytes : List ℕ) (at : ℕ) (word rest : List ℕ) → at ≤ length bytes → Ok (word, words rest) ≡ word_in (words (take (length bytes - at) (drop at bytes)))
     → rest ≡ after_word (take (length bytes - at) (drop at bytes)) → IsNext bytes at word rest
 word_read bytes at word rest h is behind_is =

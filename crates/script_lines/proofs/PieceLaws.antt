@@ -21,7 +21,7 @@ after_course first last (taken ∷ course) before s c =
       subst (λ l. IsAfter last l) same more.1,
     )
 
--- However a script is cut into pieces, its lines are those that were told of, and the last one.
+-- However a script is cut into pieces, its lines are those that were returned, and the last one.
 pub lines_in_pieces : (first last : LineBuffer) (course : List Feed) (rest : List Line) → IsAfter first [] → FeedSequence first course last → ((before : List ℕ) → IsAfter last before → last_of (cut_of before).rest ≡ rest)
     → lines_of (bytes_in course) ≡ lines_in course ++ rest
 unfolding lines_of

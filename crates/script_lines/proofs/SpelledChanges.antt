@@ -178,7 +178,7 @@ unfolding kids_of
 kids_of-text true = refl
 kids_of-text false = refl
 
--- what a change says behind the view, and what that is read as
+-- the words of a change after the view, and what they are read as
 pub record ChangeReads (c : Change) : Type 0 where
   pub head : IsWord (change_head c)
   pub words : AreWords (change_words c)

@@ -16,13 +16,15 @@ use Rattle.view_model.specs.declared.kinds.Class.{Class}
 use Rattle.view_model.specs.declared.kinds.Class.TheVariants as class
 use Rattle.view_model.specs.declared.kinds.Visibility.{Visibility}
 use Rattle.view_model.specs.declared.kinds.Visibility.TheVariants as visibility
-use Rattle.script_lines.specs.Changes.{IsActInBounds, act_of, answer_named, answer_of, change_of, flag_named, flag_of, new_id_of, orient_of, scroll_of, vertical_of, visibility_of, visible_of}
+use Rattle.view_model.specs.declared.placing.Direction.{Direction}
+use Rattle.view_model.specs.declared.placing.Direction.TheVariants.{Inherit, Ltr, Rtl}
+use Rattle.script_lines.specs.Changes.{IsActInBounds, act_of, answer_named, answer_of, change_of, direction_named, direction_of, flag_named, flag_of, new_id_of, orient_of, scroll_of, vertical_of, visibility_of, visible_of}
 use Rattle.script_lines.specs.Commands.{IsInBounds, add_of, bounds_of, class_of, command_by, command_of, digest_of, disallow_of, dpi_of, frame_of, inflate_of, into_of, remove_of, set_of}
 use Rattle.script_lines.specs.Numbers.{IsWithin}
 use Rattle.script_lines.specs.Hooks.{hook_of}
 use Rattle.script_lines.specs.Pixels.{IsPart, is_small, part_of, pixels_of}
 use Rattle.script_lines.specs.Rules.{rule_of}
-use Rattle.script_lines.specs.Spelled.{ActHasLine, ChangeHasLine, HasLine, act_head, act_words, change_head, change_words, class_text, edits_words, event_answer_text, extent_text, flag_text, hook_edits, name_text, on_text, parent_text, spelled, touch_words, visibility_text}
+use Rattle.script_lines.specs.Spelled.{ActHasLine, ChangeHasLine, HasLine, act_head, act_words, change_head, change_words, class_text, edits_words, event_answer_text, extent_text, flag_text, hook_edits, name_text, on_text, parent_text, spelled, touch_words, visibility_text, direction_text}
 use Rattle.script_lines.specs.States.{restore_of, save_of}
 use Rattle.script_lines.specs.Touches.{cancel_of, up_of}
 use Rattle.script_lines.specs.Words.{map_ok, on_of}
@@ -93,6 +95,17 @@ unfolding vertical_of
 vertical_of-text true = refl
 vertical_of-text false = refl
 
+direction_named-text : (direction : Direction) → direction_named (direction_text direction) ≡ Ok direction
+unfolding direction_named
+direction_named-text Inherit = refl
+direction_named-text Ltr = refl
+direction_named-text Rtl = refl
+
+direction_word : (direction : Direction) → IsWord (direction_text direction)
+direction_word Inherit = word_by (codes "inherit") refl
+direction_word Ltr = word_by (codes "ltr") refl
+direction_word Rtl = word_by (codes "rtl") refl
+
 -- flags
 flag_named-text : (flag : Flag) → flag_named (flag_text flag) ≡ Ok flag
 unfolding flag_named
@@ -134,7 +147,7 @@ record ActReads (a : Act) : Type 0 where
   value : act_of (act_head a) (act_words a) ≡ Ok a
 
 act_reads : (a : Act) → IsActInBounds a → ActHasLine a → ActReads a
-unfolding act_of visible_of new_id_of orient_of flag_of answer_of scroll_of rule_of
+unfolding act_of visible_of new_id_of orient_of direction_of flag_of answer_of scroll_of rule_of
 act_reads (act.Change change) b l = let r = change_reads change b l in record { head = r.head; words = r.words; value = act_of-change change (change_words change) ∙ rw r.value refl }
 act_reads (act.Visible visibility) b l = record {
   head = word_by (codes "visible") refl;
@@ -155,6 +168,11 @@ act_reads (act.Orient vertical) b l = record {
   head = word_by (codes "orient") refl;
   words = (vertical_word vertical, tt);
   value = rw (vertical_of-text vertical) refl;
+}
+act_reads (act.Direction direction) b l = record {
+  head = word_by (codes "direction") refl;
+  words = (direction_word direction, tt);
+  value = rw (direction_named-text direction) refl;
 }
 act_reads (act.Flag flag on) b l = record {
   head = word_by (codes "flag") refl;
@@ -213,6 +231,7 @@ command_by-act (act.Rule verb value) ws l = refl
 command_by-act (act.Answer answer) ws l = refl
 command_by-act (act.Intercept actions) ws l = refl
 command_by-act (act.Scroll offset) ws l = refl
+command_by-act (act.Direction direction) ws l = refl
 
 change_no_text : (c : Change) → ChangeHasLine c → ends_in_text (change_head c) ≡ false
 change_no_text (change.Size width height) l = refl
@@ -235,6 +254,7 @@ act_no_text (act.Rule verb value) l = refl
 act_no_text (act.Answer answer) l = refl
 act_no_text (act.Intercept actions) l = refl
 act_no_text (act.Scroll offset) l = refl
+act_no_text (act.Direction direction) l = refl
 
 side_of_window : (z : ℤ) → IsWithin (pos 1) MAX_WINDOW z → IsShort z
 side_of_window z h = short_within 0 4096 z (omega (arith, ints, h.0)) h.1 (omega arith) (omega arith)

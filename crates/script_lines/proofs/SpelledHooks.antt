@@ -56,7 +56,7 @@ edit_of-words : (asked : Asked) → IsChangeInBounds asked.change → AskedHasLi
 unfolding edit_of
 edit_of-words asked b l = rw (change_begins asked.change, asked_of-words asked b l) refl
 
--- words of which none parts edits
+-- words none of which separates edits
 abbrev AreApart : List (List ℕ) → Type 0
 AreApart [] = Unit {0}
 AreApart (word ∷ words) = (parts_edits word ≡ false) × AreApart words
@@ -68,7 +68,7 @@ apart (word ∷ words) h = All-cons (λ word. parts_edits word ≡ false) word w
 is_part : (word : List ℕ) → parts_edits word ≡ true → word ≡ codes ";"
 is_part word h = (bytes_eq-Decides word (codes ";")).0 h
 
--- a word that is read as something is none that parts edits, if that is not
+-- a word that is read as something does not separate edits, if that something does not
 no_part : {A : Type 0} (read : List ℕ → Result A LineFault) (word : List ℕ) (a : A) → read word ≡ Ok a → read (codes ";") ≡ Err Syntax → parts_edits word ≡ false
 no_part read word a h k = elim (cases_Bool (parts_edits word)) [
   | inl same ↦ absurd (let e : Ok a ≡ Err Syntax = sym h ∙ ap read (is_part word same) ∙ k in cc)
@@ -126,7 +126,7 @@ edit_reads asked b l =
       whole = apart (edit_words asked) (head_apart asked.change, (name_apart asked.view l.0, change_apart asked.change b l.1));
     }
 
--- edits, the word that parts them between them
+-- edits with the separating word between them
 parts-joined : (edits : List (List (List ℕ))) → 0 < length edits → All (λ words. All (λ word. parts_edits word ≡ false) words) edits → slice_split parts_edits (edits_words edits) ≡ edits
 parts-joined [] some h = absurd (omega (arith, some))
 parts-joined (edit ∷ []) some h = slice_split_none parts_edits edit (All-head (λ words. All (λ word. parts_edits word ≡ false) words) edit [] h)
@@ -152,7 +152,7 @@ unfolding reading_of edit_of unmade_of begins_edit begins_line
 unmade zero = refl
 unmade (suc left) = let some : nat_lt 0 (suc left) ≡ true = grind (arith, nat_tests) in rw some refl
 
--- edits that are read one by one, and those behind them
+-- edits that are read one by one, and those after them
 reads-then : (edits : List Asked) (asked : List Asked) (left : ℕ) (more : List (List (List ℕ))) → length edits ≤ left → All EditReads edits
     → joined_behind asked false false (readings_of left (map edit_words edits ++ more)) ≡ joined_behind (asked ++ edits) false false (readings_of (left - length edits) more)
 unfolding reading_of

@@ -70,7 +70,7 @@ mantissa-dimen (negsuc n) unit h =
     let back : 16777215 - (16777215 - n) ≡ n = omega (arith, less) in
     rw (same, high, back) refl
 
--- what is given, behind its kind
+-- what is given, after its kind
 given_before : (kind rest : List ℕ) → IsWord kind → given_of (32 ∷ (kind ++ 32 ∷ rest)) ≡ given_by kind (32 ∷ rest)
 unfolding given_of
 given_before kind rest h =

@@ -54,7 +54,7 @@ verb_of-text verb short = ok_of verb (verb_of (verb_text verb)) (all_below-at re
 pub verb_word : (verb : ℕ) → verb < 21 → IsWord (verb_text verb)
 verb_word verb short = word_by (verb_text verb) (all_below-at is_graphic 21 verb short all_graphic)
 
--- what goes with a verb
+-- what follows a verb
 value_word : (sibling : Bool) (value : ℕ) → value < (if sibling then 2 ^ 32 else 2) → IsWord (if sibling then name_text (Id value) else answer_text value)
 value_word true value h = name_word (Id value) h
 value_word false zero h = word_by (codes "no") refl

@@ -66,7 +66,7 @@ words-joined (w ∷ v ∷ ws) h =
     ∙ filter_some w (slice_split is_space (join_with_byte 32 (v ∷ ws))) h.0.some
     ∙ ap (λ more. w ∷ more) (words-joined (v ∷ ws) h.1)
 
--- what stands behind the first word of a text that was made of words
+-- what comes after the first word of a text that was made of words
 after_word-joined : (head : List ℕ) (ws : List (List ℕ)) → AreWords (head ∷ ws) → words (after_word (join_with_byte 32 (head ∷ ws))) ≡ ws
 after_word-joined head ws h = elim (cases_lt 0 (length (first_word (join_with_byte 32 (head ∷ ws))))) [
   | inl some ↦ cc (words-joined (head ∷ ws) h, words_some (join_with_byte 32 (head ∷ ws)) some)
@@ -81,7 +81,7 @@ neither : (a b : Bool) → (a || b) ≡ false → (a ≡ false) × (b ≡ false)
 neither false b h = (refl, h)
 neither true b h = absurd (cc)
 
--- the command of a text that was made of words, but for one in which spaces count
+-- the command of a text that was made of words, except one in which spaces count
 pub command_of-joined : (head : List ℕ) (ws : List (List ℕ)) → ends_in_text head ≡ false → AreWords (head ∷ ws) → command_of (join_with_byte 32 (head ∷ ws)) ≡ command_by head ws
 unfolding command_of command_in
 command_of-joined head ws e h =

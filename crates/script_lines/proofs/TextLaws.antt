@@ -11,7 +11,7 @@ not_utf8 bytes none = elim (cases_Bool (is_utf8 bytes)) [
   | inr e ↦ e
 ]
 
--- a reading of bytes as a text succeeds exactly where they are valid
+-- a reading of bytes as a text succeeds exactly if they are valid
 pub is_ok-is_utf8 : {T E : Type 0} (r : Result T E) (bytes : List ℕ) (P : T → Type 0) (Q : E → Type 0)
     → MatchResult r (λ text. P text × IsUtf8 bytes) (λ fault. ¬ (IsUtf8 bytes) × Q fault) → is_ok r ≡ is_utf8 bytes
 is_ok-is_utf8 (Ok text) bytes P Q h = sym (is_utf8-from_IsUtf8 bytes h.1)

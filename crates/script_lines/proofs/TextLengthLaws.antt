@@ -74,7 +74,7 @@ unfolding first_word
 first_word-short bytes =
     omega (arith, length-take (prefix_len in_word (after_spaces bytes)) (after_spaces bytes), length-drop (prefix_len is_space bytes) bytes)
 
--- the first of the words has at most so many bytes
+-- the first of the words has at most n bytes
 abbrev FirstShort : ℕ → List (List ℕ) → Type 0
 FirstShort n words = IfOk (word_in words) (λ first. length first.0 ≤ n)
 

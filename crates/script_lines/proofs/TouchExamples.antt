@@ -165,7 +165,7 @@ pub a_pointer_goes_down : command_of (codes "down 0 5 30") ≡ Ok (Down 0 (pos 5
 unfolding is_utf8 chars encode words natural_of integer_of within_of natural_within hex_digit_of hex_of id_of name_of on_of flag_named flag_of answer_named answer_of action_of with_actions actions_of pointer_of touch_of up_of cancel_of disallow_of set_of act_of change_of command_by command_in command_of after_word
 a_pointer_goes_down = refl
 
-pub the_greatest_pointer_and_point : command_of (codes "down 9 1048576 1048576") ≡ Ok (Down 9 (pos 1048576) (pos 1048576))
+pub the_greatest_pointer_and_point : command_of (codes "down 31 1048576 1048576") ≡ Ok (Down 31 (pos 1048576) (pos 1048576))
 unfolding is_utf8 chars encode words natural_of integer_of within_of natural_within hex_digit_of hex_of id_of name_of on_of flag_named flag_of answer_named answer_of action_of with_actions actions_of pointer_of touch_of up_of cancel_of disallow_of set_of act_of change_of command_by command_in command_of after_word
 the_greatest_pointer_and_point = refl
 
@@ -173,9 +173,9 @@ pub the_least_point : command_of (codes "down 1 -1048576 -1048576") ≡ Ok (Down
 unfolding is_utf8 chars encode words natural_of integer_of within_of natural_within hex_digit_of hex_of id_of name_of on_of flag_named flag_of answer_named answer_of action_of with_actions actions_of pointer_of touch_of up_of cancel_of disallow_of set_of act_of change_of command_by command_in command_of after_word
 the_least_point = refl
 
-pub pointer_10 : command_of (codes "down 10 0 0") ≡ Err Range
+pub pointer_32 : command_of (codes "down 32 0 0") ≡ Err Range
 unfolding is_utf8 chars encode words natural_of integer_of within_of natural_within hex_digit_of hex_of id_of name_of on_of flag_named flag_of answer_named answer_of action_of with_actions actions_of pointer_of touch_of up_of cancel_of disallow_of set_of act_of change_of command_by command_in command_of after_word
-pointer_10 = refl
+pointer_32 = refl
 
 pub a_pointer_below_0 : command_of (codes "down -1 0 0") ≡ Err Range
 unfolding is_utf8 chars encode words natural_of integer_of within_of natural_within hex_digit_of hex_of id_of name_of on_of flag_named flag_of answer_named answer_of action_of with_actions actions_of pointer_of touch_of up_of cancel_of disallow_of set_of act_of change_of command_by command_in command_of after_word
@@ -197,9 +197,9 @@ pub a_point_too_far_up : command_of (codes "down 0 0 -1048577") ≡ Err Range
 unfolding is_utf8 chars encode words natural_of integer_of within_of natural_within hex_digit_of hex_of id_of name_of on_of flag_named flag_of answer_named answer_of action_of with_actions actions_of pointer_of touch_of up_of cancel_of disallow_of set_of act_of change_of command_by command_in command_of after_word
 a_point_too_far_up = refl
 
-pub a_fault_behind_pointer_10 : command_of (codes "down 10 0 y") ≡ Err Syntax
+pub a_fault_behind_pointer_32 : command_of (codes "down 32 0 y") ≡ Err Syntax
 unfolding is_utf8 chars encode words natural_of integer_of within_of natural_within hex_digit_of hex_of id_of name_of on_of flag_named flag_of answer_named answer_of action_of with_actions actions_of pointer_of touch_of up_of cancel_of disallow_of set_of act_of change_of command_by command_in command_of after_word
-a_fault_behind_pointer_10 = refl
+a_fault_behind_pointer_32 = refl
 
 pub a_fault_behind_a_point_too_far_right : command_of (codes "down 0 1048577") ≡ Err Syntax
 unfolding is_utf8 chars encode words natural_of integer_of within_of natural_within hex_digit_of hex_of id_of name_of on_of flag_named flag_of answer_named answer_of action_of with_actions actions_of pointer_of touch_of up_of cancel_of disallow_of set_of act_of change_of command_by command_in command_of after_word
@@ -221,7 +221,7 @@ pub nothing_goes_down : command_of (codes "down") ≡ Err Syntax
 unfolding is_utf8 chars encode words natural_of integer_of within_of natural_within hex_digit_of hex_of id_of name_of on_of flag_named flag_of answer_named answer_of action_of with_actions actions_of pointer_of touch_of up_of cancel_of disallow_of set_of act_of change_of command_by command_in command_of after_word
 nothing_goes_down = refl
 
-pub a_pointer_moves : command_of (codes "move 9 -1 0") ≡ Ok (Move 9 (negsuc 0) (pos 0))
+pub a_pointer_moves : command_of (codes "move 31 -1 0") ≡ Ok (Move 31 (negsuc 0) (pos 0))
 unfolding is_utf8 chars encode words natural_of integer_of within_of natural_within hex_digit_of hex_of id_of name_of on_of flag_named flag_of answer_named answer_of action_of with_actions actions_of pointer_of touch_of up_of cancel_of disallow_of set_of act_of change_of command_by command_in command_of after_word
 a_pointer_moves = refl
 
@@ -229,9 +229,9 @@ pub the_farthest_move : command_of (codes "move 0 -1048576 1048576") ≡ Ok (Mov
 unfolding is_utf8 chars encode words natural_of integer_of within_of natural_within hex_digit_of hex_of id_of name_of on_of flag_named flag_of answer_named answer_of action_of with_actions actions_of pointer_of touch_of up_of cancel_of disallow_of set_of act_of change_of command_by command_in command_of after_word
 the_farthest_move = refl
 
-pub pointer_10_does_not_move : command_of (codes "move 10 0 0") ≡ Err Range
+pub pointer_32_does_not_move : command_of (codes "move 32 0 0") ≡ Err Range
 unfolding is_utf8 chars encode words natural_of integer_of within_of natural_within hex_digit_of hex_of id_of name_of on_of flag_named flag_of answer_named answer_of action_of with_actions actions_of pointer_of touch_of up_of cancel_of disallow_of set_of act_of change_of command_by command_in command_of after_word
-pointer_10_does_not_move = refl
+pointer_32_does_not_move = refl
 
 pub a_move_too_far_right : command_of (codes "move 0 1048577 0") ≡ Err Range
 unfolding is_utf8 chars encode words natural_of integer_of within_of natural_within hex_digit_of hex_of id_of name_of on_of flag_named flag_of answer_named answer_of action_of with_actions actions_of pointer_of touch_of up_of cancel_of disallow_of set_of act_of change_of command_by command_in command_of after_word
@@ -257,13 +257,13 @@ pub a_pointer_goes_up : command_of (codes "up 0") ≡ Ok (Up 0)
 unfolding is_utf8 chars encode words natural_of integer_of within_of natural_within hex_digit_of hex_of id_of name_of on_of flag_named flag_of answer_named answer_of action_of with_actions actions_of pointer_of touch_of up_of cancel_of disallow_of set_of act_of change_of command_by command_in command_of after_word
 a_pointer_goes_up = refl
 
-pub the_greatest_pointer_goes_up : command_of (codes "up 9") ≡ Ok (Up 9)
+pub the_greatest_pointer_goes_up : command_of (codes "up 31") ≡ Ok (Up 31)
 unfolding is_utf8 chars encode words natural_of integer_of within_of natural_within hex_digit_of hex_of id_of name_of on_of flag_named flag_of answer_named answer_of action_of with_actions actions_of pointer_of touch_of up_of cancel_of disallow_of set_of act_of change_of command_by command_in command_of after_word
 the_greatest_pointer_goes_up = refl
 
-pub pointer_10_does_not_go_up : command_of (codes "up 10") ≡ Err Range
+pub pointer_32_does_not_go_up : command_of (codes "up 32") ≡ Err Range
 unfolding is_utf8 chars encode words natural_of integer_of within_of natural_within hex_digit_of hex_of id_of name_of on_of flag_named flag_of answer_named answer_of action_of with_actions actions_of pointer_of touch_of up_of cancel_of disallow_of set_of act_of change_of command_by command_in command_of after_word
-pointer_10_does_not_go_up = refl
+pointer_32_does_not_go_up = refl
 
 pub no_pointer_below_0_goes_up : command_of (codes "up -1") ≡ Err Range
 unfolding is_utf8 chars encode words natural_of integer_of within_of natural_within hex_digit_of hex_of id_of name_of on_of flag_named flag_of answer_named answer_of action_of with_actions actions_of pointer_of touch_of up_of cancel_of disallow_of set_of act_of change_of command_by command_in command_of after_word

@@ -1,4 +1,4 @@
--- The first word of a line, and the words behind it.
+-- The first word of a line, and the words after it.
 use Rattle.std.proofs.Common.{◌≡◌, ℕ, ◌+◌, ◌<◌, true, false, refl, ap, sym, ◌∙◌, inl, inr, List, [], ◌∷◌, length, take, drop, arith}
 use Rattle.std.specs.Prelude.{◌==◌, nat_lt, filter, suc}
 use Rattle.std.specs.List.{slice_split, prefix_len, onto_first}
@@ -27,7 +27,7 @@ words_spaces (b ∷ bs) = elim (cases_Bool (b == 32)) [
   | inr e ↦ ap words (spaces_done b bs e)
 ]
 
--- bytes are their first word, and behind it other words
+-- bytes are their first word, and after it other words
 record Begins (s : List ℕ) : Type 0 where
   tail : List (List ℕ)
   split : slice_split is_space s ≡ take (prefix_len in_word s) s ∷ tail

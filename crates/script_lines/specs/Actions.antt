@@ -16,7 +16,7 @@ action_of word =
     if bytes_eq word (codes "pup") then Ok 32 else
     Err Syntax)))))
 
--- the bit of the action that the first word names, and the words behind it
+-- the bit of the action that the first word names, and the words after it
 abbrev pub action_in : List (List ℕ) → Result (ℕ × List (List ℕ)) LineFault
 action_in words = do
   a ← word_in words

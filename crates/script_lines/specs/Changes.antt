@@ -1,4 +1,4 @@
--- What a line sets of a view, behind the view's name.
+-- What a line sets of a view, after the view's name.
 use Rattle.std.specs.Prelude.{ℕ, ◌≤◌, ◌<◌, if◌then◌else◌, Bool, true, false, ℤ, pos, List, codes, Result, Ok, Err}
 use Rattle.std.specs.Str.{bytes_eq}
 use Rattle.geom_core.specs.declared.geometry.Insets.{Insets}
@@ -17,6 +17,8 @@ use Rattle.script_lines.specs.Actions.{actions_of}
 use Rattle.script_lines.specs.Colors.{last_color}
 use Rattle.script_lines.specs.Dimensions.{IsExtent, extents_of}
 use Rattle.script_lines.specs.Gravities.{gravity_of}
+use Rattle.view_model.specs.declared.placing.Direction.{Direction}
+use Rattle.view_model.specs.declared.placing.Direction.TheVariants.{Inherit, Ltr, Rtl}
 use Rattle.script_lines.specs.Names.{id_in}
 use Rattle.script_lines.specs.Numbers.{IsWithin, integer_in, pair_of, within_of}
 use Rattle.script_lines.specs.Rules.{rule_of}
@@ -90,7 +92,7 @@ gravity_change_of words = do
 abbrev pub background_of : List (List ℕ) → Result Change LineFault
 background_of words = map_ok change.Background (last_color words)
 
--- a change by the first word of its line and the words behind the view
+-- a change by the first word of its line and the words after the view
 unfoldable pub change_of : List ℕ → List (List ℕ) → Result Change LineFault
 change_of head words =
     if bytes_eq head (codes "size") then size_of words else (
@@ -142,6 +144,21 @@ orient_of words = do
   _ ← end_of way.1
   Ok (act.Orient vertical)
 
+-- `ltr`, `rtl` or `inherit`
+unfoldable pub direction_named : List ℕ → Result Direction LineFault
+direction_named word =
+    if bytes_eq word (codes "ltr") then Ok Ltr else (
+    if bytes_eq word (codes "rtl") then Ok Rtl else (
+    if bytes_eq word (codes "inherit") then Ok Inherit else
+    Err Syntax))
+
+unfoldable pub direction_of : List (List ℕ) → Result Act LineFault
+direction_of words = do
+  way ← word_in words
+  direction ← direction_named way.0
+  _ ← end_of way.1
+  Ok (act.Direction direction)
+
 unfoldable pub flag_named : List ℕ → Result Flag LineFault
 flag_named word =
     if bytes_eq word (codes "clip") then Ok flag.Clip else (
@@ -189,7 +206,7 @@ answer_of words = do
 abbrev pub intercept_of : List (List ℕ) → Result Act LineFault
 intercept_of words = map_ok act.Intercept (actions_of words)
 
--- what a line sets, by its first word and the words behind the view
+-- what a line sets, by its first word and the words after the view
 unfoldable pub act_of : List ℕ → List (List ℕ) → Result Act LineFault
 act_of head words =
     if bytes_eq head (codes "visible") then visible_of words else (
@@ -197,12 +214,13 @@ act_of head words =
     if bytes_eq head (codes "weightsum") then weight_sum_of words else (
     if bytes_eq head (codes "orient") then orient_of words else (
     if bytes_eq head (codes "flag") then flag_of words else (
+    if bytes_eq head (codes "direction") then direction_of words else (
     if bytes_eq head (codes "scroll") then scroll_of words else (
     if bytes_eq head (codes "rule") then rule_of words else (
     if bytes_eq head (codes "ink") then ink_of words else (
     if bytes_eq head (codes "answer") then answer_of words else (
     if bytes_eq head (codes "intercept") then intercept_of words else
-    map_ok act.Change (change_of head words))))))))))
+    map_ok act.Change (change_of head words)))))))))))
 
 abbrev pub AreWithin : ℤ → ℤ → Insets → Type 0
 AreWithin low high sides = IsWithin low high sides.left × IsWithin low high sides.top × IsWithin low high sides.right × IsWithin low high sides.bottom
@@ -229,4 +247,5 @@ IsActInBounds (act.Id id) = Unit {0}
 IsActInBounds (act.Rule verb value) = verb < 21
 IsActInBounds (act.Answer answer) = Unit {0}
 IsActInBounds (act.Intercept actions) = actions < 64
+IsActInBounds (act.Direction direction) = Unit {0}
 IsActInBounds (act.Scroll offset) = IsWithin (pos 0) MAX_SIZE offset

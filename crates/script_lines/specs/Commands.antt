@@ -90,7 +90,8 @@ bounds_of (word ∷ words) = do
   _ ← end_of view.1
   Ok (Bounds (Some view.0))
 
--- `V yes` or `V no`, a view, and whether it and all above it are kept from taking pointers away from their children
+-- `V yes` or `V no`, a view, and whether it and all above it are prevented from taking pointers away from their
+-- children
 unfoldable pub disallow_of : List (List ℕ) → Result PlainCommand LineFault
 disallow_of words = do
   view ← name_in words
@@ -105,13 +106,13 @@ set_of head words = do
   view ← name_in words
   map_ok (λ act. Act view.0 act) (act_of head view.1)
 
--- `V T`, and the text of that view: all that stands behind one space
+-- `V T`, and the text of that view: all that comes after one space
 unfoldable pub set_text_of : List ℕ → Result PlainCommand LineFault
 set_text_of rest = do
   view ← name_in (words rest)
   map_ok (SetText view.0) (rest_of (after_word rest))
 
--- what is kept, or set of a view, by the first word of the line and the words behind that
+-- a line that saves, restores, arms a hook or sets something of a view, by its first word and the words after it
 abbrev pub keep_by : List ℕ → List (List ℕ) → Result PlainCommand LineFault
 keep_by head words =
     if bytes_eq head (codes "hook") then hook_of words else (
@@ -119,7 +120,7 @@ keep_by head words =
     if bytes_eq head (codes "restore") then restore_of words else
     set_of head words))
 
--- what is done by touch, kept, or set of a view, by the first word of the line and the words behind that
+-- the same or a line of touch, by its first word and the words after it
 abbrev pub touch_by : List ℕ → List (List ℕ) → Result PlainCommand LineFault
 touch_by head words =
     if bytes_eq head (codes "down") then down_of words else (
@@ -129,7 +130,7 @@ touch_by head words =
     if bytes_eq head (codes "disallow") then disallow_of words else
     keep_by head words))))
 
--- a command by the first word of its line and the words behind that
+-- a command by the first word of its line and the words after it
 unfoldable pub command_by : List ℕ → List (List ℕ) → Result PlainCommand LineFault
 command_by head words =
     if bytes_eq head (codes "window") then window_of words else (
@@ -143,14 +144,14 @@ command_by head words =
     if bytes_eq head (codes "digest") then digest_of words else
     touch_by head words))))))))
 
--- a command by the first word of its line and the bytes behind that: the spaces in a text count
+-- a command by the first word of its line and the bytes after it: the spaces in a text count
 unfoldable pub command_in : List ℕ → List ℕ → Result PlainCommand LineFault
 command_in head rest =
     if bytes_eq head (codes "res") then res_of rest else (
     if bytes_eq head (codes "text") then set_text_of rest else
     command_by head (words rest))
 
--- the command of a line; bytes that are not valid UTF-8 are none
+-- the command of a line; bytes that are not valid UTF-8 give none
 unfoldable pub command_of : List ℕ → Result PlainCommand LineFault
 command_of line = if is_utf8 line then (word_in (words line) >>= λ head. command_in head.0 (after_word line)) else Err Syntax
 

@@ -17,7 +17,7 @@ is_file_name name = nat_lt 0 (length name) && nat_le (length name) 64 && list_al
 abbrev pub file_name_of : List ℕ → Result (List ℕ) LineFault
 file_name_of word = if is_file_name word then Ok word else Err Syntax
 
--- the name of a file as the first word, and the words behind it
+-- the name of a file as the first word, and the words after it
 abbrev pub file_name_in : List (List ℕ) → Result (List ℕ × List (List ℕ)) LineFault
 file_name_in [] = Err Syntax
 file_name_in (word ∷ words) = file_name_of word >>= λ name. Ok (name, words)

@@ -1,4 +1,4 @@
--- The edits of a hook, as far as they are read.
+-- The edits of a hook that are read so far.
 use Rattle.std.specs.Prelude.{ℕ, nat_lt, Bool, ◌||◌, if◌then◌else◌, List, [], ◌++◌, Option, Result, Ok, Err}
 use Rattle.std.specs.List.{filter_map, list_any}
 use Rattle.script_lines.specs.Hooks.{asked_in, edit_of, is_range, is_syntax, is_unmade, readings_of, unmade_of}
@@ -8,7 +8,7 @@ use Rattle.script_lines.specs.declared.fault.LineFault.{LineFault}
 use Rattle.script_lines.specs.declared.fault.LineFault.TheVariants.{Syntax, Range}
 use Rattle.script_lines.specs.declared.hooks.Gathered.{Gathered}
 
--- the next edit, where so many more are read to their ends
+-- the next edit, if n more are read to their ends
 unfoldable pub reading_of : ℕ → List (List ℕ) → Result (Option Asked) LineFault
 reading_of left edit = if nat_lt 0 left then edit_of edit else unmade_of edit
 
@@ -24,7 +24,7 @@ joined_behind asked bad range readings =
 abbrev pub edits_after : Gathered → List (List (List ℕ)) → Result (List Asked × Bool) LineFault
 edits_after gathered edits = joined_behind gathered.edits.items gathered.bad gathered.range (readings_of gathered.left edits)
 
--- a reading behind another: the first fault counts
+-- a reading after another: the first fault counts
 abbrev pub behind : {A B : Type 0} → Result A LineFault → Result B LineFault → Result B LineFault
 behind first next = first >>= λ _. next
 

@@ -12,7 +12,7 @@ use Rattle.script_lines.specs.Words.{◌>>=◌}
 use Rattle.script_lines.specs.declared.fault.LineFault.{LineFault}
 use Rattle.script_lines.specs.declared.fault.LineFault.TheVariants.{Syntax}
 
--- the place from left to right that a word gives; unset where it gives none
+-- the place from left to right that a word gives; unset if it gives none
 unfoldable pub across_of : List ℕ → Across
 across_of word =
     if bytes_eq word (codes "left") then across.Left else (
@@ -23,7 +23,7 @@ across_of word =
     if bytes_eq word (codes "center") then across.Center else
     across.Unset)))))
 
--- the place from top to bottom that a word gives; unset where it gives none
+-- the place from top to bottom that a word gives; unset if it gives none
 unfoldable pub down_of : List ℕ → Down
 down_of word =
     if bytes_eq word (codes "top") then down.Top else (
@@ -71,7 +71,7 @@ is_bar b = b == 124
 abbrev pub word_step : Result Gravity LineFault → List ℕ → Result Gravity LineFault
 word_step gravity word = gravity >>= λ gravity. with_word gravity word
 
--- a gravity and the words that bars part
+-- a gravity and the words that bars separate
 unfoldable pub with_words : Gravity → List ℕ → Result Gravity LineFault
 with_words gravity words = fold word_step (Ok gravity) (slice_split is_bar words)
 
@@ -79,6 +79,6 @@ with_words gravity words = fold word_step (Ok gravity) (slice_split is_bar words
 abbrev pub bare_gravity : Gravity
 bare_gravity = record { given = true; across = across.Unset; down = down.Unset }
 
--- `none`, which takes a gravity away, or words that bars part
+-- `none`, which takes a gravity away, or words that bars separate
 unfoldable pub gravity_of : List ℕ → Result Gravity LineFault
 gravity_of word = if bytes_eq word (codes "none") then Ok no_gravity else with_words bare_gravity word

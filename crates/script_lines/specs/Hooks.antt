@@ -1,5 +1,5 @@
 -- The hook of a view: edits that are made once the view has another size.
-use Rattle.std.specs.Prelude.{ℕ, Bool, true, false, if◌then◌else◌, List, ◌++◌, map, take, drop, codes, Option, Some, None, Result, Ok, Err}
+use Rattle.std.specs.Prelude.{ℕ, Bool, true, false, if◌then◌else◌, List, [], ◌∷◌, ◌++◌, map, take, drop, codes, Option, Some, None, Result, Ok, Err}
 use Rattle.std.specs.List.{filter_map, list_any, slice_split}
 use Rattle.std.specs.Str.{bytes_eq}
 use Rattle.view_model.specs.declared.limits.TheConstants.{MAX_EDITS}
@@ -10,21 +10,34 @@ use Rattle.script_lines.specs.Words.{◌>>=◌, map_ok, word_in}
 use Rattle.script_lines.specs.declared.commands.Asked.{Asked}
 use Rattle.script_lines.specs.declared.fault.LineFault.{LineFault}
 use Rattle.script_lines.specs.declared.fault.LineFault.TheVariants.{Syntax, Range}
-use Rattle.script_lines.specs.declared.hooks.TheConstants.{EDIT_WORDS, LINE_WORDS}
 
--- `;`, which stands between two edits
+-- `;`, which separates two edits
 abbrev pub parts_edits : List ℕ → Bool
 parts_edits word = bytes_eq word (codes ";")
 
+-- the words with which lines of a script begin
+abbrev pub line_words : List (List ℕ)
+line_words =
+    codes "window" ∷ codes "dpi" ∷ codes "res" ∷ codes "inflate" ∷ codes "add" ∷ codes "remove"
+    ∷ codes "size" ∷ codes "min" ∷ codes "margins" ∷ codes "padding" ∷ codes "weight" ∷ codes "weightsum"
+    ∷ codes "gravity" ∷ codes "orient" ∷ codes "direction" ∷ codes "flag" ∷ codes "visible" ∷ codes "bg" ∷ codes "ink"
+    ∷ codes "text" ∷ codes "id" ∷ codes "rule" ∷ codes "answer" ∷ codes "intercept" ∷ codes "disallow"
+    ∷ codes "hook" ∷ codes "scroll" ∷ codes "down" ∷ codes "move" ∷ codes "up" ∷ codes "cancel"
+    ∷ codes "frame" ∷ codes "bounds" ∷ codes "pixels" ∷ codes "digest" ∷ codes "save" ∷ codes "restore" ∷ []
+
+-- the words with which edits begin that a hook can make
+abbrev pub edit_words : List (List ℕ)
+edit_words = codes "size" ∷ codes "min" ∷ codes "margins" ∷ codes "padding" ∷ codes "weight" ∷ codes "gravity" ∷ codes "bg" ∷ []
+
 -- whether a line of the script begins with this word
 unfoldable pub begins_line : List ℕ → Bool
-begins_line word = list_any (λ name. bytes_eq name.now word) LINE_WORDS
+begins_line word = list_any (λ name. bytes_eq name word) line_words
 
 -- whether an edit that a hook can make begins with this word
 unfoldable pub begins_edit : List ℕ → Bool
-begins_edit word = list_any (λ name. bytes_eq name.now word) EDIT_WORDS
+begins_edit word = list_any (λ name. bytes_eq name word) edit_words
 
--- what an edit asks for, by its first word and the words behind that: `V`, and what is changed of that view
+-- what an edit asks for, by its first word and the words after that: `V`, and what is changed of that view
 unfoldable pub asked_of : List ℕ → List (List ℕ) → Result Asked LineFault
 asked_of head words = do
   view ← name_in words
@@ -42,7 +55,7 @@ edit_of edit = do
   head ← word_in edit
   if begins_edit head.0 then map_ok Some (asked_of head.0 head.1) else unmade_of edit
 
--- edits one by one: so many of them are read to their ends, if a hook can make them
+-- edits one by one: n of them are read to their ends, if a hook can make them
 abbrev pub readings_of : ℕ → List (List (List ℕ)) → List (Result (Option Asked) LineFault)
 readings_of most edits = map edit_of (take most edits) ++ map unmade_of (drop most edits)
 
@@ -66,7 +79,7 @@ asked_in (Ok asked) = asked
 asked_in (Err fault) = None
 
 -- what edits ask for, and whether there is one that no hook can make
--- A fault of the grammar counts before a number outside its bounds, in whichever edits the two stand.
+-- A fault of the grammar counts before a number outside its bounds, in whichever edits the two are.
 unfoldable pub joined : List (Result (Option Asked) LineFault) → Result (List Asked × Bool) LineFault
 joined readings =
     if list_any is_syntax readings then Err Syntax else (

@@ -6,7 +6,7 @@ use Rattle.script_lines.specs.declared.cutting.Ended.TheVariants as ended
 use Rattle.script_lines.specs.declared.cutting.LinePlace.{LinePlace}
 use Rattle.script_lines.specs.declared.cutting.LinePlace.TheVariants as place
 
--- what has come of a line, as far as it is held, and the line that has just ended
+-- the part of a line that is held, and the line that has just ended
 pub record LineBuffer : Type 0 where
   pub begun : List ℕ
   pub line : List ℕ
@@ -15,20 +15,20 @@ pub record LineBuffer : Type 0 where
 abbrev pub held_of : List ℕ → List ℕ
 held_of bytes = take (max_line + 1) bytes
 
--- the lines that an answer tells of
+-- the lines that a result has
 abbrev pub lines_as : Ended → List ℕ → List Line
 lines_as ended.No line = []
 lines_as ended.Line line = Text line ∷ []
 lines_as ended.Long line = LongLine ∷ []
 
--- the lines that an answer tells of: one at the front of the piece, or the one that is held
+-- the lines that a result has: one at the front of the piece, or the one that is held
 abbrev pub lines_at : LinePlace → List ℕ → List ℕ → List Line
 lines_at place.No piece line = []
 lines_at (place.Piece len) piece line = Text (take len piece) ∷ []
 lines_at place.Held piece line = Text line ∷ []
 lines_at place.Long piece line = LongLine ∷ []
 
--- a line that lies in a piece of so many bytes is no longer than the piece, nor than a line may be
+-- a line in a piece of n bytes is no longer than the piece, nor than a line may be
 abbrev pub IsLent : LinePlace → ℕ → Type 0
 IsLent place.No size = Unit {0}
 IsLent (place.Piece len) size = (len ≤ max_line) × (len ≤ size)

@@ -18,7 +18,7 @@ is_line_feed b = b == 10
 unfoldable pub without_return : List ℕ → List ℕ
 without_return bytes = if nat_lt 0 (length bytes) && slice_index bytes (length bytes - 1) == 13 then take (length bytes - 1) bytes else bytes
 
--- the line of the bytes before a line feed: a carriage return counts for its length, and then goes
+-- the line of the bytes before a line feed: a carriage return counts for its length, and is then dropped
 unfoldable pub line_of : List ℕ → Line
 line_of bytes = if nat_lt max_line (length bytes) then LongLine else Text (without_return bytes)
 
@@ -26,7 +26,7 @@ line_of bytes = if nat_lt max_line (length bytes) then LongLine else Text (witho
 unfoldable pub last_line : List ℕ → Line
 last_line bytes = if nat_lt max_line (length bytes) then LongLine else Text bytes
 
--- the lines whose line feed has come, and what has come of the next line
+-- the lines whose line feed has come, and the beginning of the next line
 pub record Cut : Type 0 where
   pub lines : List Line
   pub rest : List ℕ

@@ -10,7 +10,7 @@ use Rattle.script_lines.specs.declared.fault.LineFault.TheVariants.{Syntax}
 use Rattle.script_lines.specs.declared.naming.Name.{Name}
 use Rattle.script_lines.specs.declared.naming.Name.TheVariants.{Number, Id}
 
--- what a hexadecimal digit stands for; 0 where it is none
+-- the value of a hexadecimal digit; 0 for any other byte
 unfoldable pub hex_digit_of : ℕ → ℕ
 hex_digit_of b = if is_ascii_hexdigit b then digit_value b else 0
 

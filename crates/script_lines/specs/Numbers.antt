@@ -32,7 +32,7 @@ negative (Some (suc n)) = Ok (negsuc n)
 unfoldable pub integer_of : List ℕ → Result ℤ LineFault
 integer_of word = if nat_lt 0 (length word) && slice_index word 0 == 45 then negative (natural_of (drop 1 word)) else positive (natural_of word)
 
--- the number of the first word, and the words behind it
+-- the number of the first word, and the words after it
 abbrev pub integer_in : List (List ℕ) → Result (ℤ × List (List ℕ)) LineFault
 integer_in [] = Err Syntax
 integer_in (word ∷ words) = integer_of word >>= λ n. Ok (n, words)
@@ -46,7 +46,7 @@ unfoldable pub natural_within : ℕ → ℕ → ℤ → Result ℕ LineFault
 natural_within low high (pos n) = if nat_le low n && nat_le n high then Ok n else Err Range
 natural_within low high (negsuc n) = Err Range
 
--- two numbers, and no words behind them; both are read before their bounds are looked at
+-- two numbers, and no words after them; both are read before their bounds are looked at
 unfoldable pub pair_of : ℤ → ℤ → List (List ℕ) → Result (ℤ × ℤ) LineFault
 pair_of low high words = do
   a ← integer_in words

@@ -3,13 +3,13 @@ use Rattle.std.specs.Prelude.{◌≡◌, ℕ, List, [], ◌∷◌, ◌++◌}
 use Rattle.script_lines.specs.Lines.{Line, cut_of}
 use Rattle.script_lines.specs.LineBuffer.{LineBuffer, IsAfter}
 
--- bytes that were taken, the lines that were told of, and what is held from then on
+-- bytes that were taken, the lines that were returned, and what is held from then on
 pub record Feed : Type 0 where
   pub bytes : List ℕ
   pub lines : List Line
   pub held : LineBuffer
 
--- that they were taken as `Lines::next_line` and `Lines::feed` say
+-- they were taken as `Lines::next_line` and `Lines::feed` define
 abbrev pub IsFeed : LineBuffer → Feed → Type 0
 IsFeed old taken = (before : List ℕ) → IsAfter old before → ((cut_of (before ++ taken.bytes)).lines ≡ (cut_of before).lines ++ taken.lines) × IsAfter taken.held (before ++ taken.bytes)
 

@@ -1,4 +1,4 @@
--- The part of the picture of which a line asks.
+-- The part of the picture that a line asks for.
 use Rattle.std.specs.Prelude.{if◌then◌else◌, ℕ, ℤ, ◌*ℤ◌, ◌≤ℤ◌, Bool, int_le, pos, List, Result, Ok, Err}
 use Rattle.script_lines.specs.Numbers.{IsWithin, integer_in, within_of}
 use Rattle.script_lines.specs.PlainCommands.{PlainCommand, Pixels}

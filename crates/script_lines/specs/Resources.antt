@@ -1,4 +1,4 @@
--- What a line gives a resource, behind the resource's id.
+-- What a line gives a resource, after the resource's id.
 use Rattle.std.specs.Prelude.{◌≡◌, ℕ, ◌+◌, ◌*◌, ◌-◌, ◌^◌, ◌==◌, IsTrue, if◌then◌else◌, ℤ, pos, negsuc, List, codes, Result, Ok, Err}
 use Rattle.std.specs.Str.{bytes_eq}
 use Rattle.script_lines.specs.Colors.{last_color}
@@ -55,7 +55,7 @@ dimen_given words = do
   n ← within_of MIN_MANTISSA MAX_MANTISSA n.0
   Ok (Dimen (dimen_word n unit))
 
--- what is given by its kind and the bytes behind that
+-- what is given by its kind and the bytes after that
 unfoldable pub given_by : List ℕ → List ℕ → Result PlainGiven LineFault
 given_by kind rest =
     if bytes_eq kind (codes "color") then color_given (words rest) else (

@@ -1,25 +1,29 @@
 -- How a line ties a child of a relative layout.
-use Rattle.std.specs.Prelude.{ℕ, nat_lt, Bool, if◌then◌else◌, List, map, position, Result, Ok}
+use Rattle.std.specs.Prelude.{ℕ, nat_lt, Bool, if◌then◌else◌, List, [], ◌∷◌, codes, position, Result, Ok}
 use Rattle.std.specs.Str.{bytes_eq}
 use Rattle.view_model.specs.declared.changes.Act.{Act}
 use Rattle.view_model.specs.declared.changes.Act.TheVariants as act
-use Rattle.view_model.specs.declared.verbs.TheConstants.{PARENT_LEFT}
 use Rattle.script_lines.specs.Names.{id_in, known}
 use Rattle.script_lines.specs.Words.{◌>>=◌, end_of, on_of, word_in}
 use Rattle.script_lines.specs.declared.fault.LineFault.{LineFault}
-use Rattle.script_lines.specs.declared.rules.TheConstants.{VERBS}
 
--- the words of the verbs, by their places
+-- the words of the verbs, by their places: twelve that name a sibling, and nine of the parent
 abbrev pub verbs : List (List ℕ)
-verbs = map (λ word. word.now) VERBS
+verbs =
+    codes "left_of" ∷ codes "right_of" ∷ codes "above" ∷ codes "below"
+    ∷ codes "align_left" ∷ codes "align_top" ∷ codes "align_right" ∷ codes "align_bottom"
+    ∷ codes "start_of" ∷ codes "end_of" ∷ codes "align_start" ∷ codes "align_end"
+    ∷ codes "parent_left" ∷ codes "parent_top" ∷ codes "parent_right" ∷ codes "parent_bottom"
+    ∷ codes "parent_start" ∷ codes "parent_end" ∷ codes "center" ∷ codes "center_h"
+    ∷ codes "center_v" ∷ []
 
 -- the place of a verb
 unfoldable pub verb_of : List ℕ → Result ℕ LineFault
-verb_of word = known (position (λ verb. bytes_eq verb.now word) VERBS)
+verb_of word = known (position (λ verb. bytes_eq verb word) verbs)
 
 -- the verbs that name a sibling come before those that name the parent
 abbrev pub names_sibling : ℕ → Bool
-names_sibling verb = nat_lt verb PARENT_LEFT
+names_sibling verb = nat_lt verb 12
 
 -- `yes` or `no`
 abbrev pub answer_in : List (List ℕ) → Result (ℕ × List (List ℕ)) LineFault

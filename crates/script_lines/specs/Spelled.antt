@@ -21,6 +21,8 @@ use Rattle.view_model.specs.declared.kinds.Visibility.{Visibility}
 use Rattle.view_model.specs.declared.kinds.Visibility.TheVariants as visibility
 use Rattle.view_model.specs.declared.placing.Across.{Across}
 use Rattle.view_model.specs.declared.placing.Across.TheVariants as across
+use Rattle.view_model.specs.declared.placing.Direction.{Direction}
+use Rattle.view_model.specs.declared.placing.Direction.TheVariants.{Inherit, Ltr, Rtl}
 use Rattle.view_model.specs.declared.placing.Down.{Down}
 use Rattle.view_model.specs.declared.placing.Down.TheVariants as down
 use Rattle.view_model.specs.declared.placing.Gravity.{Gravity}
@@ -72,7 +74,7 @@ down_text down.Top = codes "top"
 down_text down.Bottom = codes "bottom"
 down_text down.Center = codes "center_vertical"
 
--- a bar stands between the words of two axes
+-- a bar separates the words of two axes
 abbrev pub gravity_text : Gravity → List ℕ
 gravity_text gravity =
     if not gravity.given then codes "none" else (
@@ -89,7 +91,7 @@ visibility_text visibility.Gone = codes "gone"
 abbrev pub weight_words : ℕ → List (List ℕ)
 weight_words weight = decimal (weight / 256) ∷ decimal (weight % 256) ∷ []
 
--- the lowest hexadecimal digits of a number, so many of them
+-- the n lowest hexadecimal digits of a number
 abbrev pub hex_places : ℕ → ℕ → List ℕ
 hex_places zero n = []
 hex_places (suc places) n = hex_places places (n / 16) ++ digit_glyph false (n % 16) ∷ []
@@ -108,7 +110,7 @@ change_head (change.Weight weight) = codes "weight"
 change_head (change.Gravity kids gravity) = codes "gravity"
 change_head (change.Background color) = codes "bg"
 
--- the words behind the view
+-- the words after the view
 abbrev pub change_words : Change → List (List ℕ)
 change_words (change.Size width height) = extent_text width ∷ extent_text height ∷ []
 change_words (change.Min size) = signed_decimal size.w ∷ signed_decimal size.h ∷ []
@@ -155,6 +157,11 @@ answer_text (suc n) = codes "yes"
 abbrev pub rule_value_text : ℕ → ℕ → List ℕ
 rule_value_text verb value = if names_sibling verb then name_text (Id value) else answer_text value
 
+abbrev pub direction_text : Direction → List ℕ
+direction_text Inherit = codes "inherit"
+direction_text Ltr = codes "ltr"
+direction_text Rtl = codes "rtl"
+
 -- the first word of the line that sets this
 abbrev pub act_head : Act → List ℕ
 act_head (act.Change change) = change_head change
@@ -168,8 +175,9 @@ act_head (act.Rule verb value) = codes "rule"
 act_head (act.Answer answer) = codes "answer"
 act_head (act.Intercept actions) = codes "intercept"
 act_head (act.Scroll offset) = codes "scroll"
+act_head (act.Direction direction) = codes "direction"
 
--- the words behind the view
+-- the words after the view
 abbrev pub act_words : Act → List (List ℕ)
 act_words (act.Change change) = change_words change
 act_words (act.WeightSum sum) = weight_words sum
@@ -182,6 +190,7 @@ act_words (act.Rule verb value) = verb_text verb ∷ rule_value_text verb value 
 act_words (act.Answer answer) = event_answer_text answer ∷ []
 act_words (act.Intercept actions) = intercept_words actions
 act_words (act.Scroll offset) = signed_decimal offset ∷ []
+act_words (act.Direction direction) = direction_text direction ∷ []
 
 -- a unit by its number in the word of a dimension
 abbrev pub unit_text : ℕ → List ℕ
@@ -193,7 +202,7 @@ unit_text unit =
     if unit == 4 then codes "in" else
     codes "mm"))))
 
--- what is given to a resource: its kind, and the words behind that; a text stands as the last word, whatever it has
+-- what is given to a resource: its kind, and the words after that; a text is the last word, whatever it has
 abbrev pub given_words : PlainGiven → List (List ℕ)
 given_words (plain.Color color) = codes "color" ∷ color_text color ∷ []
 given_words (plain.Dimen word) = codes "dimen" ∷ signed_decimal (mantissa word) ∷ unit_text (word % 256) ∷ []
@@ -286,6 +295,7 @@ ActHasLine (act.Rule verb value) = value < (if names_sibling verb then 2 ^ 32 el
 ActHasLine (act.Answer answer) = Unit {0}
 ActHasLine (act.Intercept actions) = Unit {0}
 ActHasLine (act.Scroll offset) = Unit {0}
+ActHasLine (act.Direction direction) = Unit {0}
 
 -- a value that a line can give a resource
 abbrev pub GivenHasLine : PlainGiven → Type 0

@@ -1,4 +1,4 @@
--- The words of a line, and how readings follow each other.
+-- The words of a line, and how readings follow one another.
 use Rattle.std.specs.Prelude.{ℕ, nat_lt, Bool, true, false, not, List, [], ◌∷◌, if◌then◌else◌, length, take, drop, filter, codes, Result, Ok, Err}
 use Rattle.std.specs.List.{slice_split, prefix_len}
 use Rattle.std.specs.Str.{bytes_eq, is_utf8}
@@ -12,18 +12,18 @@ in_word b = not (is_space b)
 abbrev pub is_word : List ℕ → Bool
 is_word word = nat_lt 0 (length word)
 
--- the words of a line, which runs of spaces part
+-- the words of a line, separated by runs of spaces
 unfoldable pub words : List ℕ → List (List ℕ)
 words bytes = filter is_word (slice_split is_space bytes)
 
 abbrev pub after_spaces : List ℕ → List ℕ
 after_spaces bytes = drop (prefix_len is_space bytes) bytes
 
--- the first word, empty where there is none
+-- the first word, or the empty one if there is none
 unfoldable pub first_word : List ℕ → List ℕ
 first_word bytes = take (prefix_len in_word (after_spaces bytes)) (after_spaces bytes)
 
--- what stands behind the first word
+-- what comes after the first word
 unfoldable pub after_word : List ℕ → List ℕ
 after_word bytes = drop (prefix_len in_word (after_spaces bytes)) (after_spaces bytes)
 
@@ -37,12 +37,12 @@ abbrev pub map_ok : {A B : Type 0} → (A → B) → Result A LineFault → Resu
 map_ok f (Ok a) = Ok (f a)
 map_ok f (Err fault) = Err fault
 
--- the first of the words, and the words behind it
+-- the first of the words, and the words after it
 abbrev pub word_in : List (List ℕ) → Result (List ℕ × List (List ℕ)) LineFault
 word_in [] = Err Syntax
 word_in (word ∷ words) = Ok (word, words)
 
--- this word as the first of the words, and the words behind it
+-- this word as the first of the words, and the words after it
 abbrev pub literal_in : List ℕ → List (List ℕ) → Result (List (List ℕ)) LineFault
 literal_in name [] = Err Syntax
 literal_in name (word ∷ words) = if bytes_eq word name then Ok words else Err Syntax

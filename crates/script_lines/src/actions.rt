@@ -34,7 +34,7 @@ fn read_action(word: &[u8]) -> Result<u8, LineFault>
     Err(LineFault::Syntax)
 }
 
-/// The bit of the action that the first word from here on names, and the place behind that word.
+/// The bit of the action that the first word from here on names, and the place after that word.
 #[tactic(auto, using(crate::proofs::ActionLaws::shorter))]
 fn next_action(bytes: &[u8], at: usize) -> Result<(u8, usize), LineFault>
     requires { at ≤ length bytes.now }

@@ -1,7 +1,7 @@
 //! What a line sets of a view.
 
 ghost use Rattle.std.specs.Prelude.{◌≡◌, pos, negsuc, ◌≤ℤ◌, IfOk};
-ghost use Rattle.script_lines.specs.Changes.{IsActInBounds, IsChangeInBounds, act_of, answer_named, answer_of, background_of, change_of, flag_named, flag_of, gravity_change_of, ink_of, insets_of, intercept_of, kids_of, margins_of, min_of, new_id_of, orient_of, padding_of, scroll_of, sides_of, size_of, vertical_of, visibility_of, visible_of, weight_change_of, weight_sum_of};
+ghost use Rattle.script_lines.specs.Changes.{IsActInBounds, IsChangeInBounds, act_of, answer_named, answer_of, background_of, change_of, direction_named, direction_of, flag_named, flag_of, gravity_change_of, ink_of, insets_of, intercept_of, kids_of, margins_of, min_of, new_id_of, orient_of, padding_of, scroll_of, sides_of, size_of, vertical_of, visibility_of, visible_of, weight_change_of, weight_sum_of};
 ghost use Rattle.script_lines.specs.Numbers.{IsWithin};
 ghost use Rattle.script_lines.specs.Words.{words};
 
@@ -17,7 +17,7 @@ use crate::weights::read_weight;
 use crate::words::{end, is, read_on, word};
 use geom_core::{Insets, Size};
 use view_model::limits::{MAX_INSET, MAX_SIZE, MIN_MARGIN};
-use view_model::{Act, Answer, Change, Flag, Visibility};
+use view_model::{Act, Answer, Change, Direction, Flag, Visibility};
 
 /// The sides of a view as words give them, the numbers not yet within their bounds.
 #[derive(Clone, Copy, Debug, PartialEq, Eq)]
@@ -143,7 +143,7 @@ fn background(bytes: &[u8]) -> Result<Change, LineFault>
     Ok(Change::Background(color))
 }
 
-/// A change by the first word of its line and what stands behind the view.
+/// A change by the first word of its line and what comes after the view.
 #[tactic(auto, unfolding(crate::specs::Changes::change_of))]
 pub fn read_change(head: &[u8], bytes: &[u8]) -> Result<Change, LineFault>
     ensures value { result ≡ change_of head.now (words bytes.now) }
@@ -326,7 +326,35 @@ fn intercept(bytes: &[u8]) -> Result<Act, LineFault>
     Ok(Act::Intercept(actions))
 }
 
-/// What a line sets, by its first word and what stands behind the view.
+/// The direction in which a view is to run, by a word.
+#[tactic(auto, unfolding(crate::specs::Changes::direction_named))]
+fn read_direction(word: &[u8]) -> Result<Direction, LineFault>
+    ensures { result ≡ direction_named word.now }
+{
+    if is(word, b"ltr") {
+        return Ok(Direction::Ltr);
+    }
+    if is(word, b"rtl") {
+        return Ok(Direction::Rtl);
+    }
+    if is(word, b"inherit") {
+        return Ok(Direction::Inherit);
+    }
+    Err(LineFault::Syntax)
+}
+
+#[tactic(auto, unfolding(crate::specs::Changes::direction_of))]
+fn direction(bytes: &[u8]) -> Result<Act, LineFault>
+    ensures value { result ≡ direction_of (words bytes.now) }
+    ensures bounds { IfOk result IsActInBounds }
+{
+    let (word, rest) = word(bytes)?;
+    let direction = read_direction(word)?;
+    end(rest)?;
+    Ok(Act::Direction(direction))
+}
+
+/// What a line sets, by its first word and what comes after the view.
 #[tactic(auto, unfolding(crate::specs::Changes::act_of))]
 pub fn read_act(head: &[u8], bytes: &[u8]) -> Result<Act, LineFault>
     ensures value { result ≡ act_of head.now (words bytes.now) }
@@ -346,6 +374,9 @@ pub fn read_act(head: &[u8], bytes: &[u8]) -> Result<Act, LineFault>
     }
     if is(head, b"flag") {
         return flag(bytes);
+    }
+    if is(head, b"direction") {
+        return direction(bytes);
     }
     if is(head, b"scroll") {
         return scroll(bytes);

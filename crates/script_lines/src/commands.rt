@@ -10,10 +10,10 @@ use view_model::{Act, Change, Class};
 pub const MAX_WINDOW: i64 = 4096;
 /// The greatest coordinate of a point of a window, in pixels.
 pub const MAX_POINT: i64 = 4095;
-/// The greatest number of pixels that a line tells.
+/// The greatest number of pixels that a line prints.
 pub const MAX_PIXELS: i64 = 65536;
 /// The greatest id of a pointer.
-pub const MAX_POINTER: u32 = 9;
+pub const MAX_POINTER: u32 = 31;
 /// The least coordinate of a touch, in pixels.
 pub const MIN_TOUCH: i64 = -1048576;
 /// The greatest coordinate of a touch, in pixels.
@@ -29,7 +29,7 @@ pub enum Given<'a> {
     Color(Argb),
     /// The word of a dimension, as a layout file has it.
     Dimen(u32),
-    /// Its escapes stand as written, each of them valid.
+    /// Its escapes are as written, each of them valid.
     Text(&'a str),
 }
 
@@ -41,7 +41,7 @@ pub struct Asked {
 }
 
 impl Default for Asked {
-    /// What stands in an unused place, and is never made.
+    /// What an unused place holds; it is never made.
     fn default() -> Asked {
         Asked {
             view: Name::Number(0),
@@ -70,7 +70,7 @@ pub enum Command<'a> {
         name: &'a str,
         into: Option<Name>,
     },
-    /// A view as the last child of its parent, or as the root where that is none.
+    /// A view as the last child of its parent, or as the root if that is `None`.
     Add {
         parent: Option<Name>,
         class: Class,
@@ -84,19 +84,19 @@ pub enum Command<'a> {
         view: Name,
         act: Act,
     },
-    /// Sets the text of a view. Its escapes stand as written, each of them valid.
+    /// Sets the text of a view. Its escapes are as written, each of them valid.
     Text {
         view: Name,
         text: &'a str,
     },
-    /// Sets whether a view and all above it are kept from taking pointers away from their children.
+    /// Sets whether a view and all above it are prevented from taking pointers away from their children.
     Disallow {
         view: Name,
         on: bool,
     },
-    /// Arms the hook of a view: the edits that are made once it has another size, in order. Where `bad`, there is one behind
-    /// the first `MAX_EDITS`, or one that is none of `size`, `min`, `margins`, `padding`, `weight`, `gravity` and `bg`;
-    /// those are not among them.
+    /// Arms the hook of a view: the edits that are made once it has another size, in order. If `bad`, there is one
+    /// after the first `MAX_EDITS`, or one that is not `size`, `min`, `margins`, `padding`, `weight`, `gravity` or
+    /// `bg`; those are not among them.
     Hook {
         view: Name,
         edits: ArrayVec<Asked, MAX_EDITS>,
@@ -120,21 +120,21 @@ pub enum Command<'a> {
     Cancel,
     /// Lays the tree out.
     Frame,
-    /// Tells of the bounds of this view, or of each view in preorder where that is none.
+    /// Prints the bounds of this view, or of each view in preorder if that is `None`.
     Bounds(Option<Name>),
-    /// Tells the colours of a part of the picture. Its corner is from 0 to `MAX_POINT`, its sides from 1 to `MAX_WINDOW` and its
-    /// area at most `MAX_PIXELS`, in window coordinates.
+    /// Prints the colours of a part of the picture. Its corner is from 0 to `MAX_POINT`, its sides from 1 to
+    /// `MAX_WINDOW` and its area at most `MAX_PIXELS`, in window coordinates.
     Pixels {
         x: i32,
         y: i32,
         w: i32,
         h: i32,
     },
-    /// Tells the digest of the picture.
+    /// Prints the digest of the picture.
     Digest,
-    /// Keeps the state of the tree, and tells it.
+    /// Saves the state of the tree, and prints it.
     Save,
-    /// Takes up the state of this text, or the one that is kept where that is none: an even number of hexadecimal
-    /// digits as written, two or more.
+    /// Restores the state of this text, or the saved one if that is `None`: an even number of hexadecimal digits as
+    /// written, two or more.
     Restore(Option<&'a str>),
 }

@@ -18,28 +18,29 @@ pub enum Ended {
     No,
     /// A line of at most `MAX_LINE` bytes, a carriage return counted.
     Line,
-    /// A line that is too long. Its bytes are gone.
+    /// A line that is too long. Its bytes are lost.
     Long,
 }
 
-/// Whether a line has ended, and where it lies.
+/// Whether a line has ended, and where it is.
 #[derive(Clone, Copy, Debug, PartialEq, Eq)]
 pub enum LinePlace {
     No,
-    /// A line that began in this piece: so many bytes at its front.
+    /// A line that began in this piece: this many bytes at its front.
     Piece(usize),
     /// A line that began in an earlier piece; `bytes` has it.
     Held,
-    /// A line that is too long. Its bytes are gone.
+    /// A line that is too long. Its bytes are lost.
     Long,
 }
 
 /// The lines of a script whose bytes come in pieces, however they are cut.
 #[derive(Drop)]
 pub struct Lines {
-    /// What has come of a line, at most one byte more than a line may have; and in its place the line that has just ended.
+    /// The beginning of a line, at most one byte more than a line may have; and in its place the line that has just
+    /// ended.
     buffer: [u8; MAX_LINE + 1],
-    /// How much of the buffer has come of the next line.
+    /// How much of the buffer belongs to the next line.
     begun: usize,
     /// How much of the buffer is the line that has just ended.
     line: usize,
@@ -70,9 +71,9 @@ impl Lines {
         }
     }
 
-    /// Takes the bytes of a piece up to its first line feed, or all of them, and tells how many those are, and where the line
-    /// lies that they end. A line that lies whole in the piece is not copied.
-    /// Whatever came `before`, in pieces however they were cut, the lines are those of all the bytes.
+    /// Takes the bytes of a piece up to its first line feed, or all of them, and returns how many those are, and where
+    /// the line is that they end. A line that is whole in the piece is not copied. Whatever came `before`, in pieces
+    /// however they were cut, the lines are those of all the bytes.
     #[inline]
     pub fn next_line(&mut self, piece: &[u8]) -> (usize, LinePlace)
         ensures used { result.0 ≡ min (position_or_len is_line_feed piece.now + 1) (length piece.now) }
@@ -110,8 +111,8 @@ impl Lines {
         (end + 1, LinePlace::Held)
     }
 
-    /// Takes the bytes of a piece up to its first line feed, or all of them, and tells how many those are.
-    /// Whatever came `before`, in pieces however they were cut, the lines are those of all the bytes.
+    /// Takes the bytes of a piece up to its first line feed, or all of them, and returns how many those are. Whatever
+    /// came `before`, in pieces however they were cut, the lines are those of all the bytes.
     pub fn feed(&mut self, piece: &[u8]) -> (usize, Ended)
         ensures used { result.0 ≡ min (position_or_len is_line_feed piece.now + 1) (length piece.now) }
         ensures within { result.0 ≤ length piece.now }
@@ -136,8 +137,8 @@ impl Lines {
         }
     }
 
-    /// Ends the script: what has come of a line is its last one, unless nothing has. From then on another script may come.
-    /// After any `course` of pieces the lines of all their bytes are those that were told of, and this one.
+    /// Ends the script: the beginning of a line is its last one, unless it is empty. From then on another script may
+    /// come. After any `course` of pieces the lines of all their bytes are those that were returned, and this one.
     pub fn finish(&mut self) -> Ended
         ensures lines { (before : List ℕ) → IsAfter self.old before → last_of (cut_of before).rest ≡ lines_as result self.new.line }
         ensures pieces { (first : LineBuffer) (course : List Feed)
@@ -161,8 +162,8 @@ impl Lines {
         Ended::Line
     }
 
-    /// The line that has just ended, until more bytes are taken: without its line feed and a carriage return before that;
-    /// empty where none has, where it is too long, and where it lies in the piece.
+    /// The line that has just ended, until more bytes are taken: without its line feed and a carriage return before
+    /// that; empty if none has, if it is too long, and if it is in the piece.
     pub fn bytes(&self) -> &[u8]
         ensures line { result.now ≡ self.now.line }
         ensures short { length result.now ≤ MAX_LINE }
@@ -171,7 +172,7 @@ impl Lines {
     }
 }
 
-/// The place of the first line feed, or the length where there is none. A line feed that comes first needs no search.
+/// The place of the first line feed, or the length if there is none. A line feed that comes first needs no search.
 #[inline]
 fn line_end(bytes: &[u8]) -> usize
     ensures place { result ≡ position_or_len is_line_feed bytes.now }
@@ -183,7 +184,8 @@ fn line_end(bytes: &[u8]) -> usize
     place_of(b'\n', bytes)
 }
 
-/// Puts bytes behind the first `len` of a buffer, as many as have room, and tells how many those are with the first ones.
+/// Appends bytes to the first `len` of a buffer, as many as have room, and returns how many those are with the first
+/// ones.
 fn keep(buffer: &mut [u8], len: usize, bytes: &[u8]) -> usize
     requires { len ≤ length buffer.old }
     ensures within { result ≤ length buffer.new }

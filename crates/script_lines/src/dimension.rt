@@ -32,7 +32,7 @@ fn read_dimension(word: &[u8]) -> Result<Dimension, LineFault>
     Ok(Dimension::Pixels(integer(word)?))
 }
 
-/// The dimension that the first word gives, and what stands behind it.
+/// The dimension that the first word gives, and what comes after it.
 fn dimension_word(bytes: &[u8]) -> Result<(Dimension, &[u8]), LineFault>
     ensures { map_ok (λ r. (r.0, words r.1.now)) result ≡ dimension_in (words bytes.now) }
 {

@@ -34,7 +34,7 @@ fn escaped_text(bytes: &[u8]) -> Result<&str, LineFault>
     text(bytes)
 }
 
-/// The text behind one space, its escapes as written.
+/// The text after one space, its escapes as written.
 #[tactic(auto, unfolding(crate::specs::Escapes::rest_of))]
 pub fn rest_text(rest: &[u8]) -> Result<&str, LineFault>
     ensures value { map_ok (λ text. text.now) result ≡ rest_of rest.now }
@@ -46,7 +46,7 @@ pub fn rest_text(rest: &[u8]) -> Result<&str, LineFault>
     escaped_text(&rest[1..])
 }
 
-/// The character that an escape stands for, by the one behind its backslash.
+/// The character that an escape means, by the one after its backslash.
 fn meant_by(c: char) -> char
     ensures { result ≡ meant_by c }
 {
@@ -56,7 +56,7 @@ fn meant_by(c: char) -> char
 /// The characters of a text, its escapes resolved.
 #[derive(Clone, Debug, Drop)]
 pub struct Unescaped<'a> {
-    /// What is left to go over, its escapes as written.
+    /// What is still to be resolved, its escapes as written.
     rest: &'a str,
 }
 

@@ -32,7 +32,7 @@ fn read_file_name(word: &[u8]) -> Result<&str, LineFault>
     text(word)
 }
 
-/// The file that the first word names, and what stands behind it.
+/// The file that the first word names, and what comes after it.
 pub fn file_name_word(bytes: &[u8]) -> Result<(&str, &[u8]), LineFault>
     ensures { map_ok (λ r. (r.0.now, words r.1.now)) result ≡ file_name_in (words bytes.now) }
 {

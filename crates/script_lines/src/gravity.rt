@@ -22,7 +22,7 @@ const BARE: Gravity = Gravity {
     down: Down::Unset,
 };
 
-/// The place from left to right that a word gives; unset where it gives none.
+/// The place from left to right that a word gives; unset if it gives none.
 #[tactic(auto, unfolding(crate::specs::Gravities::across_of))]
 fn read_across(word: &[u8]) -> Across
     ensures { result ≡ across_of word.now }
@@ -48,7 +48,7 @@ fn read_across(word: &[u8]) -> Across
     Across::Unset
 }
 
-/// The place from top to bottom that a word gives; unset where it gives none.
+/// The place from top to bottom that a word gives; unset if it gives none.
 #[tactic(auto, unfolding(crate::specs::Gravities::down_of))]
 fn read_down(word: &[u8]) -> Down
     ensures { result ≡ down_of word.now }
@@ -133,7 +133,7 @@ fn add_word(gravity: Gravity, word: &[u8]) -> Result<Gravity, LineFault>
     })
 }
 
-/// A gravity and the words that bars part. Three words are too many, so it goes no deeper than that.
+/// A gravity and the words that bars separate. Three words are too many, so the recursion goes no deeper than that.
 #[tactic(auto, using(crate::proofs::BarLaws::words_end, crate::proofs::BarLaws::words_go, crate::proofs::BarLaws::words_stop))]
 fn add_words(gravity: Gravity, words: &[u8]) -> Result<Gravity, LineFault>
     ensures { result ≡ with_words gravity words.now }

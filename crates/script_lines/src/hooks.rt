@@ -22,7 +22,7 @@ use arrayvec::ArrayVec;
 use view_model::limits::MAX_EDITS;
 
 /// The words with which lines of the script begin.
-pub const LINE_WORDS: [&str; 36] = [
+pub const LINE_WORDS: [&str; 37] = [
     "window",
     "dpi",
     "res",
@@ -37,6 +37,7 @@ pub const LINE_WORDS: [&str; 36] = [
     "weightsum",
     "gravity",
     "orient",
+    "direction",
     "flag",
     "visible",
     "bg",
@@ -89,7 +90,7 @@ fn begins_edit(word: &[u8]) -> bool
     is_among(&EDIT_WORDS, word)
 }
 
-/// What an edit asks for, by its first word and what stands behind that.
+/// What an edit asks for, by its first word and what comes after that.
 #[tactic(auto, unfolding(crate::specs::Hooks::asked_of))]
 fn read_asked(head: &[u8], bytes: &[u8]) -> Result<Asked, LineFault>
     ensures value { result ≡ asked_of head.now (words bytes.now) }
@@ -113,7 +114,7 @@ fn read_unmade(bytes: &[u8]) -> Result<Option<Asked>, LineFault>
     Err(LineFault::Syntax)
 }
 
-/// An edit that is read to its end, if a hook can make it; nothing where none can.
+/// An edit that is read to its end, if a hook can make it; `None` if no hook can.
 #[tactic(auto, unfolding(crate::specs::Hooks::edit_of))]
 fn read_edit(bytes: &[u8]) -> Result<Option<Asked>, LineFault>
     ensures value { result ≡ edit_of (words bytes.now) }
@@ -126,7 +127,7 @@ fn read_edit(bytes: &[u8]) -> Result<Option<Asked>, LineFault>
     read_unmade(bytes)
 }
 
-/// The next edit, where so many more are read to their ends.
+/// The next edit, if `count` more are read to their ends.
 #[tactic(auto, unfolding(crate::specs::Gathered::reading_of))]
 fn read_next(left: usize, bytes: &[u8]) -> Result<Option<Asked>, LineFault>
     ensures value { result ≡ reading_of left (words bytes.now) }
@@ -139,14 +140,14 @@ fn read_next(left: usize, bytes: &[u8]) -> Result<Option<Asked>, LineFault>
     read_unmade(bytes)
 }
 
-/// The edits of a hook, as far as they are read.
+/// The edits of a hook that are read so far.
 #[derive(Drop)]
 struct Gathered {
-    /// What those ask for that a hook can make, in order.
+    /// The edits among those that a hook can make, in order.
     edits: ArrayVec<Asked, MAX_EDITS>,
     /// How many more are read to their ends.
     left: usize,
-    /// Whether one of them is none that a hook can make.
+    /// Whether no hook can make one of them.
     bad: bool,
     /// Whether a number in one of them is outside its bounds.
     range: bool,
@@ -168,7 +169,7 @@ impl Gathered {
         }
     }
 
-    /// Reads one edit more. A number outside its bounds is kept in mind, since a fault of the grammar may follow.
+    /// Reads one edit more. A number outside its bounds is only recorded, since a fault of the grammar may follow.
     fn add(&mut self, bytes: &[u8]) -> Result<(), LineFault>
         requires room { array_vec_len self.old.edits + self.old.left ≤ MAX_EDITS }
         ensures room { array_vec_len self.new.edits + self.new.left ≤ MAX_EDITS }

@@ -1,9 +1,9 @@
 //! The lines of a script, and the command that each line gives. Nothing here takes memory.
 //!
-//! `cutting` cuts bytes that come in pieces into lines. On the way from a line to its command: `words` parts it,
-//! `number`, `naming`, `dimension`, `colors` and `gravity` read a word, `changes`, `rules` and `actions` read what is set of a view,
-//! `touches` reads what a pointer does, `states` what is kept of a tree, `parting` and `hooks` the edits of a hook, and `reading`
-//! reads the whole line.
+//! `cutting` cuts bytes that come in pieces into lines. From a line to its command: `words` splits it, `number`,
+//! `naming`, `dimension`, `colors` and `gravity` read a word, `changes`, `rules` and `actions` read what is set of a
+//! view, `touches` reads what a pointer does, `states` what is saved of a tree, `parting` and `hooks` the edits of a
+//! hook, and `reading` reads the whole line.
 #![tactic(auto)]
 
 mod actions;
@@ -39,7 +39,7 @@ pub use naming::{Name, hex};
 pub use number::natural;
 pub use reading::line;
 
-/// What reads the words of a line, for lines of other scripts.
+/// The readers of words, for lines of other scripts.
 pub mod readers {
     pub use crate::commands::{MAX_POINT, MAX_WINDOW};
     pub use crate::number::{integer, natural_within, number, within};

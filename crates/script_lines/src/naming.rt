@@ -19,7 +19,7 @@ pub enum Name {
     Id(u32),
 }
 
-/// What a hexadecimal digit stands for.
+/// The value of a hexadecimal digit.
 #[tactic(auto, unfolding(crate::specs::Names::hex_digit_of))]
 fn hex_digit(b: u8) -> u8
     ensures value { result ≡ hex_digit_of b }
@@ -78,7 +78,7 @@ fn read_id(word: &[u8]) -> Result<u32, LineFault>
     }
 }
 
-/// The id that the first word gives, and what stands behind it.
+/// The id that the first word gives, and what comes after it.
 pub fn id_word(bytes: &[u8]) -> Result<(u32, &[u8]), LineFault>
     ensures value { map_ok (λ r. (r.0, words r.1.now)) result ≡ id_in (words bytes.now) }
     ensures rest { IfOk result (λ r. r.1.now ≡ after_word bytes.now) }
@@ -101,7 +101,7 @@ fn read_name(word: &[u8]) -> Result<Name, LineFault>
     Ok(Name::Id(read_id(word)?))
 }
 
-/// The view that the first word names, and what stands behind it.
+/// The view that the first word names, and what comes after it.
 pub fn name_word(bytes: &[u8]) -> Result<(Name, &[u8]), LineFault>
     ensures value { map_ok (λ r. (r.0, words r.1.now)) result ≡ name_in (words bytes.now) }
     ensures rest { IfOk result (λ r. r.1.now ≡ after_word bytes.now) }
@@ -110,7 +110,7 @@ pub fn name_word(bytes: &[u8]) -> Result<(Name, &[u8]), LineFault>
     Ok((read_name(word)?, rest))
 }
 
-/// The parent that a word names; none is for the root.
+/// The parent that a word names; `None` is for the root.
 #[tactic(auto, unfolding(crate::specs::Names::parent_of))]
 fn read_parent(word: &[u8]) -> Result<Option<Name>, LineFault>
     ensures { result ≡ parent_of word.now }
@@ -121,7 +121,7 @@ fn read_parent(word: &[u8]) -> Result<Option<Name>, LineFault>
     Ok(Some(read_name(word)?))
 }
 
-/// The parent that the first word names, and what stands behind it.
+/// The parent that the first word names, and what comes after it.
 pub fn parent_word(bytes: &[u8]) -> Result<(Option<Name>, &[u8]), LineFault>
     ensures { map_ok (λ r. (r.0, words r.1.now)) result ≡ parent_in (words bytes.now) }
 {

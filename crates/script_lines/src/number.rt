@@ -63,7 +63,7 @@ pub fn integer(word: &[u8]) -> Result<i64, LineFault>
     }
 }
 
-/// The number that the first word writes, and what stands behind it.
+/// The number that the first word writes, and what comes after it.
 pub fn number(bytes: &[u8]) -> Result<(i64, &[u8]), LineFault>
     ensures { map_ok (λ r. (r.0, words r.1.now)) result ≡ integer_in (words bytes.now) }
 {

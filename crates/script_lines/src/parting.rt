@@ -1,4 +1,4 @@
-//! The edits of a hook, between which the word `;` stands.
+//! The edits of a hook, which the word `;` separates.
 
 ghost use Rattle.std.specs.Prelude.{◌≡◌, ◌≤◌, ◌<◌, ◌∷◌, [], length, take, drop, MatchOption, IfSome};
 ghost use Rattle.std.specs.List.{slice_split};
@@ -7,7 +7,7 @@ ghost use Rattle.script_lines.specs.Words.{first_word, words};
 
 use crate::words::{is, word};
 
-/// Where the edit at the front ends, and where what stands behind its `;` begins; nothing where it is the last.
+/// Where the edit at the front ends, and where the next one begins after its `;`; nothing if it is the last.
 pub fn first_edit(bytes: &[u8]) -> Option<(usize, usize)>
     ensures last { result ≡ None → slice_split parts_edits (words bytes.now) ≡ words bytes.now ∷ [] }
     ensures cut { IfSome result (λ r. slice_split parts_edits (words bytes.now) ≡ words (take r.0 bytes.now) ∷ slice_split parts_edits (words (drop r.1 bytes.now))) }

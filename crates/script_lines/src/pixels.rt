@@ -1,4 +1,4 @@
-//! The part of the picture of which a line asks.
+//! The part of the picture that a line asks for.
 
 ghost use Rattle.std.specs.Prelude.{◌≡◌, true, ◌*ℤ◌, ◌≤ℤ◌, pos, IfOk};
 ghost use Rattle.script_lines.specs.Commands.{IsInBounds};
@@ -13,7 +13,7 @@ use crate::fault::LineFault;
 use crate::number::{number, within};
 use crate::words::end;
 
-/// Whether a part of this width and height has no more pixels than may be told at once.
+/// Whether a part of this width and height has no more pixels than may be printed at once.
 #[tactic(auto, unfolding(crate::specs::Pixels::is_small))]
 pub fn is_small(w: i32, h: i32) -> bool
     requires width { IsWithin (pos 1) MAX_WINDOW w }

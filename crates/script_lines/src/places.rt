@@ -1,11 +1,11 @@
-//! Where a byte stands.
+//! Where a byte is.
 
 ghost use Rattle.std.specs.Prelude.{◌≡◌, ◌≤◌, ◌==◌, length};
 ghost use Rattle.std.specs.List.{position_or_len};
 
 use memchr::memchr;
 
-/// The place of the first such byte, or the length where there is none.
+/// The place of the first such byte, or the length if there is none.
 #[tactic(auto, using(crate::proofs::PlaceLaws::place_none, crate::proofs::PlaceLaws::place_some))]
 #[inline]
 pub fn place_of(byte: u8, bytes: &[u8]) -> usize

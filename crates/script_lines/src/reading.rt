@@ -43,7 +43,7 @@ fn dpi(bytes: &[u8]) -> Result<Command<'_>, LineFault>
     Ok(Command::Dpi(dpi))
 }
 
-/// The view below which a tree goes, where one is named.
+/// The view below which a tree goes, if one is named.
 #[tactic(auto, unfolding(crate::specs::Commands::into_of))]
 fn into(bytes: &[u8]) -> Result<Option<Name>, LineFault>
     ensures { result ≡ into_of (words bytes.now) }
@@ -151,7 +151,7 @@ fn bounds(bytes: &[u8]) -> Result<Command<'_>, LineFault>
     Ok(Command::Bounds(Some(view)))
 }
 
-/// Whether a view and all above it are kept from taking pointers away from their children.
+/// Whether a view and all above it are prevented from taking pointers away from their children.
 #[tactic(auto, unfolding(crate::specs::Commands::disallow_of))]
 fn disallow(bytes: &[u8]) -> Result<Command<'_>, LineFault>
     ensures value { map_ok plain_command result ≡ disallow_of (words bytes.now) }
@@ -186,7 +186,7 @@ fn set_text(bytes: &[u8]) -> Result<Command<'_>, LineFault>
     Ok(Command::Text { view, text })
 }
 
-/// What is kept, or set of a view, by the first word of the line and what stands behind that.
+/// Parses `save`, `restore`, `hook` and the setters, by the first word of the line and what comes after it.
 fn read_keep<'a>(head: &[u8], bytes: &'a [u8]) -> Result<Command<'a>, LineFault>
     ensures value { map_ok plain_command result ≡ keep_by head.now (words bytes.now) }
     ensures bounds { IfOk result (λ command. IsInBounds (plain_command command)) }
@@ -203,7 +203,7 @@ fn read_keep<'a>(head: &[u8], bytes: &'a [u8]) -> Result<Command<'a>, LineFault>
     set(head, bytes)
 }
 
-/// What is done by touch, kept, or set of a view, by the first word of the line and what stands behind that.
+/// Parses the same and the lines of touch, by the first word of the line and what comes after it.
 fn read_touch<'a>(head: &[u8], bytes: &'a [u8]) -> Result<Command<'a>, LineFault>
     ensures value { map_ok plain_command result ≡ touch_by head.now (words bytes.now) }
     ensures bounds { IfOk result (λ command. IsInBounds (plain_command command)) }
@@ -226,7 +226,7 @@ fn read_touch<'a>(head: &[u8], bytes: &'a [u8]) -> Result<Command<'a>, LineFault
     read_keep(head, bytes)
 }
 
-/// The command of a line by its first word and what stands behind that.
+/// The command of a line by its first word and what comes after that.
 #[tactic(auto, unfolding(crate::specs::Commands::command_by))]
 fn read_command<'a>(head: &[u8], bytes: &'a [u8]) -> Result<Command<'a>, LineFault>
     ensures value { map_ok plain_command result ≡ command_by head.now (words bytes.now) }
@@ -262,7 +262,7 @@ fn read_command<'a>(head: &[u8], bytes: &'a [u8]) -> Result<Command<'a>, LineFau
     read_touch(head, bytes)
 }
 
-/// The command of a line by its first word and what stands behind that: the spaces in a text count.
+/// The command of a line by its first word and what comes after that: the spaces in a text count.
 #[tactic(auto, unfolding(crate::specs::Commands::command_in))]
 fn read_rest<'a>(head: &[u8], bytes: &'a [u8]) -> Result<Command<'a>, LineFault>
     ensures value { map_ok plain_command result ≡ command_in head.now bytes.now }
@@ -290,8 +290,8 @@ fn read_line(bytes: &[u8]) -> Result<Command<'_>, LineFault>
     read_rest(head, rest)
 }
 
-/// The command of a line. A fault of the grammar counts before a number outside its bounds, wherever the two stand.
-/// A line that is passed over has no command. The text of a command is read as that command.
+/// The command of a line. A fault of the grammar counts before a number outside its bounds, wherever the two are. A
+/// line that is passed over has no command. The text of a command is read as that command.
 pub fn line(bytes: &[u8]) -> Result<Command<'_>, LineFault>
     ensures value { map_ok plain_command result ≡ command_of bytes.now }
     ensures bounds { IfOk result (λ command. IsInBounds (plain_command command)) }

@@ -32,7 +32,7 @@ enum LengthUnit {
 }
 
 impl LengthUnit {
-    /// The number that stands for the unit in the word of a dimension.
+    /// The number that means the unit in the word of a dimension.
     fn number(self) -> u32
         ensures value { result ≡ unit_number self }
         ensures below { result < 6 }
@@ -116,7 +116,7 @@ fn dimen(bytes: &[u8]) -> Result<Given<'_>, LineFault>
     Ok(Given::Dimen(dimen_word(n, unit)))
 }
 
-/// What is given by its kind and what stands behind that.
+/// What is given by its kind and what comes after that.
 #[tactic(auto, unfolding(crate::specs::Resources::given_by))]
 fn given_by<'a>(kind: &[u8], rest: &'a [u8]) -> Result<Given<'a>, LineFault>
     ensures value { map_ok plain_given result ≡ given_by kind.now rest.now }

@@ -57,7 +57,7 @@ fn read_verb(word: &[u8]) -> Result<u8, LineFault>
     }
 }
 
-/// Whether a rule on the parent counts, as 1 or 0, and what stands behind it.
+/// Whether a rule on the parent counts, as 1 or 0, and what comes after it.
 fn answer_word(bytes: &[u8]) -> Result<(u32, &[u8]), LineFault>
     ensures { map_ok (λ r. (r.0, words r.1.now)) result ≡ answer_in (words bytes.now) }
 {
@@ -66,7 +66,7 @@ fn answer_word(bytes: &[u8]) -> Result<(u32, &[u8]), LineFault>
     Ok((u32::from(on), rest))
 }
 
-/// The id of a sibling, or whether a rule on the parent counts; and what stands behind it.
+/// The id of a sibling, or whether a rule on the parent counts; and what comes after it.
 #[tactic(auto, unfolding(crate::specs::Rules::rule_value_in))]
 fn rule_value(verb: u8, bytes: &[u8]) -> Result<(u32, &[u8]), LineFault>
     ensures { map_ok (λ r. (r.0, words r.1.now)) result ≡ rule_value_in verb (words bytes.now) }

@@ -1,4 +1,4 @@
-//! Saved states: the line that keeps one, and the line that takes one up.
+//! Saved states: the line that saves one, and the line that restores one.
 
 ghost use Rattle.std.specs.Prelude.{◌≡◌, IfOk, IsTrue};
 ghost use Rattle.script_lines.specs.Commands.{IsInBounds};
@@ -11,7 +11,7 @@ use crate::fault::LineFault;
 use crate::naming::all_hex;
 use crate::words::{end, text, word};
 
-/// Keeps the state.
+/// Saves the state.
 #[tactic(auto, unfolding(crate::specs::States::save_of))]
 pub fn save(bytes: &[u8]) -> Result<Command<'_>, LineFault>
     ensures value { map_ok plain_command result ≡ save_of (words bytes.now) }
@@ -41,7 +41,7 @@ fn read_state_text(word: &[u8]) -> Result<&str, LineFault>
     text(word)
 }
 
-/// Takes up the state that is kept, or one that the line writes.
+/// Restores the saved state, or one that the line writes.
 #[tactic(auto, unfolding(crate::specs::States::restore_of))]
 pub fn restore(bytes: &[u8]) -> Result<Command<'_>, LineFault>
     ensures value { map_ok plain_command result ≡ restore_of (words bytes.now) }

@@ -11,10 +11,10 @@ use view_model::limits::MAX_WEIGHT;
 
 /// The most whole ones of a weight.
 pub const MAX_WHOLE: u32 = 65535;
-/// The most 256ths beside the whole ones.
+/// The most 256ths besides the whole ones.
 pub const MAX_PARTS: u32 = 255;
 
-/// The number that ends a line; 0 where none does.
+/// The number that ends a line; 0 if none does.
 #[tactic(auto, unfolding(crate::specs::Weights::last_number))]
 fn last_number(bytes: &[u8]) -> Result<i64, LineFault>
     ensures { result ≡ last_number (words bytes.now) }

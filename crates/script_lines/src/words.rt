@@ -8,7 +8,7 @@ ghost use Rattle.script_lines.specs.Words.{after_word, end_of, first_word, in_wo
 
 use crate::fault::LineFault;
 
-/// How many spaces stand at the front.
+/// How many spaces there are at the front.
 fn spaces(bytes: &[u8]) -> usize
     ensures count { result ≡ prefix_len is_space bytes.now }
     ensures within { result ≤ length bytes.now }
@@ -32,7 +32,7 @@ fn word_len(bytes: &[u8]) -> usize
     at
 }
 
-/// The first word, empty where there is none, and what stands behind it.
+/// The first word, or the empty one if there is none, and what comes after it.
 #[tactic(auto, unfolding(crate::specs::Words::first_word, crate::specs::Words::after_word))]
 fn first(bytes: &[u8]) -> (&[u8], &[u8])
     ensures word { result.0.now ≡ first_word bytes.now }
@@ -43,7 +43,7 @@ fn first(bytes: &[u8]) -> (&[u8], &[u8])
     (&line[..len], &line[len..])
 }
 
-/// The first word, and what stands behind it.
+/// The first word, and what comes after it.
 #[tactic(auto, using(crate::proofs::WordLaws::words_none, crate::proofs::WordLaws::words_some))]
 pub fn word(bytes: &[u8]) -> Result<(&[u8], &[u8]), LineFault>
     ensures value { map_ok (λ r. (r.0.now, words r.1.now)) result ≡ word_in (words bytes.now) }
@@ -63,7 +63,7 @@ pub fn is(word: &[u8], name: &[u8]) -> bool
     word == name
 }
 
-/// This word, and what stands behind it.
+/// This word, and what comes after it.
 pub fn literal<'a>(name: &[u8], bytes: &'a [u8]) -> Result<&'a [u8], LineFault>
     ensures { map_ok (λ r. words r.now) result ≡ literal_in name.now (words bytes.now) }
 {

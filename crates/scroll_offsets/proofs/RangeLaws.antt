@@ -1,4 +1,4 @@
--- Ranges of offsets, by what is asked of a view.
+-- Ranges of offsets, by look-ups of a view.
 use Rattle.std.proofs.Common.{◌≡◌, ℕ, ℤ, Option, Some, None, refl, ap}
 use Rattle.geom_core.specs.declared.geometry.Rect.{Rect}
 use Rattle.scroll_offsets.specs.Bringing.{child_rect, range_at}
@@ -21,7 +21,7 @@ range_unscrolled ScrollView own offset None child = refl
 range_unscrolled ScrollView own offset (Some rect) None = refl
 range_unscrolled ScrollView own offset (Some rect) (Some child) = refl
 
--- the range of the view of a key, by what is asked of it
+-- the range of the view of a key, by look-ups
 pub range_as : (views : Views) (key : ℕ) → IsLive views key
     → range_at views key ≡ range_by (head_view (part_from key views.tree)).class (head_view (part_from key views.tree)).facts (held_of views key).state.bounds (child_rect (held_of views) (children_of_first (part_from key views.tree)))
 range_as views key live =

@@ -1,4 +1,4 @@
--- The ranges of offsets, by where views lie now.
+-- The ranges of offsets, by the present bounds of views.
 use Rattle.std.specs.Prelude.{ℕ, ℤ, Option, None}
 use Rattle.geom_core.specs.declared.geometry.Rect.{Rect}
 use Rattle.view_model.specs.Forest.{Forest, Nothing, Branch}
@@ -6,7 +6,7 @@ use Rattle.view_model.specs.Offsets.{range_by}
 use Rattle.view_tree.specs.Rows.{Row, part_from}
 use Rattle.view_tree.specs.Views.{Held, Views, held_of}
 
--- where the first view of a list lies
+-- the bounds of the first view of a list
 abbrev pub child_rect : (ℕ → Held) → Forest Row → Option Rect
 child_rect held Nothing = None
 child_rect held (Branch row kids siblings) = (held row.key).state.bounds

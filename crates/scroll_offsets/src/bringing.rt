@@ -1,4 +1,4 @@
-//! The offset of a scroll view, which was laid out, comes into its range.
+//! The offset of a scroll view that was laid out is brought into its range.
 ghost use Rattle.std.specs.Prelude.{◌≡◌, ◌≢◌, true, false};
 ghost use Rattle.scroll_offsets.specs.Bringing.{child_rect, range_at};
 ghost use Rattle.view_model.specs.declared.kinds.Class.TheVariants.{ScrollView};
@@ -12,9 +12,9 @@ use scroll_view::{offset_within, range_in};
 use view_model::{Class, Facts};
 use view_tree::{Key, ViewTree};
 
-/// Brings the offset of a view, if it is a scroll view that lies somewhere, into the range that it has where it and its
-/// first child lie now; returns whether that changes it. An offset that is in its range stays, and then nothing is
-/// written. Nothing else changes.
+/// Brings the offset of a view, if it is a scroll view that has bounds, into the range that it has with its present
+/// bounds and those of its first child; returns whether that changes it. An offset that is in its range stays, and then
+/// nothing is written. Nothing else changes.
 pub fn bring_one(tree: &mut ViewTree, view: Key) -> bool
     requires { IsLive tree.old view }
     ensures moved { result ≡ true → offset_of tree.new view ≢ offset_of tree.old view }
@@ -68,7 +68,7 @@ fn range_of(tree: &ViewTree, view: Key) -> Option<i32>
     }
 }
 
-/// The range of a scroll view, if it lies somewhere.
+/// The range of a scroll view, if it has bounds.
 fn range_where_it_lies(tree: &ViewTree, view: Key) -> Option<i32>
     requires { IsLive tree.now view }
     ensures { result ≡ range_by ScrollView (facts_of tree.now view) (state_of tree.now view).bounds
@@ -81,7 +81,7 @@ fn range_where_it_lies(tree: &ViewTree, view: Key) -> Option<i32>
     }
 }
 
-/// Where the first child of a view lies.
+/// The bounds of the first child of a view.
 fn child_rect(tree: &ViewTree, view: Key) -> Option<Rect>
     requires { IsLive tree.now view }
     ensures { result ≡ child_rect (held_of tree.now) (children_of_first (part_from view tree.now.tree)) }

@@ -1,6 +1,6 @@
 //! The offsets of scroll views: once a view and its children are laid out, its offset is brought into its range.
 //!
-//! `bringing` is that of one view. Nothing takes memory.
+//! `bringing` has that for one view. Nothing takes memory.
 #![tactic(auto)]
 
 mod bringing;

@@ -1,4 +1,4 @@
--- What a plan answers and becomes, phase by phase.
+-- What a plan returns and becomes, phase by phase.
 use Rattle.std.proofs.Common.{◌≡◌, ℤ, Bool, true, false, Some, None, List, [], ◌∷◌, ◌++◌, ap, refl, sym, ◌∙◌}
 use Rattle.std.specs.Prelude.{if◌then◌else◌}
 use Rattle.frame_layout.specs.declared.plan.FramePlan.{FramePlan}

@@ -1,4 +1,4 @@
--- What a plan stands for: a group, its specs, and the children that it has taken in each phase.
+-- What a plan represents: a group, its specs, and the children that it has taken in each phase.
 use Rattle.std.specs.Prelude.{◌≡◌, pos, Bool, true, false, List, [], ◌∷◌, ◌++◌}
 use Rattle.frame_layout.specs.FramePlan.{StandsFrame}
 use Rattle.scroll_view.specs.declared.plan.ScrollPlan.{ScrollPlan}
@@ -11,7 +11,7 @@ use Rattle.view_model.specs.ScrollView.{scroll_rule}
 abbrev pub own_in : ScrollPlan → Facts
 own_in plan = record (new_facts (pos 0) (pos 0)) { padding = plan.padding; fill = plan.fill }
 
--- that of a group, each padding as it comes out
+-- that of a group, with the paddings that apply
 abbrev pub scrolled : Facts → Facts
 scrolled own = record (new_facts (pos 0) (pos 0)) {
   padding = record { left = padding_left own; right = padding_right own; top = own.padding.top; bottom = own.padding.bottom };
@@ -27,13 +27,13 @@ pub record HasTaken (plan : ScrollPlan) (own : Facts) (specs : Specs) (first : L
   pub own_specs : specs_in plan ≡ specs
   pub frame : StandsFrame plan.frame own specs [] first
 
--- it has come through these phases, and has taken these children in the one that it is in
+-- it has completed these phases, and has taken these children in the one that it is in
 abbrev pub StandsScroll : ScrollPlan → Facts → Specs → List (List Measured) → List Measured → Type 0
 StandsScroll plan own specs [] taken = HasTaken plan own specs taken × (plan.filling ≡ false)
 StandsScroll plan own specs (first ∷ []) taken = HasTaken plan own specs first × (plan.filling ≡ true)
 StandsScroll plan own specs (first ∷ second ∷ more) taken = ⊥
 
--- the plan at the end of a phase, where it has answered whether another follows
+-- the plan at the end of a phase, once it has returned whether another follows
 pub record TurnsScroll (plan : ScrollPlan) (own : Facts) (specs : Specs) (past : List (List Measured)) (taken : List Measured) (answer : Bool) : Type 0 where
   pub answers : answer ≡ (scroll_rule own specs).turns (past ++ taken ∷ [])
   pub follows : answer ≡ true → StandsScroll plan own specs (past ++ taken ∷ []) []

@@ -18,7 +18,7 @@ pub fn place(own: &Facts, room: Size, kid: &Facts, size: Size) -> Rect
     frame_layout::place(own, room, kid, size)
 }
 
-/// How far the child of a group of this size can be moved up; 0 where there is none.
+/// How far the child of a group of this size can be moved up; 0 if there is none.
 pub fn range(own: &Facts, size: Size, child: Option<Size>) -> i32
     ensures value { result ≡ scroll_range own.now size child }
     ensures side { IsSide result }
@@ -27,7 +27,7 @@ pub fn range(own: &Facts, size: Size, child: Option<Size>) -> i32
     excess(i64::from(child.h), i64::from(size.h), own.padding_down())
 }
 
-/// The same of a group that lies in this rectangle, and its child in that one.
+/// The same of a group in this rectangle, and its child in that one.
 pub fn range_in(own: &Facts, bounds: Rect, child: Option<Rect>) -> i32
     ensures value { result ≡ scroll_range own.now (size_of_rect bounds) (option_map size_of_rect child) }
     ensures side { IsSide result }
@@ -44,7 +44,7 @@ fn height(rect: Rect) -> i64
     i64::from(rect.bottom) - i64::from(rect.top)
 }
 
-/// What of a child of this height is beyond a group of the height `room`, of which its padding takes a part.
+/// How much of a child of this height exceeds a group of the height `room`, of which its padding takes a part.
 fn excess(height: i64, room: i64, padding: i64) -> i32
     requires height_low { negsuc 4294967295 ≤ℤ height }
     requires height_high { height ≤ℤ pos 4294967295 }

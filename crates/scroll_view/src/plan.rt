@@ -11,12 +11,12 @@ use frame_layout::FramePlan;
 use geom_core::{Insets, Mode, Size, Spec, remaining};
 use view_model::{Facts, child_spec_within};
 
-/// The measuring of one scroll view. In its first phase a child is measured with any height; in the second, where the group
-/// is to be filled, once more, if it is too short for that. In each phase the children are handed in in order: `ask`,
+/// The measuring of one scroll view. In its first phase a child is measured with any height; in the second, if it is to
+/// fill the group, once more, if it is too short for that. In each phase the children are passed in order: `ask`,
 /// measuring, `take`.
 #[derive(Clone, Copy, Debug)]
 pub struct ScrollPlan {
-    /// On each side, as it comes out.
+    /// On each side, the one that applies.
     padding: Insets,
     /// Whether a child is to fill the group.
     fill: bool,
@@ -51,8 +51,8 @@ impl ScrollPlan {
         }
     }
 
-    /// The specs of a child in this phase, or None where it is not measured in it. The size is the child's present
-    /// measured size, at which the first phase does not look.
+    /// The specs of a child in this phase, or `None` if it is not measured in it. The size is the child's present
+    /// measured size, which the first phase ignores.
     pub fn ask(&self, kid: &Facts, size: Size) -> Option<(Spec, Spec)>
         ensures { (own : FactsValue) (specs : Specs) (past : List (List Measured)) (taken : List Measured)
             → StandsScroll self.now own specs past taken
@@ -70,7 +70,7 @@ impl ScrollPlan {
         }
     }
 
-    /// Takes the size that a child has got; where `ask` answered None, the one that was handed to it.
+    /// Takes the size that a child has got; if `ask` returned `None`, the one that was passed to it.
     pub fn take(&mut self, kid: &Facts, size: Size)
         ensures { (own : FactsValue) (specs : Specs) (past : List (List Measured)) (taken : List Measured)
             → StandsScroll self.old own specs past taken
@@ -82,7 +82,7 @@ impl ScrollPlan {
         }
     }
 
-    /// Ends a phase: true where another follows.
+    /// Ends a phase: true if another follows.
     pub fn turn(&mut self) -> bool
         ensures { (own : FactsValue) (specs : Specs) (past : List (List Measured)) (taken : List Measured)
             → StandsScroll self.old own specs past taken
@@ -180,7 +180,7 @@ impl ScrollPlan {
     }
 }
 
-/// Whether a length is below what is left of `room` beside padding and margins.
+/// Whether a length is below what is left of `room` after padding and margins.
 fn is_below(length: i32, room: i32, padding: i64, margins: i64) -> bool
     requires padding_low { negsuc 4294967295 ≤ℤ padding }
     requires padding_high { padding ≤ℤ pos 4294967294 }

@@ -1,54 +1,28 @@
 -- What is seen of a view once an edit has changed it: no more than before.
-use Rattle.std.proofs.Common.{◌≡◌, ◌≢◌, ℕ, ℤ, Bool, true, false, List, [], ◌∷◌, None, refl, ap, ◌∙◌, subst, arith, inl, inr, ◌⊎◌}
-use Rattle.std.proofs.lemmas.Bool.{cases_eq, eq-eqb, ne_eqb}
+use Rattle.std.proofs.Common.{◌≡◌, ℕ, ℤ, Bool, true, false, List, [], ◌∷◌, None, refl, ap, ◌∙◌, inl, inr, ◌⊎◌}
 use Rattle.std.specs.Prelude.{◌==◌, if◌then◌else◌, chars}
 use Rattle.geom_core.specs.Rects.{holds}
 use Rattle.geom_core.specs.declared.geometry.Size.{Size}
-use Rattle.kept_views.specs.Pressing.{pressed}
+use Rattle.seen_edits.proofs.BesideLaws.{around_spread, around_still}
 use Rattle.seen_edits.proofs.StillLaws.{AreStill}
 use Rattle.seen_edits.specs.Shown.{IsChange, edited, seen_of}
 use Rattle.seen_parts.proofs.MeetingLaws.{nowhere_unseen}
 use Rattle.seen_parts.specs.Meeting.{canvas_around}
-use Rattle.tree_edits.specs.Asking.{asked_by, requested}
+use Rattle.tree_edits.specs.Asking.{acted_view, asked_by}
 use Rattle.tree_edits.specs.Editing.{hides}
 use Rattle.tree_edits.specs.Hiding.{gone_one, held_hiding}
-use Rattle.tree_edits.specs.Keeping.{KeepsViews, acted_view, held_acted, held_edited}
+use Rattle.tree_edits.specs.Keeping.{KeepsViews, held_acted, held_edited}
 use Rattle.tree_edits.specs.declared.edits.Edit.{Edit}
 use Rattle.tree_edits.specs.declared.edits.Edit.TheVariants as edit
 use Rattle.view_model.specs.Changes.{facts_after_act}
-use Rattle.view_model.specs.Forest.{Forest, Nothing, Branch}
-use Rattle.view_model.specs.PlainTree.{PlainView}
-use Rattle.view_model.specs.Visible.{Canvas, canvas_below, whole_window}
+use Rattle.view_model.specs.Forest.{Forest}
+use Rattle.view_model.specs.Visible.{Canvas, whole_window}
 use Rattle.view_model.specs.declared.changes.Act.{Act}
-use Rattle.view_tree.specs.Requests.{among, asking, forced_one}
-use Rattle.view_tree.specs.Rows.{Row, changed_at_key, count_of_key, first_tree, part_from, pruned_at_key}
-use Rattle.view_tree.specs.Views.{Held, IsLive, Views, facts_of, held_of, scrolled}
-use Rattle.view_tree.proofs.forest.KeyLaws.{times_self}
-use Rattle.view_tree.proofs.forest.NumberLaws.{count_of_key-put}
+use Rattle.view_tree.specs.Requests.{among, asking, forced_one, pressed, requested}
+use Rattle.view_tree.specs.Rows.{Row, count_of_key, first_tree, part_from, pruned_at_key}
+use Rattle.view_tree.specs.Views.{Held, IsLive, IsTree, Views, facts_of, held_of}
 
-cut_there : (key : ℕ) (row : Row) (kids siblings : Forest Row) → row.key ≢ key → pruned_at_key key (Branch row kids siblings) ≡ Branch row (pruned_at_key key kids) (pruned_at_key key siblings)
-cut_there key row kids siblings ne = rw (ne_eqb row.key key ne) refl
-
--- a view that has changed lies in the canvas in which it lay, where all others lie where they lay
-around_still : (old new : ℕ → Held) (canvas : Canvas) (key : ℕ) (change : PlainView → PlainView) (list : Forest Row) → AreStill old new (pruned_at_key key list)
-    → canvas_around new canvas key (changed_at_key key change list) ≡ canvas_around old canvas key list
-around_still old new canvas key change Nothing still = refl
-around_still old new canvas key change (Branch row kids siblings) still = elim (cases_eq row.key key) [
-  | inl e ↦ rw (eq-eqb row.key key e, eq-eqb row.key key e) refl
-  | inr ne ↦
-      let still : AreStill old new (Branch row (pruned_at_key key kids) (pruned_at_key key siblings)) = subst (AreStill old new) (cut_there key row kids siblings ne) still in
-      let own = still row.key (times_self row (pruned_at_key key kids) (pruned_at_key key siblings)) in
-      elim (cases_eq (count_of_key key kids) 0) [
-        | inl z ↦
-            rw (ne_eqb row.key key ne, ne_eqb row.key key ne, count_of_key-put key key change kids, eq-eqb (count_of_key key kids) 0 z)
-            (around_still old new canvas key change siblings (λ k some. still k (omega arith)))
-        | inr nz ↦
-            rw (ne_eqb row.key key ne, ne_eqb row.key key ne, count_of_key-put key key change kids, ne_eqb (count_of_key key kids) 0 nz, own.bounds, own.offset)
-            (around_still old new (canvas_below (old row.key).state.bounds (scrolled old row).facts canvas) key change kids (λ k some. still k (omega arith)))
-      ]
-]
-
--- requests for layout leave views where they lie
+-- requests for layout leave the bounds of views
 bounds_requested : (held : ℕ → Held) (views : List ℕ) (tree : Forest Row) (key : ℕ) → (requested held views tree key).state.bounds ≡ (held key).state.bounds
 bounds_requested held [] tree key = refl
 bounds_requested held (view ∷ more) tree key =
@@ -58,7 +32,7 @@ bounds_requested held (view ∷ more) tree key =
     by true = refl
     by false = refl
 
--- a view lies where it lay, or nowhere
+-- a view has the bounds that it had, or none
 abbrev StaysOrGoes : Held → Held → Type 0
 StaysOrGoes old new = (new.state.bounds ≡ old.state.bounds) ⊎ (new.state.bounds ≡ None)
 
@@ -86,7 +60,7 @@ edited_bounds views (edit.Act view act) is key = elim (hiding_bounds (hides act)
   | inr none ↦ inr (acted_bounds views view act key ∙ none)
 ]
 
--- an edit moves no view but out of layout
+-- an edit moves no view except out of layout
 stays_or_goes : (old new : Views) (e : Edit) → IsChange e → KeepsViews old new e → (key : ℕ) → IsLive old key → IsLive new key → StaysOrGoes (held_of old key) (held_of new key)
 stays_or_goes old new e is keeps key was now =
     let kept = ap (λ (h : Held). h.state.bounds) (keeps.stays key was now) ∙ bounds_requested (held_edited old e) (asked_by old e) old.tree key in
@@ -95,22 +69,22 @@ stays_or_goes old new e is keeps key was now =
       | inr none ↦ inr (kept ∙ none)
     ]
 
-around_edited : (canvas : Canvas) (old new : Views) (e : Edit) → IsChange e → KeepsViews old new e → AreStill (held_of old) (held_of new) (pruned_at_key (edited e) old.tree)
+around_edited : (canvas : Canvas) (old new : Views) (e : Edit) → IsChange e → IsTree old → KeepsViews old new e → AreStill (held_of old) (held_of new) (pruned_at_key (edited e) old.tree)
     → canvas_around (held_of new) canvas (edited e) new.tree ≡ canvas_around (held_of old) canvas (edited e) old.tree
-around_edited canvas old new (edit.Add parent class width height) is keeps still = absurd is
-around_edited canvas old new (edit.Remove view) is keeps still = absurd is
-around_edited canvas old new (edit.Act view act) is keeps still =
-    ap (canvas_around (held_of new) canvas view) keeps.tree ∙ around_still (held_of old) (held_of new) canvas view (acted_view act) old.tree still
-around_edited canvas old new (edit.Text view text) is keeps still =
+around_edited canvas old new (edit.Add parent class width height) is was keeps still = absurd is
+around_edited canvas old new (edit.Remove view) is was keeps still = absurd is
+around_edited canvas old new (edit.Act view act) is was keeps still =
+    ap (canvas_around (held_of new) canvas view) keeps.tree ∙ around_spread (held_of old) (held_of new) canvas view act (acted_view act) old.tree was.directed still
+around_edited canvas old new (edit.Text view text) is was keeps still =
     ap (canvas_around (held_of new) canvas view) keeps.tree ∙ around_still (held_of old) (held_of new) canvas view (λ v. record v { text = chars text.now }) old.tree still
 
 -- of the view of an edit no more is seen than before
-pub seen_less : (window : Size) (old new : Views) (e : Edit) → IsChange e → KeepsViews old new e → IsLive old (edited e) → IsLive new (edited e)
+pub seen_less : (window : Size) (old new : Views) (e : Edit) → IsChange e → IsTree old → KeepsViews old new e → IsLive old (edited e) → IsLive new (edited e)
     → AreStill (held_of old) (held_of new) (pruned_at_key (edited e) old.tree) → (x y : ℤ)
     → holds (seen_of window old (edited e)) x y ≡ false → holds (seen_of window new (edited e)) x y ≡ false
-seen_less window old new e is keeps was now still x y unseen =
-    let around = around_edited (whole_window window) old new e is keeps still in
-    elim (stays_or_goes old new e is keeps (edited e) was now) [
+seen_less window old new e is was keeps live now still x y unseen =
+    let around = around_edited (whole_window window) old new e is was keeps still in
+    elim (stays_or_goes old new e is keeps (edited e) live now) [
       | inl same ↦ rw (around, same) unseen
       | inr none ↦ rw none (nowhere_unseen (canvas_around (held_of new) (whole_window window) (edited e) new.tree) x y)
     ]

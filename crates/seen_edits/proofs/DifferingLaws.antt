@@ -1,4 +1,4 @@
--- Pictures that differ in a rectangle alone differ at no more places than its area.
+-- Pictures that differ only in a rectangle differ at no more places than its area.
 use Rattle.std.proofs.Common.{◌≡◌, ℕ, zero, suc, mul_comm, mul-le-mul, ◌+◌, ◌-◌, ◌*◌, ◌/◌, ◌%◌, ◌<◌, ◌≤◌, ℤ, pos, negsuc, Bool, true, false, nat_lt, List, [], ◌∷◌, length, refl, sym, ap, ◌∙◌, subst, arith}
 use Rattle.std.specs.Prelude.{◌==◌, ◌&&◌, if◌then◌else◌, int_lt, slice_index_or}
 use Rattle.std.proofs.Math.Nat.{div-add-mod, div-lt_iff_lt-mul, mod-eq-sub-div-mul, mul-suc, suc-mul}

@@ -1,7 +1,9 @@
 mod AroundLaws
+mod BesideLaws
 mod DifferingLaws
 mod GivenLaws
 pub mod StillLaws
 pub mod ScrolledLaws
 pub mod ShownLaws
+mod ToldLaws
 mod UnseenLaws

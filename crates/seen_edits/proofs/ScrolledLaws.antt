@@ -49,7 +49,7 @@ scrolled_parts n (first ∷ one) entry e = elim (either (is_scroll first.kind &&
     or_true true t e = refl
     or_true false t e = e
 
--- more damage keeps what was noted
+-- more damage keeps what was recorded
 pub in_more : (window : Size) (less more : Rect) (views : Views) (key : ℕ) → LiesIn less more → IsIn window less views key → IsIn window more views key
 in_more window less more views key grew is x y out = is x y (outside less more grew x y out)
 
@@ -111,7 +111,7 @@ is_of entry number scroll same = rw (scroll, eq-eqb entry.view number (sym same)
 pub notes_other : (window : Size) (damage : Rect) (views : Views) (entry : Entry) → is_scroll entry.kind ≡ false → NotesEntry window damage views entry
 notes_other window damage views entry other key live e = absurd (let h = (both (is_scroll entry.kind) (entry.view == number_of views key) e).0 in let f : true ≡ false = sym h ∙ other in cc)
 
--- an event has moved children, and all of that was noted
+-- an event has moved children, and all of that was recorded
 pub shown_scrolled : (window : Size) (less more : Rect) (old new : Views) (before after : Kept) (log new_log : Log) → IsTree new → OnlyScrolls old new → LiesIn less more
     → LogsScrolls (progress_of old before log) (progress_of new after new_log) → NotesAll window more new new_log.entries.items → KeepsShown window less more old new
 shown_scrolled window less more old new before after log new_log is scrolls grew logs noted = record {

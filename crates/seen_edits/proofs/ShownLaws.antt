@@ -12,18 +12,20 @@ use Rattle.pixel_raster.proofs.PictureLaws.{pixels-picture}
 use Rattle.pixel_raster.specs.Cuts.{area_within, cut_of, edge_within, from_zero}
 use Rattle.pixel_raster.specs.Raster.{IsRaster, Raster, color_at, size_of}
 use Rattle.seen_edits.proofs.AroundLaws.{seen_less}
+use Rattle.seen_edits.proofs.BesideLaws.{cut_spread}
 use Rattle.seen_edits.proofs.StillLaws.{AreStill, IsStill, met_beside, placed_still, whole_is}
 use Rattle.seen_parts.proofs.PlacedLaws.{placed_is}
 use Rattle.seen_edits.specs.Shown.{GrowsWithin, IsChange, KeepsShown, Shows, edited, seen_of}
 use Rattle.seen_parts.proofs.ChangeLaws.{cut_changed, met_cut}
 use Rattle.seen_parts.proofs.MeetingLaws.{same_color}
 use Rattle.seen_parts.specs.Meeting.{met_at, placed_rows}
+use Rattle.tree_edits.proofs.SpreadLaws.{count_of_key-spread}
 use Rattle.tree_edits.proofs.UnaskedLaws.{stays_bounds, stays_offset}
 use Rattle.tree_edits.specs.Applied.{IsEdit}
-use Rattle.tree_edits.specs.Asking.{goes_out, is_in_part}
+use Rattle.tree_edits.specs.Asking.{acted_view, goes_out, is_in_part}
 use Rattle.tree_edits.specs.Editing.{hides}
 use Rattle.tree_edits.specs.Hiding.{gone_one, held_hiding}
-use Rattle.tree_edits.specs.Keeping.{KeepsViews, acted_view, held_edited}
+use Rattle.tree_edits.specs.Keeping.{KeepsViews, held_edited}
 use Rattle.tree_edits.specs.declared.edits.Edit.{Edit}
 use Rattle.tree_edits.specs.declared.edits.Edit.TheVariants as edit
 use Rattle.tree_painter.specs.Painted.{IsPainted}
@@ -31,7 +33,7 @@ use Rattle.view_model.specs.Forest.{Forest}
 use Rattle.view_model.specs.Geometry.{rect_at}
 use Rattle.view_model.specs.Painting.{pixel_color, picture}
 use Rattle.view_model.specs.Visible.{whole_window}
-use Rattle.view_tree.specs.Rows.{Row, count_of_key, first_tree, part_from, pruned_at_key}
+use Rattle.view_tree.specs.Rows.{Row, changed_at_key, count_of_key, first_tree, part_from, pruned_at_key}
 use Rattle.view_tree.specs.Views.{IsLive, IsTree, Views, geometry_of, held_of, plain_of}
 use Rattle.view_tree.proofs.forest.NumberLaws.{count_of_key-cut_le, count_of_key-own_cut, count_of_key-pruned_at_key, count_of_key-put}
 
@@ -62,20 +64,22 @@ shown_same window damage views new same = record {
   colors = λ x y inside out. rw same refl;
 }
 
--- what an edit leaves beside its view
-cut_after : (old new : Views) (e : Edit) → IsChange e → KeepsViews old new e → pruned_at_key (edited e) new.tree ≡ pruned_at_key (edited e) old.tree
-cut_after old new (edit.Add parent class width height) is keeps = absurd is
-cut_after old new (edit.Remove view) is keeps = absurd is
-cut_after old new (edit.Act view act) is keeps = ap (pruned_at_key view) keeps.tree ∙ cut_changed view (acted_view act) old.tree
-cut_after old new (edit.Text view text) is keeps = ap (pruned_at_key view) keeps.tree ∙ cut_changed view (λ v. record v { text = chars text.now }) old.tree
+-- what an edit leaves besides its view
+cut_after : (old new : Views) (e : Edit) → IsChange e → IsTree old → KeepsViews old new e → pruned_at_key (edited e) new.tree ≡ pruned_at_key (edited e) old.tree
+cut_after old new (edit.Add parent class width height) is was keeps = absurd is
+cut_after old new (edit.Remove view) is was keeps = absurd is
+cut_after old new (edit.Act view act) is was keeps = ap (pruned_at_key view) keeps.tree ∙ cut_spread view act (acted_view act) old.tree was.directed
+cut_after old new (edit.Text view text) is was keeps = ap (pruned_at_key view) keeps.tree ∙ cut_changed view (λ v. record v { text = chars text.now }) old.tree
 
 pub live_after : (old new : Views) (e : Edit) → IsChange e → KeepsViews old new e → (key : ℕ) → IsLive old key → IsLive new key
 live_after old new (edit.Add parent class width height) is keeps key live = absurd is
 live_after old new (edit.Remove view) is keeps key live = absurd is
-live_after old new (edit.Act view act) is keeps key live = let c = count_of_key-put key view (acted_view act) old.tree in subst (λ (tree : Forest Row). 0 < count_of_key key tree) (sym keeps.tree) (omega (arith, c, live))
+live_after old new (edit.Act view act) is keeps key live =
+    let c = count_of_key-spread key act (changed_at_key view (acted_view act) old.tree) ∙ count_of_key-put key view (acted_view act) old.tree in
+    subst (λ (tree : Forest Row). 0 < count_of_key key tree) (sym keeps.tree) (omega (arith, c, live))
 live_after old new (edit.Text view text) is keeps key live = let c = count_of_key-put key view (λ v. record v { text = chars text.now }) old.tree in subst (λ (tree : Forest Row). 0 < count_of_key key tree) (sym keeps.tree) (omega (arith, c, live))
 
--- an edit takes no view beside its own, and beside those below it, out of layout
+-- an edit takes no view out of layout besides its own and those below it
 stays_in : (old : Views) (e : Edit) → IsChange e → (key : ℕ) → count_of_key key (first_tree (part_from (edited e) old.tree)) ≡ 0 → goes_out old e key ≡ false
 stays_in old (edit.Add parent class width height) is key none = absurd is
 stays_in old (edit.Remove view) is key none = absurd is
@@ -119,8 +123,8 @@ shown_changed window less more old new e change was is live keeps grew lies = re
       let before = outside (seen_of window old (edited e)) more lies x y out in
       colors_same window old new x y was is inside
       (met_beside x y (held_of old) (held_of new) (whole_window window) (edited e) old.tree new.tree (was.keys (edited e)) (is.keys (edited e)) before
-      (seen_less window old new e change keeps live (live_after old new e change keeps (edited e) live) beside x y before)
-      (cut_after old new e change keeps) beside);
+      (seen_less window old new e change was keeps live (live_after old new e change keeps (edited e) live) beside x y before)
+      (cut_after old new e change was keeps) beside);
 }
   where
     beside : AreStill (held_of old) (held_of new) (pruned_at_key (edited e) old.tree)
@@ -157,7 +161,7 @@ in_picture : (picture : Raster) (x y : ℕ) → x < picture.width → y < pictur
 in_picture picture x y column row =
     is_between (rect_at (pos 0) (pos 0) (size_of picture)) (pos x) (pos y) (record { left = omega (arith, ints); right = omega (arith, ints); top = omega (arith, ints); bottom = omega (arith, ints) })
 
--- the picture still shows the tree where nothing was damaged
+-- the picture still shows the tree if nothing was damaged
 pub shows_on : (picture : Raster) (less more : Rect) (old new : Views) → Shows picture less old → KeepsShown (size_of picture) less more old new → Shows picture more new
 shows_on picture less more old new shows kept x y column row out =
     shows x y column row (outside less more kept.grew (pos x) (pos y) out)
@@ -218,7 +222,7 @@ pub within_part : (window : Size) (old new : Views) (view : ℕ) (less part more
 within_part window old new view less part more is seen box first was now =
     subst (λ (rect : Rect). LiesIn rect box) (sym is) (hull_least less part box first (λ x y h. was x y (seen x y h)))
 
--- what lies in damage lies in more of it
+-- what is within damage is within more of it
 pub within_more : (less part more inner : Rect) → more ≡ hull_of less part → LiesIn inner (hull_of less part) → LiesIn inner more
 within_more less part more inner is lies = subst (LiesIn inner) (sym is) lies
 

@@ -1,4 +1,4 @@
--- Views that lie where they lay.
+-- Views that have the bounds that they had.
 use Rattle.std.proofs.Common.{◌+ℤ◌, ◌≡◌, ◌<◌, ◌≤◌, ℕ, ℤ, false, refl, sym, ap, ◌∙◌, arith, pos}
 use Rattle.std.proofs.lemmas.Int.{ints}
 use Rattle.geom_core.specs.declared.geometry.Size.{Size}
@@ -19,7 +19,7 @@ nothing_more n = omega (arith, ints)
 pub whole_is : (window : Size) → rect_at (pos 0) (pos 0) window ≡ (whole_window window).clip
 whole_is window = rw (nothing_more window.w, nothing_more window.h) refl
 
--- a view lies where it lay, with the offset that it had
+-- a view has the bounds and the offset that it had
 pub record IsStill (old new : Held) : Type 0 where
   pub bounds : new.state.bounds ≡ old.state.bounds
   pub offset : new.offset ≡ old.offset

@@ -12,9 +12,11 @@ use Rattle.seen_parts.proofs.PlacedLaws.{placed_is}
 use Rattle.seen_edits.proofs.ShownLaws.{hiding_offset, live_after, shown_same}
 use Rattle.seen_edits.specs.Shown.{KeepsShown, act_is_unseen, is_unseen}
 use Rattle.seen_parts.specs.Meeting.{placed_rows}
+use Rattle.tree_edits.proofs.SpreadLaws.{unspread}
 use Rattle.tree_edits.proofs.UnaskedLaws.{stays_bounds, stays_offset}
-use Rattle.tree_edits.specs.Editing.{hides}
-use Rattle.tree_edits.specs.Keeping.{KeepsViews, acted_view, held_acted}
+use Rattle.tree_edits.specs.Editing.{hides, turns}
+use Rattle.tree_edits.specs.Asking.{acted_view}
+use Rattle.tree_edits.specs.Keeping.{KeepsViews, held_acted}
 use Rattle.tree_edits.specs.declared.edits.Edit.{Edit}
 use Rattle.tree_edits.specs.declared.edits.Edit.TheVariants as edit
 use Rattle.view_model.specs.Changes.{facts_after_act}
@@ -53,6 +55,7 @@ acted_alike : (act : Act) → act_is_unseen act ≡ true → (view : PlainView) 
 acted_alike (act.Change change) e view offset = absurd (cc)
 acted_alike (act.WeightSum sum) e view offset = absurd (cc)
 acted_alike (act.Orient vertical) e view offset = absurd (cc)
+acted_alike (act.Direction direction) e view offset = absurd (cc)
 acted_alike (act.Flag flag.Clip on) e view offset = absurd (cc)
 acted_alike (act.Flag flag.Fill on) e view offset = absurd (cc)
 acted_alike (act.Flag flag.Split on) e view offset = refl
@@ -68,6 +71,7 @@ unseen_offset : (act : Act) → act_is_unseen act ≡ true → (facts : Facts) �
 unseen_offset (act.Change change) e facts = absurd (cc)
 unseen_offset (act.WeightSum sum) e facts = absurd (cc)
 unseen_offset (act.Orient vertical) e facts = absurd (cc)
+unseen_offset (act.Direction direction) e facts = absurd (cc)
 unseen_offset (act.Flag flag.Clip on) e facts = absurd (cc)
 unseen_offset (act.Flag flag.Fill on) e facts = absurd (cc)
 unseen_offset (act.Flag flag.Split on) e facts = refl
@@ -83,6 +87,7 @@ unseen_stays : (act : Act) → act_is_unseen act ≡ true → hides act ≡ fals
 unseen_stays (act.Change change) e = refl
 unseen_stays (act.WeightSum sum) e = refl
 unseen_stays (act.Orient vertical) e = refl
+unseen_stays (act.Direction direction) e = refl
 unseen_stays (act.Flag flag on) e = refl
 unseen_stays (act.Visible visibility) e = absurd (cc)
 unseen_stays (act.Ink color) e = refl
@@ -91,6 +96,20 @@ unseen_stays (act.Rule verb value) e = refl
 unseen_stays (act.Answer answer) e = refl
 unseen_stays (act.Intercept actions) e = refl
 unseen_stays (act.Scroll offset) e = refl
+
+unseen_turns : (act : Act) → act_is_unseen act ≡ true → turns act ≡ false
+unseen_turns (act.Change change) e = refl
+unseen_turns (act.WeightSum sum) e = refl
+unseen_turns (act.Orient vertical) e = refl
+unseen_turns (act.Direction direction) e = absurd (cc)
+unseen_turns (act.Flag flag on) e = refl
+unseen_turns (act.Visible visibility) e = refl
+unseen_turns (act.Ink color) e = refl
+unseen_turns (act.Id id) e = refl
+unseen_turns (act.Rule verb value) e = refl
+unseen_turns (act.Answer answer) e = refl
+unseen_turns (act.Intercept actions) e = refl
+unseen_turns (act.Scroll offset) e = refl
 
 held_unseen : (views : Views) (view : ℕ) (act : Act) → act_is_unseen act ≡ true → (key : ℕ) → (held_acted views view act key).offset ≡ (held_of views key).offset
 held_unseen views view act e key = elim (cases_Bool (key == view)) [
@@ -129,7 +148,8 @@ colors_alike : (old new : Views) (view : ℕ) (act : Act) → act_is_unseen act 
     → painted (placed_rows (held_of new) new.tree) ≡ painted (placed_rows (held_of old) old.tree)
 colors_alike old new view act e keeps =
     sym (painted_looks (placed_rows (held_of new) new.tree))
-    ∙ ap (λ (tree : Forest Row). painted (map_rows look_of (placed_rows (held_of new) tree))) keeps.tree
+    ∙ ap (λ (tree : Forest Row). painted (map_rows look_of (placed_rows (held_of new) tree)))
+    (keeps.tree ∙ unspread act (changed_at_key view (acted_view act) old.tree) (unseen_turns act e))
     ∙ ap painted (rows_alike (held_of old) (held_of new) view act e old.tree (still_unseen old new view act e keeps))
     ∙ painted_looks (placed_rows (held_of old) old.tree)
 

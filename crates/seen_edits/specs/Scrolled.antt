@@ -5,6 +5,7 @@ use Rattle.geom_core.specs.declared.geometry.Rect.{Rect}
 use Rattle.geom_core.specs.declared.geometry.Size.{Size}
 use Rattle.damage_rect.specs.Within.{LiesIn}
 use Rattle.saved_state.specs.Restored.{wanted}
+use Rattle.saved_state.specs.State.{StateEntry}
 use Rattle.seen_edits.specs.Shown.{seen_of}
 use Rattle.touch_dispatch.specs.Scrolled.{has_scrolled, is_scroll}
 use Rattle.touch_dispatch.specs.declared.log.Entry.{Entry}
@@ -22,7 +23,7 @@ NotesEntry window damage views entry =
 abbrev pub NotesAll : Size → Rect → Views → List Entry → Type 0
 NotesAll window damage views entries = (key : ℕ) → IsLive views key → has_scrolled (number_of views key) entries ≡ true → IsIn window damage views key
 
--- what is seen of the view of an entry by which a scroll view has moved its child lies in a rectangle
+-- what is seen of the view of an entry by which a scroll view has moved its child is within a rectangle
 abbrev pub EntryIn : Size → Rect → Views → Entry → Type 0
 EntryIn window box views entry =
     (key : ℕ) → IsLive views key → (is_scroll entry.kind && entry.view == number_of views key) ≡ true → LiesIn (seen_of window views key) box
@@ -30,10 +31,10 @@ EntryIn window box views entry =
 abbrev pub ScrolledIn : Size → Rect → Views → List Entry → Type 0
 ScrolledIn window box views entries = (key : ℕ) → IsLive views key → has_scrolled (number_of views key) entries ≡ true → LiesIn (seen_of window views key) box
 
--- what is seen of each view that a state gives an offset is damage
-abbrev pub NotesGiven : List (ℕ × ℕ) → Size → Rect → Views → Type 0
+-- what is seen of each view that a state gives something is damage
+abbrev pub NotesGiven : List StateEntry → Size → Rect → Views → Type 0
 NotesGiven entries window damage views = (key : ℕ) → IsLive views key → is_some (wanted entries views.tree key) ≡ true → IsIn window damage views key
 
--- and it lies in a rectangle
-abbrev pub GivenIn : List (ℕ × ℕ) → Size → Rect → Views → Type 0
+-- and it is within a rectangle
+abbrev pub GivenIn : List StateEntry → Size → Rect → Views → Type 0
 GivenIn entries window box views = (key : ℕ) → IsLive views key → is_some (wanted entries views.tree key) ≡ true → LiesIn (seen_of window views key) box

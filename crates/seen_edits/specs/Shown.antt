@@ -17,26 +17,26 @@ use Rattle.view_model.specs.Painting.{pixel_color}
 use Rattle.view_model.specs.Visible.{whole_window}
 use Rattle.view_tree.specs.Views.{Views, geometry_of, held_of, plain_of}
 
--- each pixel outside of a rectangle has the colour that the present views give it where they lie now
+-- each pixel outside of a rectangle has the colour that the present views give it with their present bounds
 abbrev pub Shows : Raster → Rect → Views → Type 0
 Shows picture damage views =
     (x y : ℕ) → x < picture.width → y < picture.height → holds damage (pos x) (pos y) ≡ false
     → color_at picture x y ≡ pixel_color (geometry_of views) (plain_of views) (pos x) (pos y)
 
--- views have changed, and each point of the window that has another colour lies in the damage, which has grown
+-- views have changed, and each point of the window that has another colour is within the damage, which has grown
 pub record KeepsShown (window : Size) (less more : Rect) (old new : Views) : Type 0 where
   pub grew : LiesIn less more
   pub colors : (x y : ℤ) → holds (rect_at (pos 0) (pos 0) window) x y ≡ true → holds more x y ≡ false
       → pixel_color (geometry_of new) (plain_of new) x y ≡ pixel_color (geometry_of old) (plain_of old) x y
 
--- the view that an edit changes, where none comes or goes
+-- the view that an edit changes, if none is added or removed
 abbrev pub edited : Edit → ℕ
 edited (edit.Add parent class width height) = 0
 edited (edit.Remove view) = view
 edited (edit.Act view act) = view
 edited (edit.Text view text) = view
 
--- an edit by which no view comes or goes
+-- an edit that adds and removes no view
 abbrev pub IsChange : Edit → Type 0
 IsChange (edit.Add parent class width height) = ⊥
 IsChange (edit.Remove view) = ⊥
@@ -49,11 +49,12 @@ flag_is_unseen flag.Clip = false
 flag_is_unseen flag.Fill = false
 flag_is_unseen flag.Split = true
 
--- whether an act sets what no picture shows and layout does not read: an id, or who gets events
+-- whether an act sets what no picture shows and layout does not read: an id, or which views get events
 abbrev pub act_is_unseen : Act → Bool
 act_is_unseen (act.Change change) = false
 act_is_unseen (act.WeightSum sum) = false
 act_is_unseen (act.Orient vertical) = false
+act_is_unseen (act.Direction direction) = false
 act_is_unseen (act.Flag flag on) = flag_is_unseen flag
 act_is_unseen (act.Visible visibility) = false
 act_is_unseen (act.Ink color) = false

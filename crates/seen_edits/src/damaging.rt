@@ -23,8 +23,8 @@ use tree_edits::{Edit, EditFault, apply};
 use view_model::{Act, Flag};
 use view_tree::{Key, ViewTree};
 
-/// Makes an edit by which no view comes or goes. What was seen of its view in the window is damage, unless the edit shows
-/// in no picture; no more is seen of it after. A refused edit damages nothing.
+/// Makes an edit that adds and removes no view. What was seen of its view in the window is damage, unless the edit
+/// shows in no picture; no more is seen of it after. A refused edit damages nothing.
 pub fn change(
     alloc: Global,
     tree: &mut ViewTree,
@@ -86,7 +86,7 @@ fn is_unseen(edit: &Edit<'_>) -> bool
     }
 }
 
-/// Whether an act sets an id, or who gets events.
+/// Whether an act sets an id, or which views get events.
 fn act_is_unseen(act: Act) -> bool
     ensures { result ≡ act_is_unseen act }
 {
@@ -96,6 +96,7 @@ fn act_is_unseen(act: Act) -> bool
         Act::Change(_)
         | Act::WeightSum(_)
         | Act::Orient { .. }
+        | Act::Direction(_)
         | Act::Visible(_)
         | Act::Ink(_)
         | Act::Rule { .. }
@@ -103,7 +104,7 @@ fn act_is_unseen(act: Act) -> bool
     }
 }
 
-/// Takes a view and all below it away. What was seen of it in the window is damage.
+/// Removes a view and all below it. What was seen of it in the window is damage.
 pub fn take(
     alloc: Global,
     tree: &mut ViewTree,
@@ -135,7 +136,7 @@ pub fn take(
     }
 }
 
-/// What of a view has yet to be damage: what is seen of it, or nothing where all of the window is damage.
+/// What of a view has yet to be damage: what is seen of it, or nothing if all of the window is damage.
 fn part_left(tree: &ViewTree, window: Size, view: Key, damage: Rect) -> Rect
     requires { IsLive tree.now view }
     ensures seen { LiesIn result (seen_of window tree.now view) }
@@ -147,7 +148,7 @@ fn part_left(tree: &ViewTree, window: Size, view: Key, damage: Rect) -> Rect
     seen(tree, window, view)
 }
 
-/// Whether all of a window of this size lies in a rectangle.
+/// Whether all of a window of this size is within a rectangle.
 fn covers(rect: Rect, window: Size) -> bool
     ensures { result ≡ true → LiesIn (whole_window window).clip rect }
 {

@@ -1,28 +1,30 @@
-//! What has to be painted again once offsets are restored.
+//! What has to be painted again once a state is restored.
 ghost use Rattle.std.specs.Prelude.{◌≡◌, ℕ, true, false, is_some, OnErr, OnOk};
 ghost use Rattle.damage_rect.specs.Within.{LiesIn};
 ghost use Rattle.geom_core.specs.declared.geometry.Rect.{Rect};
 ghost use Rattle.kept_views.specs.Kept.{IsConsistent};
 ghost use Rattle.saved_state.specs.Answers.{RestoredUnless};
-ghost use Rattle.saved_state.specs.Restored.{all_given, on_paths, set_by, wanted};
+ghost use Rattle.saved_state.specs.Restored.{Retells, all_given, on_paths, set_by, wanted};
 ghost use Rattle.saved_state.specs.Restoring.{is_for_other_class, restored};
 ghost use Rattle.saved_state.specs.Saving.{OffsetsFit};
 ghost use Rattle.seen_edits.specs.Scrolled.{GivenIn, IsIn, NotesGiven};
 ghost use Rattle.seen_edits.specs.Shown.{KeepsShown, seen_of};
 ghost use Rattle.view_model.specs.Forest.{rows};
-ghost use Rattle.view_tree.specs.Views.{IsLive, SameTree, geometry_of, held_of, plain_of};
+ghost use Rattle.view_tree.specs.Views.{IsLive, IsTree, geometry_of, held_of, plain_of};
 
 use crate::trees::note_tree;
 use damage_rect::Damage;
 use geom_core::Size;
-use saved_state::{StateFault, States, given_offset, restore};
+use saved_state::{StateFault, States, is_given, restore};
 use seen_parts::seen;
+use std::alloc::Global;
 use view_tree::{Key, ViewTree};
 
-/// Sets the offset of each scroll view whose id a state has, and requests layout there. What is seen of each of them in
-/// the window is damage: the outermost of them lie where they lay, and what was seen of the others before lies within
-/// these. A refused state damages nothing.
-pub fn restore_offsets(
+/// Sets the offset of each scroll view and the text of each text view for which a state has one, and requests layout there.
+/// What is seen of each of them in the window is damage: the outermost of them lie where they lay, and what was seen of the
+/// others before lies within these. Where it is refused, or there is no memory, nothing is damaged.
+pub fn restore_views(
+    alloc: Global,
     tree: &mut ViewTree,
     window: Size,
     states: &States,
@@ -34,7 +36,8 @@ pub fn restore_offsets(
     ensures plain { OnOk result (plain_of tree.new ≡ restored states.now (plain_of tree.old)) }
     ensures refused { RestoredUnless (is_for_other_class states.now (rows (plain_of tree.old))) result }
     ensures unchanged { OnErr result (tree.new ≡ tree.old) }
-    ensures same { SameTree tree.old tree.new }
+    ensures retells { OnOk result (Retells states.now tree.old tree.new) }
+    ensures is_tree { IsTree tree.new }
     ensures counts { tree.new.counts ≡ tree.old.counts }
     ensures geometry { geometry_of tree.new ≡ geometry_of tree.old }
     ensures consistent { IsConsistent tree.old → IsConsistent tree.new }
@@ -42,7 +45,8 @@ pub fn restore_offsets(
     ensures asked { (key : ℕ) → on_paths key (set_by states.now tree.old.tree) tree.old.tree ≡ false → held_of tree.new key ≡ held_of tree.old key }
     ensures fits { OffsetsFit (plain_of tree.old) → OffsetsFit (plain_of tree.new) }
 {
-    match restore(tree, states) {
+    note_tree(tree);
+    match restore(alloc, tree, states) {
         Ok(()) => {
             note_tree(tree);
             note_given(tree, window, states, damage);
@@ -52,7 +56,7 @@ pub fn restore_offsets(
     }
 }
 
-/// Adds what is seen of each view that a state gives an offset.
+/// Adds what is seen of each view that a state gives something.
 fn note_given(tree: &ViewTree, window: Size, states: &States, damage: &mut Damage)
     ensures grew { LiesIn damage.old.rect damage.new.rect }
     ensures noted { NotesGiven states.now window damage.new.rect tree.now }
@@ -65,15 +69,14 @@ fn note_given(tree: &ViewTree, window: Size, states: &States, damage: &mut Damag
     }
 }
 
-/// Adds what is seen of a view, if a state gives it an offset.
+/// Adds what is seen of a view, if a state gives it something.
 fn note_view(tree: &ViewTree, window: Size, states: &States, view: Key, damage: &mut Damage)
     requires { IsLive tree.now view }
     ensures grew { LiesIn damage.old.rect damage.new.rect }
     ensures noted { is_some (wanted states.now tree.now.tree view) ≡ true → IsIn window damage.new.rect tree.now view }
     ensures within { (box : Rect) → LiesIn damage.old.rect box → (is_some (wanted states.now tree.now.tree view) ≡ true → LiesIn (seen_of window tree.now view) box) → LiesIn damage.new.rect box }
 {
-    let Some(_offset) = given_offset(tree, states, view) else {
-        return;
-    };
-    damage.add(seen(tree, window, view));
+    if is_given(tree, states, view) {
+        damage.add(seen(tree, window, view));
+    }
 }

@@ -13,8 +13,8 @@ use seen_parts::seen;
 use touch_dispatch::{Entry, Kind, Log};
 use view_tree::ViewTree;
 
-/// Adds what is seen in a window of each scroll view that a log has as scrolled. The outermost of them lie where they lay,
-/// and what was seen of the others before lies within these.
+/// Adds what is seen in a window of each scroll view that a log has as scrolled. The outermost of them have the bounds
+/// that they had, and what was seen of the others before is within these.
 pub fn note_scrolled(tree: &ViewTree, window: Size, log: &Log, damage: &mut Damage)
     ensures grew { LiesIn damage.old.rect damage.new.rect }
     ensures is_tree { IsTree tree.now }

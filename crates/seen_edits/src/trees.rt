@@ -3,7 +3,7 @@ ghost use Rattle.view_tree.specs.Views.{IsTree};
 
 use view_tree::ViewTree;
 
-/// Every tree is one. This is for contracts alone.
+/// The invariant of every tree, for contracts alone.
 pub fn note_tree(tree: &ViewTree)
     ensures { IsTree tree.now }
 {

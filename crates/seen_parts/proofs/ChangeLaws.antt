@@ -65,7 +65,7 @@ cut_changed key change (Branch row kids siblings) = elim (cases_Bool (row.key ==
   | inr e ↦ rw (e, e, cut_changed key change kids, cut_changed key change siblings) refl
 ]
 
--- views are scrolled, and where that is so nothing is seen of them
+-- views are scrolled, and where they are nothing is seen of them
 pub met_scrolled : (x y : ℤ) (old new : ℕ → Held) (canvas : Canvas) (list : Forest Row) → ((key : ℕ) → count_of_key key list ≤ 1)
     → ((key : ℕ) → (new key).state.bounds ≡ (old key).state.bounds)
     → ((key : ℕ) → 0 < count_of_key key list → ((new key).offset ≡ (old key).offset) ⊎ (holds (seen_at new canvas key list) x y ≡ false))

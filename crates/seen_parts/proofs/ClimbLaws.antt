@@ -32,7 +32,7 @@ module _ (held : ℕ → Held) where
       → canvas_around held canvas k (Branch row kids siblings) ≡ canvas_around held (canvas_below (held row.key).state.bounds (scrolled held row).facts canvas) k kids
   canvas_inside canvas k row kids siblings ne nz = rw (ne_eqb row.key k ne, ne_eqb (count_of_key k kids) 0 nz) refl
 
-  -- a view is among the outermost, and lies in their canvas, or in that of the nearest view around it
+  -- a view is among the outermost, and is in their canvas, or in that of the nearest view around it
   record Above (acc : List ℕ) (canvas : Canvas) (k : ℕ) (t : Forest Row) : Type 0 where
     pub row : Row
     pub kids : Forest Row

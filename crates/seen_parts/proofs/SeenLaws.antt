@@ -20,7 +20,7 @@ use Rattle.view_tree.proofs.forest.PlainLaws.{agree_live}
 abbrev inner_of : (ℕ → Held) → Canvas → Row → Canvas
 inner_of held canvas row = canvas_below (held row.key).state.bounds (scrolled held row).facts canvas
 
--- no view of a list has this number where none has the key
+-- no view of a list has this number if none has the key
 visible_none : (held : ℕ → Held) (canvas : Canvas) (key number : ℕ) (list : Forest Row) → count_of_key key list ≡ 0 → Agree key number list → visible_in (placed_rows held list) canvas number ≡ None
 visible_none held canvas key number Nothing none agree = refl
 visible_none held canvas key number (Branch row kids siblings) none agree = elim (cases_Bool (row.key == key)) [

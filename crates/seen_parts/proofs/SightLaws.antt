@@ -24,7 +24,7 @@ placed_along old new (Branch row kids siblings) same =
       placed_along old new siblings (KeepsInside-siblings old new row kids siblings same),
     ) refl
 
--- what is seen depends on where views lie and on their offsets alone
+-- what is seen depends only on the bounds and the offsets of views
 pub placed_by_bounds : (old new : ℕ → Held) (list : Forest Row) → ((key : ℕ) → (new key).state.bounds ≡ (old key).state.bounds) → ((key : ℕ) → (new key).offset ≡ (old key).offset)
     → placed_rows new list ≡ placed_rows old list
 placed_by_bounds old new Nothing bounds offsets = refl

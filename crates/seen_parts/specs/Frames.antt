@@ -17,12 +17,12 @@ frame_holds frame x y = (not (int_lt x frame.left) && int_lt x frame.right) && (
 abbrev pub frame_size : Frame → Size
 frame_size frame = record { w = frame.right -ℤ frame.left; h = frame.bottom -ℤ frame.top }
 
--- a number that is at most so far from 0
+-- a number that is at most this far from 0
 pub record IsWithin (reach : ℕ) (at : ℤ) : Type 0 where
   pub low : negsuc reach ≤ℤ at
   pub high : at ≤ℤ pos reach
 
--- a canvas whose origin is at most so far from that of the window
+-- a canvas whose origin is at most this far from that of the window
 pub record IsCanvas (reach : ℕ) (canvas : Canvas) : Type 0 where
   pub across : IsWithin reach canvas.left
   pub down : IsWithin reach canvas.top

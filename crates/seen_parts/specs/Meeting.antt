@@ -31,8 +31,8 @@ KeepsSight canvas damage old new list =
 abbrev pub as_seen : FramedCanvas → Canvas
 as_seen canvas = record { left = canvas.left; top = canvas.top; clip = canvas.clip }
 
--- a view was followed to where it lies now: where it lay elsewhere it is seen in neither place outside of the damage; where
--- it lies as it did, its children are seen in this canvas, or nowhere
+-- a view was followed to its present bounds: if it had others it is seen in neither place outside of the damage; if
+-- they are the same, its children are seen in this canvas, or not at all
 abbrev pub Follows : Facts → Option Rect → Rect → Canvas → Rect → Option FramedCanvas → Type 0
 Follows facts before rect canvas damage inner =
     (x y : ℤ) → holds damage x y ≡ false

@@ -128,7 +128,7 @@ pub fn before(edge: i64, by: i32) -> i64
     edge - i64::from(by)
 }
 
-/// The padding of a view, a start value in the place of a left one, an end value in the place of a right one.
+/// The padding of a view; a start value replaces a left one, an end value a right one.
 fn padding_of(facts: &Facts) -> Insets
     ensures { result ≡ padding_of facts.now }
 {

@@ -1,7 +1,7 @@
 //! What is seen of views in a window: the rectangle of a view there, and the canvas of its children. Nothing takes memory.
 //!
-//! `frame` has the arithmetic of rectangles that may lie far outside, `seeing` what is seen of a view that lies in a
-//! canvas, and of one that moves, `climbing` what is seen of any view, through all its ancestors.
+//! `frame` has the arithmetic of rectangles that may lie far outside, `seeing` what is seen of a view in a canvas, and
+//! of one that moves, `climbing` what is seen of any view, through all its ancestors.
 #![tactic(auto)]
 
 mod climbing;

@@ -1,4 +1,4 @@
-//! What is seen of a view that lies in a canvas.
+//! What is seen of a view in a canvas.
 ghost use Rattle.std.specs.Prelude.{◌≡◌, ◌≢◌, ◌^◌, ℤ, Some, None, true, false, IfSome, MatchOption};
 ghost use Rattle.damage_rect.specs.Within.{LiesIn};
 ghost use Rattle.geom_core.specs.Rects.{holds};
@@ -29,7 +29,7 @@ pub fn window_canvas(window: Size) -> Canvas
     }
 }
 
-/// What is seen of a view that lies in this rectangle of a canvas, if it lies anywhere: nothing, or a part of the window.
+/// What is seen of a view in this rectangle of a canvas, if it has bounds: nothing, or a part of the window.
 pub fn part_seen(bounds: Option<Rect>, canvas: Canvas) -> Rect
     requires { IsCanvas (2 ^ 37) canvas }
     ensures { result ≡ seen_in bounds (as_seen canvas) }
@@ -63,7 +63,7 @@ fn rect_seen(bounds: Rect, canvas: Canvas) -> Rect
     }
 }
 
-/// The canvas of the children of a view that lies in this rectangle of a canvas, if they can be seen anywhere.
+/// The canvas of the children of a view in this rectangle of a canvas, if they can be seen anywhere.
 pub fn children_canvas(facts: &Facts, bounds: Rect, canvas: Canvas) -> Option<Canvas>
     requires { IsCanvas (2 ^ 37) canvas }
     ensures below { MatchOption result
@@ -84,9 +84,9 @@ pub fn children_canvas(facts: &Facts, bounds: Rect, canvas: Canvas) -> Option<Ca
     }
 }
 
-/// Follows a view from where it lay to where it lies: where these are two places, what was seen of it and what is seen of it
-/// is damage. Otherwise the answer is the canvas of its children, if they can be seen anywhere. A view without a canvas is not
-/// followed.
+/// Follows a view from its old bounds to its present ones: if these differ, what was seen of it and what is seen of it
+/// is damage. Otherwise returns the canvas of its children, if they can be seen anywhere. A view without a canvas is
+/// not followed.
 pub fn follow(
     facts: &Facts,
     before: Option<Rect>,
@@ -115,7 +115,7 @@ pub fn follow(
     None
 }
 
-/// Whether a view that lay there, if anywhere, lies in this rectangle.
+/// Whether a view that had these bounds, if any, has this rectangle.
 fn lies_in(before: Option<Rect>, rect: Rect) -> bool
     ensures same { result ≡ true → before ≡ Some rect }
     ensures other { result ≡ false → before ≢ Some rect }

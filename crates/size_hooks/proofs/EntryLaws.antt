@@ -1,4 +1,4 @@
--- What entries stand for, as they change.
+-- What entries represent, as they change.
 use Rattle.std.proofs.Common.{◌≡◌, ℕ, ◌<◌, ◌≤◌, ◌+◌, List, [], ◌∷◌, ◌++◌, suc, length, take, drop, get_or, set, refl, sym, ◌∙◌, ap, inl, inr, arith}
 use Rattle.std.proofs.lemmas.Bool.{cases_Bool}
 use Rattle.std.proofs.lemmas.List.{append-nil, drop_all, drop-set-lt, drop_more, length-set, map-append, take_all, take_more, take_more_set}
@@ -21,7 +21,7 @@ pub length_hooks : (entries : List Entry) → length (hooks_of entries) ≡ leng
 length_hooks [] = refl
 length_hooks (entry ∷ entries) = ap (λ n. suc n) (length_hooks entries)
 
--- the entries up to an index are reported of, and those from it on are as they were
+-- the entries up to an index have a new reported size, and those from it on are as they were
 pub record Reported (view : ℕ) (size : Size) (old now : List Entry) (index : ℕ) : Type 0 where
   pub all : length now ≡ length old
   pub done : hooks_of (take index now) ≡ reported_as view size (hooks_of (take index old))
@@ -63,7 +63,7 @@ pub reported_all : (view : ℕ) (size : Size) (old now : List Entry) (index : �
 reported_all view size old now index is over =
     ap hooks_of (sym (take_all index now (rw is.all over))) ∙ is.done ∙ ap (λ (l : List Entry). reported_as view size (hooks_of l)) (take_all index old over)
 
--- entries that were written over as a whole
+-- entries that were replaced as a whole
 pub refilled : (old now : List Entry) → length now ≡ length old → refill (length old) old now ≡ now
 refilled old now same =
     ap (λ (l : List Entry). take (length old) (now ++ l)) (drop_all (length now) old (omega arith))

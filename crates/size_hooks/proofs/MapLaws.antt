@@ -1,4 +1,4 @@
--- What becomes of a map of hooks.
+-- How a map of hooks changes.
 use Rattle.std.proofs.Common.{◌≡◌, ℕ, ◌<◌, ◌≤◌, ◌+◌, List, [], ◌∷◌, ◌++◌, suc, length, None, Some, refl, sym, ◌∙◌, ap, subst, inl, inr, arith, length-append}
 use Rattle.std.proofs.lemmas.Bool.{cases_Bool, cases_eq, eq-eqb, ne_eqb}
 use Rattle.std.proofs.lemmas.List.{length-map}
@@ -17,7 +17,7 @@ no_more_disarmed view (hook ∷ hooks) = elim (cases_Bool (hook.view == view)) [
   | inr e ↦ let more = no_more_disarmed view hooks in rw e (omega arith)
 ]
 
--- hooks of which none is taken away
+-- hooks of which no hook is taken away
 pub all_disarmed : (view : ℕ) (hooks : List Hook) → length hooks ≤ length (disarmed view hooks) → disarmed view hooks ≡ hooks
 all_disarmed view [] stay = refl
 all_disarmed view (hook ∷ hooks) stay = elim (cases_Bool (hook.view == view)) [
@@ -114,7 +114,7 @@ reported_map view size hooks is = record {
   short = All-map (λ (h : Hook). length h.edits ≤ MAX_EDITS) (reported_to view size) hooks (λ k d lt. still_short view size _ (is.short k d lt));
 }
 
--- whose hooks are there once a hook is taken away
+-- the views whose hooks are there once a hook is taken away
 pub hook_of-disarmed : (view : ℕ) (hooks : List Hook) (other : ℕ) → hook_of (disarmed view hooks) other ≡ (if nat_eq view other then None else hook_of hooks other)
 hook_of-disarmed view [] other = elim (cases_Bool (nat_eq view other)) [ inl f ↦ rw f refl | inr f ↦ rw f refl ]
 hook_of-disarmed view (hook ∷ hooks) other = elim (cases_eq hook.view view) [
@@ -130,7 +130,7 @@ hook_of-disarmed view (hook ∷ hooks) other = elim (cases_eq hook.view view) [
       ])
 ]
 
--- whose hooks are there with another at the end
+-- the views whose hooks are there with another at the end
 pub hook_of-end : (hook : Hook) (hooks : List Hook) (other : ℕ) → hook_of hooks hook.view ≡ None
     → hook_of (hooks ++ hook ∷ []) other ≡ (if nat_eq hook.view other then Some hook else hook_of hooks other)
 hook_of-end hook [] other none = refl
@@ -153,7 +153,7 @@ hook_of-armed hook hooks other =
       | inr f ↦ rw (ne_eqb hook.view other f) (hook_of-disarmed hook.view hooks other ∙ rw (ne_eqb hook.view other f) refl)
     ]
 
--- whose hooks are there once a size is reported
+-- the views whose hooks are there once a size is reported
 pub hook_of-reported : (view : ℕ) (size : Size) (hooks : List Hook) (other : ℕ) → hook_of (reported_as view size hooks) other ≡ option_map (reported_to view size) (hook_of hooks other)
 hook_of-reported view size [] other = refl
 hook_of-reported view size (hook ∷ hooks) other = elim (cases_Bool (hook.view == view)) [

@@ -1,4 +1,4 @@
--- What entries stand for.
+-- What entries represent.
 use Rattle.std.specs.Prelude.{ℕ, List, map, refl}
 use Rattle.std.specs.Coded.{Coded, code_by, coded×, coded_ℕ, coded_list}
 use Rattle.geom_core.specs.contracts.Size.{the_row as size_row}

@@ -6,7 +6,7 @@ use Rattle.view_model.specs.declared.changes.NumEdit.{NumEdit}
 pub record Hook : Type 0 where
   -- the number of the view whose size it waits for
   pub view : ℕ
-  -- the size that is no news
+  -- the size that was reported last
   pub reported : Size
   -- what is changed once the view has another size, in order
   pub edits : List NumEdit

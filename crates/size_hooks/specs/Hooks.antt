@@ -1,5 +1,5 @@
--- The armed hooks as a map from the numbers of views, and what is done with it.
--- It is a list in the order of arming, which decides nothing.
+-- The armed hooks as a map from the numbers of views, and its operations.
+-- It is a list in the order of arming, on which nothing depends.
 use Rattle.std.specs.Prelude.{ℕ, ◌==◌, ◌≤◌, length, if◌then◌else◌, not, List, [], ◌∷◌, ◌++◌, Option, Some, None, filter, find, map, slice_get, All}
 use Rattle.geom_core.specs.declared.geometry.Size.{Size}
 use Rattle.size_hooks.specs.Hook.{Hook}
@@ -20,7 +20,7 @@ pub record IsMap (hooks : List Hook) : Type 0 where
 abbrev pub disarmed : ℕ → List Hook → List Hook
 disarmed view hooks = filter (λ (hook : Hook). not (hook.view == view)) hooks
 
--- the hooks with this one, in the place of another of its view
+-- the hooks with this one, in place of another of its view
 abbrev pub armed : Hook → List Hook → List Hook
 armed hook hooks = disarmed hook.view hooks ++ hook ∷ []
 

@@ -14,14 +14,14 @@ use view_model::limits::MAX_EDITS;
 pub struct Entry {
     /// The number of the view whose size it waits for.
     pub view: u64,
-    /// The size that is no news, in pixels.
+    /// The size that was reported last, in pixels.
     pub reported: Size,
     /// What is changed once the view has another size, in order.
     pub edits: ArrayVec<NumEdit, MAX_EDITS>,
 }
 
 impl Default for Entry {
-    /// What stands in an unused place, and never fires.
+    /// What an unused place holds; it never fires.
     fn default() -> Entry {
         Entry {
             view: 0,
@@ -31,7 +31,7 @@ impl Default for Entry {
     }
 }
 
-/// The same edits once more.
+/// A copy of the edits.
 pub fn copied(edits: &ArrayVec<NumEdit, MAX_EDITS>) -> ArrayVec<NumEdit, MAX_EDITS>
     ensures same { result.items ≡ edits.now.items }
     ensures few { length edits.now.items ≤ MAX_EDITS }

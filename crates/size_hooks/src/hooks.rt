@@ -54,7 +54,7 @@ impl Hooks {
         self.entries.is_empty()
     }
 
-    /// Arms the hook of a view, in the place of one that it has. `reported` is the size in pixels that is no news.
+    /// Arms the hook of a view, in place of one that it has. `reported` is the size in pixels that was reported last.
     pub fn arm(
         &mut self,
         view: u64,

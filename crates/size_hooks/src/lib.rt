@@ -1,4 +1,4 @@
-//! Hooks: the edits that a view asks for, once, where a layout gives it another size than the one reported.
+//! Hooks: the edits that a view asks for, once, when a layout gives it another size than the one reported.
 //!
 //! `hooks` is the table of armed hooks, `entry` one of them, `fault` why one is not armed. Nothing takes memory.
 #![tactic(auto)]

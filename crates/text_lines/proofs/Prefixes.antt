@@ -25,12 +25,12 @@ appends_kept (Some a) None new xs grew kept = elim grew [ ]
 appends_kept (Some a) (Some b) None xs grew kept = elim kept [ ]
 appends_kept (Some a) (Some b) (Some c) xs grew kept = kept ∙ grew
 
--- a prefix of a text is a prefix of the text with more behind it
+-- a prefix of a text is a prefix of the text with more after it
 pub prefix_of_first : (old new : Option (List ℕ)) (xs ys : List ℕ) → AppendsPrefix old new xs → AppendsPrefix old new (xs ++ ys)
 prefix_of_first old new xs ys p =
     record { written = p.written; rest = p.rest ++ ys; whole = sym (append_assoc p.written p.rest ys) ∙ ap (λ l. l ++ ys) p.whole; gone = p.gone }
 
--- a text went whole, and of the one behind it a prefix
+-- a text was written whole, and of the one after it a prefix
 pub prefix_of_second : (old mid new : Option (List ℕ)) (xs ys : List ℕ) → Appends old mid xs → AppendsPrefix mid new ys → AppendsPrefix old new (xs ++ ys)
 prefix_of_second old mid new xs ys first p =
     record { written = xs ++ p.written; rest = p.rest; whole = append_assoc xs p.written p.rest ∙ ap (λ l. xs ++ l) p.whole; gone = appends_both old mid new xs p.written first p.gone }
@@ -38,7 +38,7 @@ prefix_of_second old mid new xs ys first p =
 pub prefix_of_take : (old new : Option (List ℕ)) (n : ℕ) (xs : List ℕ) → Appends old new (take n xs) → AppendsPrefix old new xs
 prefix_of_take old new n xs grew = record { written = take n xs; rest = drop n xs; whole = take-append-drop n xs; gone = grew }
 
--- a write failed, after a front part had gone
+-- a write failed, after a front part was written
 pub stopped : {E : Type 0} (old mid new : SinkState) (result : Result (Unit {0}) E) (n : ℕ) (piece : List ℕ) → IsErr result
     → Appends old.gone mid.gone (take n piece) → mid.faults ≡ old.faults → Keeps mid.gone new.gone → new.faults ≡ raised mid.faults → Delivered old new result piece
 stopped old mid new (Ok _) n piece failed grew same kept count = absurd (let never : false ≡ true = failed in cc)

@@ -45,7 +45,7 @@ breaks_second old mid new before held xs ys m b = record {
 differs : true ≡ false → ⊥
 differs e = cc
 
--- one text was sent, and another behind it
+-- one text was sent, and another after it
 both_by : (v : Bool) (old mid new : SinkState) (before held after : BufferedText) (xs ys : List ℕ) → held.failed ≡ v → Sends old mid before held xs → Sends mid new held after ys → Sends old new before after (xs ++ ys)
 both_by true old mid new before held after xs ys v s t = record {
   moves = λ e. absurd (differs (sym v ∙ (t.moves e).0));
@@ -76,7 +76,7 @@ sends_end {old = old} {new = new} {before = before} {held = held} {after = after
 pub sends_as : {old new : SinkState} {before after : BufferedText} {text same : List ℕ} → text ≡ same → Sends old new before after text → Sends old new before after same
 sends_as {old = old} {new = new} {before = before} {after = after} e sent = subst (λ (t : List ℕ). Sends old new before after t) e sent
 
--- what an empty buffer sent has gone whole, once nothing is held and no write has failed
+-- what an empty buffer sent was written whole, once nothing is held and no write has failed
 sends_whole : (old new : SinkState) (before after : BufferedText) (text : List ℕ) → before.bytes ≡ [] → after.bytes ≡ [] → Moves old new before.bytes after.bytes text → Appends old.gone new.gone text
 sends_whole old new before after text empty left m =
     subst (λ (l : List ℕ). Appends old.gone new.gone l) (sym (append-nil m.written) ∙ ap (λ l. m.written ++ l) (sym left) ∙ m.whole ∙ ap (λ l. l ++ text) empty) m.gone

@@ -5,8 +5,8 @@ use Rattle.text_lines.specs.Prefix.{AppendsPrefix}
 use Rattle.tool_io.specs.Counts.{faults_after}
 use Rattle.tool_io.specs.SinkState.{SinkState}
 
--- A text has been delivered. On `Ok` it has gone whole and no call has failed. On `Err` a prefix of it has gone, and
--- then one call has failed.
+-- A text has been delivered. On `Ok` it was written whole and no call has failed. On `Err` a prefix of it was written,
+-- and then one call has failed.
 pub record Delivered {E : Type 0} (before after : SinkState) (result : Result (Unit {0}) E) (text : List ℕ) : Type 0 where
   pub whole : OnOk result (Appends before.gone after.gone text)
   pub prefix : OnErr result (AppendsPrefix before.gone after.gone text)

@@ -8,6 +8,6 @@ eight_digits n =
     digit_char (n / 16 ^ 7 % 16) ∷ digit_char (n / 16 ^ 6 % 16) ∷ digit_char (n / 16 ^ 5 % 16) ∷ digit_char (n / 16 ^ 4 % 16)
     ∷ digit_char (n / 16 ^ 3 % 16) ∷ digit_char (n / 16 ^ 2 % 16) ∷ digit_char (n / 16 % 16) ∷ digit_char (n % 16) ∷ []
 
--- so many of its lowest digits, at most eight
+-- its n lowest digits, at most eight
 unfoldable pub hex_text : ℕ → ℕ → List ℕ
 hex_text n digits = drop (8 - digits) (eight_digits n)

@@ -2,7 +2,7 @@
 use Rattle.std.specs.Prelude.{ℕ, List, ◌++◌}
 use Rattle.std.specs.List.{flat_map}
 
--- a text and the text behind it; an opaque word, so that a long text stays the row of its pieces
+-- a text and the text after it; an opaque word, so that a long text stays a list of its pieces
 infixr 5 ◌⧺◌
 unfoldable pub ◌⧺◌ : List ℕ → List ℕ → List ℕ
 a ⧺ b = a ++ b

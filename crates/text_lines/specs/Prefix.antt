@@ -1,4 +1,4 @@
--- A text of which a part has gone to a sink.
+-- A text of which a part was written to a sink.
 use Rattle.std.specs.Prelude.{◌≡◌, ℕ, List, ◌++◌, Option}
 use Rattle.std.specs.Io.KnownBytes.{Appends}
 

@@ -16,7 +16,7 @@ use tool_io::{Failed, Sink};
 /// A new buffer clears its room, so one that serves for many texts is restarted for each.
 ///
 /// Each call takes the sink, which has to be the same one each time. After a failed write nothing
-/// is written any more, and `finish` tells of it, so that no call before it answers an error.
+/// is written any more, and only `finish` returns the error: no call before it does.
 #[derive(Debug, Drop)]
 pub struct TextBuffer {
     bytes: [u8; 4096],
@@ -47,8 +47,7 @@ impl TextBuffer {
         }
     }
 
-    /// Lets go of what is held, and of a failed write: the buffer is as a new one, and no byte of it
-    /// was cleared.
+    /// Drops what is held, and forgets a failed write: the buffer is as a new one, and no byte of it was cleared.
     pub fn restart(&mut self)
         ensures { self.new ≡ record { bytes = []; failed = false } }
     {
@@ -87,7 +86,7 @@ impl TextBuffer {
         self.len = end;
     }
 
-    /// Writes what is held, unless there is room for so many bytes more.
+    /// Writes what is held, unless there is room for this many more bytes.
     fn make_room<K: Sink>(&mut self, sink: &mut K, need: usize)
         requires { need ≤ 4096 }
         ensures sends { Sends (K.state sink.old) (K.state sink.new) self.old self.new [] }
@@ -134,7 +133,7 @@ impl TextBuffer {
         self.put(sink, &text[8 - digits as usize..]);
     }
 
-    /// Writes what is held, and tells whether a write has failed since the buffer was made.
+    /// Writes what is held, and returns whether a write has failed since the buffer was made.
     pub fn finish<K: Sink>(&mut self, sink: &mut K) -> Result<(), Failed>
         ensures sends { Sends (K.state sink.old) (K.state sink.new) self.old self.new [] }
         ensures empty { self.new.bytes ≡ [] }

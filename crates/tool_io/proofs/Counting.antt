@@ -7,7 +7,7 @@ use Rattle.tool_io.specs.declared.shelf.Found.{Found}
 use Rattle.tool_io.specs.declared.shelf.ShelfFault.{ShelfFault}
 use Rattle.tool_io.specs.declared.shelf.ShelfFault.TheVariants.{Failed, NoMemory}
 
--- a count of a u64 goes up by one, and stands at its end
+-- a count in a u64 goes up by one, and stays at the greatest u64
 pub raised_saturates : (count : ℕ) → count < 2 ^ 64 → raised count ≡ min (count + 1) (2 ^ 64 - 1)
 unfolding raised
 raised_saturates count bound = omega (arith, bound)
@@ -17,7 +17,7 @@ pub raised_later : (count : ℕ) → count ≤ raised count
 unfolding raised
 raised_later count = omega arith
 
--- a count of each failed call, also of one for want of memory
+-- a count of each failed call, including one that ran out of memory
 pub counts_each : (before now : ℕ) (outcome : Result Found ShelfFault) → now ≡ faults_after before (is_ok outcome) → CountsFetch before now outcome
 counts_each before now (Ok found) counted = counted
 counts_each before now (Err Failed) counted = counted

@@ -1,7 +1,7 @@
--- An adapter over something of the outside world.
+-- An adapter over something outside the program.
 use Rattle.std.specs.Prelude.{ℕ}
 
--- what the adapter stands over, and how many of its calls have failed
+-- what the adapter wraps, and how many of its calls have failed
 pub record Adapter (D : Type 0) : Type 0 where
   pub device : D
   pub faults : ℕ

@@ -2,7 +2,7 @@
 use Rattle.std.specs.Prelude.{ℕ, ◌+◌, ◌≤◌, max, Bool, if◌then◌else◌}
 use Rattle.std.specs.Io.Iter.{u64_saturate}
 
--- one more, as far as the count goes
+-- one more, up to the greatest u64
 unfoldable pub raised : ℕ → ℕ
 raised count = max count (u64_saturate (count + 1))
 
@@ -10,6 +10,6 @@ raised count = max count (u64_saturate (count + 1))
 abbrev pub faults_after : ℕ → Bool → ℕ
 faults_after faults succeeded = if succeeded then faults else raised faults
 
--- a call has failed: a count rose, or stands at its end
+-- a call has failed: a count rose, or is at its end
 abbrev pub Rose : ℕ → ℕ → Type 0
 Rose before now = raised before ≤ now

@@ -2,13 +2,13 @@
 use Rattle.std.specs.Prelude.{ℕ, List, ◌++◌, length, take, min, Bool, if◌then◌else◌}
 use Rattle.tool_io.specs.Calls.{CallsMade, after_call, after_failed}
 
--- the bytes that have gone, how many one call moves at most, and the calls
+-- the bytes that were written, how many one call moves at most, and the calls
 pub record ListedSink : Type 0 where
   pub gone : List ℕ
   pub most : ℕ
   pub calls : CallsMade
 
--- how many bytes of a piece of this length a write moves that does not fail
+-- how many bytes of a piece of this length a write moves if it does not fail
 abbrev pub write_count : ListedSink → ℕ → ℕ
 write_count sink length = min length sink.most
 

@@ -32,14 +32,14 @@ impl BytesLeft {
         BytesLeft { bytes, at: 0, most }
     }
 
-    /// Moves the first bytes that are left into `buf`, as many as one call may take, and says how
-    /// many.
+    /// Moves the first bytes that are left into `buf`, as many as one call may take, and returns
+    /// how many.
     pub(crate) fn move_into(&mut self, buf: &mut [u8]) -> usize
         ensures count { result ≡ moved_count self.old (length buf.old) }
         ensures buffer { buf.new ≡ take result self.old.bytes ++ drop result buf.old }
         ensures after { self.new ≡ after_move self.old (length buf.old) }
 
-        // What a caller makes of it: the bytes went from here into the buffer.
+        // Callers use it as: the bytes went from here into the buffer.
         ensures bound { result ≤ length buf.new }
         ensures bytes { self.old.bytes ≡ take result buf.new ++ self.new.bytes }
         ensures end { result ≡ 0 → 0 < length buf.new → self.new.bytes ≡ [] }

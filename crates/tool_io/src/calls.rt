@@ -33,7 +33,7 @@ impl Calls {
         }
     }
 
-    /// Counts a call, and says whether it is one that is to fail.
+    /// Counts a call, and returns whether it is one that is to fail.
     #[tactic(auto, using(crate::proofs::Counting::raised_saturates))]
     pub(crate) fn begin(&mut self) -> bool
         ensures fails { result ≡ fails_next self.old }

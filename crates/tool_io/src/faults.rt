@@ -1,11 +1,11 @@
 ghost use Rattle.std.specs.Prelude.{◌≡◌, is_ok};
 ghost use Rattle.tool_io.specs.Counts.{faults_after};
 
-/// A call on an object that was handed in has failed.
+/// A call on an object that was passed in has failed.
 #[derive(Clone, Copy, Debug, PartialEq, Eq)]
 pub struct Failed;
 
-/// Raises a count of failed calls where this call failed.
+/// Raises a count of failed calls if this call failed.
 #[tactic(auto, using(crate::proofs::Counting::raised_saturates))]
 pub(crate) fn count_fault<T, E>(faults: &mut u64, outcome: &Result<T, E>)
     ensures { faults.new ≡ faults_after faults.old (is_ok outcome.now) }

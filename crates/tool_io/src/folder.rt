@@ -11,7 +11,7 @@ use std::rt::Files;
 use std::{fs, io};
 
 /// A shelf of the files of the current folder, by their names there. A call fails for what is there
-/// and cannot be read, such as a folder. It tells no bytes.
+/// and cannot be read, such as a folder. Contracts do not see its bytes.
 #[derive(Debug, Drop)]
 pub struct FolderShelf<R> {
     files: R,
@@ -48,7 +48,7 @@ impl<R: Files> Shelf for FolderShelf<R> {
         ensures limit { length into.new.items ≤ limit }
         ensures counted { CountsFetch self.old.faults self.new.faults result }
 
-        // Each failure is counted, also one for want of memory.
+        // Each failure is counted, also running out of memory.
         ensures each_failure { self.new.faults ≡ faults_after self.old.faults (is_ok result) }
     {
         let result = fetch_file(&self.files, name, into, limit);
@@ -86,7 +86,7 @@ fn fetch_bytes<S: Read + Drop>(
     ensures empty { result ≢ Ok Found.Whole → into.new.items ≡ [] }
     ensures limit { length into.new.items ≤ limit }
 
-    // What it answers and leaves is told by the bytes that the reader has, where it tells them.
+    // The result is stated by the bytes that the reader has, if contracts see them.
     ensures found { result ≢ Ok Found.Missing }
     ensures whole { result ≡ Ok Found.Whole → IfSome (S.remaining reader) (λ bytes. into.new.items ≡ bytes) }
     ensures long { result ≡ Ok Found.Long → IfSome (S.remaining reader) (λ bytes. limit < length bytes) }
@@ -102,7 +102,7 @@ fn fetch_bytes<S: Read + Drop>(
     result
 }
 
-/// Want of memory, or another failure.
+/// Out of memory, or another failure.
 fn fault_of(error: &Error) -> ShelfFault
     ensures { (result ≡ ShelfFault.NoMemory) ↔ (error_kind error.now ≡ ErrorKind.OutOfMemory) }
 {

@@ -1,10 +1,10 @@
 //! What the tool reads from and writes to: a source of bytes, a sink for bytes and a shelf of files.
 //!
-//! Each of the three is a trait. Its contract says which bytes a call moves, where the object tells
-//! them, and that the object's count of failed calls goes up by one with a call that fails, and stays
-//! with one that goes well. The objects in memory are exact: they fail at the calls that they were
-//! told to fail at, and else only for want of memory. The adapters stand over standard input,
-//! standard output and the files of the current folder, and tell no bytes.
+//! Each of the three is a trait. Its contract says which bytes a call moves, if the object makes them visible, and that
+//! the object's count of failed calls goes up by one with a call that fails, and stays with one that succeeds. The
+//! objects in memory are exact: they fail at the calls that they were made to fail at, and otherwise only when out of
+//! memory. The adapters wrap standard input, standard output and the files of the current folder, whose bytes contracts
+//! do not see.
 #![tactic(auto)]
 
 mod bytes_left;

@@ -6,7 +6,7 @@ use crate::shelf::{Found, Shelf, ShelfFault};
 use crate::steady_shelf::SteadyShelf;
 use std::marker::Model;
 
-/// A shelf of files in memory, which fails at the calls that it was told to fail at.
+/// A shelf of files in memory, which fails at the calls that it was made to fail at.
 #[derive(Debug, Drop)]
 pub struct MemoryShelf {
     files: SteadyShelf,
@@ -54,9 +54,9 @@ impl Shelf for MemoryShelf {
         ensures limit { length into.new.items ≤ limit }
         ensures counted { CountsFetch self.old.calls.faults self.new.calls.faults result }
 
-        // The call fails exactly where it is listed. Else a file is missing exactly where it is not
-        // held, and long exactly where it is above the limit; memory may be wanting for the bytes
-        // of a file that would be handed out.
+        // The call fails exactly if it is listed. Otherwise a file is missing exactly if it is not
+        // held, and long exactly if it is above the limit; there may be no memory for the bytes of
+        // a file that would be returned.
         ensures listed { (result ≡ Err ShelfFault.Failed) ↔ IsTrue (fails_next self.old.calls) }
         ensures missing { (result ≡ Ok Found.Missing)
             ↔ (IsFalse (fails_next self.old.calls) × (file_of self.old.files name.now ≡ None)) }

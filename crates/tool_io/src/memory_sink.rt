@@ -9,8 +9,8 @@ use crate::sink::Sink;
 use std::alloc::Global;
 use std::marker::Model;
 
-/// A sink that keeps the bytes in memory, and fails at the calls that it was told to fail at and
-/// where memory for the bytes is refused.
+/// A sink that keeps the bytes in memory, and fails at the calls that it was made to fail at and
+/// when there is no memory for the bytes.
 #[derive(Debug, Drop)]
 pub struct MemorySink {
     gone: Vec<u8>,
@@ -45,7 +45,7 @@ impl MemorySink {
         }
     }
 
-    /// The bytes that have gone.
+    /// The bytes that were written.
     pub fn gone(&self) -> &[u8]
         ensures { result.now ≡ self.now.gone }
     {
@@ -66,8 +66,8 @@ impl Sink for MemorySink {
         ensures bytes { WriteAppends (Some self.old.gone) (Some self.new.gone) result piece.now }
         ensures counted { self.new.calls.faults ≡ faults_after self.old.calls.faults (is_ok result) }
 
-        // The call fails where it is listed, and else moves as much as it may. It may also fail for
-        // want of memory, but not where there is nothing to keep.
+        // The call fails if it is listed, and otherwise moves as much as it may. It may also run
+        // out of memory, but not if there is nothing to keep.
         ensures listed { IsTrue (fails_next self.old.calls) → IsErr result }
         ensures empty { length piece.now ≡ 0 → IsErr result → IsTrue (fails_next self.old.calls) }
         ensures count { IfOk result (λ n. n ≡ write_count self.old (length piece.now)) }

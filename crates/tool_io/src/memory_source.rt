@@ -9,7 +9,7 @@ use crate::faults::Failed;
 use crate::source::Source;
 use std::marker::Model;
 
-/// A source over bytes in memory, which fails at the calls that it was told to fail at.
+/// A source over bytes in memory, which fails at the calls that it was made to fail at.
 #[derive(Debug, Drop)]
 pub struct MemorySource {
     left: BytesLeft,
@@ -56,7 +56,7 @@ impl Source for MemorySource {
         ensures bytes { ReadConsumes (Some self.old.left.bytes) (Some self.new.left.bytes) result buf.new }
         ensures counted { self.new.calls.faults ≡ faults_after self.old.calls.faults (is_ok result) }
 
-        // The call fails exactly where it is listed, and else moves as much as it may.
+        // The call fails exactly if it is listed, and otherwise moves as much as it may.
         ensures listed { IsErr result ↔ IsTrue (fails_next self.old.calls) }
         ensures count { IfOk result (λ n. n ≡ moved_count self.old.left (length buf.old)) }
         ensures moved { IfOk result (λ n. buf.new ≡ take n self.old.left.bytes ++ drop n buf.old) }

@@ -23,7 +23,7 @@ pub enum ShelfFault {
 
 /// Where files are, each under a name.
 pub trait Shelf {
-    /// The files by the bytes of their names, where the object tells them. Of equal names the
+    /// The files by the bytes of their names, if the object makes them visible. Of equal names the
     /// first counts.
     ghost files: { Self → Option (List (List ℕ × List ℕ)) };
 

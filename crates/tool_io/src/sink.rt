@@ -8,11 +8,11 @@ use crate::faults::Failed;
 
 /// Where bytes go.
 pub trait Sink {
-    /// The bytes that have gone, where the object tells them, and how many calls have failed. The
-    /// count ends at the greatest `u64`.
+    /// The bytes that were written, if the object makes them visible, and how many calls have
+    /// failed. The count ends at the greatest `u64`.
     ghost state: { Self → SinkState };
 
-    /// Appends the first bytes of a piece, at least one of a piece that is not empty, and says how
+    /// Appends the first bytes of a piece, at least one if the piece is not empty, and returns how
     /// many. A call that fails appends nothing.
     fn write(&mut self, piece: &[u8]) -> Result<usize, Failed>
         ensures bound { WritesAtMost result piece.now }

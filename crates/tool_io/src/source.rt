@@ -7,13 +7,13 @@ use crate::faults::Failed;
 
 /// Where bytes come from.
 pub trait Source {
-    /// The bytes that are left, where the object tells them.
+    /// The bytes that are left, if the object makes them visible.
     ghost left: { Self → Option (List ℕ) };
 
     /// How many calls have failed. The count ends at the greatest `u64`.
     ghost faults: { Self → ℕ };
 
-    /// Moves the first bytes that are left into `buf`, and says how many. At the end, and only
+    /// Moves the first bytes that are left into `buf`, and returns how many. At the end, and only
     /// there, it moves none into a `buf` that has room. A call that fails takes nothing.
     fn read(&mut self, buf: &mut [u8]) -> Result<usize, Failed>
         ensures bound { ReadsAtMost result buf.new }

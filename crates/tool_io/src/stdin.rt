@@ -8,7 +8,7 @@ use crate::source::Source;
 use std::io::Read;
 use std::marker::Model;
 
-/// A source over a reader, such as standard input. It tells no bytes.
+/// A source over a reader, such as standard input. Contracts do not see its bytes.
 #[derive(Debug, Drop)]
 pub struct StdinSource<R> {
     reader: R,

@@ -8,7 +8,7 @@ use crate::sink::Sink;
 use std::io::Write;
 use std::marker::Model;
 
-/// A sink over a writer, such as standard output, which is flushed in each call. It tells no bytes.
+/// A sink over a writer, such as standard output, which is flushed in each call. Contracts do not see its bytes.
 #[derive(Debug, Drop)]
 pub struct StdoutSink<W> {
     writer: W,
@@ -41,8 +41,8 @@ impl<W: Write> Sink for StdoutSink<W> {
         ensures bound { WritesAtMost result piece.now }
         ensures progress { IfOk result (λ n. 0 < length piece.now → 0 < n) }
 
-        // The bytes went to the writer, as far as it says so, and each failure is counted. Where a
-        // flush fails, the writer may have taken some of the piece.
+        // The writer reports how many bytes it took, and each failure is counted. If a flush fails,
+        // the writer may have taken some of the piece.
         ensures taken { IfOk result
             (λ n. Appends (W.contents self.old.device) (W.contents self.new.device) (take n piece.now)) }
         ensures lost { OnErr result

@@ -4,7 +4,7 @@ ghost use Rattle.tool_io.specs.Fetched.{Fetched, file_of};
 use crate::shelf::{Found, Shelf, ShelfFault};
 use std::marker::Model;
 
-/// A shelf of files in memory that never answers `ShelfFault::Failed`.
+/// A shelf of files in memory that never returns `ShelfFault::Failed`.
 #[derive(Debug, Drop)]
 pub struct SteadyShelf {
     files: Vec<(String, Vec<u8>)>,
@@ -44,8 +44,8 @@ impl Shelf for SteadyShelf {
         ensures limit { length into.new.items ≤ limit }
         ensures failed { result ≢ Err ShelfFault.Failed }
 
-        // A file is missing exactly where it is not held, and long exactly where it is above the
-        // limit. Memory may be wanting for the bytes of a file that would be handed out.
+        // A file is missing exactly if it is not held, and long exactly if it is above the limit.
+        // There may be no memory for the bytes of a file that would be returned.
         ensures missing { (result ≡ Ok Found.Missing) ↔ (file_of self.old name.now ≡ None) }
         ensures long { (result ≡ Ok Found.Long) ↔ IsSomeAnd (file_of self.old name.now) (λ file. limit < length file) }
         ensures no_memory { result ≡ Err ShelfFault.NoMemory

@@ -5,7 +5,7 @@ use crate::faults::Failed;
 use crate::sink::Sink;
 use std::marker::Model;
 
-/// A sink that drops the bytes, and never fails. Clauses see it as the greatest number of bytes
+/// A sink that drops the bytes, and never fails. Contracts see it as the greatest number of bytes
 /// that one call takes.
 #[derive(Debug, Drop)]
 pub struct SteadySink {

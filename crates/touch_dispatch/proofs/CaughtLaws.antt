@@ -61,7 +61,7 @@ caught_begun tree group action progress caught =
       | inr e ↦ rw e caught
     ]
 
--- to ask changes no targets
+-- asking changes no targets
 looked_targets : (own : Receiver) (event : Event) (gesture : PlainGesture) → (looked own event gesture).targets ≡ gesture.targets
 looked_targets own event gesture = elim (cases_Bool own.scrolls) [
   | inl e ↦ rw e refl

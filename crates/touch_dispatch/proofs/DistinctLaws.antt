@@ -1,4 +1,4 @@
--- No group has a child twice, whatever comes to its targets or leaves them.
+-- No group has a child twice, whatever is added to its targets or leaves them.
 use Rattle.std.proofs.Common.{◌≡◌, ℕ, Bool, true, false, List, [], ◌∷◌, map, filter, refl, ◌∙◌, ap, inl, inr}
 use Rattle.std.proofs.lemmas.Bool.{cases_Bool}
 use Rattle.std.specs.Prelude.{◌==◌, ◌||◌, not, if◌then◌else◌}
@@ -85,7 +85,7 @@ drop_none c ids targets none = stays_no c (λ (t : Target). has_any t.ids) (map 
 pub without_none : (c child : ℕ) (targets : List Target) → is_target c targets ≡ false → is_target c (without_child child targets) ≡ false
 without_none c child targets none = stays_no c (λ (t : Target). not (t.child == child)) targets none
 
--- a child that is taken away is there no more
+-- a child that is taken away is no longer there
 pub without_self : (c : ℕ) (targets : List Target) → is_target c (without_child c targets) ≡ false
 without_self c [] = refl
 without_self c (t ∷ targets) =

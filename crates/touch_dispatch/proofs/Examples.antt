@@ -127,7 +127,7 @@ first_entries : after_first.entries ≡ ask 1 first false ∷ touch 2 first true
 unfolding is_inside local_point clamp_coordinate
 first_entries = refl
 
--- the second one to the other, and the first child is told of a move
+-- the second one to the other, and the first child gets a move
 abbrev second : Event
 second = event PointerDown 1 (at 0 (pos 10) (pos 5) ∷ at 1 (pos 60) (pos 5) ∷ [])
 
@@ -139,7 +139,7 @@ second_entries : after_second.entries
 unfolding is_inside local_point clamp_coordinate
 second_entries = refl
 
--- a pointer that goes up leaves, and the child that had no other is no target any more
+-- a pointer that goes up leaves, and the child that had no other is no longer a target
 abbrev third : Event
 third = event PointerUp 0 (at 0 (pos 10) (pos 5) ∷ at 1 (pos 60) (pos 5) ∷ [])
 

@@ -1,7 +1,7 @@
 -- The entries of a part are within those of the whole, in a tree that has scrolled.
 use Rattle.std.proofs.Common.{◌≡◌, ℕ, ℤ, ◌<◌, ◌≤◌, Bool, true, List, sym, ◌∙◌, ap, subst, arith}
 use Rattle.touch_event.specs.declared.event.Event.{Event}
-use Rattle.view_tree.specs.Rows.{part_from, count_of_key, views_of, children_of_first}
+use Rattle.view_tree.specs.Rows.{Later, part_from, count_of_key, views_of, children_of_first}
 use Rattle.view_tree.specs.Views.{Views}
 use Rattle.touch_dispatch.specs.declared.taker.Taker.{Taker}
 use Rattle.touch_dispatch.proofs.GrowLaws.{AllGrow, children_grow, out_fits}
@@ -9,7 +9,7 @@ use Rattle.touch_dispatch.proofs.ReachSteps.{hand_to_same}
 use Rattle.touch_dispatch.proofs.TargetLaws.{headed}
 use Rattle.touch_dispatch.specs.Dispatch.{hand_out, hand_to}
 use Rattle.touch_dispatch.specs.Handling.{Progress, Reached, many}
-use Rattle.touch_dispatch.specs.TreeEvents.{IsKidAt, Later, OnlyScrolls, kids_of, own_of, scene_of, target_of}
+use Rattle.touch_dispatch.specs.TreeEvents.{IsKidAt, OnlyScrolls, kids_of, own_of, scene_of, target_of}
 use Rattle.touch_targets.specs.Captures.{Target, first_ids, from_child, is_target}
 
 pub kid_moved : (old new : Views) (view kid : ℕ) → OnlyScrolls old new → IsKidAt old view kid → IsKidAt new view kid

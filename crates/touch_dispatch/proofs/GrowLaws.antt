@@ -11,7 +11,7 @@ use Rattle.view_model.specs.Growth.{is_group}
 use Rattle.view_model.specs.Forest.{Forest, Nothing, Branch}
 use Rattle.view_model.specs.PlainTree.{PlainView}
 use Rattle.touch_dispatch.specs.declared.log.Entry.{Entry}
-use Rattle.view_tree.specs.Rows.{Row, views_of}
+use Rattle.view_tree.specs.Rows.{At_first, Later, Later_on, Row, views_of}
 use Rattle.touch_dispatch.specs.declared.log.Kind.{Kind}
 use Rattle.touch_dispatch.specs.declared.log.Kind.TheVariants.{Ask, Touch, Click, Scroll}
 use Rattle.touch_dispatch.specs.declared.taker.Taker.{Taker}
@@ -23,7 +23,7 @@ use Rattle.touch_dispatch.specs.Drags.{pulled}
 use Rattle.touch_dispatch.specs.Gestures.{PlainGesture, at_number, set_drag, set_pressed}
 use Rattle.touch_dispatch.specs.Handling.{Progress, Reached, asked, click_handled, click_noted, clicks, drag_answer, drag_handled, handled, handled_by, intercepts, is_down, is_nil, is_same_offset, looked, many, moved_by, noted, noted_with, offset_after, pressed_after, scrolled_to, targets_at, with_gesture}
 use Rattle.touch_dispatch.specs.Points.{is_near_first, is_tried, local_event}
-use Rattle.touch_dispatch.specs.TreeEvents.{At_first, Later, Later_on, progress_by}
+use Rattle.touch_dispatch.specs.TreeEvents.{progress_by}
 use Rattle.touch_targets.specs.Captures.{Target, from_child, is_target}
 
 abbrev pub Grows : EventChild → Type 0
@@ -59,7 +59,7 @@ pub grow_clicked : (b : Bool) (number : ℕ) (event : Event) (progress : Progres
 grow_clicked true number event progress = let n = many-noted number Click event true progress in omega arith
 grow_clicked false number event progress = omega arith
 
--- a view notes that it was handed an event, before all else
+-- a view first records that it got an event
 pub touch_fits : (answer : Answer) (own : Receiver) (event : Event) (progress : Progress) → many progress + 1 ≤ many (handled_by answer own event progress).progress
 touch_fits Off own event progress = let n = many-noted own.number Touch event false progress in omega arith
 touch_fits Yes own event progress = let n = many-noted own.number Touch event true progress in omega arith
@@ -239,7 +239,7 @@ children_grow scene (Branch view below after) = (
   children_grow scene after,
 )
 
--- how many entries there are hangs on no offset
+-- the number of entries does not depend on offsets
 pub asked_many : (own : Receiver) (event : Event) (g : PlainGesture) (e : List Entry) (one two : ℕ → ℤ)
     → many (asked own event (progress_by one g e)).progress ≡ many (asked own event (progress_by two g e)).progress
 asked_many own event g e one two =
@@ -251,7 +251,7 @@ asked_many own event g e one two =
       | inr b ↦ rw b refl
     ]
 
--- what is noted fits where the whole does
+-- what is recorded fits if the whole does
 pub asks_fit : (own : Receiver) (event : Event) (progress : Progress) → (is_down event.action || not (is_nil (targets_at progress own.number))) ≡ true
     → progress.gesture.disallows own.number ≡ false → many progress + 1 ≤ many (asked own event progress).progress
 asks_fit own event progress e d =
@@ -272,7 +272,7 @@ pub click_part : (answer : Answer) (own : Receiver) (event : Event) (progress : 
     → many (click_handled own event (noted own.number Touch event true progress)) ≤ many (handled_by answer own event progress).progress
 click_part answer own event progress is = rw is (omega arith)
 
--- each step of a group fits where the whole does
+-- each step of a group fits if the whole does
 pub ask_fits : (scene : Scene) (own : PlainView) (kids : List EventChild) (event : Event) (progress : Progress) → AllGrow kids
     → many (asked (receiver scene own kids) event (begun own.number event.action progress)).progress ≤ many (group_reached scene own kids event progress).progress
 ask_fits scene own kids event progress grow =
@@ -312,7 +312,7 @@ answer_fits scene own kids event progress first second grow is then_ =
     omega arith
     ))
 
--- a child of a group is handed the event within what the group makes of it
+-- a child of a group gets the event within what the group makes of it
 pub try_fits : (scene : Scene) (own : PlainView) (event : Event) (kid : EventChild) (progress : Progress) (part : Event) → GetsPart scene own event kid progress part
     → many (kid.reach part progress).progress ≤ many (try_child scene own event kid progress).progress
 try_fits scene own event kid progress part gets =

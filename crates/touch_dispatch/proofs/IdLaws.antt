@@ -1,8 +1,9 @@
--- The numbers that stand for one pointer and for all of them.
-use Rattle.std.proofs.Common.{◌≡◌, ℕ, zero, suc, ◌*◌, ◌%◌, ◌<◌, ◌≤◌, ◌-◌, ◌^◌, true, false, refl, sym, arith, inl, inr}
+-- The numbers that represent one pointer and all of them.
+use Rattle.std.proofs.Common.{◌≡◌, ℕ, ◌*◌, ◌%◌, ◌<◌, ◌≤◌, ◌-◌, ◌^◌, true, false, refl, sym, arith, inl, inr}
 use mathlib.Core.Path.{fun_ext}
 use Rattle.std.specs.Prelude.{nat_lt}
 use Rattle.std.proofs.lemmas.Bool.{cases_eq, cases_lt, eq-eqb, ne_eqb}
+use Rattle.std.proofs.lemmas.Nat.{one_shl}
 use Rattle.std.proofs.lemmas.Nat.Bits.{bit_at-pow_other, bit_at-pow_same, bit_at_ones, bit_at_ones_above}
 use Rattle.touch_dispatch.specs.Dispatch.{every, only}
 use Rattle.touch_event.specs.PointerSets.{has_id}
@@ -29,15 +30,5 @@ all_every = fun_ext (λ k. elim (cases_lt k 32) [
     lt_no : (k : ℕ) → 32 ≤ k → nat_lt k 32 ≡ false
     lt_no k more = grind (arith)
 
-pub bit_small : (id : ℕ) → id < 10 → 1 * (2 ^ id) % 4294967296 ≡ 2 ^ id
-bit_small zero less = refl
-bit_small (suc zero) less = refl
-bit_small (suc (suc zero)) less = refl
-bit_small (suc (suc (suc zero))) less = refl
-bit_small (suc (suc (suc (suc zero)))) less = refl
-bit_small (suc (suc (suc (suc (suc zero))))) less = refl
-bit_small (suc (suc (suc (suc (suc (suc zero)))))) less = refl
-bit_small (suc (suc (suc (suc (suc (suc (suc zero))))))) less = refl
-bit_small (suc (suc (suc (suc (suc (suc (suc (suc zero)))))))) less = refl
-bit_small (suc (suc (suc (suc (suc (suc (suc (suc (suc zero))))))))) less = refl
-bit_small (suc (suc (suc (suc (suc (suc (suc (suc (suc (suc n)))))))))) less = absurd (omega arith)
+pub bit_small : (id : ℕ) → id < 32 → 1 * (2 ^ id) % 4294967296 ≡ 2 ^ id
+bit_small id less = one_shl id 32 less

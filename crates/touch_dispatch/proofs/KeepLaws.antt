@@ -45,7 +45,7 @@ pub kept_targets : {old_tree new_tree : Views} {old new : Kept} {old_log new_log
     → (gesture_of new).targets ≡ (gesture_of old).targets → room_of new_log ≡ room_of old_log → KeepsScene old_tree new_tree old new old_log new_log
 kept_targets caught scrolls opened targets room = record { scrolls = scrolls; caught = gesture_stays _ _ _ _ caught scrolls.same.tree opened targets; opened = opened; room = room }
 
--- an event may still be handed to a view
+-- an event may still go to a view
 pub may_still : {old_tree new_tree : Views} {old new : Kept} {old_log new_log : Log} {key : ℕ} {event : Event} → MayReach old_tree old key event → KeepsScene old_tree new_tree old new old_log new_log
     → MayReach new_tree new key event
 may_still may kept = record {

@@ -6,7 +6,6 @@ mod RootLaws
 mod ParentLaws
 pub mod ScrollLaws
 mod ScrollSteps
-mod Backwards
 mod CaughtLaws
 mod FitLaws
 mod GrowLaws

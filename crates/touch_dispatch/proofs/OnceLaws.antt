@@ -1,4 +1,4 @@
--- An event is handed to each view at most once: what is counted of its entries is bounded by what the views may cost.
+-- An event goes to each view at most once: what is counted of its entries is bounded by what the views may cost.
 use Rattle.std.proofs.Common.{◌≡◌, ℕ, ℤ, ◌+◌, ◌≤◌, Bool, true, false, List, [], ◌∷◌, ◌++◌, Option, Some, None, refl, sym, ◌∙◌, ap, subst, arith, eqb-true, inl, inr}
 use Rattle.std.proofs.lemmas.Bool.{cases_Bool, eq-eqb, ne_eqb}
 use Rattle.std.specs.Prelude.{pos, ◌==◌, ◌||◌, not, if◌then◌else◌}
@@ -39,7 +39,7 @@ pub record Step (tally : Entry → ℕ) (old new : Progress) (price : ℕ) : Typ
   pub cost : spent tally new ≤ spent tally old + price
   pub distinct : AllDistinct new.gesture.targets
 
--- an event that a child is handed costs no more than this
+-- an event that a child gets costs no more than this
 pub record Bounded (tally : Entry → ℕ) (kid : EventChild) (price : ℕ) : Type 0 where
   pub bound : (event : Event) (progress : Progress) → AllDistinct progress.gesture.targets → Step tally progress (kid.reach event progress).progress price
 
@@ -105,7 +105,7 @@ price_targets_list (t ∷ targets) p distinct =
     let f = price_first t targets p distinct.0 in
     omega arith
 
--- what the targets are handed that were not handed the event before
+-- what the targets get that did not get the event before
 abbrev pub price_kept : {tally : Entry → ℕ} {kids : List EventChild} → Taker → List Target → Priced tally kids → ℕ
 price_kept taker [] p = 0
 price_kept taker (t ∷ targets) p = (if is_handed taker t.child then 0 else price_of t.child p) + price_kept taker targets p
@@ -144,7 +144,7 @@ begun_step tally group action progress all = elim (cases_Bool (is_down action)) 
   | inr e ↦ rw e (no_step tally progress 0 all)
 ]
 
--- what is asked of a count: no view costs more than its fees
+-- the condition on a count: no view costs more than its fees
 pub record Fees (tally : Entry → ℕ) (asking touching moving : ℕ → ℕ) : Type 0 where
   pub ask : (n : ℕ) (event : Event) (answer : Bool) → tally (record { view = n; kind = Ask; event = event; yes = answer; offset = pos 0 }) ≤ asking n
   pub touch : (n : ℕ) (event : Event) (answer : Bool) → tally (record { view = n; kind = Touch; event = event; yes = answer; offset = pos 0 }) ≤ touching n

@@ -1,4 +1,4 @@
--- No view is handed an event twice, and an event makes at most three entries for each view.
+-- No view gets an event twice, and an event makes at most three entries for each view.
 use Rattle.std.proofs.Common.{◌≡◌, ℕ, ◌+◌, ◌*◌, ◌≤◌, List, [], ◌∷◌, length, refl, ◌∙◌, arith}
 use Rattle.std.specs.Prelude.{◌==◌, if◌then◌else◌}
 use Rattle.touch_dispatch.specs.declared.log.Entry.{Entry}
@@ -68,7 +68,7 @@ room scene view below event progress unique all =
     let e = allowed_three below in
     omega arith
 
--- a view is handed an event at most once
+-- a view gets an event at most once
 pub once : (n : ℕ) (scene : Scene) (view : PlainView) (below : Forest PlainView) (event : Event) (progress : Progress) → Unique (Branch view below Nothing) → occurs n (Branch view below Nothing) ≤ 1 → AllDistinct progress.gesture.targets
     → spent (touches n) (reach scene (Branch view below Nothing) event progress).progress ≤ spent (touches n) progress + 1
 once n scene view below event progress unique few all =
@@ -111,7 +111,7 @@ asked_once n scene view below event progress unique few all =
     let e = allowed_ask n below in
     omega arith
 
--- each view of a tree is handed an event at most once, and is asked about it at most once
+-- each view of a tree gets an event at most once, and is asked about it at most once
 pub record IsOnce (n : ℕ) (old new : Progress) : Type 0 where
   pub touched : spent (touches n) new ≤ spent (touches n) old + 1
   pub asked : spent (asks n) new ≤ spent (asks n) old + 1

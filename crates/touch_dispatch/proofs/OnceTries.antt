@@ -1,4 +1,4 @@
--- An event is handed to each view at most once: the children that are tried, and the targets, are other children.
+-- An event goes to each view at most once: the children that are tried, and the targets, are other children.
 use Rattle.std.proofs.Common.{◌≡◌, ℕ, ◌+◌, ◌≤◌, Bool, true, false, List, [], ◌∷◌, Option, Some, None, refl, ◌∙◌, ap, subst, arith, inl, inr}
 use Rattle.std.proofs.lemmas.Bool.{cases_Bool, eq-eqb}
 use Rattle.std.specs.Prelude.{◌==◌, ◌&&◌, not, if◌then◌else◌}
@@ -22,7 +22,7 @@ use Rattle.touch_dispatch.specs.Once.{AllDistinct}
 use Rattle.touch_dispatch.specs.Points.{is_tried, local_event}
 use Rattle.touch_targets.specs.Captures.{Target, drop_pointers, is_target, put_target}
 
--- what the targets of a group have become, by who took the pointer
+-- how the targets of a group change, by which child took the pointer
 abbrev pub TriedIs : List Target → Taker → List Target → Type 0
 TriedIs old Nobody new = new ≡ old
 TriedIs old Earlier new = (child : ℕ) × (ids : ℕ → Bool) × (is_target child old ≡ true) × (new ≡ put_target child ids old)
@@ -110,7 +110,7 @@ list_ids child ids (t ∷ targets) p =
     let k = ap (λ c. price_of c p) (child_same child ids t (t.child == child)) in
     rw (k, h) refl
 
--- what the targets may be handed is what those may that were there
+-- what the targets may get is what those may that were there
 pub kept_by : {tally : Entry → ℕ} {kids : List EventChild} (old new : List Target) (taker : Taker) (p : Priced tally kids) → TriedIs old taker new → price_kept taker new p ≤ price_list old p
 kept_by old new Nobody p is = rw is (kept_less Nobody old p)
 kept_by old new Earlier p is =
@@ -121,7 +121,7 @@ kept_by old new (Handed child) p is =
     let h = kept_less (Handed child) old p in
     rw (is.2, put_fresh child is.0 old is.1, eq-eqb child child refl) (omega arith)
 
--- the pointer that none took
+-- the pointer that no child took
 settled_step : {tally : Entry → ℕ} {kids : List EventChild} (group : ℕ) (event : Event) (old : Progress) (price : ℕ) (taker : Taker) (progress : Progress) (p : Priced tally kids) → TriedStep tally group old taker progress price
     → let settled_ = settled group event (record { taker = taker; progress = progress }) in
     Step tally old settled_.progress price × (price_kept settled_.taker (targets_at settled_.progress group) p ≤ price_list (targets_at old group) p)
@@ -242,7 +242,7 @@ module _ {tally : Entry → ℕ} {asking touching moving : ℕ → ℕ} (fees : 
         is = rw (b.is, a.is) (omega arith);
       }
 
-  -- an event that is handed to a view costs no more than the fees of the view and of those below it
+  -- an event that goes to a view costs no more than the fees of the view and of those below it
   pub reach_step : (scene : Scene) (view : PlainView) (below after : Forest PlainView) (event : Event) (progress : Progress) → Unique (Branch view below after) → AllDistinct progress.gesture.targets
       → Step tally progress (reach scene (Branch view below after) event progress).progress (fee view.number + allowed fee below)
   reach_step scene view below after event progress unique all =

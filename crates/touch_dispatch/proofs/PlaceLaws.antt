@@ -1,4 +1,4 @@
--- A view has a seat exactly where it has marks; the place that came last goes.
+-- A view has a seat exactly if it has marks; the place that was added last is removed first.
 use Rattle.std.proofs.Common.{◌≡◌, ◌∙◌, ℕ, Bool, true, false, [], Option, Some, None, is_some, refl, sym, ap, inl, inr}
 use Rattle.std.specs.Prelude.{◌==◌, ◌&&◌, not, if◌then◌else◌, nat_eq}
 use Rattle.std.proofs.lemmas.Bool.{cases_eq, eq-eqb, ne_eqb}
@@ -23,7 +23,7 @@ unknown kept places view closed =
     let seat = both_same (has_seat kept.seats view) (is_some (marks_at kept view)) (places view) closed in
     record { seat = seat; marks = none_of (marks_at kept view) (sym (places view) ∙ seat) }
 
--- a view goes
+-- a view is removed
 pub gone : (old new : ℕ → Bool) (was now : ℕ → Option Marks) (view : ℕ) → ((other : ℕ) → old other ≡ is_some (was other))
     → ((other : ℕ) → new other ≡ (old other && not (other == view)))
     → ((other : ℕ) → now other ≡ (if nat_eq view other then None else was other))

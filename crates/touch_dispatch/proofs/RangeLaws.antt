@@ -28,7 +28,7 @@ range_within range own offset before same is =
     ∙ ap (λ (range : ℤ). offset_within range before) (sym same)
     ∙ sym is
 
--- an offset that a view in this rectangle may have is not brought elsewhere
+-- an offset that a view in this rectangle may have stays as it is
 range_brought : (class : Class) (own : Facts) (rect : Rect) (child : Option Rect) (offset : ℤ) → offset_within (range_for (scrolls class) own (Some rect) child) offset ≡ offset
     → brought (range_by class own (Some rect) child) offset ≡ offset
 range_brought View own rect child offset within = refl

@@ -6,7 +6,7 @@ use Rattle.std.specs.Option.{is_some}
 use Rattle.touch_event.specs.declared.event.Event.{Event}
 use Rattle.view_model.specs.Forest.{Forest, Nothing, Branch, count_of}
 use Rattle.view_model.specs.PlainTree.{PlainView}
-use Rattle.view_tree.specs.Rows.{Row, part_from, last_key, previous_key, count_of_key, count_of_number, views_of, children_of_first, later_siblings, head_view}
+use Rattle.view_tree.specs.Rows.{At_first, Later, Later_on, Row, part_from, last_key, previous_key, count_of_key, count_of_number, views_of, children_of_first, later_siblings, head_view}
 use Rattle.view_tree.specs.Views.{IsLive, IsTree, Views, facts_of, number_of, state_of}
 use Rattle.view_tree.specs.declared.state.State.{State}
 use Rattle.view_model.specs.declared.facts.Facts.{Facts}
@@ -15,7 +15,7 @@ use Rattle.touch_dispatch.specs.declared.receiver.Receiver.{Receiver}
 use Rattle.touch_dispatch.specs.declared.taker.Taker.{Taker}
 use Rattle.touch_dispatch.specs.declared.taker.Taker.TheVariants.{Nobody, Earlier, Handed}
 use Rattle.touch_dispatch.specs.declared.log.Entry.{Entry}
-use Rattle.touch_dispatch.proofs.Backwards.{count-later, count_of_key-later, from_later, kids-within, last_is, last_none, later-within, previous_in, previous_within, within_within}
+use Rattle.view_tree.proofs.forest.Backwards.{count-later, count_of_key-later, from_later, kids-within, last_is, last_none, later-within, previous_in, previous_within, within_within}
 use Rattle.touch_dispatch.proofs.CaughtLaws.{caught_put}
 use Rattle.touch_dispatch.proofs.SceneLaws.{kid_root, kids_part, offset_live, rect_live, same_child, same_kids, same_own, same_scene}
 use Rattle.touch_dispatch.proofs.StayLaws.{AllStay, children_stay, occurs, stays_hand_to}
@@ -25,7 +25,7 @@ use Rattle.touch_dispatch.specs.Dispatch.{EventChild, Scene, Tried, answered, be
 use Rattle.touch_dispatch.specs.Gestures.{PlainGesture, set_targets}
 use Rattle.touch_dispatch.specs.Handling.{Progress, Reached, asked, handled, is_nil, targets_at, with_gesture}
 use Rattle.touch_dispatch.specs.Points.{is_tried}
-use Rattle.touch_dispatch.specs.TreeEvents.{AreChildren, At_first, IsKidAt, Later, Later_on, OnlyScrolls, child_at, is_root, kids_of, offsets_in, own_of, progress_by, scene_of, target_of}
+use Rattle.touch_dispatch.specs.TreeEvents.{AreChildren, IsKidAt, OnlyScrolls, child_at, is_root, kids_of, offsets_in, own_of, progress_by, scene_of, target_of}
 use Rattle.touch_targets.specs.Captures.{Target, first_child, first_ids, from_child, is_target, older, put_target, targets_from}
 
 pub none_by : (o : Option ℕ) (b : Bool) (targets : List Target) → is_some o ≡ not b → b ≡ true → o ≡ first_child targets → is_nil targets ≡ true
@@ -37,6 +37,16 @@ pub answered_own : (scene : Scene) (own : PlainView) (kids : List EventChild) (e
     → handled (receiver scene own kids) event progress ≡ reached
     → answered scene own kids event intercepted taker progress ≡ reached
 answered_own scene own kids event intercepted taker progress reached none is = rw none is
+
+pub some_by : (o : Option ℕ) (b : Bool) (targets : List Target) → is_some o ≡ not b → b ≡ false → o ≡ first_child targets → is_nil targets ≡ false
+some_by o b [] some e is = absurd (let s = rw (is, e) at some in cc)
+some_by o b (t ∷ targets) some e is = refl
+
+pub answered_targets : (scene : Scene) (own : PlainView) (kids : List EventChild) (event : Event) (intercepted : Bool) (taker : Taker) (progress : Progress) (reached : Reached)
+    → is_nil (targets_at progress own.number) ≡ false
+    → hand_out scene own kids event intercepted taker (targets_at progress own.number) false progress ≡ reached
+    → answered scene own kids event intercepted taker progress ≡ reached
+answered_targets scene own kids event intercepted taker progress reached some is = rw some is
 
 -- a group is asked once the gesture has begun, by what the code reads of it
 pub asked_begun : (scene : Scene) (own : PlainView) (kids : List EventChild) (event : Event) (start began : Progress) (read : Receiver) (first : Reached)
@@ -160,7 +170,7 @@ taken_stays next Nobody progress e = absurd (cc)
 taken_stays next Earlier progress e = refl
 taken_stays next (Handed child) progress e = refl
 
--- what a list of children comes to, by its first one and the rest
+-- the result for a list of children, by its first one and the rest
 pub from_first : (scene : Scene) (own : PlainView) (event : Event) (start now : Progress) (tried : Tried) (row : Row) (kids siblings list : Forest Row) → list ≡ Branch row kids siblings
     → try_children scene own event (event_children scene (views_of (later_siblings list))) start ≡ record { taker = Nobody; progress = now }
     → try_child scene own event (record { view = head_view list; reach = reached_by scene (head_view list) (event_children scene (views_of (children_of_first list))) }) now ≡ tried
@@ -170,7 +180,7 @@ from_first scene own event start now tried row kids siblings (Branch r b a) is r
     let kid : EventChild = record { view = r.view; reach = reached_by scene r.view (event_children scene (views_of b)) } in
     ap (λ (t : Tried). unless_taken (try_child scene own event kid) t.taker t.progress) rest ∙ e
 
--- the same for the views behind the one of a key
+-- the same for the views after the one of a key
 pub from_kid : (views : Views) (slop : ℤ) (view kid : ℕ) (event : Event) (start now : Progress) (tried : Tried) → IsLive views kid
     → try_children (scene_of views slop) (own_of views view) event (event_children (scene_of views slop) (views_of (later_siblings (part_from kid views.tree)))) start ≡ record { taker = Nobody; progress = now }
     → try_child (scene_of views slop) (own_of views view) event (child_at views slop kid) now ≡ tried

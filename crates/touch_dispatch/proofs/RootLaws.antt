@@ -70,7 +70,7 @@ pub part_single : (list : Forest Row) → later_siblings (first_tree list) ≡ N
 part_single Nothing = refl
 part_single (Branch row kids siblings) = refl
 
--- what an event of a view tells fits where there is room for three entries of each view
+-- what is recorded of an event of a view fits if there is room for three entries of each view
 pub part_room : (views : Views) (slop : ℤ) (view : ℕ) (event : Event) (progress : Progress) → IsTree views → IsLive views view → AllDistinct progress.gesture.targets
     → many (reach (scene_of views slop) (views_of (first_tree (part_from view views.tree))) event progress).progress ≤ many progress + 3 * count_of views.tree
 part_room views slop view event progress is live all =

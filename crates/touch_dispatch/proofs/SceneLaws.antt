@@ -1,4 +1,4 @@
--- What a tree tells of an event's place in it.
+-- What a tree shows of an event's place in it.
 use Rattle.std.proofs.Common.{◌≡◌, ℕ, ℤ, ◌<◌, Bool, true, false, Option, Some, None, refl, sym, ◌∙◌, ap, subst, arith, eqb-true, inl, inr}
 use mathlib.Core.Path.{fun_ext}
 use Rattle.std.proofs.lemmas.Bool.{cases_Bool, eq-eqb}
@@ -7,15 +7,15 @@ use Rattle.geom_core.specs.declared.geometry.Rect.{Rect}
 use Rattle.view_model.specs.Forest.{Forest, Nothing, Branch, count_of, or_else}
 use Rattle.view_model.specs.Growth.{is_group}
 use Rattle.view_model.specs.PlainTree.{PlainView, part_of}
-use Rattle.view_tree.specs.Rows.{Row, first_tree, part_from, head_view, key_where, views_of, children_of_first}
+use Rattle.view_tree.specs.Rows.{At_first, Later, Later_on, Row, first_tree, part_from, head_view, key_where, views_of, children_of_first}
 use Rattle.view_tree.specs.Views.{Held, IsLive, IsTree, Views, class_of, held_of, number_of, offset_of, state_of}
 use Rattle.view_tree.proofs.forest.KeyLaws.{Agree, located, times_self, count_of_key-within}
 use Rattle.view_tree.proofs.forest.PlainLaws.{agree_live, key_where_number}
 use Rattle.touch_event.specs.declared.event.Event.{Event}
-use Rattle.touch_dispatch.proofs.Backwards.{count-later, from_later, kids-within, later-within, within_within}
+use Rattle.view_tree.proofs.forest.Backwards.{count-later, from_later, kids-within, later-within, within_within}
 use Rattle.touch_dispatch.specs.Dispatch.{EventChild, Scene, child_of, event_children, group_reached, reach, reached_by}
 use Rattle.touch_dispatch.specs.Handling.{Progress}
-use Rattle.touch_dispatch.specs.TreeEvents.{At_first, IsKidAt, Later, Later_on, OnlyScrolls, below_first, child_at, handled_at, held_at, held_under, is_root, kids_of, offsets_in, own_of, scene_of}
+use Rattle.touch_dispatch.specs.TreeEvents.{IsKidAt, OnlyScrolls, below_first, child_at, handled_at, held_at, held_under, is_root, kids_of, offsets_in, own_of, scene_of}
 
 -- scrolling moves no view
 same_rect : (old new : Views) → OnlyScrolls old new → (o : Option ℕ) → (held_under new o).state.bounds ≡ (held_under old o).state.bounds

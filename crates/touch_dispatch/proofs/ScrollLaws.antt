@@ -47,8 +47,8 @@ pub record IsScrolled (n : ℕ) (old new : Progress) : Type 0 where
 abbrev pub MovesOnce : ℕ → Progress → Progress → Type 0
 MovesOnce n old new = StaysPut n old new ⊎ (IsScrolled n old new ⊎ (touched n old + 2 ≤ touched n new))
 
--- how far an event has come, and some steps further: where an offset has changed, the log has that; a view that handles no
--- two events, and that the log has as scrolled, has another offset
+-- the progress of an event, and some steps further: where an offset has changed, the log has that; a view that handles
+-- at most one event, and that the log has as scrolled, has another offset
 pub record LogsScrolls (old new : Progress) : Type 0 where
   pub grew : (n : ℕ) → has_scrolled n old.entries ≡ true → has_scrolled n new.entries ≡ true
   pub logged : (n : ℕ) → (new.offsets n ≡ old.offsets n) ⊎ (has_scrolled n new.entries ≡ true)
@@ -85,7 +85,7 @@ onward {first = first} {second = second} {third = third} one two = record {
   moved = λ n. moves_on n first second third (one.rose n) (two.rose n) (one.moved n) (two.moved n);
 }
 
--- what is done to a gesture
+-- an operation on a gesture
 gestured : {old new : Progress} → new.offsets ≡ old.offsets → new.entries ≡ old.entries → LogsScrolls old new
 gestured {old = old} {new = new} offsets entries = record {
   grew = λ n e. ap (has_scrolled n) entries ∙ e;
@@ -386,7 +386,7 @@ cancel_logs scene (Some parent) number part progress = elim (cases_Bool (is_targ
   | inr e ↦ rw e (still progress)
 ]
 
--- a view that handles no two events, and that the log has as scrolled since, has another offset
+-- a view that handles at most one event, and that the log has as scrolled since, has another offset
 pub scrolled_differs : (n : ℕ) (old new : Progress) → LogsScrolls old new → total (touches n) new.entries ≤ total (touches n) old.entries + 1
     → has_scrolled n old.entries ≡ false → has_scrolled n new.entries ≡ true → new.offsets n ≢ old.offsets n
 scrolled_differs n old new logs once none has = by (logs.moved n)

@@ -68,7 +68,7 @@ first_rect_is views slop view kid is live part =
     ∙ ap (λ (t : Forest Row). (scene_of views slop).rects (head_view t).number) (sym part) ∙ rect_live views slop kid is live
     )
 
--- where the first child of a view lies, by its key
+-- the bounds of the first child of a view, by its key
 pub first_lies : (views : Views) (view kid : ℕ) → IsLive views kid → part_from kid views.tree ≡ children_of_first (part_from view views.tree)
     → (state_of views kid).bounds ≡ first_place (held_of views) (children_of_first (part_from view views.tree))
 first_lies views view kid live part =
@@ -76,7 +76,7 @@ first_lies views view kid live part =
     subst (λ (list : Forest Row). (state_of views kid).bounds ≡ first_place (held_of views) list) (sym f.is ∙ part)
     (ap (λ (key : ℕ). (state_of views key).bounds) (sym f.key_is))
 
--- a list that has no first view has none that lies anywhere
+-- a list that has no first view has none with bounds
 pub first_nowhere : (held : ℕ → Held) (list : Forest Row) → None ≡ first_key list → None ≡ first_place held list
 first_nowhere held Nothing none = refl
 first_nowhere held (Branch row kids siblings) none = absurd (cc)

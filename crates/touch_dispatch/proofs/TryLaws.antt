@@ -25,7 +25,7 @@ use Rattle.view_tree.specs.Rows.{first_tree, key_where, part_from, views_of}
 use Rattle.view_tree.specs.Views.{Views, facts_of, number_of, state_of}
 use Rattle.view_tree.specs.declared.state.State.{State}
 
--- a child of a view that may be handed an event, and the numbers of the two
+-- a child of a view that may get an event, and the numbers of the two
 pub record NamesChild (views : Views) (kept : Kept) (view kid : ℕ) (event : Event) (group child : ℕ) : Type 0 where
   pub may : MayReach views kept view event
   pub there : IsKidAt views view kid

@@ -13,7 +13,7 @@ use Rattle.touch_dispatch.specs.Handling.{Progress, targets_at}
 use Rattle.touch_dispatch.specs.Points.{is_tried, local_event}
 use Rattle.touch_dispatch.specs.TreeEvents.{IsKidAt, own_of, scene_of}
 
--- the children behind the next one
+-- the children after the next one
 abbrev pub behind : Option ℕ → Forest Row → Forest Row → Forest Row
 behind None list tree = list
 behind (Some kid) list tree = later_siblings (part_from kid tree)
@@ -23,12 +23,12 @@ abbrev pub before : Option ℕ → Forest Row → Forest Row → ℕ
 before None list tree = 0
 before (Some kid) list tree = 1 + count_of list - count_of (part_from kid tree)
 
--- none of the children behind the next one took the pointer
+-- no child after the next one took the pointer
 pub record TryWalk (views : Views) (slop : ℤ) (view : ℕ) (event : Event) (next : Option ℕ) (start now : Progress) : Type 0 where
   pub kid : IfSome next (IsKidAt views view)
   pub rest : try_children (scene_of views slop) (own_of views view) event (event_children (scene_of views slop) (views_of (behind next (children_of_first (part_from view views.tree)) views.tree))) start ≡ record { taker = Nobody; progress = now }
 
--- a child is handed its part of an event: it is tried, and is no target yet
+-- a child gets its part of an event: it is tried, and is no target yet
 pub record GetsPart (scene : Scene) (own : PlainView) (event : Event) (kid : EventChild) (progress : Progress) (part : Event) : Type 0 where
   pub tried : is_tried kid.view.facts.visibility (scene.rects kid.view.number) (progress.offsets own.number) event ≡ true
   pub other : is_target kid.view.number (targets_at progress own.number) ≡ false

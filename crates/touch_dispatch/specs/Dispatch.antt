@@ -23,23 +23,24 @@ use Rattle.view_model.specs.PlainTree.{PlainView}
 use Rattle.view_model.specs.ScrollView.{scroll_range}
 use Rattle.view_model.specs.declared.facts.Facts.{Facts}
 
--- what does not change while an event goes through the tree: where views lie, by number, and how far a pointer may slip
+-- what does not change while an event goes through the tree: the bounds of views, by number, and how far a pointer may
+-- slip
 pub record Scene : Type 0 where
   pub rects : ℕ → Option Rect
   pub slop : ℤ
 
--- a child as its group sees it: what it is, and what an event does that it is handed
+-- a child as its group sees it: what it is, and the effect of an event that it gets
 pub record EventChild : Type 0 where
   pub view : PlainView
   pub reach : Event → Progress → Reached
 
--- a view as it handles an event itself
+-- a view that handles an event itself
 
 abbrev pub first_rect : Scene → List EventChild → Option Rect
 first_rect scene [] = None
 first_rect scene (kid ∷ kids) = scene.rects kid.view.number
 
--- the range of the offset of a view in this rectangle, whose child lies in that one; nothing counts as no room
+-- the range of the offset of a view in this rectangle, whose child is in that one; if there is none, the range is empty
 abbrev pub range_of : Facts → Option Rect → Option Rect → ℤ
 range_of own None child = pos 0
 range_of own (Some rect) child = scroll_range own (size_of_rect rect) (option_map size_of_rect child)
@@ -65,7 +66,7 @@ receiver scene own kids = record {
 abbrev pub begun : ℕ → Action → Progress → Progress
 begun group action progress = if is_down action then with_gesture (cleared group) progress else progress
 
--- a child for the acting pointer, unless the group takes the event away from its children, which `asked` tells
+-- a child for the acting pointer, unless the group takes the event away from its children, which `asked` says
 
 pub record Tried : Type 0 where
   pub taker : Taker
@@ -81,7 +82,7 @@ every id = nat_lt id 32
 abbrev pub acting_part : Event → Event
 acting_part event = unwrap_or (split_event (only event.pointer) event) event
 
--- what a child is handed that is tried
+-- what a child gets that is tried
 abbrev pub tried_event : Bool → Event → Event
 tried_event split event = if split then acting_part event else event
 
@@ -123,7 +124,7 @@ oldest_or newer (t ∷ targets) = oldest_or (Some t.child) targets
 abbrev pub oldest : List Target → Option ℕ
 oldest targets = oldest_or None targets
 
--- the oldest target, if there is one, gets the pointer that none took
+-- the oldest target, if there is one, gets the pointer that no child took
 abbrev pub given : Option ℕ → ℕ → ℕ → PlainGesture → PlainGesture
 given None group pointer gesture = gesture
 given (Some child) group pointer gesture = set_targets group (put_target child (only pointer) (gesture.targets group)) gesture
@@ -157,7 +158,7 @@ is_handed Nobody child = false
 is_handed Earlier child = false
 is_handed (Handed handed) child = handed == child
 
--- a target's part of an event: where intercepted it gets a cancel, and a cancel goes whole
+-- a target's part of an event: if it is intercepted it gets a cancel, and a cancel goes whole
 abbrev pub part_for : Option Rect → ℤ → Event → Bool → (ℕ → Bool) → Option Event
 part_for rect offset event intercepted ids =
     if intercepted
@@ -187,7 +188,7 @@ hand_out scene own kids event intercepted taker (t ∷ targets) said progress =
     let reached = hand_to scene own kids event intercepted taker t progress in
     hand_out scene own kids event intercepted taker targets (said || reached.yes) reached.progress
 
--- the group itself where it has no target, otherwise its targets
+-- the group itself if it has no target, otherwise its targets
 abbrev pub answered : Scene → PlainView → List EventChild → Event → Bool → Taker → Progress → Reached
 answered scene own kids event intercepted taker progress =
     if is_nil (targets_at progress own.number)
@@ -231,12 +232,12 @@ event_children scene Nothing = []
 event_children scene (Branch view below after) =
     record { view = view; reach = reached_by scene view (event_children scene below) } ∷ event_children scene after
 
--- what an event does that is handed to the first view of a list
+-- the effect of an event that the first view of a list gets
 abbrev pub reach : Scene → Forest PlainView → Event → Progress → Reached
 reach scene Nothing event progress = record { yes = false; progress = progress }
 reach scene (Branch view below after) event progress = reached_by scene view (event_children scene below) event progress
 
--- an event of all the pointers: the root gets it where it lies somewhere and is not gone
+-- an event of all the pointers: the root gets it if it has bounds and is not gone
 abbrev pub dispatched : Scene → Forest PlainView → Event → Progress → Reached
 dispatched scene Nothing event progress = record { yes = false; progress = progress }
 dispatched scene (Branch view below after) event progress =
@@ -244,7 +245,8 @@ dispatched scene (Branch view below after) event progress =
     then reach scene (Branch view below after) event progress
     else record { yes = false; progress = progress }
 
--- a view goes away, with all below it: a root is handed a cancel, and so is a target of its parent, which is none then
+-- a view goes away, with all below it: a root gets a cancel, and so does a target of its parent, which is no longer one
+-- then
 abbrev pub cancelled : Scene → Option ℕ → ℕ → Forest PlainView → Progress → Progress
 cancelled scene None number part progress = (reach scene part cancel_event progress).progress
 cancelled scene (Some parent) number part progress =

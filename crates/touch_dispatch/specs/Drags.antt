@@ -40,7 +40,7 @@ lifted_drag event drag = if is_active event.pointer drag then following (other_p
 abbrev pub active_point : Event → Drag → Option Point
 active_point event drag = option_and_then (λ id. point_of id event.points.items) drag.active
 
--- a way is longer than the slop
+-- a distance is longer than the slop
 unfoldable pub is_past : ℤ → ℤ → Bool
 is_past slop way = int_lt slop way || int_lt way (pos 0 -ℤ slop)
 
@@ -73,7 +73,7 @@ asked_drag_by PointerUp range slop event drag = lifted_drag event drag
 abbrev pub asked_drag : ℤ → ℤ → Event → Drag → Drag
 asked_drag range slop event drag = asked_drag_by event.action range slop event drag
 
--- a way without the slop at its beginning
+-- a distance without the slop at its beginning
 unfoldable pub beyond_slop : ℤ → ℤ → ℤ
 beyond_slop slop way = if int_lt (pos 0) way then way -ℤ slop else way +ℤ slop
 
@@ -91,7 +91,7 @@ abbrev pub pulled_to : ℤ → Option Point → Drag → Pull
 pulled_to slop None drag = still drag
 pulled_to slop (Some p) drag = pulled_at slop p drag
 
--- what an event does that a scroll view handles itself
+-- the effect of an event that a scroll view handles itself
 abbrev pub pulled_by : Action → ℤ → Event → Drag → Pull
 pulled_by Down slop event drag = still (pressed_drag event drag)
 pulled_by Up slop event drag = still (ended_drag drag)
@@ -103,7 +103,7 @@ pulled_by PointerUp slop event drag = still (lifted_drag event drag)
 abbrev pub pulled : ℤ → Event → Drag → Pull
 pulled slop event drag = pulled_by event.action slop event drag
 
--- a way that a pointer can go at once, in a number of 64 bits that an offset can be added to
+-- a distance that a pointer can go at once, in a number of 64 bits that an offset can be added to
 pub record IsWay (way : ℤ) : Type 0 where
   pub low : negsuc 8589934591 ≤ℤ way
   pub high : way ≤ℤ pos 8589934592

@@ -15,7 +15,7 @@ use Rattle.view_model.specs.declared.kinds.Answer.{Answer}
 use Rattle.view_model.specs.declared.kinds.Answer.TheVariants.{Off, Yes, Click as ClickPlan}
 use Rattle.view_model.specs.ScrollView.{offset_within}
 
--- how far an event has come: what it has made of the gesture and of the offsets, and whom it was handed to
+-- the progress of an event: the gesture and the offsets after it so far, and which views it went to
 pub record Progress : Type 0 where
   pub gesture : PlainGesture
   -- by number of the view
@@ -107,7 +107,7 @@ handled_by ClickPlan own event progress =
 unfoldable pub is_same_offset : ℤ → ℤ → Bool
 is_same_offset old new = int_le old new && int_le new old
 
--- the child is moved up to this offset, and that is told where it is another
+-- the child is moved up to this offset, and that is reported if it is another
 abbrev pub scrolled_to : ℤ → ℕ → Event → Progress → Progress
 scrolled_to offset number event progress =
     if is_same_offset (progress.offsets number) offset
@@ -117,7 +117,7 @@ scrolled_to offset number event progress =
 abbrev pub offset_after : ℤ → ℤ → ℤ → ℤ
 offset_after range offset way = offset_within range (offset +ℤ way)
 
--- the child is moved so far up, as far as the range goes
+-- the child is moved this far up, within its range
 abbrev pub moved_by : Option ℤ → Receiver → Event → Progress → Progress
 moved_by None own event progress = progress
 moved_by (Some way) own event progress = scrolled_to (offset_after own.range (progress.offsets own.number) way) own.number event progress
@@ -158,7 +158,7 @@ looked own event gesture =
     then set_drag own.number (asked_drag own.range own.slop event (gesture.drags own.number)) gesture
     else gesture
 
--- by its plan, and where it drags
+-- by its plan, and while it drags
 abbrev pub intercepts : Receiver → Event → PlainGesture → Bool
 intercepts own event gesture = is_planned own.intercept event.action || (own.scrolls && (gesture.drags own.number).dragging)
 
@@ -168,7 +168,7 @@ answered_ask own event progress =
     let said = intercepts own event looked_on.gesture in
     record { yes = said; progress = noted own.number Ask event said looked_on }
 
--- it is asked on down, and where it has targets; otherwise it takes the event without a question
+-- it is asked on down, and if it has targets; otherwise it takes the event without a question
 abbrev pub asked : Receiver → Event → Progress → Reached
 asked own event progress =
     if is_down event.action || not (is_nil (targets_at progress own.number))

@@ -27,7 +27,7 @@ abbrev pub corner_y : Option Rect → ℤ
 corner_y None = pos 0
 corner_y (Some rect) = rect.top
 
--- a point of a group that has scrolled so far, in the coordinates of a child that lies there
+-- a point of a group that has scrolled this far, in the coordinates of a child with these bounds
 unfoldable pub local_point : Option Rect → ℤ → Point → Point
 local_point rect offset p = record p {
   x = clamp_coordinate (p.x -ℤ corner_x rect);
@@ -40,7 +40,7 @@ local_event rect offset event = record event { points = record { items = map (lo
 abbrev pub is_between : ℤ → ℤ → ℤ → Bool
 is_between low x high = int_le low x && int_lt x high
 
--- a point of a group that has scrolled so far lies in a rectangle
+-- a point of a group that has scrolled this far is in a rectangle
 unfoldable pub is_inside : Rect → ℤ → Point → Bool
 is_inside rect offset p = is_between rect.left p.x rect.right && is_between rect.top (p.y +ℤ offset) rect.bottom
 

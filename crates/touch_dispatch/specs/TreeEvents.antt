@@ -15,7 +15,7 @@ use Rattle.touch_targets.specs.Captures.{Target, first_ids, from_child, is_targe
 use Rattle.view_model.specs.Forest.{Forest, Nothing, Branch}
 use Rattle.view_model.specs.Offsets.{scrolls}
 use Rattle.view_model.specs.PlainTree.{PlainView, part_of}
-use Rattle.view_tree.specs.Rows.{Row, ancestors, children_of_first, count_of_key, first_tree, head_view, key_where, part_from, views_of}
+use Rattle.view_tree.specs.Rows.{Later, Row, ancestors, children_of_first, count_of_key, first_tree, head_view, key_where, part_from, views_of}
 use Rattle.view_tree.specs.Views.{Held, IsLive, IsTree, SameTree, Views, held_of, held_or, number_of, state_of}
 
 abbrev pub held_under : Views → Option ℕ → Held
@@ -35,7 +35,7 @@ offsets_in views number = (held_at views number).offset
 abbrev pub progress_by : (ℕ → ℤ) → PlainGesture → List Entry → Progress
 progress_by offsets gesture entries = record { gesture = gesture; offsets = offsets; entries = entries }
 
--- how far an event has come, by what is kept and told
+-- the progress of an event, by what is kept and recorded
 abbrev pub progress_of : Views → Kept → Log → Progress
 progress_of views kept log = progress_by (offsets_in views) (gesture_of kept) log.entries.items
 
@@ -46,11 +46,6 @@ room_of log = vec_capacity log.entries
 abbrev pub below_first : Forest PlainView → Forest PlainView
 below_first Nothing = Nothing
 below_first (Branch view below after) = below
-
--- a list of trees is another one from one of its trees on
-pub data Later (rest : Forest Row) : Forest Row → Type 0 where
-  At_first : Later rest rest
-  Later_on : {row : Row} {kids siblings : Forest Row} → Later rest siblings → Later rest (Branch row kids siblings)
 
 -- one of the trees of a list has this view as its root
 abbrev pub is_root : ℕ → Forest PlainView → Bool
@@ -67,13 +62,13 @@ pub record IsGestureIn (tree : Forest Row) (kept : Kept) : Type 0 where
   pub opened : (key : ℕ) → 0 < count_of_key key tree → is_open kept (head_view (part_from key tree)).number ≡ true
   pub children : AreChildren (views_of tree) (gesture_of kept)
 
--- the range of the offset of the view of a key, which lies with its first child where they lie
+-- the range of the offset of the view of a key, which has these bounds, as has its first child
 abbrev pub own_range : Views → ℕ → ℤ
 own_range views key =
     let own = head_view (part_from key views.tree) in
     range_for (scrolls own.class) own.facts (state_of views key).bounds (first_place (held_of views) (children_of_first (part_from key views.tree)))
 
--- nothing but offsets is other
+-- nothing changes except offsets
 pub record OnlyScrolls (old new : Views) : Type 0 where
   pub same : SameTree old new
   pub counts : new.counts ≡ old.counts
@@ -83,15 +78,15 @@ pub record OnlyScrolls (old new : Views) : Type 0 where
   -- what every tree keeps between lines is kept, since each offset that is set is in its range
   pub consistent : IsConsistent old → IsConsistent new
 
--- an event may be handed to the view of a key
+-- an event may go to the view of a key
 pub record MayReach (views : Views) (kept : Kept) (key : ℕ) (event : Event) : Type 0 where
   pub tree : IsTree views
   pub live : IsLive views key
   pub pointer : event.pointer < MAX_POINTERS
   pub caught : IsGestureIn views.tree kept
 
--- what an event keeps wherever it goes: the tree but for offsets, targets that are children of their groups, the places of
--- views, and the room of the log
+-- what an event keeps wherever it goes: the tree except for offsets, targets that are children of their groups, the
+-- places of views, and the room of the log
 pub record KeepsScene (old_tree new_tree : Views) (old new : Kept) (old_log new_log : Log) : Type 0 where
   pub scrolls : OnlyScrolls old_tree new_tree
   pub caught : IsGestureIn new_tree.tree new
@@ -138,7 +133,7 @@ parent_number views key = first_number views (ancestors key views.tree)
 abbrev pub part_at : Views → ℕ → Forest PlainView
 part_at views key = views_of (first_tree (part_from key views.tree))
 
--- nothing is another
+-- nothing changes
 pub record Unchanged (old_tree new_tree : Views) (old new : Kept) (old_log new_log : Log) : Type 0 where
   pub tree : new_tree ≡ old_tree
   pub gesture : new ≡ old

@@ -20,8 +20,8 @@ use crate::reaching::reach;
 use touch_event::{Event, MAX_POINTERS};
 use view_tree::{Key, ViewTree};
 
-/// Hands an event of all the pointers to the root, in the root's coordinates, and answers what the root says. A pointer may
-/// slip by `slop` pixels before that counts. It takes no memory.
+/// Sends an event of all the pointers to the root, in the root's coordinates, and returns what the root says. A pointer
+/// may slip by `slop` pixels before that counts. It takes no memory.
 pub fn dispatch(
     tree: &mut ViewTree,
     gesture: &mut Gesture,
@@ -51,7 +51,7 @@ pub fn dispatch(
     reach_whole(tree, gesture, log, &limits, root, event)
 }
 
-/// Whether a root gets events: it lies somewhere and is not gone.
+/// Whether a root gets events: it has bounds and is not gone.
 fn gets_events(tree: &ViewTree, root: Key) -> bool
     requires { IsLive tree.now root }
     ensures { result ≡ (is_some (state_of tree.now root).bounds && is_shown (facts_of tree.now root)) }
@@ -59,7 +59,7 @@ fn gets_events(tree: &ViewTree, root: Key) -> bool
     tree.state(root).bounds.is_some() && tree.facts(root).is_shown()
 }
 
-/// Hands an event to a view, where there is room for all that it and those below it may tell.
+/// Sends an event to a view; there is room for all that is recorded of it and of those below it.
 fn reach_whole(
     tree: &mut ViewTree,
     gesture: &mut Gesture,
@@ -79,9 +79,9 @@ fn reach_whole(
     reach(tree, gesture, log, limits, view, event)
 }
 
-/// Tells a view that is about to go away, from the tree or out of sight, that its gesture is taken away. A root is told so
-/// always, so a caller asks for it only where a pointer is down and the root is not gone. It takes no memory, and reads no
-/// place of a view, so that it may come at any time.
+/// Cancels the gesture of a view that is about to go away, from the tree or out of sight. A root always gets the
+/// cancel, so a caller asks for it only if a pointer is down and the root is not gone. It takes no memory, and reads no
+/// bounds of a view, so that it may come at any time.
 pub fn cancel_view(tree: &mut ViewTree, gesture: &mut Gesture, view: Key, slop: i32, log: &mut Log)
     requires live { IsLive tree.old view }
     requires caught { IsGestureIn tree.old.tree gesture.old }
@@ -111,7 +111,7 @@ pub fn cancel_view(tree: &mut ViewTree, gesture: &mut Gesture, view: Key, slop: 
     gesture.remove(number);
 }
 
-/// Every tree is one. This is for contracts alone.
+/// The invariant of every tree, for contracts alone.
 fn tell_tree(tree: &ViewTree, view: Key)
     requires { IsLive tree.now view }
     ensures { IsTree tree.now }

@@ -63,7 +63,7 @@ impl Gesture {
         Ok(())
     }
 
-    /// Takes the place of a view away, and all that is kept of it, as a group or as a child.
+    /// Removes the place of a view, and all that is kept of it, as a group or as a child.
     pub fn close(&mut self, view: u64)
         ensures opened { (other : ℕ) → is_open self.new other ≡ (is_open self.old other && not (other == view)) }
         ensures gesture { gesture_of self.new ≡ closed view (gesture_of self.old) }
@@ -73,8 +73,7 @@ impl Gesture {
         forget_marks(&mut self.marks, view);
     }
 
-    /// Tells a group that it may not take events away from its children, or that it may again. It may also once the next
-    /// gesture begins.
+    /// Sets whether a group may not take events away from its children. It may again once the next gesture begins.
     pub fn disallow(&mut self, group: u64, on: bool)
         requires { is_open self.old group ≡ true }
         ensures opened { (view : ℕ) → is_open self.new view ≡ is_open self.old view }
@@ -157,14 +156,14 @@ impl Gesture {
         self.targets.next(child)
     }
 
-    /// The pointers by which a view was captured, where bit `k` stands for the id `k`.
+    /// The pointers by which a view was captured, where bit `k` represents the id `k`.
     pub(crate) fn ids(&self, child: u64) -> u32
         ensures { (group : ℕ) → is_target child ((gesture_of self.now).targets group) ≡ true → has_id result ≡ first_ids (from_child child ((gesture_of self.now).targets group)) }
     {
         self.targets.ids(child)
     }
 
-    /// A group captures a view by these pointers, beside those by which it has.
+    /// A group captures a view by these pointers, in addition to those by which it already has.
     pub(crate) fn put(&mut self, group: u64, child: u64, ids: u32)
         requires ids { ids ≢ 0 }
         requires may { MayCapture self.old group child }
@@ -174,7 +173,7 @@ impl Gesture {
         self.targets.put(group, child, ids);
     }
 
-    /// Takes a pointer away from all targets of a group, and the targets that have no other.
+    /// Takes a pointer away from all targets of a group, and removes the targets that have no other.
     pub(crate) fn drop_ids(&mut self, group: u64, ids: u32)
         ensures opened { (view : ℕ) → is_open self.new view ≡ is_open self.old view }
         ensures gesture { gesture_of self.new ≡ set_targets group (drop_pointers (has_id ids) ((gesture_of self.old).targets group)) (gesture_of self.old) }
@@ -190,7 +189,7 @@ impl Gesture {
         self.targets.remove(child);
     }
 
-    /// Takes all targets of a group away.
+    /// Removes all targets of a group.
     pub(crate) fn clear(&mut self, group: u64)
         ensures opened { (view : ℕ) → is_open self.new view ≡ is_open self.old view }
         ensures gesture { gesture_of self.new ≡ set_targets group [] (gesture_of self.old) }
@@ -244,7 +243,7 @@ fn forget_marks(marks: &mut IndexMap<u64, Marks>, view: u64)
     marks.swap_remove(&view);
 }
 
-/// Gives marks to a view that has none, where there is room for them.
+/// Gives marks to a view that has none; there is room for them.
 fn note_marks(marks: &mut IndexMap<u64, Marks>, view: u64, new: Marks)
     requires { 0 < spare marks.old }
     ensures entries { marks.new.entries ≡ insert_entry nat_eq marks.old.entries view new }

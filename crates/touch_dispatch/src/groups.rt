@@ -52,7 +52,7 @@ pub fn begin(gesture: &mut Gesture, group: u64, action: Action)
     }
 }
 
-/// The oldest target gets the pointer that none took.
+/// The oldest target gets the pointer that no child took.
 pub fn settle(gesture: &mut Gesture, group: u64, event: &Event, taker: Taker)
     requires pointer { event.now.pointer < MAX_POINTERS }
     requires may { (child : ℕ) → is_target child ((gesture_of gesture.old).targets group) ≡ true → MayCapture gesture.old group child }

@@ -134,7 +134,7 @@ fn clicks(action: Action, near: bool, pressed: bool) -> bool
     }
 }
 
-/// What a scroll view says to an event that it handles itself.
+/// The answer of a scroll view to an event that it handles itself.
 pub fn drag_answer(own: &Receiver, action: Action) -> bool
     ensures { result ≡ drag_answer own.now.childless action }
 {

@@ -1,5 +1,5 @@
-//! How touch events go through a tree of views, and what each of them tells. Only `Gesture::open` and `Log::reserve` take
-//! memory.
+//! How touch events go through a tree of views, and what is recorded of each. Only `Gesture::open` and `Log::reserve`
+//! take memory.
 #![tactic(auto)]
 
 mod dispatching;

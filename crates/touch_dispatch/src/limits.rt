@@ -1,4 +1,4 @@
-//! What decides of slight moves.
+//! The limits of slight moves.
 
 /// How far a pointer may slip before that counts, in pixels.
 #[derive(Clone, Copy, Debug, PartialEq, Eq)]

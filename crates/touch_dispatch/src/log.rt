@@ -1,11 +1,11 @@
-//! What is told of an event.
+//! What is recorded of an event.
 ghost use Rattle.std.specs.Prelude.{◌≡◌, ◌≤◌, ◌<◌, ◌+◌, ◌++◌, ◌∷◌, [], length, OnOk, OnErr};
 ghost use Rattle.touch_dispatch.specs.TreeEvents.{room_of};
 
 use std::alloc::{AllocError, Global};
 use touch_event::Event;
 
-/// What an entry tells of an event.
+/// What an entry records of an event.
 #[derive(Clone, Copy, Debug, PartialEq, Eq)]
 pub enum Kind {
     /// A group was asked whether it takes the event away from its children.
@@ -46,7 +46,7 @@ impl Log {
         }
     }
 
-    /// Takes the memory for so many more entries.
+    /// Takes the memory for this many more entries.
     pub fn reserve(&mut self, entries: usize) -> Result<(), AllocError>
         ensures same { self.new.entries.items ≡ self.old.entries.items }
         ensures room { OnOk result (length self.old.entries.items + entries ≤ room_of self.new) }
@@ -69,7 +69,7 @@ impl Log {
         self.entries.clear();
     }
 
-    /// One entry more, where there is room for it.
+    /// One entry more, for which there is room.
     pub fn note(&mut self, entry: Entry)
         requires { length self.old.entries.items < room_of self.old }
         ensures entries { self.new.entries.items ≡ self.old.entries.items ++ entry ∷ [] }

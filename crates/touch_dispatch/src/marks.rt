@@ -1,4 +1,4 @@
-//! What is kept of a view in a gesture, beside the targets.
+//! What is kept of a view in a gesture, besides the targets.
 
 use crate::drag::Drag;
 

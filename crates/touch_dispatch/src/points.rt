@@ -1,4 +1,4 @@
-//! What a child is handed of an event, and where its pointers are.
+//! What a child gets of an event, and where its pointers are.
 ghost use Rattle.std.specs.Prelude.{◌≡◌, ◌≢◌, ◌<◌, ◌&&◌, IfSome};
 ghost use Rattle.touch_dispatch.specs.Dispatch.{is_offered, only, part_for, tried_event, tried_ids};
 ghost use Rattle.touch_dispatch.specs.Handling.{is_cancel, is_down, is_planned, plan_bit};
@@ -111,7 +111,7 @@ fn is_under(rect: Option<Rect>, offset: i32, point: Option<Point>) -> bool
     }
 }
 
-/// Whether a child that lies there is tried for the acting pointer.
+/// Whether a child with these bounds is tried for the acting pointer.
 pub fn is_tried(own: &Facts, kid: &Facts, rect: Option<Rect>, event: &Event) -> bool
     ensures { result ≡ is_tried kid.now.visibility rect own.now.offset event.now }
 {
@@ -182,7 +182,7 @@ fn corner_y(rect: Option<Rect>) -> i32
     }
 }
 
-/// An event in the coordinates of a child that lies there, of a group that has scrolled so far.
+/// An event in the coordinates of a child with these bounds, of a group that has scrolled this far.
 fn local_event(rect: Option<Rect>, own: &Facts, event: &Event) -> Event
     ensures { result ≡ local_event rect own.now.offset event.now }
 {
@@ -197,7 +197,7 @@ fn local_event(rect: Option<Rect>, own: &Facts, event: &Event) -> Event
     }
 }
 
-/// What a child is handed that is tried.
+/// What a child gets that is tried.
 pub fn tried_event(own: &Facts, rect: Option<Rect>, event: &Event) -> Event
     requires { event.now.pointer < MAX_POINTERS }
     ensures value { result ≡ local_event rect own.now.offset (tried_event own.now.split event.now) }
@@ -233,7 +233,7 @@ pub fn tried_ids(is_split: bool, event: &Event) -> u32
     }
 }
 
-/// The part of a target that lies there, if it gets one.
+/// The part of a target with these bounds, if it gets one.
 pub fn part_for(
     own: &Facts,
     rect: Option<Rect>,

@@ -19,7 +19,7 @@ use crate::taker::Taker;
 use touch_event::Event;
 use view_tree::{Key, ViewTree};
 
-/// Hands an event to a view, in its coordinates.
+/// Sends an event to a view, in its coordinates.
 #[cycle(reach)]
 pub fn reach(
     tree: &mut ViewTree,
@@ -64,8 +64,8 @@ fn handle_at(
     }
 }
 
-/// A group is handed an event: it may take it from its children, offers it to them, and then hands it out or handles
-/// it itself.
+/// A group gets an event: it may take it from its children, offers it to them, and then sends it to its targets or
+/// handles it itself.
 #[cycle(reach)]
 fn reach_group(
     tree: &mut ViewTree,
@@ -90,7 +90,7 @@ fn reach_group(
     yes
 }
 
-/// Looks for a child to capture, where a pointer comes down and the group lets its children have it.
+/// Looks for a child to capture, if a pointer comes down and the group lets its children have it.
 #[cycle(reach)]
 fn offer(
     tree: &mut ViewTree,
@@ -114,7 +114,7 @@ fn offer(
     taker
 }
 
-/// Tries the children from the last, which lies on top, until one takes the pointer.
+/// Tries the children from the last, which is on top, until one takes the pointer.
 #[cycle(reach)]
 fn try_children(
     tree: &mut ViewTree,
@@ -140,7 +140,7 @@ fn try_children(
     Taker::Nobody
 }
 
-/// Tries one child: it is handed the event where the pointer lies in it, unless it is a target already.
+/// Tries one child: it gets the event if the pointer is in it, unless it is a target already.
 #[cycle(reach)]
 fn try_child(
     tree: &mut ViewTree,
@@ -176,7 +176,7 @@ fn try_child(
     Taker::Handed(child)
 }
 
-/// The answer of a group: that of its targets, or its own where it has none.
+/// The answer of a group: that of its targets, or its own if it has none.
 #[cycle(reach)]
 fn answer(
     tree: &mut ViewTree,
@@ -199,7 +199,7 @@ fn answer(
     hand_out(tree, gesture, log, limits, view, event, intercepted, taker)
 }
 
-/// Hands an event to each target, the newest first, and answers whether one has taken it.
+/// Sends an event to each target, the newest first, and returns whether one has taken it.
 #[cycle(reach)]
 fn hand_out(
     tree: &mut ViewTree,
@@ -237,7 +237,7 @@ fn hand_out(
     yes
 }
 
-/// Hands a target its part of an event, unless it had it when it was captured.
+/// Sends a target its part of an event, unless it had it when it was captured.
 #[cycle(reach)]
 fn hand_to(
     tree: &mut ViewTree,
@@ -292,7 +292,7 @@ fn is_taken(taker: Taker) -> bool
     }
 }
 
-/// Whether this child was handed the event when it was captured.
+/// Whether this child got the event when it was captured.
 fn is_handed(taker: Taker, child: u64) -> bool
     ensures { result ≡ is_handed taker child }
 {

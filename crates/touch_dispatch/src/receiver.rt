@@ -1,16 +1,16 @@
-//! A view that an event is handed to.
+//! A view that gets an event.
 
 use geom_core::Rect;
 use view_model::Answer;
 
-/// What of a view decides how it handles an event itself, and what it is asked. Lengths are in pixels.
+/// What of a view determines how it handles an event itself, and what it is asked. Lengths are in pixels.
 #[derive(Clone, Copy, Debug, PartialEq, Eq)]
 pub struct Receiver {
     pub number: u64,
     pub scrolls: bool,
     pub answer: Answer,
     pub intercept: u8,
-    /// Where it lies in its parent.
+    /// Its bounds in its parent.
     pub rect: Option<Rect>,
     /// How far a scroll view can move its child up; 0 for another view.
     pub range: i32,

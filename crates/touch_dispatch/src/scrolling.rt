@@ -47,7 +47,7 @@ pub fn receiver_at(tree: &ViewTree, limits: &Limits, view: Key) -> Receiver
     }
 }
 
-/// Where the first child of a view lies.
+/// The bounds of the first child of a view.
 fn first_rect(tree: &ViewTree, view: Key) -> Option<Rect>
     requires { IsLive tree.now view }
     ensures scene { (slop : ℤ) → result ≡ first_rect (scene_of tree.now slop) (kids_of tree.now slop view) }
@@ -59,7 +59,7 @@ fn first_rect(tree: &ViewTree, view: Key) -> Option<Rect>
     }
 }
 
-/// How far a scroll view that lies there can move up its child, which lies there.
+/// How far a scroll view with these bounds can move up its child with those.
 fn range_for(scrolls: bool, own: &Facts, rect: Option<Rect>, child: Option<Rect>) -> i32
     ensures value { result ≡ range_for scrolls own.now rect child }
     ensures side { IsSide result }
@@ -98,7 +98,7 @@ pub fn handle_drag(
     said
 }
 
-/// The child of a scroll view goes up by so much, as far as the range goes, and that is told where it goes anywhere.
+/// The child of a scroll view goes up by this much, within its range, and that is reported if it moves at all.
 fn move_child(
     tree: &mut ViewTree,
     log: &mut Log,
@@ -135,7 +135,7 @@ fn move_child(
     });
 }
 
-/// The facts of a scroll view, with its child so much further up, as far as the range goes.
+/// The facts of a scroll view, with its child this much further up, within its range.
 fn moved_facts(own: &Receiver, facts: &Facts, way: i64) -> Facts
     requires way { IsWay way }
     requires range { IsSide own.now.range }
@@ -176,7 +176,7 @@ fn is_same_offset(old: &Facts, new: &Facts) -> bool
     old.offset == new.offset
 }
 
-/// Sets the facts of a view, of which the offset alone is another, and that is within the range of the view.
+/// Sets the facts of a view, of which only the offset changes, within the range of the view.
 fn set_offset(tree: &mut ViewTree, view: Key, facts: Facts)
     requires live { IsLive tree.old view }
     requires tree { IsTree tree.old }

@@ -1,10 +1,10 @@
-//! Who takes a pointer that goes down.
+//! Which child takes a pointer that goes down.
 
 #[derive(Clone, Copy, Debug, PartialEq, Eq)]
 pub enum Taker {
     Nobody,
     /// A child that was a target before.
     Earlier,
-    /// A child that was handed the event, and becomes a target.
+    /// A child that got the event, and becomes a target.
     Handed(u64),
 }

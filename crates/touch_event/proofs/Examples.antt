@@ -7,7 +7,7 @@ use Rattle.touch_event.specs.declared.event.Point.{Point}
 use Rattle.touch_event.specs.PointerSets.{has_id}
 use Rattle.touch_event.specs.Splitting.{split_event}
 
--- the pointers 0, 1 and 9
+-- the pointers 0, 1 and 31
 left : Point
 left = record { id = 0; x = pos 10; y = pos 5 }
 
@@ -15,7 +15,7 @@ right : Point
 right = record { id = 1; x = pos 60; y = pos 5 }
 
 last : Point
-last = record { id = 9; x = pos 61; y = pos 6 }
+last = record { id = 31; x = pos 61; y = pos 6 }
 
 event : Action → ℕ → List Point → Event
 event action pointer points = record { action = action; pointer = pointer; points = record { items = points } }
@@ -23,7 +23,8 @@ event action pointer points = record { action = action; pointer = pointer; point
 part : ℕ → Event → Option Event
 part ids event = split_event (has_id ids) event
 
--- the pointer 1 goes down beside 0: to those who follow it, to those who follow the other, and to those who follow both
+-- the pointer 1 goes down beside 0: for a view that follows it, for one that follows the other, and for one that
+-- follows both
 goes_down_alone : part 2 (event PointerDown 1 (left ∷ right ∷ [])) ≡ Some (event Down 1 (right ∷ []))
 unfolding part event left right has_id
 goes_down_alone = refl
@@ -50,11 +51,11 @@ unfolding part event left right has_id
 goes_up_elsewhere = refl
 
 -- of three pointers two are followed
-goes_up_beside_another : part 513 (event PointerUp 9 (left ∷ right ∷ last ∷ [])) ≡ Some (event PointerUp 9 (left ∷ last ∷ []))
+goes_up_beside_another : part 2147483649 (event PointerUp 31 (left ∷ right ∷ last ∷ [])) ≡ Some (event PointerUp 31 (left ∷ last ∷ []))
 unfolding part event left right last has_id
 goes_up_beside_another = refl
 
-goes_up_elsewhere_of_two : part 3 (event PointerUp 9 (left ∷ right ∷ last ∷ [])) ≡ Some (event Move 9 (left ∷ right ∷ []))
+goes_up_elsewhere_of_two : part 3 (event PointerUp 31 (left ∷ right ∷ last ∷ [])) ≡ Some (event Move 31 (left ∷ right ∷ []))
 unfolding part event left right last has_id
 goes_up_elsewhere_of_two = refl
 
@@ -71,7 +72,7 @@ stays_moved : part 2 (event Move 0 (left ∷ right ∷ [])) ≡ Some (event Move
 unfolding part event left right has_id
 stays_moved = refl
 
--- an id without a point counts for nothing
+-- an id without a point is ignored
 absent_beside_one : part 130 (event PointerDown 1 (left ∷ right ∷ [])) ≡ Some (event Down 1 (right ∷ []))
 unfolding part event left right has_id
 absent_beside_one = refl
@@ -88,7 +89,7 @@ nothing_of_a_cancel : part 4294967295 (event Cancel 0 []) ≡ None
 unfolding part event
 nothing_of_a_cancel = refl
 
--- the greatest set has the id 31, and none has 32
+-- the greatest set has the id 31, and no set has 32
 has_31 : has_id 4294967295 31 ≡ true
 unfolding has_id
 has_31 = refl

@@ -6,7 +6,7 @@ use Rattle.touch_event.specs.declared.event.Action.TheVariants.{Down, Up, Move, 
 use Rattle.touch_event.specs.declared.event.Event.{Event}
 use Rattle.touch_event.specs.declared.event.Point.{Point}
 
--- the points whose ids are in the set; an id without a point counts for nothing
+-- the points whose ids are in the set; an id without a point is ignored
 abbrev pub kept_points : (ℕ → Bool) → List Point → List Point
 kept_points ids points = filter (λ (p : Point). ids p.id) points
 
@@ -22,7 +22,7 @@ split_action Cancel kept alone = Cancel
 split_action PointerDown kept alone = if kept then (if alone then Down else PointerDown) else Move
 split_action PointerUp kept alone = if kept then (if alone then Up else PointerUp) else Move
 
--- the event to those who see these points alone; none where there are none
+-- the event for a view that sees only these points; none if there are none
 abbrev pub with_points : Event → List Point → Option Event
 with_points event [] = None
 with_points event (p ∷ points) = Some (record {

@@ -3,7 +3,7 @@
 use arrayvec::ArrayVec;
 
 /// The most pointers that can be down at once. Their ids are below this.
-pub const MAX_POINTERS: usize = 10;
+pub const MAX_POINTERS: usize = 32;
 
 /// What happens in an event.
 #[derive(Clone, Copy, Debug, PartialEq, Eq)]
@@ -30,7 +30,7 @@ pub struct Point {
     pub y: i32,
 }
 
-/// What is told to a view: the action, the id of the pointer that acts, and the pointers that are down, by rising ids. One
+/// What a view gets: the action, the id of the pointer that acts, and the pointers that are down, by rising ids. One
 /// that goes up is still among them; `Cancel` has none. In a part of an event the one that acts may be missing.
 #[derive(Debug, PartialEq, Eq, Drop)]
 pub struct Event {
@@ -42,7 +42,7 @@ pub struct Event {
 impl Event {
     ghost use Rattle.std.specs.Prelude.{◌≡◌};
 
-    /// The same event once more.
+    /// A copy of the event.
     pub fn copy(&self) -> Event
         ensures { result ≡ self.now }
     {

@@ -1,5 +1,5 @@
-//! Touch events: what happened, by which pointer, and where all the pointers that are down lie; and the part of an event
-//! that some of these pointers make. Nothing here takes memory.
+//! Touch events: what happened, by which pointer, and where all the pointers that are down are; and the part of an
+//! event that some of these pointers make. Nothing here takes memory.
 #![tactic(auto)]
 
 mod event;

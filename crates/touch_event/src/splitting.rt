@@ -8,8 +8,8 @@ use crate::event::{Action, Event, MAX_POINTERS, Point};
 use crate::pointer_set::has_id;
 use arrayvec::ArrayVec;
 
-/// What an event is to whoever follows these pointers alone, or none where it has none of them. In `ids` bit `k` stands
-/// for the pointer with the id `k`.
+/// What an event is to a view that follows only these pointers, or `None` if it has none of them. In `ids` bit `k`
+/// represents the pointer with the id `k`.
 pub fn split(event: &Event, ids: u32) -> Option<Event>
     ensures value { result ≡ split_event (has_id ids) event.now }
     ensures none { IsNone result ↔ (kept_points (has_id ids) event.now.points.items ≡ []) }

@@ -1,4 +1,4 @@
--- What is done with captured children, and with the targets that they stand for.
+-- Operations on captured children, and on the targets that they represent.
 use Rattle.std.proofs.Common.{◌≡◌, ℕ, ◌<◌, ◌^◌, true, false, Bool, List, [], ◌∷◌, map, filter, refl, sym, ◌∙◌, ap, inl, inr}
 use Rattle.std.specs.Prelude.{◌==◌, ◌&&◌, not, if◌then◌else◌}
 use Rattle.std.specs.List.{AllByRecursion}
@@ -8,7 +8,7 @@ use Rattle.touch_targets.specs.Captures.{Target, drop_pointers, has_any, is_targ
 use Rattle.touch_targets.specs.Seats.{Caught, drop_caught, is_caught, mask_with, mask_without, put_caught, target_of}
 use Rattle.touch_targets.proofs.MaskLaws.{has_any_of, has_with, has_without, mask_without_fits, none_left}
 
--- numbers that stand for sets of pointers
+-- numbers that represent sets of pointers
 abbrev pub AllFit : List Caught → Type 0
 AllFit caught = AllByRecursion (λ (c : Caught). c.ids < 2 ^ 32) caught
 

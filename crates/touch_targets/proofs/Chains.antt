@@ -1,4 +1,4 @@
--- The places of a group's targets, one behind the other.
+-- The places of a group's targets, one after the other.
 use Rattle.std.proofs.Common.{◌≡◌, ◌≢◌, ◌⊎◌, ℕ, zero, suc, ◌<◌, ◌≤◌, true, false, Bool, List, [], ◌∷◌, ◌++◌, length, map, Option, Some, None, IsSome, option_map, refl, sym, ◌∙◌, ap, subst, inl, inr, arith}
 use Rattle.std.specs.Prelude.{◌==◌}
 use Rattle.std.proofs.lemmas.Bool.{cases_Bool, cases_eq, eq-eqb, ne_eqb}
@@ -33,7 +33,7 @@ no_some none some = absurd (cc)
 pub true_not_false : {B : Type 0} {b : Bool} → b ≡ true → b ≡ false → B
 true_not_false is isnt = absurd (cc)
 
--- what a place among others is
+-- the value of a place among others
 pub has_first : (p : ℕ) (ps : List ℕ) → has_place p (p ∷ ps) ≡ true
 has_first p ps = rw (eq-eqb p p refl) refl
 
@@ -119,7 +119,7 @@ chain_none (suc fuel) at = refl
 pub places_none : (s : Slab Node) (g : ℕ) → get s g ≡ None → places_by s g ≡ []
 places_none s g h = rw h (chain_none (length s.slots) (get s))
 
--- the places of a group's targets are those that the links lead to
+-- the places of a group's targets are those to which the links lead
 pub places_are : (s : Slab Node) (places : ℕ → List ℕ) → IsLinked (get s) places → (g : ℕ) (n : Node) → get s g ≡ Some n → places_by s g ≡ places g
 places_are s places linked g n h = ap (λ o. chain (length s.slots) (get s) (newest_of o)) h ∙ from_start s g n.newest (places g) (linked.chained g n h)
 

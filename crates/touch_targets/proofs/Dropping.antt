@@ -12,7 +12,7 @@ use Rattle.touch_targets.proofs.Removing.{elsewhere}
 use Rattle.touch_targets.proofs.Unlinking.{has_behind, without_behind}
 use Rattle.touch_targets.proofs.Walks.{Here, Walk, chain_ahead, here, last_end, node_here, walk_start, whole_here}
 
--- the pool as it was, and the pool once the walk has come to this place
+-- the pool as it was, and the pool once the walk has reached this place
 pub record Drops (old new : Slab Node) (group ids : ℕ) (previous at : Option ℕ) : Type 0 where
   pub linked : AreLinked new
   pub opened : IsSome (get new group)
@@ -31,14 +31,14 @@ drops_start s group ids g linked is = record {
   views = λ x. refl;
 }
 
--- a place stands once among others
+-- a place is there once among others
 front_lacks : (at : ℕ → Option Node) (g : ℕ) (start : Option ℕ) (place : ℕ) (front back : List ℕ) → Chain at g start (front ++ place ∷ back) → has_place place front ≡ false
 front_lacks at g start place [] back c = refl
 front_lacks at g start place (q ∷ front) back c =
     let apart : place ≢ q = has_apart q place (front ++ place ∷ back) (has_behind place front back) c.1 in
     rw (ne_eqb place q apart) (front_lacks at g c.2.next place front back c.5)
 
--- what becomes of one captured child
+-- how one captured child changes
 drop_first : (ids : ℕ) (c : Caught) (caught : List Caught) → drop_caught ids (c ∷ caught)
     ≡ (if mask_without c.ids ids == 0 then drop_caught ids caught else record { child = c.child; ids = mask_without c.ids ids } ∷ drop_caught ids caught)
 drop_first ids c caught = elim (cases_Bool (mask_without c.ids ids == 0)) [ inl is ↦ rw is refl | inr is ↦ rw is refl ]
@@ -76,7 +76,7 @@ module _
       view_open None None e h = h
       view_open (Some m) old e h = refl
 
-  -- what is captured ahead and behind stays
+  -- what is captured ahead of and after it stays
   same_back : map (λ p. caught_at (get u p)) at.back ≡ map (λ p. caught_at (get t p)) at.back
   same_back = same_at at.back at.lacks
 
@@ -169,7 +169,7 @@ module _
   pub fewer_on : length (places_from u n.next) < length (places_from t (Some place))
   fewer_on = rw (rest_on, at.from) (omega arith)
 
--- a walk that has come to an end has been at all targets
+-- a walk that has reached its end has been at all targets
 pub drops_end : (s t : Slab Node) (group ids : ℕ) (previous : Option ℕ) → Drops s t group ids previous None
     → (x : ℕ) → caught_by t x ≡ (if x == group then drop_caught ids (caught_by s x) else caught_by s x)
 drops_end s t group ids previous drops x =

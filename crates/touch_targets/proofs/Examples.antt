@@ -3,7 +3,7 @@ use Rattle.std.specs.Prelude.{◌≡◌, ℕ, Bool, true, false, List, [], ◌�
 use Rattle.touch_event.specs.PointerSets.{has_id}
 use Rattle.touch_targets.specs.Captures.{Target, drop_pointers, first_child, from_child, holds, older, order, put_target, without_child}
 
--- what is told of the targets of a group: each child with the first three of its pointers
+-- a view of the targets of a group: each child with the first three of its pointers
 abbrev pointers : (ℕ → Bool) → List Bool
 pointers ids = ids 0 ∷ ids 1 ∷ ids 2 ∷ []
 

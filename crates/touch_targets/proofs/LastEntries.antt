@@ -1,4 +1,4 @@
--- The entries of a map when the last of them goes.
+-- The entries of a map when the last of them is removed.
 use Rattle.std.proofs.Common.{◌≡◌, ◌∙◌, ◌+◌, ◌-◌, ◌<◌, ℕ, suc, arith, List, [], ◌∷◌, ◌++◌, Some, None, length, take, cond, refl, ap, inl, inr, length-append}
 use Rattle.std.specs.Prelude.{nat_eq, nat_lt, position, slice_set, slice_index_or}
 use Rattle.std.specs.List.{position_or_len}

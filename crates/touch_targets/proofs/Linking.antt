@@ -1,4 +1,4 @@
--- What nodes say once one of them is the newest target of a group.
+-- What nodes hold once one of them is the newest target of a group.
 use Rattle.std.proofs.Common.{◌≡◌, ◌≢◌, ◌<◌, ◌^◌, ℕ, true, false, Bool, List, ◌∷◌, Option, Some, None, IsSome, map, option_map, refl, sym, ◌∙◌, ap, subst, inl, inr}
 use Rattle.std.specs.Prelude.{◌==◌, if◌then◌else◌}
 use Rattle.std.proofs.lemmas.Bool.{cases_Bool, cases_eq, eq-eqb, ne_eqb}
@@ -7,7 +7,7 @@ use Rattle.touch_targets.specs.Nodes.{AreLinked, Chain, IsLinked, caught_at, cau
 use Rattle.touch_targets.specs.declared.node.Node.{Node}
 use Rattle.touch_targets.proofs.Chains.{Stays, Was, are_linked, chain_stays, free_apart, has_apart, has_first, has_later, cases_Option, map_same, no_some, places_are, places_none, some_is, there, was}
 
--- what a node says then
+-- what a node holds then
 abbrev pub node_linked : ℕ → ℕ → Option ℕ → ℕ → ℕ → Node → Node
 node_linked group child next ids x node = record node {
   newest = if x == group then Some child else node.newest;
@@ -62,7 +62,7 @@ module _
   child_free : (n : Node) → at child ≡ Some n → n.group ≡ None
   child_free n h = ap (λ (n : Node). n.group) (some_is (sym h ∙ child_is)) ∙ free
 
-  -- the child was nowhere
+  -- the child was in no chain
   lacks : (x : ℕ) (n : Node) → at x ≡ Some n → has_place child (places x) ≡ false
   lacks x n h = free_apart at x n.newest (places x) child (linked.chained x n h) child_free
 

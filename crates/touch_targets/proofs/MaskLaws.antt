@@ -1,4 +1,4 @@
--- Sets of pointers, and the numbers that stand for them.
+-- Sets of pointers, and the numbers that represent them.
 use Rattle.std.proofs.Common.{◌≡◌, ℕ, zero, suc, ◌<◌, ◌≤◌, ◌+◌, ◌-◌, ◌^◌, true, false, Bool, min, max, refl, sym, ◌∙◌, ap, inl, inr, arith}
 use mathlib.Core.Path.{fun_ext}
 use Rattle.std.specs.Prelude.{◌==◌, ◌&&◌, ◌||◌, not}

@@ -1,4 +1,4 @@
--- What a pool stands for once a view is open, and once it is closed.
+-- What a pool represents once a view is open, and once it is closed.
 use Rattle.std.proofs.Common.{◌≡◌, ◌≢◌, ℕ, true, false, Bool, List, [], ◌∷◌, Option, Some, None, is_some, map, refl, sym, ◌∙◌, ap, subst, inl, inr}
 use Rattle.std.specs.Prelude.{◌==◌, ◌||◌, ◌&&◌, not, if◌then◌else◌, nat_eq}
 use Rattle.std.specs.Map.{lookup}

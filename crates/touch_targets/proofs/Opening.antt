@@ -1,4 +1,4 @@
--- What nodes say once there is one more, or one less.
+-- What nodes hold once there is one more, or one less.
 use Rattle.std.proofs.Common.{◌≡◌, ◌≢◌, ◌⊎◌, ◌<◌, ◌^◌, arith, ℕ, true, false, List, [], ◌∷◌, Some, None, IsSome, map, refl, sym, ◌∙◌, ap, subst, inl, inr}
 use Rattle.std.specs.Prelude.{◌==◌, if◌then◌else◌}
 use Rattle.std.proofs.lemmas.Bool.{cases_eq, eq-eqb, ne_eqb}

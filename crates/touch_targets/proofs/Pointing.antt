@@ -1,4 +1,4 @@
--- What nodes say once a target has other pointers.
+-- What nodes hold once a target has other pointers.
 use Rattle.std.proofs.Common.{◌≡◌, ◌≢◌, ◌<◌, ◌^◌, ℕ, true, false, Bool, List, Option, Some, None, IsSome, option_map, refl, sym, ◌∙◌, ap, subst, inl, inr}
 use Rattle.std.specs.Prelude.{◌==◌, if◌then◌else◌}
 use Rattle.std.proofs.lemmas.Bool.{cases_eq, eq-eqb, ne_eqb}
@@ -7,7 +7,7 @@ use Rattle.touch_targets.specs.Nodes.{AreLinked, Chain, IsLinked, IsTarget, chan
 use Rattle.touch_targets.specs.declared.node.Node.{Node}
 use Rattle.touch_targets.proofs.Chains.{Was, are_linked, cases_Option, chain_stays, places_are, places_none, there, was}
 
--- what a node says then
+-- what a node holds then
 abbrev pub node_pointed : ℕ → ℕ → ℕ → Node → Node
 node_pointed place ids x node = record node { ids = if x == place then ids else node.ids }
 

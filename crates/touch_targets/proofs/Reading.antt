@@ -1,4 +1,4 @@
--- What the nodes of a group and of a target say of the targets.
+-- What the nodes of a group and of a target hold about the targets.
 use Rattle.std.proofs.Common.{◌≡◌, ℕ, true, List, [], ◌∷◌, Option, Some, None, map, refl, sym, ◌∙◌, ap, subst, inl, inr}
 use Rattle.std.proofs.lemmas.Bool.{cases_eq, eq-eqb, ne_eqb}
 use Rattle.slab.specs.Slab.{Slab, get}
@@ -16,7 +16,7 @@ targets_at s ps = map target_of (map (λ p. caught_at (get s p)) ps)
 abbrev pub target_by : Node → Target
 target_by n = record { child = n.view; ids = has_id n.ids }
 
--- what the place where a chain starts says of its targets
+-- what the place where a chain starts holds about its targets
 pub record StartsWith (s : Slab Node) (p : ℕ) (targets : List Target) : Type 0 where
   pub node : Node
   pub is : get s p ≡ Some node
@@ -69,7 +69,7 @@ module _ (s : Slab Node) (linked : AreLinked s) where
             }
       ]
 
-  -- the target behind one
+  -- the target after one
   pub next_some : (g : ℕ) (start : Option ℕ) (q : ℕ) (k : Node) (ps : List ℕ) → Chain (get s) g start ps → (f : Found s g k ps) → k.next ≡ Some q → (m : Node) → get s q ≡ Some m
       → (Some m.view ≡ first_child (targets_at s f.rest)) × (targets_from (Some m.view) (targets_at s ps) ≡ targets_at s f.rest)
   next_some g start q k ps c f next m is =

@@ -65,7 +65,7 @@ caught_unlinked s t group child k linked is group_is places others x =
     ∙ left s (λ p. caught_at (get t p)) child k (λ p n h same. linked.single p child n k h is same) is others (places_by s x)
     (λ p has. let t = target_by s linked x p has in record { value = t.node; is = t.is })
 
--- a view is captured where the place of its node is among those of the targets
+-- a view is captured if the place of its node is among those of the targets
 pub caught_iff : (s : Slab Node) → AreLinked s → (child : ℕ) (k : Node) → get s child ≡ Some k → (ps : List ℕ) → ((p : ℕ) → has_place p ps ≡ true → There (get s p))
     → is_caught k.view (map (λ p. caught_at (get s p)) ps) ≡ has_place child ps
 caught_iff s linked child k is [] nodes = refl

@@ -1,4 +1,4 @@
--- The seats that a pool stands for, by the numbers of views.
+-- The seats that a pool represents, by the numbers of views.
 use Rattle.std.proofs.Common.{◌≡◌, ◌≢◌, ℕ, true, false, List, [], ◌∷◌, Option, Some, None, is_some, map, refl, sym, ◌∙◌, ap, inl, inr}
 use Rattle.std.specs.Prelude.{◌==◌, if◌then◌else◌, nat_eq}
 use Rattle.std.specs.Map.{lookup}
@@ -107,7 +107,7 @@ module _
       ∙ changed_at other (place_in a other) refl
       ∙ ap (λ t. if other == group then set t else t) (sym (targets_are a seats is other))
 
--- a change where the group is not open
+-- a change if the group is not open
 pub unchanged_targets : (a : Inside) (seats : List Seat) (group : ℕ) (set : List Target → List Target) → seats_in a ≡ seats → place_in a group ≡ None → set [] ≡ []
     → (other : ℕ) → targets_of seats other ≡ (if other == group then set (targets_of seats other) else targets_of seats other)
 unchanged_targets a seats group set is none empty other =
@@ -229,7 +229,7 @@ target_at a seats sound is child place k place_is k_is group target =
       from = ap (from_child child) whole ∙ ap (λ v. from_child v (targets_at a.nodes (places_by a.nodes w.0))) (sym view) ∙ f.from;
     }
 
--- a view that is the target of no group has a node that says so
+-- a view that is the target of no group has a node that shows it
 pub free_node : (a : Inside) (seats : List Seat) → IsSound a → seats_in a ≡ seats → (child place : ℕ) (k : Node) → place_in a child ≡ Some place → get a.nodes place ≡ Some k
     → ((group : ℕ) → is_target child (targets_of seats group) ≡ false) → k.group ≡ None
 free_node a seats sound is child place k place_is k_is none =

@@ -1,4 +1,4 @@
--- The seats of a pool in their order: they stay where nothing is captured otherwise, and the last one comes and goes.
+-- The seats of a pool in their order: they stay if captures do not change, and the last one is added and removed.
 use Rattle.std.proofs.Common.{◌≡◌, ◌∙◌, ℕ, Bool, true, false, List, [], ◌∷◌, ◌++◌, None, Some, map, filter, refl, sym, ap, subst, inl, inr}
 use Rattle.std.specs.Prelude.{◌==◌, ◌||◌, if◌then◌else◌, nat_eq, not}
 use Rattle.std.specs.Map.{lookup}
@@ -28,7 +28,7 @@ pub seats_kept : (a b : Inside) (seats : List Seat) → seats_in a ≡ seats →
 seats_kept a b seats is places caught =
     same_seats a.nodes b.nodes b.places.entries caught ∙ ap (λ m. map (seat_at a.nodes) m.entries) places ∙ is
 
--- nothing is taken away where there is nothing
+-- nothing is taken away if there is nothing
 pub nothing_dropped : (a b : Inside) (seats : List Seat) (group place ids : ℕ) → seats_in a ≡ seats → place_in a group ≡ Some place → targets_of seats group ≡ []
     → ((x : ℕ) → caught_by b.nodes x ≡ (if x == place then drop_caught ids (caught_by a.nodes x) else caught_by a.nodes x))
     → (x : ℕ) → caught_by b.nodes x ≡ caught_by a.nodes x
@@ -71,7 +71,7 @@ seat_added a b seats view place is closed unused caught entries =
     ∙ ap (λ (l : List Caught). map (seat_at a.nodes) a.places.entries ++ record { view = view; caught = l } ∷ []) empty
     ∙ ap (with_seat view) is
 
--- entries of which the last one stands for a seat
+-- entries of which the last one represents a seat
 record LastSeat (nodes : Slab Node) (es : List (ℕ × ℕ)) (before : List Seat) (view : ℕ) : Type 0 where
   front : List (ℕ × ℕ)
   place : ℕ
@@ -106,7 +106,7 @@ last_seat nodes (e ∷ es) (s ∷ before) view is =
 lookup_none : (nodes : Slab Node) (es : List (ℕ × ℕ)) (view : ℕ) → is_open (map (seat_at nodes) es) view ≡ false → lookup (nat_eq view) es ≡ None
 lookup_none nodes es view closed = place_none (lookup (nat_eq view) es) (sym (open_seats nodes es view) ∙ closed)
 
--- the last seat goes, if it is the only one of its view
+-- the last seat is removed, if it is the only one of its view
 pub seat_taken : (a b : Inside) (before : List Seat) (view : ℕ) → seats_in a ≡ with_seat view before → is_open before view ≡ false
     → ((x : ℕ) → caught_by b.nodes x ≡ caught_by a.nodes x) → b.places.entries ≡ swap_remove_entry (nat_eq view) a.places.entries
     → seats_in b ≡ before
@@ -117,7 +117,7 @@ seat_taken a b before view is closed caught entries =
     ∙ ap (map (seat_at a.nodes)) (entries ∙ ap (swap_remove_entry (nat_eq view)) last.whole ∙ swap_remove_entry-last last.front view last.place none)
     ∙ last.seats
 
--- a seat that has captured nothing is of no account
+-- a seat that has captured nothing is ignored
 pub targets_with : (view : ℕ) (before : List Seat) (group : ℕ) → targets_of (with_seat view before) group ≡ targets_of before group
 targets_with view [] group = elim (cases_Bool (view == group)) [ inl is ↦ rw is refl | inr is ↦ rw is refl ]
 targets_with view (s ∷ before) group =

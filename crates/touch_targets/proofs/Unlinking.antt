@@ -1,4 +1,4 @@
--- What nodes say once a target is taken out of its group.
+-- What nodes hold once a target is taken out of its group.
 use Rattle.std.proofs.Common.{◌≡◌, ◌≢◌, ◌<◌, ◌^◌, arith, ℕ, true, false, Bool, List, [], ◌∷◌, ◌++◌, Option, Some, None, option_map, refl, sym, ◌∙◌, ap, subst, inl, inr}
 use Rattle.std.specs.Prelude.{◌==◌, ◌&&◌, if◌then◌else◌, is_none}
 use Rattle.std.proofs.lemmas.Bool.{cases_Bool, cases_eq, eq-eqb, ne_eqb}
@@ -12,7 +12,7 @@ abbrev pub is_at : Option ℕ → ℕ → Bool
 is_at None x = false
 is_at (Some p) x = x == p
 
--- what a node says then
+-- what a node holds then
 abbrev pub node_unlinked : ℕ → Option ℕ → ℕ → Option ℕ → ℕ → Node → Node
 node_unlinked group previous place next x node = record node {
   newest = if x == group && is_none previous then next else node.newest;
@@ -72,7 +72,7 @@ pub unlinked_at : (s0 s1 s2 : Slab Node) (group place : ℕ) (previous next : Op
 unlinked_at s0 s1 s2 group place None next one two x = rw (two x, one x) (first_goes (x == group) (x == place) next (get s0 x))
 unlinked_at s0 s1 s2 group place (Some p) next one two x = rw (two x, one x) (later_goes (x == group) (x == p) (x == place) next (get s0 x))
 
--- what is among the places in front of and behind one
+-- what is among the places before and after one
 pub has_behind : (p : ℕ) (front back : List ℕ) → has_place p (front ++ p ∷ back) ≡ true
 has_behind p [] back = has_first p back
 has_behind p (q ∷ front) back = has_later q p (front ++ p ∷ back) (has_behind p front back)
@@ -104,7 +104,7 @@ has_without place p (q ∷ ps) apart h =
           ]
     ]
 
--- a place that stands once among others leaves these
+-- a place that is there once among others leaves these
 pub without_behind : (at : ℕ → Option Node) (g : ℕ) (start : Option ℕ) (place : ℕ) (front back : List ℕ) → Chain at g start (front ++ place ∷ back)
     → without_place place (front ++ place ∷ back) ≡ front ++ back
 without_behind at g start place [] back c = rw (eq-eqb place place refl) (without_absent place back c.1)
@@ -124,7 +124,7 @@ last_in q (r ∷ front) back =
     let l = last_in r front back in
     record { place = l.place; is = l.is; there = has_later q l.place ((r ∷ front) ++ back) l.there }
 
--- a link that led to the place leads to what was behind it
+-- a link that led to the place leads to what came after it
 abbrev past : ℕ → Option ℕ → Option ℕ → Option ℕ
 past place next None = None
 past place next (Some p) = if p == place then next else Some p
@@ -348,7 +348,7 @@ others_unlinked s t group place previous next written x apart = ap caught_at (wr
     same None = refl
     same (Some n) = rw (ne_eqb x place apart) refl
 
--- a place behind another is that of a target
+-- a place after another is that of a target
 pub behind_there : (s : Slab Node) (group place : ℕ) (previous : Option ℕ) (g : Node) → AreLinked s → get s group ≡ Some g → IsBehind previous place (places_by s group)
     → TargetOf group (get s place)
 behind_there s group place previous g linked group_is behind =

@@ -7,7 +7,7 @@ use Rattle.touch_targets.specs.Nodes.{AreLinked, Chain, IsBehind, has_place, pla
 use Rattle.touch_targets.specs.declared.node.Node.{Node}
 use Rattle.touch_targets.proofs.Chains.{chain_after, chain_none, first_of, from_start, no_some, some_is, starts_at, there}
 
--- the walk has come to this place, from the one before
+-- the walk has reached this place, from the one before
 pub record Walk (nodes : Slab Node) (group : ℕ) (previous at : Option ℕ) : Type 0 where
   pub front : List ℕ
   pub back : List ℕ
@@ -86,7 +86,7 @@ module _ (s : Slab Node) (group : ℕ) (previous : Option ℕ) (place : ℕ) (wa
   pub rest_here : (n : Node) → get s place ≡ Some n → places_from s (Some place) ≡ place ∷ places_from s n.next
   rest_here n is = at.from ∙ ap (λ l. place ∷ l) (sym (from_start s group n.next at.back (node_here n is)))
 
--- a walk that has come to an end has no place ahead
+-- a walk that has reached its end has no place ahead
 pub no_more : (s : Slab Node) (place : ℕ) → has_place place (places_from s None) ≢ true
 no_more s place h = absurd (nothing (subst (λ l. has_place place l ≡ true) (chain_none (length s.slots) (get s)) h))
   where

@@ -2,7 +2,7 @@
 use Rattle.std.specs.Prelude.{ℕ, ◌==◌, Bool, false, ◌&&◌, ◌||◌, not, if◌then◌else◌, List, [], ◌∷◌, Option, Some, None, map, filter}
 use Rattle.std.specs.List.{list_any, range_with_len}
 
--- a child that is handed what these pointers do
+-- a child that gets what these pointers do
 pub record Target : Type 0 where
   pub child : ℕ
   pub ids : ℕ → Bool
@@ -51,17 +51,17 @@ without_ids ids target = record target { ids = λ id. target.ids id && not (ids 
 abbrev pub has_any : (ℕ → Bool) → Bool
 has_any ids = list_any ids (range_with_len 0 32)
 
--- a child gets these pointers too; where it was no target, it is the newest now
+-- a child gets these pointers too; if it was no target, it is the newest now
 abbrev pub put_target : ℕ → (ℕ → Bool) → List Target → List Target
 put_target child ids targets =
     if is_target child targets
     then map (λ (t : Target). if t.child == child then with_ids ids t else t) targets
     else record { child = child; ids = ids } ∷ targets
 
--- pointers leave all targets, and a target without pointers is none any more
+-- pointers leave all targets, and a target without pointers is removed
 abbrev pub drop_pointers : (ℕ → Bool) → List Target → List Target
 drop_pointers ids targets = filter (λ (t : Target). has_any t.ids) (map (without_ids ids) targets)
 
--- the targets but for this child
+-- the targets except this child
 abbrev pub without_child : ℕ → List Target → List Target
 without_child child targets = filter (λ (t : Target). not (t.child == child)) targets

@@ -1,11 +1,11 @@
--- How the nodes of the pool stand for what groups have captured.
+-- How the nodes of the pool represent what groups have captured.
 use Rattle.std.specs.Prelude.{ℕ, zero, suc, ◌≡◌, ◌≢◌, ◌==◌, ◌<◌, ◌^◌, true, false, Bool, not, if◌then◌else◌, List, [], ◌∷◌, ◌++◌, Option, Some, None, option_map, IsSome, length, map, filter}
 use Rattle.std.specs.List.{last_or, list_any}
 use Rattle.slab.specs.Slab.{Slab, get}
 use Rattle.touch_targets.specs.Seats.{Caught, mask_without}
 use Rattle.touch_targets.specs.declared.node.Node.{Node}
 
--- what a node says, or none where there is no node
+-- what a node holds, or none if there is no node
 abbrev pub newest_of : Option Node → Option ℕ
 newest_of None = None
 newest_of (Some node) = node.newest
@@ -23,7 +23,7 @@ abbrev pub caught_at : Option Node → Caught
 caught_at None = record { child = 0; ids = 0 }
 caught_at (Some node) = record { child = node.view; ids = node.ids }
 
--- the places from one on, along the links, as far as the fuel goes
+-- the places from one on, along the links, until the fuel runs out
 unfoldable pub chain : ℕ → (ℕ → Option Node) → Option ℕ → List ℕ
 chain zero at start = []
 chain (suc fuel) at None = []
@@ -49,7 +49,7 @@ Chain at group start [] = start ≡ None
 Chain at group start (place ∷ places) =
     (start ≡ Some place) × (has_place place places ≡ false) × (node : Node) × (at place ≡ Some node) × (node.group ≡ Some group) × Chain at group node.next places
 
--- the targets of each group are linked one behind the other, and each node that names a group is among them
+-- the targets of each group are linked one after the other, and each node that names a group is among them
 pub record IsLinked (at : ℕ → Option Node) (places : ℕ → List ℕ) : Type 0 where
   pub chained : (group : ℕ) (node : Node) → at group ≡ Some node → Chain at group node.newest (places group)
   pub member : (place group : ℕ) (node : Node) → at place ≡ Some node → node.group ≡ Some group → IsSome (at group) × (has_place place (places group) ≡ true)
@@ -61,11 +61,11 @@ pub record IsLinked (at : ℕ → Option Node) (places : ℕ → List ℕ) : Typ
 abbrev pub AreLinked : Slab Node → Type 0
 AreLinked nodes = IsLinked (get nodes) (places_by nodes)
 
--- what nodes say after a change of one of them
+-- what nodes hold after a change of one of them
 abbrev pub changed : (ℕ → Option Node) → ℕ → (Node → Node) → ℕ → Option Node
 changed at place change x = if x == place then option_map change (at x) else at x
 
--- what nodes say once this one comes behind a target, or first where that is none
+-- what nodes hold once this one comes after a target, or first if that is none
 abbrev pub relinked : (ℕ → Option Node) → ℕ → Option ℕ → Option ℕ → ℕ → Option Node
 relinked at group None next x = changed at group (λ node. record node { newest = next }) x
 relinked at group (Some previous) next x = changed at previous (λ node. record node { next = next }) x
@@ -75,7 +75,7 @@ abbrev pub IsTarget : Option Node → Type 0
 IsTarget None = ⊥
 IsTarget (Some node) = node.group ≢ None
 
--- one place stands right behind another among these, or first where that is none
+-- one place comes right after another among these, or first if that is none
 pub record IsBehind (previous : Option ℕ) (place : ℕ) (places : List ℕ) : Type 0 where
   pub front : List ℕ
   pub back : List ℕ
@@ -98,7 +98,7 @@ without_caught (Some child) caught = filter (λ (c : Caught). not (c.child == ch
 abbrev pub left_at : Slab Node → ℕ → ℕ → ℕ
 left_at nodes place ids = mask_without (caught_at (get nodes place)).ids ids
 
--- the number of the view at a place; 0 where there is none
+-- the number of the view at a place; 0 if there is none
 abbrev pub view_at : Slab Node → ℕ → ℕ
 view_at nodes place = (caught_at (get nodes place)).child
 

@@ -1,4 +1,4 @@
--- How the pool stands for the open views.
+-- How the pool represents the open views.
 use Rattle.std.specs.Prelude.{ℕ, ◌≡◌, nat_eq, List, Some, map}
 use Rattle.slab.specs.Slab.{Slab, get}
 use Rattle.indexmap.specs.IndexMap.{get as get_key}

@@ -5,7 +5,7 @@ use Rattle.std.specs.List.{list_any}
 use Rattle.touch_event.specs.PointerSets.{has_id}
 use Rattle.touch_targets.specs.Captures.{Target}
 
--- a captured child, and the number that stands for the set of its pointers
+-- a captured child, and the number that represents the set of its pointers
 pub record Caught : Type 0 where
   pub child : ℕ
   pub ids : ℕ
@@ -29,7 +29,7 @@ target_of caught = record { child = caught.child; ids = has_id caught.ids }
 abbrev pub is_open : List Seat → ℕ → Bool
 is_open seats view = list_any (λ (seat : Seat). seat.view == view) seats
 
--- what a group has captured; nothing, where it is not open
+-- what a group has captured; nothing if it is not open
 abbrev pub caught_of : List Seat → ℕ → List Caught
 caught_of seats group = caught_in (find (λ (seat : Seat). seat.view == group) seats)
 
@@ -46,14 +46,14 @@ mask_without ids others = bit_and ids (2 ^ 32 - 1 - others)
 abbrev pub is_caught : ℕ → List Caught → Bool
 is_caught child caught = list_any (λ (c : Caught). c.child == child) caught
 
--- a child gets these pointers too; where it was not captured, it is the newest now
+-- a child gets these pointers too; if it was not captured, it is the newest now
 abbrev pub put_caught : ℕ → ℕ → List Caught → List Caught
 put_caught child ids caught =
     if is_caught child caught
     then map (λ (c : Caught). if c.child == child then record c { ids = mask_with c.ids ids } else c) caught
     else record { child = child; ids = ids } ∷ caught
 
--- pointers leave all captured children, and a child without pointers goes
+-- pointers leave all captured children, and a child without pointers is removed
 abbrev pub drop_caught : ℕ → List Caught → List Caught
 drop_caught ids caught =
     filter (λ (c : Caught). not (c.ids == 0)) (map (λ (c : Caught). record c { ids = mask_without c.ids ids }) caught)

@@ -1,8 +1,8 @@
 //! The targets of a gesture: which children a group has captured, in which order, and by which pointers. Only `open`
 //! takes memory.
 //!
-//! `targets` is the pool, `node` what it keeps of an open view, `links` how nodes come among the targets of a group and
-//! leave them.
+//! `targets` is the pool, `node` what it keeps of an open view, `links` how nodes join and leave the targets of a
+//! group.
 #![tactic(auto)]
 
 mod links;

@@ -1,4 +1,4 @@
-//! How nodes come among the targets of a group and leave them. A group and a target are named by the places of their nodes.
+//! How nodes join and leave the targets of a group. A group and a target are named by the places of their nodes.
 ghost use Rattle.std.specs.Prelude.{◌≡◌, ◌≢◌, ◌==◌, ◌&&◌, true, if◌then◌else◌, ℕ, [], ◌∷◌, false, Some, None};
 ghost use Rattle.slab.specs.Slab.{get, ContainsKey, HasRoomFor};
 ghost use Rattle.touch_targets.specs.declared.node.Node.{Node};
@@ -32,7 +32,7 @@ fn write_ids(nodes: &mut Slab<Node>, place: usize, ids: u32)
     node.ids = ids;
 }
 
-/// Sets what comes right behind a target, or first where that is none.
+/// Sets what comes right after a target, or first if that is none.
 fn set_behind(nodes: &mut Slab<Node>, group: usize, previous: Option<usize>, next: Option<usize>)
     requires group { ContainsKey nodes.old group }
     requires previous { (p : ℕ) → previous ≡ Some p → ContainsKey nodes.old p }
@@ -183,7 +183,7 @@ pub fn take_out(nodes: &mut Slab<Node>, place: usize)
     nodes.remove(place);
 }
 
-/// Puts in the node of a view that has none yet, where there is room. The answer is its place.
+/// Inserts the node of a view that has none yet, into free room. Returns its place.
 pub fn put_in(nodes: &mut Slab<Node>, view: u64) -> usize
     requires room { HasRoomFor nodes.old 1 }
     requires linked { AreLinked nodes.old }
@@ -202,7 +202,7 @@ pub fn put_in(nodes: &mut Slab<Node>, view: u64) -> usize
     })
 }
 
-/// Takes pointers away from all targets of a group, and the targets that have no others.
+/// Takes pointers away from all targets of a group, and removes the targets that have no others.
 pub fn drop_ids(nodes: &mut Slab<Node>, group: usize, ids: u32)
     requires linked { AreLinked nodes.old }
     requires group { ContainsKey nodes.old group }
@@ -218,8 +218,8 @@ pub fn drop_ids(nodes: &mut Slab<Node>, group: usize, ids: u32)
     }
 }
 
-/// Takes pointers away from one target, which comes right behind another, and the target where it has no others. The
-/// answer is the one that the next target comes right behind then.
+/// Takes pointers away from one target, which comes right after another, and removes the target if it has no others.
+/// Returns the one after which the next target comes then.
 fn drop_ids_at(
     nodes: &mut Slab<Node>,
     group: usize,

@@ -11,6 +11,6 @@ pub struct Node {
     pub group: Option<usize>,
     /// As a target: the next older one of its group.
     pub next: Option<usize>,
-    /// As a target: its pointers, where bit `k` stands for the id `k`. One at least.
+    /// As a target: its pointers, at least one, where bit `k` represents the id `k`.
     pub ids: u32,
 }

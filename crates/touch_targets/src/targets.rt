@@ -65,7 +65,7 @@ impl Targets {
         Ok(())
     }
 
-    /// Takes the place of a view away, with all that names the view as a group or as a target.
+    /// Removes the place of a view, with all that names the view as a group or as a target.
     pub fn close(&mut self, view: u64)
         ensures opened { (other : ℕ) → is_open self.new other ≡ (is_open self.old other && not (other == view)) }
         ensures targets { (group : ℕ) → targets_of self.new group ≡ (if group == view then [] else without_child view (targets_of self.old group)) }
@@ -99,7 +99,7 @@ impl Targets {
         Some(self.nodes[next].view)
     }
 
-    /// The pointers by which a view was captured, where bit `k` stands for the id `k`; 0 for a view that is no target.
+    /// The pointers by which a view was captured, where bit `k` represents the id `k`; 0 for a view that is no target.
     pub fn ids(&self, child: u64) -> u32
         ensures ids { (group : ℕ) → is_target child (targets_of self.now group) ≡ true → has_id result ≡ first_ids (from_child child (targets_of self.now group)) }
         ensures free { ((group : ℕ) → is_target child (targets_of self.now group) ≡ false) → result ≡ 0 }
@@ -110,8 +110,8 @@ impl Targets {
         }
     }
 
-    /// A group captures a view by these pointers, beside those by which it has. A view that was no target is the newest
-    /// target then; it is no target of another group.
+    /// A group captures a view by these pointers, in addition to those by which it already has. A view that was no
+    /// target is then the newest target; it is no target of another group.
     pub fn put(&mut self, group: u64, child: u64, ids: u32)
         requires ids { ids ≢ 0 }
         requires group { is_open self.old group ≡ true }
@@ -125,7 +125,7 @@ impl Targets {
         links::put(&mut self.nodes, at, place, ids);
     }
 
-    /// Takes pointers away from all targets of a group, and the targets that have no others.
+    /// Takes pointers away from all targets of a group, and removes the targets that have no others.
     pub fn drop_ids(&mut self, group: u64, ids: u32)
         ensures opened { (view : ℕ) → is_open self.new view ≡ is_open self.old view }
         ensures targets { (other : ℕ) → targets_of self.new other ≡ (if other == group then drop_pointers (has_id ids) (targets_of self.old other) else targets_of self.old other) }
@@ -147,7 +147,7 @@ impl Targets {
         }
     }
 
-    /// Takes all targets of a group away.
+    /// Removes all targets of a group.
     pub fn clear(&mut self, group: u64)
         ensures opened { (view : ℕ) → is_open self.new view ≡ is_open self.old view }
         ensures targets { (other : ℕ) → targets_of self.new other ≡ (if other == group then [] else targets_of self.old other) }
@@ -175,7 +175,7 @@ fn open_place(places: &IndexMap<u64, usize>, view: u64) -> usize
     }
 }
 
-/// Takes the place of a view's node out, and tells it.
+/// Removes the place of a view's node, and returns it.
 fn forget_place(places: &mut IndexMap<u64, usize>, view: u64) -> Option<usize>
     ensures value { result ≡ get_key nat_eq places.old view }
     ensures entries { places.new.entries ≡ swap_remove_entry (nat_eq view) places.old.entries }
@@ -184,7 +184,7 @@ fn forget_place(places: &mut IndexMap<u64, usize>, view: u64) -> Option<usize>
     places.swap_remove(&view)
 }
 
-/// Notes the place of a view's node, where there is room for it.
+/// Records the place of a view's node, for which there is room.
 fn note_place(places: &mut IndexMap<u64, usize>, view: u64, place: usize)
     requires { 0 < spare places.old }
     ensures entries { places.new.entries ≡ insert_entry nat_eq places.old.entries view place }

@@ -23,7 +23,7 @@ change_absent number change (Branch view below after) none = elim (cases_Bool (v
     neither Nothing second none = (refl, none)
     neither (Branch view below after) second none = absurd (cc)
 
--- a change of facts is none of the rows without them
+-- a change of facts does not change the rows without them
 pub bare_put : (key : ℕ) (change : PlainView → PlainView) (tree : Forest Row) → ((view : PlainView) → (change view).number ≡ view.number) → ((view : PlainView) → (change view).class ≡ view.class)
     → ((view : PlainView) → (change view).text ≡ view.text) → map_rows bare (changed_at_key key change tree) ≡ map_rows bare tree
 bare_put key change Nothing number class text = refl

@@ -1,4 +1,4 @@
--- How many views the passes of a frame measure, and how many lie elsewhere after them.
+-- How many views the passes of a frame measure, and how many have other bounds after them.
 use Rattle.std.proofs.Common.{◌≡◌, ℕ, ◌+◌, ◌≤◌, Bool, true, false, List, refl, sym, ◌∙◌, ap, arith}
 use Rattle.std.specs.Prelude.{if◌then◌else◌}
 use Rattle.geom_core.specs.declared.geometry.Size.{Size}
@@ -31,7 +31,7 @@ measured_twice tree again hooks window old mid new fired same first second =
     sums : (old mid new a b c : ℕ) → b ≡ c → mid ≤ old + a → new ≤ mid + b → new ≤ old + (a + c)
     sums old mid new a b c e first second = omega arith
 
--- no more lie elsewhere than there are
+-- at most all of them have other bounds
 pub differ_few : (old new : ℕ → Held) (list : Forest Row) → differ old new list ≤ count_of list
 differ_few old new Nothing = omega arith
 differ_few old new (Branch row kids siblings) =

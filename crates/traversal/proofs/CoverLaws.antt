@@ -22,7 +22,7 @@ use Rattle.view_tree.proofs.forest.Walks.{KeepingWalk, KeepsInside-first, KeepsO
 use Rattle.kept_views.proofs.Keys.{own_more}
 use Rattle.traversal.specs.Covering.{Covered, IsShifted}
 
--- each view of a list lies where it did, with the offset that it had
+-- each view of a list has the bounds and the offset that it had
 abbrev pub SamePlaces : (ℕ → Held) → (ℕ → Held) → Forest Row → Type 0
 SamePlaces old new list = (key : ℕ) → 0 < count_of_key key list → ((new key).state.bounds ≡ (old key).state.bounds) × ((new key).offset ≡ (old key).offset)
 
@@ -35,7 +35,7 @@ placed_same old new (Branch row kids siblings) same =
     let own = same row.key (times_self row kids siblings) in
     rw (own.0, own.1, placed_same old new kids (λ key here. same key (omega arith)), placed_same old new siblings (λ key here. same key (omega arith))) refl
 
--- a canvas below a view that lies where it did, with the offset that it had
+-- a canvas below a view that has the bounds and the offset that it had
 pub below_same : (row : Row) (old new : ℕ → Held) (canvas : Canvas) → (new row.key).state.bounds ≡ (old row.key).state.bounds → (new row.key).offset ≡ (old row.key).offset
     → canvas_below (new row.key).state.bounds (scrolled new row).facts canvas ≡ canvas_below (old row.key).state.bounds (scrolled old row).facts canvas
 below_same row old new canvas bounds offset =
@@ -62,11 +62,11 @@ covered_same canvas box old old' new new' (Branch row kids siblings) before afte
     ) in
     (stays, shifts, covered_same canvas box old old' new new' siblings (λ key here. before key (omega arith)) (λ key here. after key (omega arith)) covered.2)
 
-covered_first : (canvas : Canvas) (box : Rect) (old new : ℕ → Held) (list : Forest Row) → Covered canvas box old new list → Covered canvas box old new (first_tree list)
+pub covered_first : (canvas : Canvas) (box : Rect) (old new : ℕ → Held) (list : Forest Row) → Covered canvas box old new list → Covered canvas box old new (first_tree list)
 covered_first canvas box old new Nothing covered = tt
 covered_first canvas box old new (Branch row kids siblings) covered = (covered.0, covered.1, tt)
 
-covered_later : (canvas : Canvas) (box : Rect) (old new : ℕ → Held) (list : Forest Row) → Covered canvas box old new list → Covered canvas box old new (later_siblings list)
+pub covered_later : (canvas : Canvas) (box : Rect) (old new : ℕ → Held) (list : Forest Row) → Covered canvas box old new list → Covered canvas box old new (later_siblings list)
 covered_later canvas box old new Nothing covered = tt
 covered_later canvas box old new (Branch row kids siblings) covered = covered.2
 

@@ -1,4 +1,4 @@
--- What the edits of a hook make of a tree.
+-- The effect of a hook's edits on a tree.
 use Rattle.std.proofs.Common.{◌≡◌, ℕ, ◌+◌, true, false, [], ◌∷◌, drop, Option, None, Some, refl, sym, ◌∙◌, ap, inl, inr, arith}
 use Rattle.std.proofs.lemmas.Bool.{cases_eq}
 use Rattle.std.proofs.lemmas.List.{drop_all, drop_more}
@@ -21,22 +21,25 @@ use Rattle.traversal.specs.Changing.{SameShape, bare}
 use Rattle.traversal.specs.Frames.{edits_of}
 use Rattle.traversal.proofs.ChangeLaws.{bare_put}
 
--- a change is none of the names of a view, of its offset and of whether it takes part in layout
+-- a change is none of the names of a view, of its direction and how it runs, of its offset and of whether it takes part
+-- in layout
 pub record Leaves (old new : Facts) : Type 0 where
   pub id : new.id ≡ old.id
   pub rules : new.rules ≡ old.rules
+  pub direction : new.direction ≡ old.direction
+  pub rtl : new.rtl ≡ old.rtl
   pub offset : new.offset ≡ old.offset
   pub shown : is_shown new ≡ is_shown old
 
 pub change_leaves : (change : Change) (facts : Facts) → Leaves facts (facts_after_change change facts)
-change_leaves (change.Size width height) facts = record { id = refl; rules = refl; offset = refl; shown = refl }
-change_leaves (change.Min size) facts = record { id = refl; rules = refl; offset = refl; shown = refl }
-change_leaves (change.Margins sides) facts = record { id = refl; rules = refl; offset = refl; shown = refl }
-change_leaves (change.Padding sides) facts = record { id = refl; rules = refl; offset = refl; shown = refl }
-change_leaves (change.Weight weight) facts = record { id = refl; rules = refl; offset = refl; shown = refl }
-change_leaves (change.Gravity true gravity) facts = record { id = refl; rules = refl; offset = refl; shown = refl }
-change_leaves (change.Gravity false gravity) facts = record { id = refl; rules = refl; offset = refl; shown = refl }
-change_leaves (change.Background color) facts = record { id = refl; rules = refl; offset = refl; shown = refl }
+change_leaves (change.Size width height) facts = record { id = refl; rules = refl; direction = refl; rtl = refl; offset = refl; shown = refl }
+change_leaves (change.Min size) facts = record { id = refl; rules = refl; direction = refl; rtl = refl; offset = refl; shown = refl }
+change_leaves (change.Margins sides) facts = record { id = refl; rules = refl; direction = refl; rtl = refl; offset = refl; shown = refl }
+change_leaves (change.Padding sides) facts = record { id = refl; rules = refl; direction = refl; rtl = refl; offset = refl; shown = refl }
+change_leaves (change.Weight weight) facts = record { id = refl; rules = refl; direction = refl; rtl = refl; offset = refl; shown = refl }
+change_leaves (change.Gravity true gravity) facts = record { id = refl; rules = refl; direction = refl; rtl = refl; offset = refl; shown = refl }
+change_leaves (change.Gravity false gravity) facts = record { id = refl; rules = refl; direction = refl; rtl = refl; offset = refl; shown = refl }
+change_leaves (change.Background color) facts = record { id = refl; rules = refl; direction = refl; rtl = refl; offset = refl; shown = refl }
 
 -- what an edit of a view that is there made of a tree
 pub record Edited (old : Views) (edit : NumEdit) (new : Views) : Type 0 where

@@ -24,7 +24,7 @@ view number class width = record { number = number; class = class; facts = new_f
 tree : ℕ → ℕ → Forest PlainView
 tree second third = Branch (view 1 class.LinearLayout match) (Branch (view 2 class.View (pos second)) Nothing (Branch (view 3 class.View (pos third)) Nothing Nothing)) Nothing
 
--- a hook of a view that has this width reported, and makes another view so wide
+-- a hook of a view that has this width reported, which makes another view that wide
 hook : ℕ → ℕ → ℕ → ℕ → ℕ → Hook
 hook view width height other wide = record {
   view = view;
@@ -38,8 +38,8 @@ at number left right = record { number = number; rect = record { left = pos left
 window : Size
 window = record { w = pos 100; h = pos 20 }
 
--- the third view is laid out and has no size reported; the second pass lays out what its hook has made of the second
--- view
+-- the third view is laid out and has no size reported; the second pass lays out the second view as its hook has changed
+-- it
 a_hook_fires_once :
     after_frame (tree 10 20) (hook 3 0 0 2 40 ∷ []) window
     ≡ record { tree = tree 40 20; hooks = []; settled = true; fired = 1; geometry = at 1 0 100 ∷ at 2 0 40 ∷ at 3 40 60 ∷ [] }

@@ -32,7 +32,7 @@ or_first second is = ap (λ o. option_or o second) (sym is)
 pub or_second : {first : Option ℕ} (second : Option ℕ) → first ≡ None → option_or first second ≡ second
 or_second second is = ap (λ o. option_or o second) is
 
--- none fires where none is armed
+-- no hook fires if none is armed
 pub fired_none : (geometry : List Laid) → fired_in [] geometry ≡ None
 fired_none [] = refl
 fired_none (laid ∷ geometry) = fired_none geometry

@@ -1,6 +1,7 @@
 -- Layout gives each view a size that fits in 32 bits.
 use Rattle.std.proofs.Common.{◌≡◌, Bool, true, false, ℕ, ◌≤◌, min, ℤ, pos, negsuc, Option, None, Some, List, [], ◌∷◌, ◌++◌, refl, sym, ◌∙◌, ap, subst, arith, inl, inr}
 use Rattle.std.proofs.lemmas.Bool.{cases_Bool}
+use Rattle.std.specs.Prelude.{map, reverse}
 use Rattle.std.proofs.lemmas.Int.{ints}
 use Rattle.geom_core.specs.Limits.{IsSide}
 use Rattle.geom_core.specs.declared.geometry.Rect.{Rect}
@@ -14,7 +15,7 @@ use Rattle.view_model.specs.Course.{Child, Requested}
 use Rattle.view_model.specs.Facts.{is_shown}
 use Rattle.view_model.specs.Forest.{Forest, Nothing, Branch}
 use Rattle.view_model.specs.Geometry.{Laid, rect_at, size_of_rect}
-use Rattle.view_model.specs.Layout.{Final, Spot, children_of, course_by, final_by, final_size, full_layout, laid_by, manner_of, measured_size, place_by, place_in, root_specs, total_by, for_layout}
+use Rattle.view_model.specs.Layout.{Final, Spot, children_of, course_by, final_by, final_size, full_layout, laid_by, manner_of, measured_size, place_by, place_in, places_backwards, root_specs, total_by, for_layout}
 use Rattle.view_model.specs.LinearLayout.{rect_by}
 use Rattle.view_model.specs.Measuring.{Measured, Specs}
 use Rattle.view_model.specs.PlainTree.{PlainView}
@@ -22,7 +23,7 @@ use Rattle.view_model.proofs.CourseLaws.{children_in, course_children}
 use Rattle.traversal.specs.Changing.{FitAll}
 use Rattle.traversal.specs.Narrow.{AreSidesNarrow, IsNarrow, IsStretch}
 use Rattle.traversal.specs.Reporting.{near, near_size, told_each, told_in}
-use Rattle.kept_views.proofs.PlacedKids.{finals_in, laid_from}
+use Rattle.kept_views.proofs.PlacedKids.{finals_in, laid_back_from, laid_from, laid_in}
 use Rattle.traversal.proofs.LaidWhole.{at_narrow}
 use Rattle.traversal.proofs.NarrowSides.{AllNarrow, finals_narrow, sides_in}
 
@@ -30,7 +31,7 @@ fit_append : (first second : List Laid) → FitAll first → FitAll second → F
 fit_append [] second none fit = fit
 fit_append (laid ∷ first) second fit more = (fit.0, fit_append first second fit.1 more)
 
--- a child whose views fit wherever it lies
+-- a child whose views fit wherever it is placed
 record Tidy (kid : Child) : Type 0 where
   size : (specs : Specs) → IsSide (kid.measure specs).w × IsSide (kid.measure specs).h
   lays : (specs : Specs) (rect : Rect) → IsNarrow rect → FitAll (kid.lay specs rect)
@@ -70,6 +71,24 @@ placed_fit spot before (kid ∷ kids) tidy =
     (own.lays kid.specs rect (place_narrow spot.view.class spot before (final_size kid) kid.edges size.0 size.1 tidy.0.1))
     (placed_fit spot more kids tidy.1)
 
+placed_fit_back : (spot : Spot) (kids : List Final) → TidyFinals spot.view.class kids → FitAll (laid_back_from spot kids)
+placed_fit_back spot [] tidy = tt
+placed_fit_back spot (kid ∷ kids) tidy =
+    let own = tidy.0.0 in
+    let size = own.size kid.specs in
+    let behind = reverse (map final_size kids) in
+    let rect = place_in spot behind (final_size kid) kid.edges in
+    fit_append (kid.child.lay kid.specs rect) (laid_back_from spot kids)
+    (own.lays kid.specs rect (place_narrow spot.view.class spot behind (final_size kid) kid.edges size.0 size.1 tidy.0.1))
+    (placed_fit_back spot kids tidy.1)
+
+placed_fit_all : (spot : Spot) (kids : List Final) → TidyFinals spot.view.class kids → FitAll (laid_in spot kids)
+placed_fit_all spot kids tidy =
+    elim (cases_Bool (places_backwards spot.view.class spot.view.facts)) [
+      | inl back ↦ rw back (placed_fit_back spot kids tidy)
+      | inr on ↦ rw on (placed_fit spot [] kids tidy)
+    ]
+
 finals_tidy : (class : Class) (specs : Specs) (kids : List Requested) → TidyAll (children_in kids) → (class ≡ RelativeLayout → AllNarrow (sides_in specs kids))
     → TidyFinals class (finals_in specs kids)
 finals_tidy class specs [] tidy narrow = tt
@@ -94,7 +113,7 @@ view_fits view below tidy specs rect narrow =
     let same : children_in course ≡ kids = course_children (manner_of view specs) view kids specs in
     let finals : TidyFinals view.class (final_by view kids specs) = finals_tidy view.class specs course (subst TidyAll (sym same) tidy) (finals_narrow view.class view below specs) in
     elim (cases_Bool (is_shown view.facts)) [
-      | inl here ↦ rw here (narrow, placed_fit spot [] (final_by view kids specs) finals)
+      | inl here ↦ rw here (narrow, placed_fit_all spot (final_by view kids specs) finals)
       | inr gone ↦ rw gone tt
     ]
 

@@ -1,4 +1,4 @@
--- What is seen of views while they are laid, where they are followed.
+-- What is seen of views while they are laid, if they are followed.
 use Rattle.std.proofs.Common.{◌≡◌, ◌≢◌, ◌⊎◌, inl, inr, ℕ, ℤ, ◌<◌, ◌≤◌, Bool, true, false, Option, Some, None, refl, sym, ap, ◌∙◌, subst, arith}
 use Rattle.std.specs.Prelude.{IfSome}
 use Rattle.std.proofs.lemmas.Bool.{cases_eq}
@@ -7,11 +7,12 @@ use Rattle.geom_core.specs.Rects.{holds}
 use Rattle.geom_core.specs.declared.geometry.Rect.{Rect}
 use Rattle.kept_views.specs.Laying.{Wrote, moved_to}
 use Rattle.kept_views.specs.Passes.{settled}
-use Rattle.seen_parts.proofs.SightLaws.{SightWalk, sight_end, sight_on, sight_own, sight_start}
-use Rattle.seen_parts.specs.Meeting.{Follows, KeepsSight, as_seen, met_at}
+use Rattle.seen_parts.proofs.SightLaws.{SightWalk, met_parts, sight_end, sight_on, sight_own, sight_start}
+use Rattle.seen_parts.specs.Meeting.{Follows, KeepsSight, as_seen, met_at, placed_rows}
 use Rattle.seen_parts.specs.declared.frame.Canvas.{Canvas as FramedCanvas}
 use Rattle.view_model.specs.declared.facts.Facts.{Facts}
-use Rattle.view_model.specs.Forest.{Forest, Nothing, Branch}
+use Rattle.view_model.specs.Forest.{Forest, Nothing, Branch, joined}
+use Rattle.view_model.specs.Painting.{PlacedView}
 use Rattle.view_model.specs.Visible.{Canvas, canvas_below, seen_in}
 use Rattle.view_tree.specs.Rows.{Row, children_of_first, count_of_key, first_tree, head_view, later_siblings, part_from, rest_from}
 use Rattle.view_tree.specs.Views.{Held, KeepsOutside, scrolled}
@@ -19,7 +20,7 @@ use Rattle.view_tree.proofs.forest.KeyLaws.{located}
 use Rattle.view_tree.proofs.forest.Walks.{KeepingWalk, not_below, once_from}
 use Rattle.traversal.specs.Covering.{Covered, IsShifted}
 use Rattle.traversal.specs.Following.{CoversIn, GrowsWithin, KeepsSightIn}
-use Rattle.traversal.proofs.CoverLaws.{CoverWalk, SamePlaces, cover_end, cover_on, cover_start, covered_same, placed_same}
+use Rattle.traversal.proofs.CoverLaws.{CoverWalk, SamePlaces, cover_end, cover_on, cover_start, covered_first, covered_later, covered_same, placed_same}
 
 abbrev pub Walks : Option FramedCanvas → Rect → Forest Row → Forest Row → (ℕ → Held) → Option ℕ → (ℕ → Held) → Type 0
 Walks canvas damage tree kids start next now = IfSome canvas (λ canvas. SightWalk (as_seen canvas) damage tree kids start next now)
@@ -51,6 +52,29 @@ pub covers_along : (canvas : Option FramedCanvas) (box : Rect) (old old' new new
     → CoversIn canvas box old new list → CoversIn canvas box old' new' list
 covers_along None box old old' new new' list before after covered = tt
 covers_along (Some canvas) box old old' new new' list before after covered = covered_same (as_seen canvas) box old old' new new' list before after covered
+
+-- more damage
+pub sight_under : (canvas : Option FramedCanvas) (less more : Rect) (old new : ℕ → Held) (list : Forest Row) → LiesIn less more → KeepsSightIn canvas less old new list → KeepsSightIn canvas more old new list
+sight_under None less more old new list grew sight = tt
+sight_under (Some canvas) less more old new list grew sight = λ x y out. sight x y (outside less more grew x y out)
+
+-- the first view of a list, and its later siblings
+pub sight_joined : (canvas : Option FramedCanvas) (damage : Rect) (old new : ℕ → Held) (list : Forest Row)
+    → KeepsSightIn canvas damage old new (first_tree list) → KeepsSightIn canvas damage old new (later_siblings list) → KeepsSightIn canvas damage old new list
+sight_joined None damage old new list first rest = tt
+sight_joined (Some canvas) damage old new list first rest = λ x y out.
+    met_parts x y (as_seen canvas) new list
+    ∙ ap (λ (views : Forest PlacedView). joined views (met_at x y (as_seen canvas) (placed_rows new (later_siblings list)))) (first x y out)
+    ∙ ap (λ (views : Forest PlacedView). joined (met_at x y (as_seen canvas) (placed_rows old (first_tree list))) views) (rest x y out)
+    ∙ sym (met_parts x y (as_seen canvas) old list)
+
+pub covers_first : (canvas : Option FramedCanvas) (box : Rect) (old new : ℕ → Held) (list : Forest Row) → CoversIn canvas box old new list → CoversIn canvas box old new (first_tree list)
+covers_first None box old new list covered = tt
+covers_first (Some canvas) box old new list covered = covered_first (as_seen canvas) box old new list covered
+
+pub covers_later : (canvas : Option FramedCanvas) (box : Rect) (old new : ℕ → Held) (list : Forest Row) → CoversIn canvas box old new list → CoversIn canvas box old new (later_siblings list)
+covers_later None box old new list covered = tt
+covers_later (Some canvas) box old new list covered = covered_later (as_seen canvas) box old new list covered
 
 pub walks_start : (canvas : Option FramedCanvas) (damage : Rect) (tree kids : Forest Row) (start : ℕ → Held) (next : Option ℕ) → rest_from next tree ≡ kids → Walks canvas damage tree kids start next start
 walks_start None damage tree kids start next is = tt
@@ -85,7 +109,7 @@ pub covers_end : (canvas : Option FramedCanvas) (less damage : Rect) (tree kids 
 covers_end None less damage tree kids start now cover = λ box lies covered. cover box lies
 covers_end (Some canvas) less damage tree kids start now cover = cover_end (as_seen canvas) less damage tree kids start now cover
 
--- a view that is laid: it is moved, then its children are laid, and then its offset comes into its range
+-- a view that is laid: it is moved, then its children are laid, and then its offset is brought into its range
 pub record Steps (view : ℕ) (rect : Rect) (kids : Forest Row) (old moved laid new : ℕ → Held) : Type 0 where
   pub bounds : (moved view).state.bounds ≡ Some rect
   pub offset : (moved view).offset ≡ (old view).offset
@@ -106,7 +130,7 @@ steps_by view rect kids old fit moved laid new bounds offsets wrote below stays 
   after = after;
 }
 
--- a view that has settled lies where it did
+-- a view that has settled has the bounds that it had
 pub settled_places : (view : ℕ) (mid new : ℕ → Held) (list : Forest Row) → new view ≡ settled (mid view) → ((other : ℕ) → other ≢ view → new other ≡ mid other) → SamePlaces mid new list
 settled_places view mid new list own others key here = elim (cases_eq key view) [
   | inl e ↦ subst (λ (k : ℕ). ((new k).state.bounds ≡ (mid k).state.bounds) × ((new k).offset ≡ (mid k).offset)) (sym e) (ap (λ (h : Held). h.state.bounds) own, ap (λ (h : Held). h.offset) own)

@@ -79,7 +79,7 @@ settled_second tree old window mid views between hooks new frame first fired pas
     subst (λ (after : Framed). IsFramed after views new frame) (sym (second_settles window pass fired quiet))
     (settled 1 pass.tree pass.hooks window views hooks new frame passed is_tree told is count)
 
--- a frame that has not settled leaves no view anywhere
+-- after a frame that has not settled no view has bounds
 ended_nowhere : (before : ℕ) (pass : Pass) → (ended before pass).settled ≡ false → (ended before pass).geometry ≡ []
 ended_nowhere before pass unsettled = elim (cases_Bool pass.fired) [
   | inl e ↦ rw e refl

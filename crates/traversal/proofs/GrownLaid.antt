@@ -32,7 +32,7 @@ wrote_cache old new view own w same key = elim (cases_eq key view) [
   | inr ne ↦ ap (λ (h : Held). h.cache) (w.others key ne)
 ]
 
--- last specs stay where nothing changes
+-- last specs stay if nothing changes
 pub LastAt-along : (old new : ℕ → Held) (list : Forest Row) → KeepsInside old new list → (place : ℕ) (specs : Specs) → LastAt old list place specs → LastAt new list place specs
 LastAt-along old new Nothing same place specs at = absurd at
 LastAt-along old new (Branch row kids siblings) same zero specs at = (at.0, at.1 ∙ ap (λ (h : Held). specs_of h.state) (sym (same row.key (times_self row kids siblings))))
@@ -87,7 +87,7 @@ pub grown_joined : (start end : ℕ → Held) (list : Forest Row) → Grown (Las
 grown_joined start end Nothing one more = tt
 grown_joined start end (Branch row kids siblings) one more = (one.0, one.1, more)
 
--- a child was laid when the walk came to it
+-- a child was laid when the walk reached it
 pub grown_first : (start old mid end : ℕ → Held) (list : Forest Row) → KeepsInside start old list → KeepsInside mid end list → Grown (LastAt old list) old mid list → Grown (LastAt start list) start end list
 grown_first start old mid end list before after g =
     let back : KeepsInside old start list = λ key here. sym (before key here) in

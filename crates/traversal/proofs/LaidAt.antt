@@ -8,7 +8,7 @@ use Rattle.geom_core.specs.Limits.{IsSide}
 use Rattle.geom_core.specs.declared.geometry.Rect.{Rect}
 use Rattle.geom_core.specs.declared.geometry.Size.{Size}
 use Rattle.kept_views.specs.Kept.{Sized, firm, first_place, hidden_in, owed}
-use Rattle.kept_views.specs.Laying.{Brought, Fit, IsPut, IsQuiet, Wrote, differ, group_kids, kid_place, kid_under, last_sizes, moved_to, ranged_own, same_bounds, same_place, some_all, spot_of}
+use Rattle.kept_views.specs.Laying.{Brought, Fit, IsPut, IsQuietAll, Wrote, differ, group_kids, kid_place, kid_under, last_sizes, moved_to, ranged_own, same_bounds, same_place, some_all, spot_of}
 use Rattle.kept_views.specs.Passes.{settled, settled_at}
 use Rattle.kept_views.proofs.Brought.{brought_hidden, no_range}
 use Rattle.kept_views.proofs.LaidCalm.{gone_nowhere, not_both}
@@ -35,7 +35,7 @@ use Rattle.kept_views.proofs.Keys.{own_more}
 use Rattle.traversal.proofs.LaidWalk.{AreNarrow-along}
 use Rattle.traversal.proofs.NarrowSides.{group_narrow}
 
--- a view on which nothing is left to do, in this rectangle
+-- a view in this rectangle on which nothing is left to do
 pub record IsDone (old held : Held) (rect : Rect) : Type 0 where
   pub forced : held.state.forced ≡ false
   pub needed : held.state.layout_needed ≡ false
@@ -131,7 +131,7 @@ first_same held (Branch row kids siblings) = refl
 pub put_at : (tree : Forest Row) (view : ℕ) (old fit moved laid new : ℕ → Held) (rect : Rect) → ((key : ℕ) → count_of_key key tree ≤ 1) → 0 < count_of_key view tree
     → is_shown (head_view (part_from view tree)).facts ≡ true → Fit fit (first_tree (part_from view tree)) → IsStarted (old view) (fit view) → ((key : ℕ) → (fit key).offset ≡ (old key).offset)
     → Wrote fit moved view (moved_to (fit view) rect)
-    → IsQuiet laid (spot_of (part_from view tree) (moved view) (size_of_rect rect)) [] moved (children_of_first (part_from view tree))
+    → IsQuietAll laid (spot_of (part_from view tree) (moved view) (size_of_rect rect)) moved (children_of_first (part_from view tree))
     → KeepsOutside moved laid (children_of_first (part_from view tree))
     → Wrote laid new view (record (laid view) { offset = brought (first_range laid (part_from view tree)) (laid view).offset })
     → IsPut old (settled_at view new) view (part_from view tree) rect
@@ -141,7 +141,7 @@ put_at tree view old fit_held moved laid new rect once live here fit started off
     let fit : Fit fit_held (Branch x.row x.kids Nothing) = rw x.is at fit in
     let once' : (key : ℕ) → count_of_key key (Branch x.row x.kids x.siblings) ≤ 1 = rw x.is at (once_from tree view once live) in
     let alone : (key : ℕ) → count_of_key key (Branch x.row x.kids Nothing) ≤ 1 = λ key. let o = once' key in omega arith in
-    let quiet : IsQuiet laid (spot_of (Branch x.row x.kids x.siblings) (moved view) (size_of_rect rect)) [] moved x.kids = rw x.is at quiet in
+    let quiet : IsQuietAll laid (spot_of (Branch x.row x.kids x.siblings) (moved view) (size_of_rect rect)) moved x.kids = rw x.is at quiet in
     let others : KeepsOutside moved laid x.kids = rw x.is at others in
     let own : new view ≡ record (laid view) { offset = brought (first_range laid (Branch x.row x.kids x.siblings)) (laid view).offset } = rw x.is at w2.at in
     let range : first_range laid (Branch x.row x.kids x.siblings) ≡ range_by x.row.view.class x.row.view.facts (laid view).state.bounds (first_place laid x.kids) =
@@ -153,8 +153,8 @@ put_at tree view old fit_held moved laid new rect once live here fit started off
     record { at = last; others = λ other ne. elsewhere other ne ∙ w2.others other ne } in
     let started : IsStarted (old x.row.key) (fit_held x.row.key) = subst (λ key. IsStarted (old key) (fit_held key)) (sym x.key_is) started in
     let w1' : Wrote fit_held moved x.row.key (moved_to (fit_held x.row.key) rect) = subst (λ key. Wrote fit_held moved key (moved_to (fit_held key) rect)) (sym x.key_is) w1 in
-    let quiet' : IsQuiet laid (spot_of (Branch x.row x.kids x.siblings) (moved x.row.key) (size_of_rect rect)) [] moved x.kids =
-    subst (λ key. IsQuiet laid (spot_of (Branch x.row x.kids x.siblings) (moved key) (size_of_rect rect)) [] moved x.kids) (sym x.key_is) quiet in
+    let quiet' : IsQuietAll laid (spot_of (Branch x.row x.kids x.siblings) (moved x.row.key) (size_of_rect rect)) moved x.kids =
+    subst (λ key. IsQuietAll laid (spot_of (Branch x.row x.kids x.siblings) (moved key) (size_of_rect rect)) moved x.kids) (sym x.key_is) quiet in
     let w3' : Wrote laid (settled_at view new) x.row.key (settled (ranged_own laid x.row x.kids (laid x.row.key))) =
     subst (λ key. Wrote laid (settled_at view new) key (settled (ranged_own laid x.row x.kids (laid key)))) (sym x.key_is) w3 in
     rw x.is (subst (λ key. IsPut old (settled_at view new) key (Branch x.row x.kids x.siblings) rect) x.key_is
@@ -207,7 +207,7 @@ same_bounds_place : (bounds : Option Rect) (rect : Rect) → same_bounds bounds 
 same_bounds_place None rect = refl
 same_bounds_place (Some b) rect = refl
 
--- how many views below this one, and itself, lie elsewhere
+-- how many views below this one, and itself, have other bounds than before
 pub differ_at : (tree : Forest Row) (view : ℕ) (old moved laid new : ℕ → Held) (rect : Rect) (moves : Bool) → ((key : ℕ) → count_of_key key tree ≤ 1) → 0 < count_of_key view tree
     → same_place (old view).state.bounds rect ≡ (if moves then false else true) → ((key : ℕ) → key ≢ view → (moved key).state.bounds ≡ (old key).state.bounds)
     → (new view).state.bounds ≡ Some rect → ((key : ℕ) → key ≢ view → (new key).state.bounds ≡ (laid key).state.bounds)

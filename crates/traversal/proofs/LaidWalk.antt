@@ -3,7 +3,7 @@ use Rattle.std.proofs.Common.{◌≡◌, ℕ, true, ◌<◌, ◌≤◌, List, []
 use Rattle.std.specs.Prelude.{IfSome}
 use Rattle.kept_views.specs.Kept.{owed}
 use Rattle.kept_views.specs.Laying.{Fit, IsQuiet, differ, last_sizes}
-use Rattle.kept_views.proofs.LaidFrames.{Fit-later, IsQuiet-along, IsQuiet-start, differ-along, differ_parts, last_sizes-along, last_sizes-few, owed-along, owed_parts, quiet_joined}
+use Rattle.kept_views.proofs.LaidFrames.{Fit-later, IsQuietAs-along, IsQuiet-start, differ-along, differ_parts, last_sizes-along, last_sizes-few, owed-along, owed_parts, quiet_joined}
 use Rattle.measure_pass.specs.Caches.{Grown}
 use Rattle.view_model.specs.declared.kinds.Class.TheVariants.{RelativeLayout}
 use Rattle.view_model.specs.declared.limits.TheConstants.{MAX_VIEWS}
@@ -67,7 +67,7 @@ module _ (tree kids : Forest Row) (placer next_placer : Placer) (spot : Spot) (s
   kid_laid : (end : ℕ → Held) → KeepsOutside mid end (later_siblings (part_from kid tree)) → IsQuiet end spot walk.before start (first_tree (part_from kid tree))
   kid_laid end same =
       IsQuiet-start end spot walk.before start old (first_tree (part_from kid tree)) as_started
-      (IsQuiet-along mid end spot walk.before old (first_tree (part_from kid tree)) (KeepsInside-first mid end (part_from kid tree) once same) step.quiet)
+      (IsQuietAs-along mid end old (first_tree (part_from kid tree)) (KeepsInside-first mid end (part_from kid tree) once same) step.quiet)
 
   rest_same : KeepsInside old mid (later_siblings (part_from kid tree))
   rest_same = KeepsInside-rest old mid (part_from kid tree) once apart
@@ -123,14 +123,14 @@ laid_start tree kids placer spot start measured laid next places short distinct 
   moves = rw is (λ end same. omega arith);
 }
 
-sides_at : (tree : Forest Row) (kid : ℕ) (held : ℕ → Held) → 0 < count_of_key kid tree → is_shown (head_view (part_from kid tree)).facts ≡ true
+pub sides_at : (tree : Forest Row) (kid : ℕ) (held : ℕ → Held) → 0 < count_of_key kid tree → is_shown (head_view (part_from kid tree)).facts ≡ true
     → AreNarrow held (part_from kid tree) → AreSidesNarrow (sides_of (held kid).state.edges)
 sides_at tree kid held live shown narrow =
     let f = located kid tree live in
     let narrow : AreNarrow held (Branch f.row f.kids f.siblings) = rw f.is at narrow in
     subst (λ (k : ℕ). AreSidesNarrow (sides_of (held k).state.edges)) f.key_is (narrow.0 (rw f.is at shown))
 
-narrow_for : (placer : Placer) (spot : Spot) (before : List Measured) (sides : Option Rect) → PlacesAs placer spot before
+pub narrow_for : (placer : Placer) (spot : Spot) (before : List Measured) (sides : Option Rect) → PlacesAs placer spot before
     → (spot.view.class ≡ RelativeLayout → AreSidesNarrow sides) → IsNarrowFor placer sides
 narrow_for (Over own room) spot before sides places narrow = tt
 narrow_for (InLine cursor) spot before sides places narrow = tt

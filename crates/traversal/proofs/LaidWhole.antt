@@ -59,7 +59,7 @@ root_sized (Branch row kids siblings) root held first shown k =
     let unforced = false_unless (held row.key).state.forced (λ f. let no : false ≡ true = v.flags refl f in absurd (cc)) in
     subst (λ key. (held key).state.measured ≡ measured_size row.view (views_of kids) (specs_of (held key).state)) key (v.sized refl unforced).size
 
--- and where no view needs layout, it is not marked
+-- and if no view needs layout, it is not marked
 pub root_unmarked : (tree : Forest Row) (root : ℕ) (held : ℕ → Held) → first_key tree ≡ Some root → Reached held false tree → (held root).state.measure_first ≡ false
 root_unmarked Nothing root held first r = absurd (cc)
 root_unmarked (Branch row kids siblings) root held first r =
@@ -90,7 +90,7 @@ at_narrow left top size width height =
       height = record { low = grind (arith, ints); high = grind (arith, ints) };
     }
 
--- between lines nothing is owed
+-- between lines nothing remains to be done
 pub owed_none : (held : ℕ → Held) (list : Forest Row) → Reached held false list → owed held list ≡ 0
 owed_none held Nothing r = refl
 owed_none held (Branch row kids siblings) r =
@@ -126,7 +126,7 @@ laid_whole tree root old new window specs rect size first none laid under place 
     ∙ ap (λ (specs : Specs). laid_views r.row.view (views_of r.kids) specs (rect_at (pos 0) (pos 0) (size_under (Branch r.row r.kids Nothing) specs))) under
     ∙ sym (full_layout_scrolled old (Branch r.row r.kids Nothing) window))
 
--- how many views are measured where the root is
+-- how many views are measured for the root
 pub calls_whole : (tree : Forest Row) (root : ℕ) (held : ℕ → Held) (window : Size) (specs : Specs) → first_key tree ≡ Some root → later_siblings tree ≡ Nothing
     → is_shown (head_view (part_from root tree)).facts ≡ true → specs ≡ root_specs window (head_view (part_from root tree)).facts
     → calls_under (part_from root tree) specs ≡ root_calls (plain_rows held tree) window

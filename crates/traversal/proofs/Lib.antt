@@ -1,3 +1,4 @@
+mod BackWalk
 mod ChangeLaws
 mod CountLaws
 mod CountedLaws
@@ -11,6 +12,7 @@ pub mod FrameLaws
 mod GrownKeys
 mod GrownLaid
 mod LaidAt
+mod LaidStages
 mod LaidWalk
 mod LaidWhole
 mod LastAsked

@@ -127,7 +127,7 @@ near_if false one other first second = second
 moved_near : (band : Band) (kid : Tied) (own : ℤ) (span : ℤ × ℤ) (length : ℤ) → AreNear span → IsSide length → AreNear (moved_span band kid own span length)
 unfolding moved_span
 moved_near band kid own span length near side =
-    near_if _ span _ near (near_if kid.centered _ _ (near_length _ length side) (near_if kid.at_far _ span (near_length _ length side) near))
+    near_if _ span _ near (near_if kid.centered _ _ (near_length _ length side) (near_if kid.at_far _ _ (near_length _ length side) (near_if kid.rests_far _ span (near_length _ length side) near)))
 
 one_less : (a b : ℤ) → a ≤ℤ b → int_max a b ≡ b
 one_less a b le = grind (arith, ints)

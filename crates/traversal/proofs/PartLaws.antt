@@ -1,4 +1,4 @@
--- Where the views of a part of a tree lie, by where those of its parts do.
+-- The bounds of the views of a part of a tree, by those of its parts.
 use Rattle.std.proofs.Common.{◌≡◌, ℕ, ◌<◌, List, [], ◌++◌, sym, ap, append_assoc}
 use Rattle.std.proofs.lemmas.List.{append-nil}
 use Rattle.view_model.specs.Forest.{Forest}
@@ -7,12 +7,12 @@ use Rattle.view_tree.specs.Rows.{Row, children_of_first, count_of_key, first_tre
 use Rattle.view_tree.specs.Views.{Held, laid_at, laid_rows}
 use Rattle.view_tree.proofs.forest.KeyLaws.{located}
 
--- where a view itself lies
+-- the bounds of a view itself
 abbrev pub laid_head : (ℕ → Held) → ℕ → Forest Row → List Laid
 laid_head held key tree = laid_at (head_view (part_from key tree)).number (held key).state.bounds
 
 module _ (held : ℕ → Held) (key : ℕ) (tree : Forest Row) (live : 0 < count_of_key key tree) where
-  -- where a view and all below it lie
+  -- the bounds of a view and of all below it
   pub laid_alone : laid_rows held (first_tree (part_from key tree)) ≡ laid_head held key tree ++ laid_rows held (children_of_first (part_from key tree))
   laid_alone =
       let f = located key tree live in

@@ -7,7 +7,7 @@ use mathlib.Core.Path.{fun_ext}
 use Rattle.geom_core.specs.declared.geometry.Size.{Size}
 use Rattle.kept_views.specs.Kept.{IsKept}
 use Rattle.kept_views.specs.Passes.{InPass, settled, settled_at}
-use Rattle.kept_views.specs.Pressing.{all_pressed, path_of, pressed}
+use Rattle.kept_views.specs.Pressing.{all_pressed, path_of}
 use Rattle.kept_views.proofs.Lines.{hook_put, last_requester, pass_end, same_kept}
 use Rattle.kept_views.proofs.Paths.{among_append}
 use Rattle.size_hooks.specs.Hook.{Hook}
@@ -18,7 +18,7 @@ use Rattle.view_model.specs.Geometry.{Laid}
 use Rattle.view_model.specs.Layout.{full_layout}
 use Rattle.view_model.specs.Offsets.{ranged}
 use Rattle.view_model.specs.PlainTree.{PlainView}
-use Rattle.view_tree.specs.Requests.{among, asking, forced_one}
+use Rattle.view_tree.specs.Requests.{among, asking, forced_one, pressed}
 use Rattle.view_tree.specs.Rows.{Row, changed_at_key, count_of_key}
 use Rattle.view_tree.specs.Views.{Held, IsLive, IsTree, KeepsOthers, Views, facts_of, geometry_of, held_of, plain_of, plain_rows, scrolled}
 use Rattle.traversal.specs.Changing.{IsPassed}
@@ -118,7 +118,7 @@ ended_kept root requesters old mid new tree once live own others pressed p =
     same_kept (all_pressed mid requesters tree) new tree pressed
     (subst (λ held. IsKept (all_pressed held requesters tree) tree) (sym settled_held) (pass_end requesters root old tree once live p))
 
--- what a pass leaves where nothing lies anywhere
+-- what a pass leaves if no view has bounds
 pub passed_nowhere : (hooks : List Hook) (window : Size) (views : Views) → geometry_of views ≡ [] → full_layout (plain_of views) window ≡ []
     → IsPassed (after_pass (plain_of views) hooks window) views hooks
 passed_nowhere hooks window views lies none =

@@ -1,4 +1,4 @@
--- Hooks of which none fires, once sizes are reported, and before.
+-- Hooks none of which fires, once sizes are reported, and before.
 use Rattle.std.proofs.Common.{◌≡◌, ◌≢◌, ℕ, ℤ, ◌≤◌, Bool, true, false, List, [], ◌∷◌, length, None, refl, sym, ◌∙◌, ap, arith, inl, inr}
 use Rattle.std.proofs.lemmas.Bool.{cases_Bool, cases_eq, eq-eqb, ne_eqb}
 use Rattle.std.proofs.lemmas.Bool.Decides.{Decides-and, Decides-eqb, Decides-int_eq}
@@ -99,7 +99,7 @@ each_still (laid ∷ geometry) hooks single quiet = elim (cases_Bool (fires hook
       ap (told_each geometry) (one_still laid.number (size_of_rect laid.rect) hooks (single laid.number) e) ∙ each_still geometry hooks single quiet
 ]
 
--- where none fires, no reported size changes
+-- if no hook fires, no reported size changes
 pub told_still : (geometry : List Laid) (hooks : List Hook) → FitAll geometry → ((view : ℕ) → length (filter (λ (hook : Hook). hook.view == view) hooks) ≤ 1)
     → fired_in hooks geometry ≡ None → told_in geometry hooks ≡ hooks
 told_still geometry hooks fits single quiet = told_is geometry hooks fits ∙ each_still geometry hooks single quiet

@@ -1,4 +1,4 @@
--- The plain tree once each view that lies somewhere has its offset in range.
+-- The plain tree once each view that has bounds has its offset in range.
 use Rattle.std.proofs.Common.{◌≡◌, ℕ, ◌<◌, ℤ, Bool, true, false, Option, Some, None, [], refl, sym, ◌∙◌, ap, arith, inl, inr}
 use Rattle.std.proofs.lemmas.Bool.{cases_Bool}
 use Rattle.std.specs.Prelude.{if◌then◌else◌}
@@ -71,7 +71,7 @@ module _ (new : Views) (is : IsTree new) (old : ℕ → Held) where
   pub plain_brought : Brought old (held_of new) new.tree → plain_rows (held_of new) new.tree ≡ ranged (geometry_of new) (plain_rows old new.tree)
   plain_brought b = rows_brought new.tree here b
 
--- where no view that takes part in layout is forced, each forced one has an empty cache
+-- if no view that takes part in layout is forced, each forced one has an empty cache
 pub cleared_firm : (held : ℕ → Held) (up : Around) (list : Forest Row) → (up.hidden ≡ false → up.forced ≡ false) → Kept [] held up list → Cleared held list
 cleared_firm held up Nothing c k = tt
 cleared_firm held up (Branch row kids siblings) c k = (
@@ -94,7 +94,7 @@ cleared_firm held up (Branch row kids siblings) c k = (
     none_forced : {A : Type 0} → hidden_in up row ≡ false → (held row.key).state.forced ≡ true → A
     none_forced h f = absurd (let n : true ≡ false = sym ((k.1 h).flags refl f) ∙ c (outer (is_shown row.view.facts) up.hidden h) in cc)
 
--- views that lie nowhere have no range
+-- views that have no bounds have no range
 pub ranged_nowhere : (tree : Forest PlainView) → ranged [] tree ≡ tree
 ranged_nowhere Nothing = refl
 ranged_nowhere (Branch view below after) =

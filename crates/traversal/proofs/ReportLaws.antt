@@ -20,7 +20,7 @@ module _ (held : ℕ → Held) (key : ℕ) (tree : Forest Row) (live : 0 < count
   pub told_list : told_in (laid_rows held (part_from key tree)) hooks ≡ told_in (laid_rows held (later_siblings (part_from key tree))) (told_in (laid_rows held (first_tree (part_from key tree))) hooks)
   told_list = ap (λ (l : List Laid). told_in l hooks) (laid_list held key tree live) ∙ told_append (laid_rows held (first_tree (part_from key tree))) (laid_rows held (later_siblings (part_from key tree))) hooks
 
--- no size is reported where no hook is armed
+-- no size is reported if no hook is armed
 pub told_none : (geometry : List Laid) → told_in geometry [] ≡ []
 told_none [] = refl
 told_none (laid ∷ geometry) = told_none geometry

@@ -15,7 +15,7 @@ calm_of false false false e = (refl, refl, refl)
 pub calm_is : (moved forced needed : Bool) → moved ≡ false → forced ≡ false → needed ≡ false → (if moved then false else (if forced then false else (if needed then false else true))) ≡ true
 calm_is moved forced needed m f n = rw (m, f, n) refl
 
--- a view that lies in a rectangle is not moved there
+-- a view that has this rectangle is not moved there
 pub unmoved : (bounds : Option Rect) (rect : Rect) (moved : Bool) → bounds ≡ Some rect → same_place bounds rect ≡ (if moved then false else true) → moved ≡ false
 unmoved bounds rect false lies e = refl
 unmoved bounds rect true lies e = absurd (let no : true ≡ false = sym there ∙ ap (λ (b : Option Rect). same_place b rect) (sym lies) ∙ e in cc)

@@ -14,7 +14,7 @@ sum-bare : (f : Row → ℕ) → ((row : Row) → f (bare row) ≡ f row) → (t
 sum-bare f same Nothing = refl
 sum-bare f same (Branch row kids siblings) = rw (same row, sum-bare f same kids, sum-bare f same siblings) refl
 
--- sums of what facts have no part in
+-- sums that do not depend on facts
 pub sum-same : {old new : Views} (f : Row → ℕ) → ((row : Row) → f (bare row) ≡ f row) → SameShape old new → sum_of f new.tree ≡ sum_of f old.tree
 sum-same {old = old} {new = new} f same shape = sym (sum-bare f same new.tree) ∙ ap (sum_of f) shape.rows ∙ sum-bare f same old.tree
 
@@ -24,7 +24,7 @@ count_of-same shape = sum-same (λ row. 1) (λ row. refl) shape
 pub count_of_key-same : {old new : Views} (key : ℕ) → SameShape old new → count_of_key key new.tree ≡ count_of_key key old.tree
 count_of_key-same key shape = sum-same _ (λ row. refl) shape
 
--- the views around one, whose keys facts have no part in
+-- the views around one, whose keys do not depend on facts
 around-bare : (outer : List ℕ) (view : ℕ) (tree : Forest Row) → around outer view (map_rows bare tree) ≡ around outer view tree
 around-bare outer view Nothing = refl
 around-bare outer view (Branch row kids siblings) = elim (cases_Bool (row.key == view)) [

@@ -3,13 +3,13 @@ use Rattle.std.proofs.Common.{◌≡◌, ◌≢◌, ℕ, zero, suc, true, false,
 use Rattle.std.proofs.lemmas.Bool.{cases_Bool, cases_eq}
 use Rattle.std.specs.Prelude.{◌==◌, ℤ, IfSome}
 use Rattle.kept_views.specs.Passes.{settled}
-use Rattle.kept_views.specs.Pressing.{all_pressed, path_of, pressed}
+use Rattle.kept_views.specs.Pressing.{all_pressed, path_of}
 use Rattle.kept_views.proofs.Paths.{among_first, among_rest}
 use Rattle.kept_views.proofs.Requested.{pressed_out}
 use Rattle.view_model.specs.declared.changes.NumEdit.{NumEdit}
 use Rattle.view_model.specs.Forest.{Forest}
 use Rattle.view_model.specs.PlainTree.{PlainView}
-use Rattle.view_tree.specs.Requests.{among, asking, unforced}
+use Rattle.view_tree.specs.Requests.{among, asking, pressed, unforced}
 use Rattle.view_tree.specs.Rows.{Row, ancestors, changed_at_key, count_of_key}
 use Rattle.view_tree.specs.Views.{Held, Views}
 use Rattle.view_tree.proofs.values.KeptLaws.{ancestors-put}
@@ -45,7 +45,7 @@ unedited_next tree k edits rest edit key next un = λ view live named. un view l
     by (inl e) = subst (IsEdited edits) e (edited_next k edits rest edit next)
     by (inr none) = absurd none
 
--- facts have no part in that
+-- that does not depend on facts
 pub unedited_same : {old new : Views} (edits : List NumEdit) (key : ℕ) → SameShape old new → IsUnedited old.tree edits key → IsUnedited new.tree edits key
 unedited_same {old = old} {new = new} edits key shape un = λ view live named.
     let count : count_of_key view new.tree ≡ count_of_key view old.tree = count_of_key-same view shape in
@@ -67,7 +67,7 @@ off_unforced held (first ∷ more) key off =
       | inr e ↦ rw (e, parts.0) (off_unforced held more key parts.1)
     ]
 
--- a request reaches the path of its view alone
+-- a request only reaches the path of its view
 off_asking : (held : ℕ → Held) (view : ℕ) (tree : Forest Row) (key : ℕ) → among key (path_of view tree) ≡ false → among key (asking held view tree) ≡ false
 off_asking held view tree key off =
     let parts = off_cons key view (ancestors view tree) off in
@@ -110,7 +110,7 @@ ended_cache root requesters old mid new tree key own others pressed off = ap (λ
       | inr ne ↦ ap (λ (h : Held). h.cache) (others key ne)
     ]
 
--- facts have no part in paths
+-- paths do not depend on facts
 pub off_same : {old new : Views} (views : List ℕ) (key : ℕ) → SameShape old new → IsOffPaths views old.tree key → IsOffPaths views new.tree key
 off_same views key shape off = λ view named. subst (λ path. among key path ≡ false) (sym (path_of-same view shape)) (off view named)
 

@@ -20,7 +20,7 @@ use Rattle.traversal.specs.Narrow.{IsNarrow}
 abbrev pub bare : Row → Row
 bare row = record row { view = record row.view { facts = new_facts (pos 0) (pos 0) } }
 
--- nothing but facts, states and offsets is other
+-- nothing changes except facts, states and offsets
 pub record SameShape (old new : Views) : Type 0 where
   pub rows : map_rows bare new.tree ≡ map_rows bare old.tree
   pub orders : new.orders ≡ old.orders
@@ -37,7 +37,7 @@ pub record IsPassed (pass : Pass) (views : Views) (hooks : List Hook) : Type 0 w
   pub hooks_are : hooks ≡ pass.hooks
   pub geometry : geometry_of views ≡ pass.geometry
 
--- a tree and its hooks are as a frame leaves them, and so is its answer
+-- a tree and its hooks are as a frame leaves them, and so is its result
 pub record IsFramed (after : Framed) (views : Views) (hooks : List Hook) (frame : Frame) : Type 0 where
   pub plain : plain_of views ≡ after.tree
   pub hooks_are : hooks ≡ after.hooks
@@ -46,8 +46,8 @@ pub record IsFramed (after : Framed) (views : Views) (hooks : List Hook) (frame 
   pub geometry : after.settled ≡ true → geometry_of views ≡ after.geometry
 
 -- What has to be painted. After a frame that has settled each other point of the window has the colour that the views
--- gave before it. Where a hook fired it is all of the window; otherwise it lies in each box that has what is seen,
--- before and after, of the views that lie elsewhere or are scrolled by another offset.
+-- gave before it. If a hook fired it is all of the window; otherwise it is within each box that has what is seen,
+-- before and after, of the views that have other bounds or another offset.
 pub record IsDamage (old new : Views) (window : Size) (frame : Frame) : Type 0 where
   pub colors : frame.settled ≡ true → (x y : ℤ) → holds (rect_at (pos 0) (pos 0) window) x y ≡ true → holds frame.damage x y ≡ false
       → pixel_color (geometry_of new) (plain_of new) x y ≡ pixel_color (geometry_of old) (plain_of old) x y

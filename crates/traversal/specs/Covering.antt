@@ -1,4 +1,4 @@
--- Rectangles around what is seen of the views that lie elsewhere, or are scrolled by another offset.
+-- Rectangles around what is seen of the views that have other bounds than before, or another offset.
 use Rattle.std.specs.Prelude.{◌≡◌, ◌≢◌, ◌⊎◌, ℕ}
 use Rattle.damage_rect.specs.Within.{LiesIn}
 use Rattle.geom_core.specs.declared.geometry.Rect.{Rect}
@@ -9,7 +9,7 @@ use Rattle.view_model.specs.Visible.{Canvas, canvas_below, seen_in, whole_window
 use Rattle.view_tree.specs.Rows.{Row}
 use Rattle.view_tree.specs.Views.{Held, IsLive, Views, held_of, scrolled}
 
--- a view lies elsewhere, or is scrolled by another offset
+-- a view has other bounds, or another offset
 abbrev pub IsShifted : Held → Held → Type 0
 IsShifted old new = (new.state.bounds ≢ old.state.bounds) ⊎ (new.offset ≢ old.offset)
 
@@ -19,7 +19,7 @@ HasShifted window box old new =
     (key : ℕ) → IsLive old key → IsShifted (held_of old key) (held_of new key)
     → LiesIn (seen_at (held_of old) (whole_window window) key old.tree) box × LiesIn (seen_at (held_of new) (whole_window window) key new.tree) box
 
--- so it has of each view of a list of a canvas, and below those of them that lie where they did
+-- so it has of each view of a list of a canvas, and below those of them that have the bounds that they had
 abbrev pub Covered : Canvas → Rect → (ℕ → Held) → (ℕ → Held) → Forest Row → Type 0
 Covered canvas box old new Nothing = Unit {0}
 Covered canvas box old new (Branch row kids siblings) =

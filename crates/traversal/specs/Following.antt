@@ -16,6 +16,6 @@ KeepsSightIn canvas damage old new list = IfSome canvas (λ canvas. KeepsSight (
 abbrev pub CoversIn : Option Canvas → Rect → (ℕ → Held) → (ℕ → Held) → Forest Row → Type 0
 CoversIn canvas box old new list = IfSome canvas (λ canvas. Covered (as_seen canvas) box old new list)
 
--- damage that lay in a box lies in it still, where the box covers the list
+-- damage that was in a box is still in it, if the box covers the list
 abbrev pub GrowsWithin : Option Canvas → Rect → Rect → (ℕ → Held) → (ℕ → Held) → Forest Row → Type 0
 GrowsWithin canvas less more old new list = (box : Rect) → LiesIn less box → CoversIn canvas box old new list → LiesIn more box

@@ -1,4 +1,4 @@
--- A frame of the plain tree: a pass, and a second one where a hook fired in the first.
+-- A frame of the plain tree: a pass, and a second one if a hook fired in the first.
 use Rattle.std.specs.Prelude.{ℕ, ◌+◌, Bool, true, false, ◌&&◌, not, if◌then◌else◌, List, [], ◌∷◌, Option, Some, None, find, map}
 use Rattle.std.specs.Option.{option_map, unwrap_or}
 use Rattle.std.specs.Ordering.{int_eq}
@@ -29,7 +29,7 @@ fires hooks laid = differs (hook_of hooks laid.number) (size_of_rect laid.rect)
 abbrev pub fired_in : List Hook → List Laid → Option ℕ
 fired_in hooks geometry = option_map (λ (laid : Laid). laid.number) (find (fires hooks) geometry)
 
--- the tree after edits, in order; an edit of a view that is not there is passed over
+-- the tree after edits, in order; an edit of a view that is not there is skipped
 abbrev pub edited_by : List NumEdit → Forest PlainView → Forest PlainView
 edited_by [] tree = tree
 edited_by (edit ∷ edits) tree = edited_by edits (with_facts edit.view (facts_after_change edit.change) tree)
@@ -39,7 +39,7 @@ abbrev pub edits_of : Option Hook → List NumEdit
 edits_of None = []
 edits_of (Some hook) = hook.edits
 
--- what a pass leaves: the tree and its hooks, where its views lie, and whether a hook fired
+-- what a pass leaves: the tree and its hooks, the bounds of its views, and whether a hook fired
 pub record Pass : Type 0 where
   pub tree : Forest PlainView
   pub hooks : List Hook
@@ -52,7 +52,7 @@ spent tree hooks geometry None = record { tree = tree; hooks = hooks; geometry =
 spent tree hooks geometry (Some view) =
     record { tree = edited_by (edits_of (hook_of hooks view)) tree; hooks = disarmed view hooks; geometry = geometry; fired = true }
 
--- the same where the views lie so, once their offsets are in range
+-- the same if the views have these bounds, once their offsets are in range
 abbrev pub laid_so : Forest PlainView → List Hook → List Laid → Pass
 laid_so tree hooks geometry = spent (ranged geometry tree) hooks geometry (fired_in hooks geometry)
 
@@ -60,7 +60,7 @@ laid_so tree hooks geometry = spent (ranged geometry tree) hooks geometry (fired
 abbrev pub after_pass : Forest PlainView → List Hook → Size → Pass
 after_pass tree hooks window = laid_so tree hooks (full_layout tree window)
 
--- a hook whose view lies somewhere has the size of that view reported
+-- a hook whose view has bounds has the size of that view reported
 abbrev pub reported_by : List Laid → Hook → Hook
 reported_by geometry hook = record hook { reported = unwrap_or (option_map size_of_rect (rect_in geometry hook.view)) hook.reported }
 
@@ -74,17 +74,17 @@ pub record Framed : Type 0 where
   pub settled : Bool
   -- how many hooks fired in it
   pub fired : ℕ
-  -- where the views lie, if it has settled, and otherwise nothing
+  -- the bounds of the views, if it has settled, and otherwise nothing
   pub geometry : List Laid
 
--- a frame with this last pass, before which this number of hooks had fired, has settled where that fired none
+-- a frame with this last pass, before which this number of hooks had fired, has settled if that fired none
 abbrev pub ended : ℕ → Pass → Framed
 ended before pass =
     if pass.fired
     then record { tree = pass.tree; hooks = pass.hooks; settled = false; fired = before + 1; geometry = [] }
     else record { tree = pass.tree; hooks = reported_in pass.geometry pass.hooks; settled = true; fired = before; geometry = pass.geometry }
 
--- a second pass follows where the first one fired a hook
+-- a second pass follows if the first one fired a hook
 abbrev pub followed : Size → Pass → Framed
 followed window pass = if pass.fired then ended 1 (after_pass pass.tree pass.hooks window) else ended 0 pass
 

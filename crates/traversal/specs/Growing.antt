@@ -26,7 +26,7 @@ LastAt held (Branch row kids siblings) (suc place) specs = LastAt held siblings 
 abbrev pub AskedOf : PlainView → Forest PlainView → (Specs → Type 0) → ℕ → Specs → Type 0
 AskedOf view below ok place other = (specs : Specs) × ok specs × AskedAt (course_by (for_layout view) (children_of below) specs).kids place other
 
--- the view of this number is measured under these specs, where each view of a list is under those that are good at its
+-- the view of this number is measured under these specs, if each view of a list is under those that are good at its
 -- place
 abbrev pub IsMeasuredIn : (ℕ → Specs → Type 0) → Forest PlainView → ℕ → Specs → Type 0
 IsMeasuredIn ok Nothing number specs = ⊥
@@ -66,11 +66,11 @@ abbrev pub IsEdited : List NumEdit → ℕ → Type 0
 IsEdited [] number = ⊥
 IsEdited (edit ∷ edits) number = (edit.view ≡ number) ⊎ IsEdited edits number
 
--- the view of this key is edited by none of these edits, and lies above no view that is
+-- the view of this key is edited by none of these edits, and is above no view that is
 abbrev pub IsUnedited : Forest Row → List NumEdit → ℕ → Type 0
 IsUnedited tree edits key =
     (view : ℕ) → 0 < count_of_key view tree → IsEdited edits (head_view (part_from view tree)).number → among key (path_of view tree) ≡ false
 
--- it is none of these views, and lies above none
+-- it is none of these views, and is above none
 abbrev pub IsOffPaths : List ℕ → Forest Row → ℕ → Type 0
 IsOffPaths views tree key = (view : ℕ) → among view views ≡ true → among key (path_of view tree) ≡ false

@@ -10,7 +10,7 @@ use Rattle.view_tree.specs.Views.{Held}
 use Rattle.traversal.specs.declared.laying.placer.Placer.{Placer}
 use Rattle.traversal.specs.declared.laying.placer.Placer.TheVariants.{Between, Over, InLine}
 
--- a width or a height; it may be greater than what a view is measured with, since a side may lie far out
+-- a width or a height; it may be greater than what a view is measured with, since a side may be far out
 pub record IsStretch (length : ℤ) : Type 0 where
   pub low : pos 0 ≤ℤ length
   pub high : length ≤ℤ pos 536870912
@@ -28,7 +28,7 @@ AreNarrow held Nothing = Unit {0}
 AreNarrow held (Branch row kids siblings) =
     (is_shown row.view.facts ≡ true → AreSidesNarrow (sides_of (held row.key).state.edges)) × AreNarrow held siblings
 
--- the sides of a child are narrow where it is placed between them
+-- the sides of a child are narrow if it is placed between them
 abbrev pub IsNarrowFor : Placer → Option Rect → Type 0
 IsNarrowFor (Over own room) sides = Unit {0}
 IsNarrowFor (InLine cursor) sides = Unit {0}

@@ -1,4 +1,4 @@
--- What is being placed, and how far that has come.
+-- What is being placed, and how far that is.
 use Rattle.std.specs.Prelude.{◌≡◌, ℕ, false, List, ◌++◌, Option}
 use Rattle.geom_core.specs.declared.geometry.Rect.{Rect}
 use Rattle.linear_layout.specs.Cursor.{PlacesLinear}
@@ -13,7 +13,7 @@ use Rattle.traversal.specs.declared.laying.placer.Placer.{Placer}
 use Rattle.traversal.specs.declared.laying.placer.Placer.TheVariants.{Between, Over, InLine}
 use Rattle.kept_views.specs.Laying.{IsQuiet, last_sizes}
 
--- a group places its children so, after these
+-- a group places its children in this way, after these
 abbrev pub PlacesAs : Placer → Spot → List Measured → Type 0
 PlacesAs (Over own room) spot before =
     (others : List Measured) (kid : Measured) (edges : Option Rect) → place_in spot others kid edges ≡ frame_place own room kid.facts kid.size

@@ -7,7 +7,7 @@ use Rattle.size_hooks.specs.Hook.{Hook}
 use Rattle.size_hooks.specs.Hooks.{reported_as}
 use Rattle.view_model.specs.Geometry.{Laid, size_of_rect}
 
--- a length, or the nearest that 32 bits hold
+-- a length, or the nearest one that 32 bits hold
 abbrev pub near : ℤ → ℤ
 near length = saturate_signed w32 length
 

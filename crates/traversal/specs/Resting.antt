@@ -10,14 +10,14 @@ use Rattle.view_tree.specs.declared.state.State.{State}
 use Rattle.view_tree.specs.Rows.{first_key, head_view}
 use Rattle.view_tree.specs.Views.{Views, specs_of, state_of}
 
--- nothing was asked of a view of this state, and it lies in this rectangle
+-- nothing was asked of a view of this state, and it has this rectangle
 pub record IsAtPlace (state : State) (rect : Rect) : Type 0 where
   pub forced : state.forced ≡ false
   pub needed : state.layout_needed ≡ false
   pub marked : state.measure_first ≡ false
   pub bounds : state.bounds ≡ Some rect
 
--- nor of a root of this state and these facts, which was measured for a window of this size and lies at its origin
+-- nor of a root of this state and these facts, which was measured for a window of this size and is at its origin
 pub record IsRootAtRest (state : State) (facts : Facts) (window : Size) : Type 0 where
   pub place : IsAtPlace state (rect_at (pos 0) (pos 0) state.measured)
   pub specs : specs_of state ≡ root_specs window facts

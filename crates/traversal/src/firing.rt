@@ -1,4 +1,4 @@
-//! Which hook fires, and what its edits make of the tree.
+//! Which hook fires, and the effect of its edits on the tree.
 ghost use Rattle.std.specs.Prelude.{◌≡◌, ◌≤◌, ◌<◌, ◌+◌, ◌++◌, ◌∷◌, ◌-ℤ◌, ℕ, List, [], true, false, IfSome};
 ghost use Rattle.arrayvec.specs.ArrayVec.{array_vec_len};
 ghost use Rattle.kept_views.specs.Passes.{InPass};
@@ -24,8 +24,8 @@ use view_model::NumEdit;
 use view_model::limits::MAX_EDITS;
 use view_tree::{Key, ViewTree};
 
-/// The number of the first view in preorder whose hook fires: it lies somewhere, its hook is armed, and its size is
-/// another than the one reported. Where no hook is armed, no view is looked at.
+/// The number of the first view in preorder whose hook fires: it has bounds, its hook is armed, and its size is another
+/// than the one reported. If no hook is armed, no view is looked at.
 pub fn fired(tree: &ViewTree, hooks: &Hooks) -> Option<u64>
     ensures { result ≡ fired_in hooks.now (geometry_of tree.now) }
 {

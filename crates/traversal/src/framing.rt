@@ -27,13 +27,13 @@ use size_hooks::Hooks;
 use view_model::Work;
 use view_tree::ViewTree;
 
-/// Lays the whole tree out in a window of this size, as far as it needs that: one pass, and a second one where that
-/// fired a hook. Where the last pass fired none, the frame has settled: the views lie where it laid them, and each
+/// Lays the whole tree out in a window of this size, where it needs that: one pass, and a second one if that fired a
+/// hook. If the last pass fired none, the frame has settled: the views have the bounds that it gave them, and each
 /// armed hook has the present size of its view reported. Then nothing is left to do, and another frame changes nothing
 /// until something is asked of a view, a hook is armed or the window changes.
 ///
-/// The damage is what has to be painted then: the bounding box of what was seen and what is seen of the views that lie
-/// elsewhere or are scrolled by another offset, or the whole window where a hook fired.
+/// The damage is what has to be painted then: the bounding box of what was seen and what is seen of the views that have
+/// other bounds or another offset, or the whole window if a hook fired.
 pub fn frame(tree: &mut ViewTree, hooks: &mut Hooks, window: Size, work: &mut Work) -> Frame
     requires consistent { IsConsistent tree.old }
     ensures framed { IsFramed (after_frame (plain_of tree.old) hooks.old window) tree.new hooks.new result }

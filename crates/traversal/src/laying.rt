@@ -1,4 +1,4 @@
-//! Laying a whole tree out: measuring it, and then setting where each view lies.
+//! Laying a whole tree out: measuring it, and then setting the bounds of each view.
 mod lay;
 mod placer;
 mod whole;

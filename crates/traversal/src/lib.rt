@@ -1,4 +1,4 @@
-//! A frame: a pass over the tree, as far as it needs that, and a second one where a hook fired in the first.
+//! A frame: a pass over the tree, where it needs that, and a second one if a hook fired in the first.
 //!
 //! `framing` is the frame, `outcome` how it has ended, `pass` one pass, `laying` the layout of a tree, `firing` which
 //! hook fires and what it changes, `forcing` the views whose layout its edits request, `reporting` the sizes that are

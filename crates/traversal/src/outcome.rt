@@ -6,8 +6,8 @@ use geom_core::Rect;
 pub struct Frame {
     /// Whether its last pass fired no hook.
     pub settled: bool,
-    /// How many hooks fired: at most one a pass.
+    /// How many hooks fired: at most one per pass.
     pub fired: u8,
-    /// What has to be painted, in the window's coordinates: nothing where it is empty.
+    /// What has to be painted, in the window's coordinates: nothing if it is empty.
     pub damage: Rect,
 }

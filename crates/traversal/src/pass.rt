@@ -31,10 +31,10 @@ use size_hooks::Hooks;
 use view_model::Work;
 use view_tree::{Key, ViewTree};
 
-/// Lays the whole tree out in a window of this size, as far as it needs that, and makes the edits of the first hook
-/// that fires; returns whether one did. The edits are made while a root that was forced still is. A request stops
-/// there, so that each view that made one is forced with all above it once the root has settled. Where no hook fired,
-/// what is seen of the views that were moved or scrolled is damage.
+/// Lays the whole tree out in a window of this size, where it needs that, and makes the edits of the first hook that
+/// fires; returns whether one did. The edits are made while a root that was forced still is. A request stops there, so
+/// that each view that made one is forced with all above it once the root has settled. If no hook fired, what is seen
+/// of the views that were moved or scrolled is damage.
 pub fn pass(
     tree: &mut ViewTree,
     hooks: &mut Hooks,

@@ -9,7 +9,7 @@ use geom_core::{Rect, Size};
 use size_hooks::Hooks;
 use view_tree::{Key, ViewTree};
 
-/// Each view that lies somewhere reports its size, if its hook is armed. Where no hook is, no view is looked at.
+/// Each view that has bounds reports its size, if its hook is armed. If no hook is, no view is looked at.
 pub fn report_all(tree: &ViewTree, hooks: &mut Hooks)
     ensures hooks { hooks.new ≡ told_in (geometry_of tree.now) hooks.old }
     ensures is_tree { IsTree tree.now }

@@ -1,4 +1,4 @@
--- What acts make of scenes.
+-- The result of acts on scenes.
 use Rattle.std.proofs.Common.{◌≡◌, ℕ, Bool, true, false, refl, ◌∙◌, ap, subst, inl, inr}
 use Rattle.std.proofs.lemmas.Bool.{cases_eq}
 use Rattle.std.specs.Prelude.{◌==◌, if◌then◌else◌, None, Result}
@@ -17,10 +17,10 @@ use Rattle.view_tree.specs.Views.{Held, IsLive, IsTree, KeepsOthers, SameTree, V
 use Rattle.view_tree.proofs.values.GeometryLaws.{geometry-hidden, geometry-put, laid_along}
 use Rattle.view_tree.proofs.values.ChangeLaws.{same_change}
 use Rattle.view_tree.proofs.forest.PlainLaws.{plain_along}
-use Rattle.tree_edits.specs.Editing.{after_act, hidden, hides, names_views}
+use Rattle.tree_edits.specs.Editing.{after_act, hidden, hides, names_views, turns}
 use Rattle.tree_edits.specs.Hiding.{gone_one, held_hiding, hidden_at}
 use Rattle.tree_edits.specs.Scene.{scene_of}
-use Rattle.tree_edits.proofs.FactLaws.{names_alone, names_stay, renamed}
+use Rattle.tree_edits.proofs.FactLaws.{names_alone, names_stay, names_still, renamed}
 use Rattle.tree_edits.proofs.SceneLaws.{same_scene}
 use Rattle.view_tree.proofs.forest.ChangingWalks.{changed_more}
 
@@ -33,7 +33,7 @@ pub names_scene : (old new : Views) (view : ℕ) (act : Act) (facts : Facts) →
     → ((key : ℕ) → held_of new key ≡ held_of old key)
     → scene_of new ≡ after_act (scene_of old) (number_of old view) act
 names_scene old new view act facts is live names made tree plain next held =
-    rw (names_stay act names)
+    rw (names_stay act names, names_still act names)
     (same_scene _ _ _ _ _ _
     (plain ∙ same_change old view (renamed facts) (facts_after_act act) is live (ap (λ (f : Facts). renamed f (facts_of old view)) made ∙ names_alone act (facts_of old view) names))
     next
@@ -50,7 +50,7 @@ hidden_offset true true held = refl
 hidden_offset true false held = refl
 hidden_offset false none held = refl
 
--- what that makes of the geometry
+-- what that means for the geometry
 pub hid_geometry : (hide : Bool) (old new : Views) (view : ℕ) → IsTree old → IsLive old view → SameTree old new → HidBy hide old new view
     → geometry_of new ≡ (if hide then hidden (number_of old view) (scene_of old) else geometry_of old)
 hid_geometry true old new view is live same held =
@@ -67,8 +67,8 @@ hid_plain hide old new view same held =
     ∙ plain_along (held_of old) (held_of new) old.tree
     (λ key _. ap (λ (h : Held). h.offset) (held key) ∙ hidden_offset hide (count_of_key key (first_tree (part_from view old.tree)) == 0) (held_of old key))
 
--- other facts are set, once what the act hides is hidden
-pub facts_scene : (old mid new : Views) (view : ℕ) (act : Act) (facts : Facts) → IsTree old → IsLive old view
+-- other facts are set, after the act hid what it hides
+pub facts_scene : (old mid new : Views) (view : ℕ) (act : Act) (facts : Facts) → IsTree old → IsLive old view → turns act ≡ false
     → facts ≡ facts_after_act act (facts_of old view)
     → SameTree old mid
     → HidBy (hides act) old mid view
@@ -78,7 +78,7 @@ pub facts_scene : (old mid new : Views) (view : ℕ) (act : Act) (facts : Facts)
     → held_of new view ≡ record (held_of mid view) { offset = facts.offset }
     → KeepsOthers mid new view
     → scene_of new ≡ after_act (scene_of old) (number_of old view) act
-facts_scene old mid new view act facts is live made same held tree plain next own others =
+facts_scene old mid new view act facts is live turn made same held tree plain next own others =
     let change = λ (v : PlainView). record v { facts = unscrolled_facts facts } in
     let bounds : (key : ℕ) → (held_of new key).state.bounds ≡ (held_of mid key).state.bounds =
     λ key. elim (cases_eq key view) [
@@ -86,11 +86,11 @@ facts_scene old mid new view act facts is live made same held tree plain next ow
       | inr ne ↦ ap (λ (h : Held). h.state.bounds) (others key ne)
     ] in
     let number : number_of mid view ≡ number_of old view = ap (λ (t : Forest Row). (head_view (part_from view t)).number) same.tree in
-    same_scene _ _ _ _ _ _
+    rw turn (same_scene _ _ _ _ _ _
     (plain ∙ ap (λ n. with_facts n (λ _. facts) (plain_of mid)) number ∙ ap (with_facts (number_of old view) (λ _. facts)) (hid_plain (hides act) old mid view same held)
     ∙ same_change old view (λ _. facts) (facts_after_act act) is live made)
     (next ∙ same.next)
-    (ap (laid_rows (held_of new)) tree ∙ geometry-put (held_of mid) (held_of new) view change mid.tree (λ _. refl) bounds ∙ hid_geometry (hides act) old mid view is live same held)
+    (ap (laid_rows (held_of new)) tree ∙ geometry-put (held_of mid) (held_of new) view change mid.tree (λ _. refl) bounds ∙ hid_geometry (hides act) old mid view is live same held))
 
 -- the cycle of the tree with other names is that of the tree after the act
 pub names_refused : (old : Views) (view : ℕ) (act : Act) (facts : Facts) (result : Result (Unit {0}) AttachFault) → IsTree old → IsLive old view → names_views act ≡ true

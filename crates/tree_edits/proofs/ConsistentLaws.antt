@@ -4,7 +4,6 @@ use Rattle.std.proofs.lemmas.Bool.{cases_Bool, cases_eq, eq-eqb, ne_eqb}
 use Rattle.std.specs.Prelude.{if◌then◌else◌, MatchOption}
 use mathlib.Core.Path.{fun_ext}
 use Rattle.kept_views.specs.Kept.{HiddenView, IsConsistent, IsKept, loose}
-use Rattle.kept_views.specs.Pressing.{pressed}
 use Rattle.kept_views.proofs.AskedViews.{asked_kept, put_asked}
 use Rattle.kept_views.proofs.AroundEdits.{IsCalm, cleared_each, reached_each}
 use Rattle.kept_views.proofs.Edits.{AllHidden, hidden_kept}
@@ -19,13 +18,13 @@ use Rattle.view_model.specs.Forest.{Forest, Nothing}
 use Rattle.view_model.specs.Layout.{unscrolled}
 use Rattle.view_model.specs.PlainTree.{PlainView}
 use Rattle.view_tree.specs.Attached.{Attached}
-use Rattle.view_tree.specs.Requests.{asking}
+use Rattle.view_tree.specs.Requests.{asking, pressed, requested}
 use Rattle.view_tree.specs.Rows.{Row, ancestors, changed_at_key, count_of_key, first_tree, grown_at_key, head_view, leaf, part_from, pruned_at_key}
 use Rattle.view_tree.specs.Views.{Held, IsLive, IsTree, KeepsOthers, KeepsOutside, SameTree, Views, facts_of, held_of}
 use Rattle.view_tree.proofs.forest.KeyLaws.{zero_or_more}
 use Rattle.view_tree.proofs.forest.NumberLaws.{count_of_key-own_part, count_of_key-pruned_at_key, sum-grown}
 use Rattle.tree_edits.specs.Applied.{IsAddable}
-use Rattle.tree_edits.specs.Asking.{asked_by_act, listed, requested, requests_layout}
+use Rattle.tree_edits.specs.Asking.{asked_by_act, listed, requests_layout}
 use Rattle.tree_edits.specs.Editing.{hides}
 use Rattle.tree_edits.specs.Hiding.{gone_one, held_hiding, hidden_at}
 use Rattle.tree_edits.proofs.FactLaws.{gone_after, hides_ask, quiet_act, shown_offset}
@@ -103,7 +102,7 @@ quiet_asked old new view facts is offset same tree own others k =
     (quiet_kept view (λ v. record v { facts = unscrolled_facts facts }) (held_of old) old.tree (is.keys view)
     (ap (λ facts. let v : PlainView = record (head_view (part_from view old.tree)) { facts = facts } in v) same) k))
 
--- a view that goes
+-- a view is removed
 removed_asked : (old mid new : Views) (parent view : ℕ) (others : List ℕ) → IsTree old → IsLive old view → ancestors view old.tree ≡ parent ∷ others → mid.tree ≡ pruned_at_key view old.tree
     → KeepsOutside (held_of old) (held_of mid) (first_tree (part_from view old.tree)) → new.tree ≡ mid.tree → ((key : ℕ) → held_of new key ≡ pressed (held_of mid) (asking (held_of mid) parent mid.tree) key)
     → IsKept (held_of old) old.tree → IsKept (held_of new) new.tree
@@ -125,7 +124,7 @@ detached_kept old mid new view None is live path tree others same held k =
 detached_kept old mid new view (Some parent) is live path tree others same held k =
     removed_asked old mid new parent view (ancestors parent old.tree) is live path tree others same.tree held k
 
--- a view that comes
+-- a view is added
 own_alone : (key : ℕ) (view : PlainView) (other : ℕ) → 0 < count_of_key other (leaf key view) → other ≡ key
 own_alone key view other here = elim (cases_eq key other) [
   | inl e ↦ sym e
@@ -182,7 +181,7 @@ attached_kept old mid new None view key is addable came same held k =
     (subst (λ (h : ℕ → Held). IsKept h (leaf key view)) (sym still) (root_kept (held_of mid) (leaf key view) (new_hidden old mid None view key came) (new_calm old mid None view key came)))
 attached_kept old mid new (Some parent) view key is addable came same held k = came_asked old mid new parent view key is addable.0 came same.tree held k
 
--- other facts are set, once what the act hides is hidden
+-- other facts are set, after the act hid what it hides
 pub facts_kept : (old hid mid new : Views) (view : ℕ) (act : Act) (facts : Facts) → IsTree old → IsLive old view
     → facts ≡ facts_after_act act (facts_of old view)
     → SameTree old hid

@@ -1,4 +1,4 @@
--- Acts that are refused for a cycle, or done where there is none.
+-- Acts that are refused for a cycle, or done if there is none.
 use Rattle.std.proofs.Common.{◌≡◌, ℕ, Bool, true, false, List, [], ◌∷◌, Option, Some, None, refl, inl, inr}
 use Rattle.std.proofs.lemmas.Bool.{cases_Bool}
 use Rattle.std.specs.Option.{option_or}
@@ -18,7 +18,7 @@ use Rattle.tree_edits.specs.Applied.{IsDoneOrCyclic}
 use Rattle.tree_edits.specs.Editing.{after_act, cycle_of_act, names_views, outcome_unless}
 use Rattle.tree_edits.specs.Scene.{Scene}
 
--- a reason, where there is one, that has the number of a cycle
+-- a reason, if there is one, that has the number of a cycle
 abbrev IsOfCycle : Option PlainRefusal → Type 0
 IsOfCycle None = Unit {0}
 IsOfCycle (Some refusal) = refusal.number ≡ CYCLE
@@ -56,7 +56,7 @@ module _ (scene : Scene) (number : ℕ) (act : Act) where
   pub unnamed : names_views act ≡ false → outcome_unless scene number act (cycle_of_act scene.tree number act) ≡ Ok (after_act scene number act, None)
   unnamed names = rw names refl
 
-  -- an act that is taken is refused for no more than a cycle
+  -- an act that a view takes is refused at most for a cycle
   pub taken_or_cyclic : names_views act ≡ true → IsDoneOrCyclic (outcome_unless scene number act (cycle_of_act scene.tree number act))
   taken_or_cyclic names =
       rw names (done_or_cyclic scene number act (first_cycle member.View (with_facts number (facts_after_act act) scene.tree)) (first_is member.View (with_facts number (facts_after_act act) scene.tree)))

@@ -1,7 +1,7 @@
--- What edits make of scenes.
+-- The result of edits on scenes.
 use Rattle.std.proofs.Common.{◌≡◌, ℕ, ℤ, Bool, true, List, [], Option, Some, None, Result, Ok, Err, refl, sym, ◌∙◌, ap, subst}
 use Rattle.std.specs.Option.{option_map}
-use Rattle.std.specs.Prelude.{if◌then◌else◌}
+use Rattle.std.specs.Prelude.{IfSome, if◌then◌else◌}
 use Rattle.std.specs.Result.{IsErrAnd}
 use Rattle.view_model.specs.Changes.{facts_after_act}
 use Rattle.view_model.specs.Cycles.{first_cycle}
@@ -11,14 +11,16 @@ use Rattle.view_model.specs.declared.kinds.Class.{Class}
 use Rattle.view_model.specs.declared.refusal.Member.TheVariants as member
 use Rattle.view_model.specs.Facts.{new_facts}
 use Rattle.view_model.specs.Forest.{Nothing}
-use Rattle.view_model.specs.Growth.{refusal_at}
-use Rattle.view_model.specs.PlainTree.{PlainView, pruned, view_in, with_facts, with_text}
+use Rattle.view_model.specs.Directed.{running}
+use Rattle.view_model.specs.Growth.{grown_at, refusal_at}
+use Rattle.view_model.specs.PlainTree.{PlainView, pruned, single, view_in, with_facts, with_text}
 use Rattle.view_model.specs.Refusals.{refusal_numbered}
 use Rattle.view_model.specs.declared.refusals.TheConstants.{WRONG_CLASS}
 use Rattle.view_tree.specs.Attached.{Attached}
 use Rattle.view_tree.specs.declared.fault.AttachFault.{AttachFault}
 use Rattle.view_tree.specs.declared.fault.AttachFault.TheVariants as attach
 use Rattle.view_tree.specs.Faults.{IsRefusedExactlyFor, IsRefusedOrCyclic}
+use Rattle.view_tree.specs.Directions.{running_below}
 use Rattle.view_tree.specs.Rows.{first_tree, pruned_at_key, part_from, changed_at_key}
 use Rattle.view_tree.specs.Views.{Held, IsLive, IsTree, KeepsOutside, Views, class_of, held_of, laid_rows, number_of, plain_of}
 use Rattle.view_tree.proofs.values.GeometryLaws.{geometry-pruned_at_key, geometry-put, geometry-with_child}
@@ -30,36 +32,42 @@ use Rattle.tree_edits.specs.Editing.{Add, Outcome, cycle_of_act, names_views, ou
 use Rattle.tree_edits.specs.Scene.{Scene, scene_of}
 use Rattle.tree_edits.proofs.CycleLaws.{cycle_named, taken_or_cyclic}
 use Rattle.tree_edits.proofs.SceneLaws.{same_scene}
+use Rattle.tree_edits.proofs.SpreadLaws.{runs_named}
 
--- a root is added only where there is none
+-- a root is added only if there is none
 pub added_root : (views : Views) (parent : Option ℕ) → IsAddable views parent → parent ≡ None → views.tree ≡ Nothing
 added_root views None addable none = addable.0
 added_root views (Some parent) addable none = absurd (cc)
+
+added_live : (views : Views) (parent : Option ℕ) → IsAddable views parent → IfSome parent (λ (parent : ℕ). IsLive views parent)
+added_live views None addable = tt
+added_live views (Some parent) addable = addable.0
 
 -- a view was added
 pub attached_new : (old new : Views) (parent : Option ℕ) (class : Class) (width height : ℤ) (facts : Facts) (text : List ℕ) (key : ℕ)
     → facts ≡ new_facts width height
     → text ≡ []
-    → Attached old parent (record { number = old.next; class = class; facts = facts; text = text }) key new
-    → Attached old parent (new_view old.next class width height) key new
+    → (let view : PlainView = record { number = old.next; class = class; facts = facts; text = text } in Attached old parent (running_below parent old.tree view) key new)
+    → Attached old parent (running_below parent old.tree (new_view old.next class width height)) key new
 attached_new old new parent class width height facts text key facts_is text_is attached =
-    let view : Facts → List ℕ → PlainView = λ f t. record { number = old.next; class = class; facts = f; text = t } in
+    let view : Facts → List ℕ → PlainView = λ f t. running_below parent old.tree (record { number = old.next; class = class; facts = f; text = t }) in
     subst (λ (t : List ℕ). Attached old parent (view (new_facts width height) t) key new) text_is
     (subst (λ (f : Facts). Attached old parent (view f text) key new) facts_is attached)
 
-pub attached_scene : (old new : Views) (parent : Option ℕ) (class : Class) (width height : ℤ) (key number : ℕ) → IsAddable old parent
+pub attached_scene : (old new : Views) (parent : Option ℕ) (class : Class) (width height : ℤ) (key number : ℕ) → IsTree old → IsAddable old parent
     → refusal_at (plain_of old) (option_map (number_of old) parent) ≡ None
-    → Attached old parent (new_view old.next class width height) key new
+    → Attached old parent (running_below parent old.tree (new_view old.next class width height)) key new
     → number ≡ old.next
     → outcome_of_edit (scene_of old) (Add (option_map (number_of old) parent) class width height) ≡ Ok (scene_of new, Some number)
-attached_scene old new parent class width height key number addable free attached number_is =
+attached_scene old new parent class width height key number is addable free attached number_is =
     ap (outcome_of_add (scene_of old) (option_map (number_of old) parent) class width height) free
     ∙ ap (λ (scene : Scene). Ok (scene, Some old.next))
     (sym (same_scene _ _ _ _ _ _
-    attached.plain
+    (attached.plain
+    ∙ ap (λ (rtl : Bool). grown_at (option_map (number_of old) parent) (single (running rtl (new_view old.next class width height))) (plain_of old)) (runs_named old parent is (added_live old parent addable)))
     attached.next
     (ap (laid_rows (held_of new)) attached.tree
-    ∙ geometry-with_child old (held_of new) parent key (new_view old.next class width height) (added_root old parent addable) attached.unused
+    ∙ geometry-with_child old (held_of new) parent key (running_below parent old.tree (new_view old.next class width height)) (added_root old parent addable) attached.unused
     (ap (λ (h : Held). h.state.bounds) attached.held) attached.others)))
     ∙ ap (λ (n : ℕ). Ok (scene_of new, Some n)) (sym number_is)
 

@@ -56,7 +56,7 @@ everywhere = laid 1 40 30 ∷ laid 2 20 10 ∷ laid 3 5 6 ∷ laid 4 5 6 ∷ []
 start : Scene
 start = scene (tree_with (frame 2)) 5 everywhere
 
--- a new view is the last child, has the next number and lies nowhere
+-- a new view is the last child, has the next number and no bounds
 view_is_added : outcome_of_edit start (Add (Some 2) class.View (pos 7) (pos 8))
     ≡ Ok
     (scene (Branch (frame 1) (Branch (frame 2) (Branch (leaf 3) Nothing (Branch (new_view 5 class.View (pos 7) (pos 8)) Nothing Nothing)) (Branch (leaf 4) Nothing Nothing)) Nothing) 6 everywhere, Some 5)
@@ -72,7 +72,7 @@ view_takes_no_child : outcome_of_edit start (Add (Some 3) class.View (pos 7) (po
 unfolding start scene tree_with inner everywhere frame leaf laid growth_refusal
 view_takes_no_child = refl
 
--- a view goes with all below it, and so does where they lie
+-- a view is removed with all below it, and with their bounds
 part_is_removed : outcome_of_edit start (Remove 2) ≡ Ok (scene (Branch (frame 1) (Branch (leaf 4) Nothing Nothing) Nothing) 5 (laid 1 40 30 ∷ laid 4 5 6 ∷ []), None)
 unfolding start scene tree_with inner everywhere frame leaf laid
 part_is_removed = refl
@@ -81,7 +81,7 @@ root_is_removed : outcome_of_edit start (Remove 1) ≡ Ok (scene Nothing 5 [], N
 unfolding start scene tree_with inner everywhere frame leaf laid
 root_is_removed = refl
 
--- a view that is gone lies nowhere from then on, nor does what is below it
+-- a view that is gone has no bounds from then on, nor has what is below it
 gone : Scene
 gone = scene (tree_with (record (frame 2) { facts = record (new_facts (pos 40) (pos 30)) { visibility = Gone } })) 5 (laid 1 40 30 ∷ laid 4 5 6 ∷ [])
 
@@ -89,7 +89,7 @@ gone_lies_nowhere : outcome_of_edit start (ActOn 2 (act.Visible Gone)) ≡ Ok (g
 unfolding start gone scene tree_with inner everywhere frame leaf laid
 gone_lies_nowhere = refl
 
--- shown again it lies nowhere until the next layout
+-- shown again it has no bounds until the next layout
 shown_again : outcome_of_edit gone (ActOn 2 (act.Visible Visible)) ≡ Ok (scene (tree_with (frame 2)) 5 (laid 1 40 30 ∷ laid 4 5 6 ∷ []), None)
 unfolding gone scene tree_with inner frame leaf laid
 shown_again = refl
@@ -100,7 +100,7 @@ invisible_stays : outcome_of_edit start (ActOn 2 (act.Visible Invisible))
 unfolding start scene tree_with inner everywhere frame leaf laid
 invisible_stays = refl
 
--- margins take the place of start and end values
+-- margins replace start and end values
 sides : Insets
 sides = record { left = pos 1; top = pos 2; right = pos 3; bottom = pos 4 }
 
@@ -206,7 +206,7 @@ request_leaves_siblings : (views : Views) → excused (kept views) (edit.Act 8 (
 unfolding kept rows frame
 request_leaves_siblings views = refl
 
--- a view that goes requests layout at its parent, and the root at none
+-- a removed view requests layout at its parent, and a removed root at no view
 removal_asks_parent : (views : Views) → asked_by (kept views) (edit.Remove 8) ≡ 7 ∷ []
 unfolding kept rows frame
 removal_asks_parent views = refl

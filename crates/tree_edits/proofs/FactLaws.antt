@@ -9,7 +9,7 @@ use Rattle.view_model.specs.declared.changes.Flag.TheVariants as flag
 use Rattle.view_model.specs.declared.kinds.Visibility.TheVariants.{Visible, Invisible, Gone}
 use Rattle.view_model.specs.Facts.{is_shown, layout_facts, unscrolled_facts}
 use Rattle.tree_edits.specs.Asking.{asked_by_act, requests_layout}
-use Rattle.tree_edits.specs.Editing.{hides, names_views}
+use Rattle.tree_edits.specs.Editing.{hides, names_views, turns}
 
 -- a view that is gone after an act was gone before, or the act hides it
 pub gone_after : (act : Act) (facts : Facts) → hides act ≡ false → is_shown (facts_after_act act facts) ≡ false → is_shown facts ≡ false
@@ -23,6 +23,7 @@ gone_after (act.Change (change.Gravity false gravity)) facts stays gone = gone
 gone_after (act.Change (change.Background color)) facts stays gone = gone
 gone_after (act.WeightSum sum) facts stays gone = gone
 gone_after (act.Orient vertical) facts stays gone = gone
+gone_after (act.Direction direction) facts stays gone = gone
 gone_after (act.Flag flag.Clip on) facts stays gone = gone
 gone_after (act.Flag flag.Fill on) facts stays gone = gone
 gone_after (act.Flag flag.Split on) facts stays gone = gone
@@ -47,6 +48,7 @@ names_alone (act.Rule verb value) facts names = refl
 names_alone (act.Change change) facts names = absurd (cc)
 names_alone (act.WeightSum sum) facts names = absurd (cc)
 names_alone (act.Orient vertical) facts names = absurd (cc)
+names_alone (act.Direction direction) facts names = absurd (cc)
 names_alone (act.Flag flag on) facts names = absurd (cc)
 names_alone (act.Visible visibility) facts names = absurd (cc)
 names_alone (act.Ink color) facts names = absurd (cc)
@@ -66,6 +68,7 @@ acted-offset (act.Change (change.Gravity false gravity)) facts offset = refl
 acted-offset (act.Change (change.Background color)) facts offset = refl
 acted-offset (act.WeightSum sum) facts offset = refl
 acted-offset (act.Orient vertical) facts offset = refl
+acted-offset (act.Direction direction) facts offset = refl
 acted-offset (act.Flag flag.Clip on) facts offset = refl
 acted-offset (act.Flag flag.Fill on) facts offset = refl
 acted-offset (act.Flag flag.Split on) facts offset = refl
@@ -96,12 +99,28 @@ names_stay (act.Rule verb value) names = refl
 names_stay (act.Change change) names = refl
 names_stay (act.WeightSum sum) names = refl
 names_stay (act.Orient vertical) names = refl
+names_stay (act.Direction direction) names = refl
 names_stay (act.Flag flag on) names = refl
 names_stay (act.Visible visibility) names = absurd (cc)
 names_stay (act.Ink color) names = refl
 names_stay (act.Answer answer) names = refl
 names_stay (act.Intercept actions) names = refl
 names_stay (act.Scroll offset) names = refl
+
+-- nor does it set a direction
+pub names_still : (act : Act) → names_views act ≡ true → turns act ≡ false
+names_still (act.Id id) names = refl
+names_still (act.Rule verb value) names = refl
+names_still (act.Change change) names = refl
+names_still (act.WeightSum sum) names = refl
+names_still (act.Orient vertical) names = refl
+names_still (act.Direction direction) names = absurd (cc)
+names_still (act.Flag flag on) names = refl
+names_still (act.Visible visibility) names = refl
+names_still (act.Ink color) names = refl
+names_still (act.Answer answer) names = refl
+names_still (act.Intercept actions) names = refl
+names_still (act.Scroll offset) names = refl
 
 -- an act that sets names requests layout
 pub names_ask : (view : ℕ) (act : Act) → names_views act ≡ true → asked_by_act view act ≡ view ∷ []
@@ -110,6 +129,7 @@ names_ask view (act.Rule verb value) names = refl
 names_ask view (act.Change change) names = absurd (cc)
 names_ask view (act.WeightSum sum) names = refl
 names_ask view (act.Orient vertical) names = refl
+names_ask view (act.Direction direction) names = refl
 names_ask view (act.Flag flag on) names = absurd (cc)
 names_ask view (act.Visible visibility) names = refl
 names_ask view (act.Ink color) names = absurd (cc)
@@ -123,6 +143,7 @@ hides_ask view (act.Visible visibility) hid = refl
 hides_ask view (act.Change change) hid = absurd (cc)
 hides_ask view (act.WeightSum sum) hid = refl
 hides_ask view (act.Orient vertical) hid = refl
+hides_ask view (act.Direction direction) hid = refl
 hides_ask view (act.Flag flag on) hid = absurd (cc)
 hides_ask view (act.Ink color) hid = absurd (cc)
 hides_ask view (act.Id id) hid = refl
@@ -145,6 +166,7 @@ shown_offset (act.Change (change.Gravity false gravity)) facts gone shown = refl
 shown_offset (act.Change (change.Background color)) facts gone shown = refl
 shown_offset (act.WeightSum sum) facts gone shown = refl
 shown_offset (act.Orient vertical) facts gone shown = refl
+shown_offset (act.Direction direction) facts gone shown = refl
 shown_offset (act.Flag flag.Clip on) facts gone shown = refl
 shown_offset (act.Flag flag.Fill on) facts gone shown = refl
 shown_offset (act.Flag flag.Split on) facts gone shown = refl
@@ -174,6 +196,7 @@ quiet_act (act.Change (change.Weight weight)) facts quiet = absurd (cc)
 quiet_act (act.Change (change.Gravity kids gravity)) facts quiet = absurd (cc)
 quiet_act (act.WeightSum sum) facts quiet = absurd (cc)
 quiet_act (act.Orient vertical) facts quiet = absurd (cc)
+quiet_act (act.Direction direction) facts quiet = absurd (cc)
 quiet_act (act.Flag flag.Fill on) facts quiet = absurd (cc)
 quiet_act (act.Visible visibility) facts quiet = absurd (cc)
 quiet_act (act.Id id) facts quiet = absurd (cc)

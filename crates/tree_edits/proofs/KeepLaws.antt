@@ -13,7 +13,8 @@ use Rattle.view_model.specs.Forest.{Forest, Nothing, Branch}
 use Rattle.view_model.specs.PlainTree.{PlainView}
 use Rattle.view_tree.specs.Attached.{Attached}
 use Rattle.view_model.specs.Facts.{unscrolled_facts}
-use Rattle.view_tree.specs.Requests.{among}
+use Rattle.view_tree.specs.Directions.{running_below}
+use Rattle.view_tree.specs.Requests.{among, requested}
 use Rattle.view_tree.specs.Rows.{Row, ancestors, changed_at_key, count_of_key, first_tree, head_view, leaf, part_from, pruned_at_key}
 use Rattle.view_tree.specs.Views.{Held, IsLive, IsTree, KeepsOthers, KeepsOutside, SameTree, Unscrolled, Views, facts_of, held_of, offset_of}
 use Rattle.view_tree.proofs.forest.DepthLaws.{ancestors-grown, ancestors-pruned_at_key}
@@ -23,12 +24,13 @@ use Rattle.tree_edits.specs.declared.edits.Edit.{Edit}
 use Rattle.tree_edits.specs.declared.edits.Edit.TheVariants as edit
 use Rattle.tree_edits.specs.declared.fault.EditFault.{EditFault}
 use Rattle.tree_edits.specs.Applied.{IsAddable}
-use Rattle.tree_edits.specs.Asking.{asked_by, asked_by_act, listed, nearest, requested}
-use Rattle.tree_edits.specs.Editing.{hides, names_views, new_view}
+use Rattle.tree_edits.specs.Asking.{acted_view, asked_by, asked_by_act, listed, nearest}
+use Rattle.tree_edits.specs.Editing.{hides, names_views, new_view, turns}
 use Rattle.tree_edits.specs.Hiding.{held_hiding}
-use Rattle.tree_edits.specs.Keeping.{KeepsViews, acted_view, held_acted, held_after, held_edited, next_after, tree_after}
-use Rattle.tree_edits.proofs.FactLaws.{acted-named, acted-offset, names_ask, names_offset, names_stay, renamed}
+use Rattle.tree_edits.specs.Keeping.{KeepsViews, held_acted, held_after, held_edited, next_after, tree_after}
+use Rattle.tree_edits.proofs.FactLaws.{acted-named, acted-offset, names_ask, names_offset, names_stay, names_still, renamed}
 use Rattle.tree_edits.proofs.ParentLaws.{parent_stays}
+use Rattle.tree_edits.proofs.SpreadLaws.{unspread}
 use Rattle.tree_edits.proofs.RequestLaws.{ancestor_live, ancestors_off, request_same, requested-put, requested_off}
 
 -- a key above those of all views
@@ -44,7 +46,7 @@ above_unused key (Branch row kids siblings) above =
       | inr e ↦ rw (e, above_unused key kids (omega arith), above_unused key siblings (omega arith))
     ]
 
--- an edit by which no view comes
+-- an edit that adds no view
 pub none_made : (old new : Views) (edit : Edit) → new.tree ≡ tree_after old edit (key_above old.tree)
     → new.next ≡ next_after old edit
     → ((key : ℕ) → count_of_key key new.tree ≤ count_of_key key old.tree)
@@ -85,7 +87,7 @@ module _ (old mid : Views) (parent : ℕ) (view : PlainView) (key : ℕ) (live :
       requested_off (held_of mid) (parent ∷ []) mid.tree key (rw off refl)
 
 pub attached_keeps : (old mid new : Views) (parent : Option ℕ) (class : Class) (width height : ℤ) (key : ℕ) → IsAddable old parent
-    → Attached old parent (new_view old.next class width height) key mid
+    → Attached old parent (running_below parent old.tree (new_view old.next class width height)) key mid
     → SameTree mid new
     → ((other : ℕ) → held_of new other ≡ requested (held_of mid) (listed parent) mid.tree other)
     → KeepsViews old new (edit.Add parent class width height)
@@ -102,8 +104,8 @@ attached_keeps old mid new (Some parent) class width height key addable came sam
   unused = came.unused;
   tree = same.tree ∙ came.tree;
   next = same.next ∙ came.next;
-  stays = λ other live _. held other ∙ grown_same old mid parent (new_view old.next class width height) key addable.0 came other live;
-  made = λ _. held key ∙ grown_new old mid parent (new_view old.next class width height) key addable.0 came ∙ came.held;
+  stays = λ other live _. held other ∙ grown_same old mid parent (running_below (Some parent) old.tree (new_view old.next class width height)) key addable.0 came other live;
+  made = λ _. held key ∙ grown_new old mid parent (running_below (Some parent) old.tree (new_view old.next class width height)) key addable.0 came ∙ came.held;
 }
 
 -- a view was taken away, and layout requested at its parent
@@ -134,7 +136,7 @@ detached_keeps old mid new view parent is live path tree next others same held =
         (still key left)
         ∙ sym (ap (λ above. requested (held_of old) (nearest above) old.tree key) path)
 
--- two changes that make the same of the view that is changed
+-- two changes that have the same effect on the view that is changed
 pub put_same : (key : ℕ) (f g : PlainView → PlainView) (tree : Forest Row) → count_of_key key tree ≤ 1 → f (head_view (part_from key tree)) ≡ g (head_view (part_from key tree))
     → changed_at_key key f tree ≡ changed_at_key key g tree
 put_same key f g Nothing once same = refl
@@ -184,6 +186,10 @@ after_request old mid new edit view change tree same held key =
     ∙ ap (λ (h : ℕ → Held). h key) (requested-put (held_of mid) (asked_by old edit) view change old.tree)
     ∙ ap (λ (h : ℕ → Held). requested h (asked_by old edit) old.tree key) (fun_ext same)
 
+-- an act that sets no direction requests layout at its view alone
+unturned : (old : Views) (view : ℕ) (act : Act) → turns act ≡ false → asked_by old (edit.Act view act) ≡ asked_by_act view act
+unturned old view act turn = rw turn refl
+
 -- an id or a rule is set
 pub names_keep : (old mid new : Views) (view : ℕ) (act : Act) (facts : Facts) → IsTree old → names_views act ≡ true
     → facts ≡ facts_after_act act (facts_of old view)
@@ -199,10 +205,11 @@ names_keep old mid new view act facts is names made tree next still same held =
     let acted : renamed facts own.facts ≡ unscrolled_facts (facts_after_act act own.facts) =
     ap (λ (f : Facts). renamed f own.facts) made ∙ acted-named act own.facts (offset_of old view) names (offset_at view old.tree is.unscrolled) in
     put_keeps old new (edit.Act view act) view change (same.tree ∙ tree)
-    (put_same view change (acted_view act) old.tree (is.keys view) (ap (λ (f : Facts). record own { facts = f }) acted))
+    (put_same view change (acted_view act) old.tree (is.keys view) (ap (λ (f : Facts). record own { facts = f }) acted)
+    ∙ sym (unspread act (changed_at_key view (acted_view act) old.tree) (names_still act names)))
     (same.next ∙ next)
     (after_request old mid new (edit.Act view act) view change tree (λ key. still key ∙ sym (kept key))
-    (λ key. held key ∙ sym (ap (λ (views : List ℕ). requested (held_of mid) views mid.tree key) (names_ask view act names))))
+    (λ key. held key ∙ sym (ap (λ (views : List ℕ). requested (held_of mid) views mid.tree key) (unturned old view act (names_still act names) ∙ names_ask view act names))))
   where
     kept : (key : ℕ) → held_acted old view act key ≡ held_of old key
     kept key = elim (cases_eq key view) [
@@ -210,8 +217,8 @@ names_keep old mid new view act facts is names made tree next still same held =
       | inr ne ↦ rw (ne_eqb key view ne, names_stay act names)
     ]
 
--- other facts are set, once what the act hides is hidden
-pub facts_keep : (old hid mid new : Views) (view : ℕ) (act : Act) (facts : Facts) → IsTree old
+-- other facts are set, after the act hid what it hides
+pub facts_keep : (old hid mid new : Views) (view : ℕ) (act : Act) (facts : Facts) → IsTree old → turns act ≡ false
     → facts ≡ facts_after_act act (facts_of old view)
     → SameTree old hid
     → ((key : ℕ) → held_of hid key ≡ held_hiding (hides act) old view key)
@@ -222,18 +229,20 @@ pub facts_keep : (old hid mid new : Views) (view : ℕ) (act : Act) (facts : Fac
     → SameTree mid new
     → ((key : ℕ) → held_of new key ≡ requested (held_of mid) (asked_by_act view act) mid.tree key)
     → KeepsViews old new (edit.Act view act)
-facts_keep old hid mid new view act facts is made still gone tree next own others same held =
+facts_keep old hid mid new view act facts is turn made still gone tree next own others same held =
     let change = λ (v : PlainView). record v { facts = unscrolled_facts facts } in
     let head = head_view (part_from view old.tree) in
     let facts_is : unscrolled_facts facts ≡ unscrolled_facts (facts_after_act act head.facts) = ap unscrolled_facts made ∙ acted-offset act head.facts (offset_of old view) in
     let put : mid.tree ≡ changed_at_key view change old.tree = tree ∙ ap (changed_at_key view change) still.tree in
     put_keeps old new (edit.Act view act) view change (same.tree ∙ put)
-    (put_same view change (acted_view act) old.tree (is.keys view) (ap (λ (f : Facts). record head { facts = f }) facts_is))
+    (put_same view change (acted_view act) old.tree (is.keys view) (ap (λ (f : Facts). record head { facts = f }) facts_is)
+    ∙ sym (unspread act (changed_at_key view (acted_view act) old.tree) turn))
     (same.next ∙ next ∙ still.next)
     (after_request old mid new (edit.Act view act) view change put (λ key. elim (cases_eq key view) [
       | inl e ↦ rw (eq-eqb key view e, e) (own ∙ ap (λ (h : Held). record h { offset = facts.offset }) (gone view) ∙ ap (λ (f : Facts). record (held_hiding (hides act) old view view) { offset = f.offset }) made)
       | inr ne ↦ rw (ne_eqb key view ne) (others key ne ∙ gone key)
-    ]) held)
+    ])
+    (λ key. held key ∙ sym (ap (λ (views : List ℕ). requested (held_of mid) views mid.tree key) (unturned old view act turn))))
 
 -- an edit makes at most one view
 pub next_number : (old : Views) (edit : Edit) → next_after old edit ≤ old.next + 1

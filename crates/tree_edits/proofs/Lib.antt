@@ -8,4 +8,6 @@ pub mod KeepLaws
 mod ParentLaws
 mod RequestLaws
 mod SceneLaws
+pub mod SpreadLaws
+mod TurnLaws
 pub mod UnaskedLaws

@@ -1,4 +1,4 @@
--- Parents of views that come or go.
+-- Parents of views that are added or removed.
 use Rattle.std.proofs.Common.{◌≡◌, ℕ, ◌+◌, ◌<◌, ◌≤◌, ◌==◌, true, Option, Some, None, [], ◌∷◌, arith, inl, inr}
 use Rattle.std.proofs.lemmas.Bool.{cases_Bool}
 use Rattle.std.specs.Prelude.{if◌then◌else◌, IfSome, MatchOption}
@@ -14,11 +14,11 @@ use Rattle.tree_edits.specs.Applied.{IsAddable}
 replaced_head : (key : ℕ) (row : Row) (kids siblings : Forest Row) → row.key == key ≡ true → 0 < count_of_key key (Branch row kids siblings)
 replaced_head key row kids siblings e = rw e (omega arith)
 
--- a view stays where others come
+-- a view stays if others are added
 pub still_live : (parent : ℕ) (new tree : Forest Row) → 0 < count_of_key parent tree → 0 < count_of_key parent (grown_at_key parent new tree)
 still_live parent new tree live = let more = count_of_key-grown_more parent parent new tree in omega arith
 
--- a view stays where its children change
+-- a view stays if its children change
 replaced_more : (key : ℕ) (g : Forest Row → Forest Row) (list : Forest Row) → 0 < count_of_key key list → 0 < count_of_key key (replaced key same_row g list)
 replaced_more key g Nothing live = absurd (omega arith)
 replaced_more key g (Branch row kids siblings) live = elim (cases_Bool (row.key == key)) [
@@ -32,11 +32,11 @@ replaced_more key g (Branch row kids siblings) live = elim (cases_Bool (row.key 
       ]
 ]
 
--- a parent stays where a child of it goes
+-- a parent stays if a child of it is removed
 pub parent_stays : (parent view : ℕ) (list : Forest Row) → ((key : ℕ) → count_of_key key list ≤ 1) → HasChild parent view list → 0 < count_of_key parent (pruned_at_key view list)
 parent_stays parent view list once h = rw (pruned_is parent view list once h) (replaced_more parent (pruned_at_key view) list (parent_live parent view list h))
 
--- the parent of a view that has come, and that of one that has gone, are there
+-- the parent of an added view, and that of a removed one, are there
 pub parent_after : (old mid : Views) (parent : Option ℕ) (new : Forest Row) → IsAddable old parent → mid.tree ≡ with_child parent new old.tree → IfSome parent (λ above. IsLive mid above)
 parent_after old mid None new addable tree = tt
 parent_after old mid (Some parent) new addable tree = rw tree (still_live parent new old.tree addable.0)

@@ -1,20 +1,20 @@
 -- What requests for layout leave of the views of a tree.
 use Rattle.std.proofs.Common.{◌≡◌, ℕ, ◌<◌, Bool, true, false, List, [], ◌∷◌, ap, ◌∙◌, sym, refl, inl, inr}
 use Rattle.std.specs.Prelude.{◌==◌, if◌then◌else◌}
-use Rattle.kept_views.specs.Pressing.{path_of, pressed}
+use Rattle.kept_views.specs.Pressing.{path_of}
 use Rattle.kept_views.proofs.Emptied.{around_off}
 use Rattle.kept_views.proofs.Paths.{among_first, among_rest, unforced_off}
 use Rattle.kept_views.proofs.Requested.{pressed_out}
 use Rattle.view_model.specs.Forest.{Forest}
 use Rattle.view_model.specs.PlainTree.{PlainView}
-use Rattle.view_tree.specs.Requests.{among, asking, forced_one, unforced}
+use Rattle.view_tree.specs.Requests.{among, asking, forced_one, pressed, requested, unforced}
 use Rattle.view_tree.specs.Rows.{Row, ancestors, around, changed_at_key, count_of_key}
 use Rattle.view_tree.specs.Views.{Held}
 use Rattle.view_tree.proofs.forest.KeyLaws.{zero_or_more}
 use Rattle.view_tree.proofs.values.KeptLaws.{ancestors-put}
-use Rattle.tree_edits.specs.Asking.{is_on_paths, requested}
+use Rattle.tree_edits.specs.Asking.{is_on_paths}
 
--- a view that is not in a tree is around none of its views
+-- a view that is not in a tree is around no view of it
 pub ancestors_off : (key view : ℕ) (tree : Forest Row) → count_of_key key tree ≡ 0 → among key (ancestors view tree) ≡ false
 ancestors_off key view tree none = around_off key view [] tree none refl
 
@@ -25,7 +25,7 @@ ancestor_live key view tree above = elim (zero_or_more (count_of_key key tree)) 
   | inr live ↦ live
 ]
 
--- a request forces the same views where the same is kept of those around its view
+-- a request forces the same views if the same is kept of those around its view
 unforced_same : (old mid : ℕ → Held) (keys : List ℕ) → ((key : ℕ) → among key keys ≡ true → mid key ≡ old key) → unforced mid keys ≡ unforced old keys
 unforced_same old mid [] same = refl
 unforced_same old mid (first ∷ more) same =
@@ -48,7 +48,7 @@ requested-put held (first ∷ more) view change tree =
     ap (λ (above : List ℕ). requested (pressed held (first ∷ unforced held above)) more (changed_at_key view change tree)) (ancestors-put first view change tree)
     ∙ requested-put (pressed held (asking held first tree)) more view change tree
 
--- where a view lies, and how far it has scrolled
+-- the bounds of a view, and how far it has scrolled
 pub record KeepsPlace (old new : Held) : Type 0 where
   pub bounds : new.state.bounds ≡ old.state.bounds
   pub offset : new.offset ≡ old.offset

@@ -3,14 +3,14 @@ use Rattle.std.proofs.Common.{◌≡◌, ℕ, List, ◌∙◌, ap}
 use Rattle.view_model.specs.Forest.{Forest}
 use Rattle.view_model.specs.Geometry.{Laid}
 use Rattle.view_model.specs.PlainTree.{PlainView}
+use Rattle.view_tree.specs.Requests.{requested}
 use Rattle.view_tree.specs.Views.{Held, SameTree, Views, held_of, laid_rows, plain_rows}
 use Rattle.view_tree.proofs.forest.PlainLaws.{plain_along}
 use Rattle.view_tree.proofs.values.GeometryLaws.{laid_along}
-use Rattle.tree_edits.specs.Asking.{requested}
 use Rattle.tree_edits.specs.Scene.{Scene, scene_of}
 use Rattle.tree_edits.proofs.RequestLaws.{requested_place}
 
--- scenes are the same where their parts are
+-- scenes are the same if their parts are
 abbrev pub scene : Forest PlainView → ℕ → List Laid → Scene
 scene tree next geometry = record { tree = tree; next = next; geometry = geometry }
 

@@ -18,7 +18,7 @@ record KeepsLayout (old new : Held) : Type 0 where
   pub state : new.state ≡ old.state
   pub cache : new.cache ≡ old.cache
 
--- an act keeps it where it hides nothing
+-- an act keeps it if it hides nothing
 hiding_off : (goes : Bool) (views : Views) (view key : ℕ) → (if goes then is_in_part view views.tree key else false) ≡ false → held_hiding goes views view key ≡ held_of views key
 hiding_off false views view key off = refl
 hiding_off true views view key off = by_test (count_of_key key (first_tree (part_from view views.tree)) == 0) off
@@ -51,7 +51,7 @@ leaves_unasked old new edit keeps key was now off =
     let kept = edited_layout old edit key both.1 in
     (ap (λ (h : Held). h.state) still ∙ kept.state, ap (λ (h : Held). h.cache) still ∙ kept.cache)
 
--- a view that stays lies where it lay, unless the edit takes it out of layout
+-- a view that stays keeps its bounds, unless the edit takes it out of layout
 pub stays_bounds : (old new : Views) (edit : Edit) → KeepsViews old new edit → (key : ℕ) → IsLive old key → IsLive new key → goes_out old edit key ≡ false
     → (held_of new key).state.bounds ≡ (held_of old key).state.bounds
 stays_bounds old new edit keeps key was now off =

@@ -24,7 +24,7 @@ numbered views (edit.Remove view) = Remove (number_of views view)
 numbered views (edit.Act view act) = ActOn (number_of views view) act
 numbered views (edit.Text view text) = SetText (number_of views view) (chars text.now)
 
--- a root is added only where there is none
+-- a root is added only if there is none
 abbrev pub IsAddable : Views → Option ℕ → Type 0
 IsAddable views None = (views.tree ≡ Nothing) × (views.next < NUMBERS_END)
 IsAddable views (Some parent) = IsLive views parent × (views.next < NUMBERS_END)
@@ -35,6 +35,7 @@ IsVerb (act.Rule verb value) = verb < 21
 IsVerb (act.Change change) = Unit {0}
 IsVerb (act.WeightSum sum) = Unit {0}
 IsVerb (act.Orient vertical) = Unit {0}
+IsVerb (act.Direction direction) = Unit {0}
 IsVerb (act.Flag flag on) = Unit {0}
 IsVerb (act.Visible visibility) = Unit {0}
 IsVerb (act.Ink color) = Unit {0}
@@ -62,14 +63,14 @@ abbrev pub IsDoneOrCyclic : Outcome → Type 0
 IsDoneOrCyclic (Ok outcome) = Unit {0}
 IsDoneOrCyclic (Err refusal) = refusal.number ≡ CYCLE
 
--- The result is the outcome: the scene and the number of the new view, or the refusal. An edit is out of memory where
+-- The result is the outcome: the scene and the number of the new view, or the refusal. An edit may run out of memory if
 -- there is no refusal, or only that of a cycle, since memory is taken before a cycle is known.
 abbrev pub AppliesEdit : Outcome → Scene → Result (Option ℕ) EditFault → Type 0
 AppliesEdit outcome after (Ok number) = outcome ≡ Ok (after, number)
 AppliesEdit outcome after (Err (fault.Refused refusal)) = outcome ≡ Err (plain_refusal refusal)
 AppliesEdit outcome after (Err fault.NoMemory) = IsDoneOrCyclic outcome
 
--- the fault of an edit by which the tree did not take a view
+-- the fault of an edit whose view the tree did not take
 abbrev pub fault_of : AttachFault → EditFault
 fault_of (attach.Refused refusal) = fault.Refused refusal
 fault_of attach.NoMemory = fault.NoMemory

@@ -1,19 +1,23 @@
 -- At which views an edit requests layout, and what it leaves of all others.
-use Rattle.std.specs.Prelude.{◌≡◌, ℕ, ◌==◌, Bool, true, false, if◌then◌else◌, not, List, [], ◌∷◌, Option, Some, None}
-use Rattle.kept_views.specs.Pressing.{path_of, pressed}
+use Rattle.std.specs.Prelude.{◌≡◌, ℕ, ◌==◌, Bool, true, false, if◌then◌else◌, not, List, [], ◌∷◌, map, Option, Some, None}
+use Rattle.kept_views.specs.Pressing.{path_of}
 use Rattle.view_model.specs.declared.changes.Act.{Act}
 use Rattle.view_model.specs.declared.changes.Act.TheVariants as act
 use Rattle.view_model.specs.declared.changes.Change.{Change}
 use Rattle.view_model.specs.declared.changes.Change.TheVariants as change
 use Rattle.view_model.specs.declared.changes.Flag.{Flag}
 use Rattle.view_model.specs.declared.changes.Flag.TheVariants as flag
+use Rattle.view_model.specs.Changes.{facts_after_act}
+use Rattle.view_model.specs.Directed.{turned}
+use Rattle.view_model.specs.Facts.{unscrolled_facts}
 use Rattle.view_model.specs.Forest.{Forest}
-use Rattle.view_tree.specs.Requests.{among, asking}
-use Rattle.view_tree.specs.Rows.{Row, ancestors, count_of_key, first_tree, part_from}
-use Rattle.view_tree.specs.Views.{Held, IsLive, Views, cache_of, state_of}
+use Rattle.view_model.specs.PlainTree.{PlainView}
+use Rattle.view_tree.specs.Requests.{among}
+use Rattle.view_tree.specs.Rows.{Row, ancestors, changed_at_key, count_of_key, first_tree, part_from}
+use Rattle.view_tree.specs.Views.{IsLive, Views, cache_of, state_of}
 use Rattle.tree_edits.specs.declared.edits.Edit.{Edit}
 use Rattle.tree_edits.specs.declared.edits.Edit.TheVariants as edit
-use Rattle.tree_edits.specs.Editing.{hides}
+use Rattle.tree_edits.specs.Editing.{hides, turns}
 
 -- whether layout reads what a change sets
 abbrev pub change_requests : Change → Bool
@@ -31,11 +35,12 @@ flag_requests flag.Clip = false
 flag_requests flag.Fill = true
 flag_requests flag.Split = false
 
--- whether layout may be another one after an act
+-- whether an act may change the layout
 abbrev pub requests_layout : Act → Bool
 requests_layout (act.Change change) = change_requests change
 requests_layout (act.WeightSum sum) = true
 requests_layout (act.Orient vertical) = true
+requests_layout (act.Direction direction) = true
 requests_layout (act.Flag flag on) = flag_requests flag
 requests_layout (act.Visible visibility) = true
 requests_layout (act.Ink color) = false
@@ -55,21 +60,24 @@ abbrev pub nearest : List ℕ → List ℕ
 nearest [] = []
 nearest (first ∷ more) = first ∷ []
 
--- the view of an act, if layout may be another one
+-- the view of a row after an act
+abbrev pub acted_view : Act → PlainView → PlainView
+acted_view act view = record view { facts = unscrolled_facts (facts_after_act act view.facts) }
+
+-- the view of an act, if it may change the layout
 abbrev pub asked_by_act : ℕ → Act → List ℕ
 asked_by_act view act = if requests_layout act then view ∷ [] else []
+
+-- the view of an act that sets a direction, and each view that runs another way after it
+abbrev pub asked_by_turn : Forest Row → ℕ → Act → List ℕ
+asked_by_turn tree view act = view ∷ map (λ (row : Row). row.key) (turned (λ (row : Row). row.view.facts) false (changed_at_key view (acted_view act) tree))
 
 -- the views at which an edit requests layout
 abbrev pub asked_by : Views → Edit → List ℕ
 asked_by views (edit.Add parent class width height) = listed parent
 asked_by views (edit.Remove view) = nearest (ancestors view views.tree)
-asked_by views (edit.Act view act) = asked_by_act view act
+asked_by views (edit.Act view act) = if turns act then asked_by_turn views.tree view act else asked_by_act view act
 asked_by views (edit.Text view text) = view ∷ []
-
--- what is kept once layout was requested at these views, one after the other
-abbrev pub requested : (ℕ → Held) → List ℕ → Forest Row → ℕ → Held
-requested held [] tree = held
-requested held (view ∷ views) tree = requested (pressed held (asking held view tree)) views tree
 
 -- whether a view is one of these, or around one of them
 abbrev pub is_on_paths : List ℕ → Forest Row → ℕ → Bool

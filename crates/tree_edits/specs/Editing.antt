@@ -1,4 +1,4 @@
--- What an edit makes of a scene, or why it is refused.
+-- The result of an edit on a scene, or why it is refused.
 use Rattle.std.specs.Prelude.{ℕ, ◌+◌, ℤ, Bool, true, false, if◌then◌else◌, List, [], Option, Some, None, Result, Ok, Err, not}
 use Rattle.view_model.specs.Changes.{facts_after_act}
 use Rattle.view_model.specs.declared.changes.Act.{Act}
@@ -11,6 +11,7 @@ use Rattle.view_model.specs.declared.kinds.Class.{Class}
 use Rattle.view_model.specs.declared.kinds.Class.TheVariants as class
 use Rattle.view_model.specs.declared.refusal.Member.TheVariants as member
 use Rattle.view_model.specs.Cycles.{first_cycle}
+use Rattle.view_model.specs.Directed.{directed, rtl_at}
 use Rattle.view_model.specs.Facts.{new_facts, takes_part}
 use Rattle.view_model.specs.Forest.{Forest}
 use Rattle.view_model.specs.Geometry.{Laid, without}
@@ -32,7 +33,8 @@ pub data NumberedEdit : Type 0 where
 abbrev pub Outcome : Type 0
 Outcome = Result (Scene × Option ℕ) PlainRefusal
 
--- whether a view of this class lays its children in a line, and so has a way, a sum of weights and a gravity for them
+-- whether a view of this class lays its children in a line, and so has an orientation, a sum of weights and a gravity
+-- for them
 abbrev pub lays_in_line : Class → Bool
 lays_in_line class.View = false
 lays_in_line class.TextView = false
@@ -71,6 +73,7 @@ abbrev pub takes : Class → Act → Bool
 takes class (act.Change change) = takes_change class change
 takes class (act.WeightSum sum) = lays_in_line class
 takes class (act.Orient vertical) = lays_in_line class
+takes class (act.Direction direction) = true
 takes class (act.Flag flag on) = takes_flag class flag
 takes class (act.Visible visibility) = true
 takes class (act.Ink color) = has_text class
@@ -85,6 +88,7 @@ abbrev pub hides : Act → Bool
 hides (act.Change change) = false
 hides (act.WeightSum sum) = false
 hides (act.Orient vertical) = false
+hides (act.Direction direction) = false
 hides (act.Flag flag on) = false
 hides (act.Visible visibility) = not (takes_part visibility)
 hides (act.Ink color) = false
@@ -94,19 +98,41 @@ hides (act.Answer answer) = false
 hides (act.Intercept actions) = false
 hides (act.Scroll offset) = false
 
--- whether an act sets by what name, or by which names of others, a view is found
+-- whether an act sets the name by which a view is found, or the names by which it finds others
 abbrev pub names_views : Act → Bool
 names_views (act.Rule verb value) = true
 names_views (act.Id id) = true
 names_views (act.Change change) = false
 names_views (act.WeightSum sum) = false
 names_views (act.Orient vertical) = false
+names_views (act.Direction direction) = false
 names_views (act.Flag flag on) = false
 names_views (act.Visible visibility) = false
 names_views (act.Ink color) = false
 names_views (act.Answer answer) = false
 names_views (act.Intercept actions) = false
 names_views (act.Scroll offset) = false
+
+-- whether an act sets a direction, which goes down the tree
+abbrev pub turns : Act → Bool
+turns (act.Direction direction) = true
+turns (act.Change change) = false
+turns (act.WeightSum sum) = false
+turns (act.Orient vertical) = false
+turns (act.Flag flag on) = false
+turns (act.Visible visibility) = false
+turns (act.Ink color) = false
+turns (act.Id id) = false
+turns (act.Rule verb value) = false
+turns (act.Answer answer) = false
+turns (act.Intercept actions) = false
+turns (act.Scroll offset) = false
+
+-- the tree after an act on the view of this number
+abbrev pub tree_after_act : ℕ → Act → Forest PlainView → Forest PlainView
+tree_after_act number act tree =
+    let changed = with_facts number (facts_after_act act) tree in
+    if turns act then directed false changed else changed
 
 -- the cycle that a tree would have once an act names views
 abbrev pub cycle_of_act : Forest PlainView → ℕ → Act → Option PlainRefusal
@@ -116,24 +142,24 @@ cycle_of_act tree number act = if names_views act then first_cycle member.View (
 abbrev pub hidden : ℕ → Scene → List Laid
 hidden number scene = without (numbers_of (part_of number scene.tree)) scene.geometry
 
--- a new view: its facts are the default ones but for its dimensions, and its text is empty
+-- a new view: its facts are the default ones except for its dimensions, and its text is empty
 abbrev pub new_view : ℕ → Class → ℤ → ℤ → PlainView
 new_view number class width height = record { number = number; class = class; facts = new_facts width height; text = [] }
 
--- a view is added under the next number, unless there is a reason against it; it lies nowhere
+-- a view is added under the next number, unless there is a reason against it; it runs as its parent, and has no bounds
 abbrev pub outcome_of_add : Scene → Option ℕ → Class → ℤ → ℤ → Option PlainRefusal → Outcome
 outcome_of_add scene parent class width height (Some refusal) = Err refusal
 outcome_of_add scene parent class width height None =
-    Ok (record scene { tree = grown_at parent (single (new_view scene.next class width height)) scene.tree; next = scene.next + 1 }, Some scene.next)
+    Ok (record scene { tree = grown_at parent (directed (rtl_at parent scene.tree) (single (new_view scene.next class width height))) scene.tree; next = scene.next + 1 }, Some scene.next)
 
--- a view and all below it go, and lie nowhere
+-- a view and all below it are removed, with their bounds
 abbrev pub outcome_of_remove : Scene → ℕ → Outcome
 outcome_of_remove scene number = Ok (record scene { tree = pruned number scene.tree; geometry = hidden number scene }, None)
 
--- what an act makes of a scene
+-- the result of an act on a scene
 abbrev pub after_act : Scene → ℕ → Act → Scene
 after_act scene number act =
-    record scene { tree = with_facts number (facts_after_act act) scene.tree; geometry = if hides act then hidden number scene else scene.geometry }
+    record scene { tree = tree_after_act number act scene.tree; geometry = if hides act then hidden number scene else scene.geometry }
 
 -- an act that a view takes is done, unless there would be a cycle
 abbrev pub outcome_unless : Scene → ℕ → Act → Option PlainRefusal → Outcome
@@ -152,7 +178,7 @@ outcome_of_text scene number text None = Ok (scene, None)
 outcome_of_text scene number text (Some view) =
     if has_text view.class then Ok (record scene { tree = with_text number text scene.tree }, None) else Err (refusal_numbered WRONG_CLASS)
 
--- what an edit of views that are there makes of a scene
+-- the result of an edit of views that are there on a scene
 abbrev pub outcome_of_edit : Scene → NumberedEdit → Outcome
 outcome_of_edit scene (Add parent class width height) = outcome_of_add scene parent class width height (refusal_at scene.tree parent)
 outcome_of_edit scene (Remove number) = outcome_of_remove scene number

@@ -1,27 +1,27 @@
 -- What an edit leaves of the views of a tree of the code, key by key.
-use Rattle.std.specs.Prelude.{◌≡◌, ℕ, ◌+◌, ◌==◌, None, if◌then◌else◌, chars}
+use Rattle.std.specs.Prelude.{◌≡◌, ℕ, ◌+◌, ◌==◌, false, None, if◌then◌else◌, chars}
 use Rattle.view_model.specs.Changes.{facts_after_act}
 use Rattle.view_model.specs.declared.changes.Act.{Act}
 use Rattle.view_model.specs.Forest.{Forest}
-use Rattle.view_model.specs.PlainTree.{PlainView}
-use Rattle.view_model.specs.Facts.{unscrolled_facts}
+use Rattle.view_tree.specs.Directions.{directed_rows, running_below}
+use Rattle.view_tree.specs.Requests.{requested}
 use Rattle.view_tree.specs.Rows.{Row, pruned_at_key, leaf, changed_at_key, count_of_key, with_child}
 use Rattle.view_tree.specs.Views.{Held, IsLive, Views, facts_of, held_of, held_or}
 use Rattle.tree_edits.specs.declared.edits.Edit.{Edit}
 use Rattle.tree_edits.specs.declared.edits.Edit.TheVariants as edit
-use Rattle.tree_edits.specs.Asking.{asked_by, requested}
-use Rattle.tree_edits.specs.Editing.{hides, new_view}
+use Rattle.tree_edits.specs.Asking.{acted_view, asked_by}
+use Rattle.tree_edits.specs.Editing.{hides, new_view, turns}
 use Rattle.tree_edits.specs.Hiding.{held_hiding}
 
--- the view of a row after an act
-abbrev pub acted_view : Act → PlainView → PlainView
-acted_view act view = record view { facts = unscrolled_facts (facts_after_act act view.facts) }
+-- a direction that an act sets goes down the tree
+abbrev pub spread : Act → Forest Row → Forest Row
+spread act tree = if turns act then directed_rows false tree else tree
 
--- the keyed views after an edit; a new view comes under the key `fresh`
+-- the keyed views after an edit; a new view is added under the key `fresh`
 abbrev pub tree_after : Views → Edit → ℕ → Forest Row
-tree_after views (edit.Add parent class width height) fresh = with_child parent (leaf fresh (new_view views.next class width height)) views.tree
+tree_after views (edit.Add parent class width height) fresh = with_child parent (leaf fresh (running_below parent views.tree (new_view views.next class width height))) views.tree
 tree_after views (edit.Remove view) fresh = pruned_at_key view views.tree
-tree_after views (edit.Act view act) fresh = changed_at_key view (acted_view act) views.tree
+tree_after views (edit.Act view act) fresh = spread act (changed_at_key view (acted_view act) views.tree)
 tree_after views (edit.Text view text) fresh = changed_at_key view (λ v. record v { text = chars text.now }) views.tree
 
 -- the number of the view that is made next after an edit
@@ -49,8 +49,8 @@ held_edited views (edit.Text view text) = held_of views
 abbrev pub held_after : Views → Edit → ℕ → Held
 held_after views edit = requested (held_edited views edit) (asked_by views edit) views.tree
 
--- Each view that stays keeps its key and what is kept of it, but for what the edit hides or scrolls and where it
--- requests layout. A new view comes under a key that none had, and nothing was kept of it before.
+-- Each view that stays keeps its key and what is kept of it, except what the edit hides or scrolls and where it
+-- requests layout. A new view is added under a key that was free, and nothing was kept of it before.
 pub record KeepsViews (old new : Views) (edit : Edit) : Type 0 where
   pub fresh : ℕ
   pub unused : count_of_key fresh old.tree ≡ 0

@@ -1,4 +1,4 @@
--- What edits change: the tree, the number of the view that is made next, and where views lie.
+-- What edits change: the tree, the number of the view that is made next, and the bounds of views.
 use Rattle.std.specs.Prelude.{ℕ, List}
 use Rattle.view_model.specs.Forest.{Forest}
 use Rattle.view_model.specs.Geometry.{Laid}

@@ -3,7 +3,7 @@ ghost use Rattle.std.specs.Prelude.{◌≡◌, ℕ, true, false, None, OnErr, On
 ghost use Rattle.kept_views.specs.Kept.{IsConsistent};
 ghost use Rattle.tree_edits.specs.Applied.{IsVerb};
 ghost use Rattle.tree_edits.specs.Asking.{LeavesUnasked};
-ghost use Rattle.tree_edits.specs.Editing.{after_act, hides, names_views};
+ghost use Rattle.tree_edits.specs.Editing.{after_act, hides, names_views, turns};
 ghost use Rattle.tree_edits.specs.Hiding.{held_hiding};
 ghost use Rattle.tree_edits.specs.Keeping.{KeepsViews};
 ghost use Rattle.tree_edits.specs.Scene.{scene_of};
@@ -17,10 +17,10 @@ use crate::asking::request_by;
 use crate::changing::facts_after_act;
 use crate::edits::Edit;
 use crate::hiding::hide;
-use view_model::{Act, Member, Visibility};
+use view_model::{Act, Direction, Member, Visibility};
 use view_tree::{AttachFault, Key, ViewTree};
 
-/// Whether an act sets by what name, or by which names of others, a view is found.
+/// Whether an act sets the name by which a view is found, or the names by which it finds others.
 pub fn names_views(act: Act) -> bool
     ensures { result ≡ names_views act }
 {
@@ -50,11 +50,24 @@ pub fn set_names(tree: &mut ViewTree, view: Key, act: Act) -> Result<(), AttachF
     }
 }
 
-/// Sets what else there is of a view. One that is gone from now on goes out of layout at once, with all below it.
+/// Sets the direction of a view, and in which way it runs with all that inherits from it.
+pub fn set_direction(tree: &mut ViewTree, view: Key, direction: Direction)
+    requires live { IsLive tree.old view }
+    ensures scene { scene_of tree.new ≡ after_act (scene_of tree.old) (number_of tree.old view) (Act.Direction direction) }
+    ensures kept { KeepsViews tree.old tree.new (Edit.Act view (Act.Direction direction)) }
+    ensures consistent { IsConsistent tree.old → IsConsistent tree.new }
+    ensures asked { LeavesUnasked tree.old tree.new (Edit.Act view (Act.Direction direction)) }
+    ensures measures { tree.new.counts.measures ≡ tree.old.counts.measures }
+{
+    tree.set_direction(view, direction);
+}
+
+/// Sets everything else of a view. One that is gone from now on is taken out of layout at once, with all below it.
 pub fn set_facts(tree: &mut ViewTree, view: Key, act: Act)
     requires live { IsLive tree.old view }
     requires verb { IsVerb act }
     requires names { names_views act ≡ false }
+    requires turns { turns act ≡ false }
     ensures scene { scene_of tree.new ≡ after_act (scene_of tree.old) (number_of tree.old view) act }
     ensures kept { KeepsViews tree.old tree.new (Edit.Act view act) }
     ensures consistent { IsConsistent tree.old → IsConsistent tree.new }
@@ -67,7 +80,7 @@ pub fn set_facts(tree: &mut ViewTree, view: Key, act: Act)
     request_by(tree, view, act);
 }
 
-/// Takes a view, and all below it, out of layout where an act does.
+/// Takes a view, and all below it, out of layout if an act does.
 fn hide_by(tree: &mut ViewTree, view: Key, act: Act)
     requires { IsLive tree.old view }
     ensures same { SameTree tree.old tree.new }

@@ -10,7 +10,7 @@ ghost use Rattle.tree_edits.specs.Keeping.{KeepsViews};
 ghost use Rattle.tree_edits.specs.Scene.{scene_of};
 ghost use Rattle.view_tree.specs.Views.{IsLive, IsTree, number_of};
 
-use crate::acting::{names_views, set_facts, set_names};
+use crate::acting::{names_views, set_direction, set_facts, set_names};
 use crate::asking::request_at;
 use crate::classes::{has_text, takes};
 use crate::edits::Edit;
@@ -20,8 +20,7 @@ use view_model::refusals::WRONG_CLASS;
 use view_model::{Act, Class, Facts, Refusal, Text};
 use view_tree::{Key, ViewTree};
 
-/// Makes an edit, and requests layout where it may be another one from now on. It returns the number of the view that
-/// it made.
+/// Makes an edit, and requests layout if it may change. Returns the number of the view that it made.
 pub fn apply(alloc: Global, tree: &mut ViewTree, edit: Edit<'_>) -> Result<Option<u64>, EditFault>
     requires edit { IsEdit tree.old edit }
     ensures applied { AppliesEdit (outcome_of_edit (scene_of tree.old) (numbered tree.old edit.entry)) (scene_of tree.new) result }
@@ -48,7 +47,7 @@ pub fn apply(alloc: Global, tree: &mut ViewTree, edit: Edit<'_>) -> Result<Optio
     }
 }
 
-/// Makes a view, the last child of its parent or the root. Its facts are the default ones but for its dimensions.
+/// Makes a view, the last child of its parent or the root. Its facts are the default ones except for its dimensions.
 fn add(
     alloc: Global,
     tree: &mut ViewTree,
@@ -73,14 +72,14 @@ fn add(
     Ok(Some(number))
 }
 
-/// Every tree is one. This is for contracts alone.
+/// The invariant of every tree, for contracts alone.
 fn note_tree(tree: &ViewTree)
     ensures { IsTree tree.now }
 {
     let _root = tree.root();
 }
 
-/// Takes a view and all below it away.
+/// Removes a view and all below it.
 fn remove(tree: &mut ViewTree, view: Key)
     requires live { IsLive tree.old view }
     ensures scene { outcome_of_remove (scene_of tree.old) (number_of tree.old view) ≡ Ok (scene_of tree.new, None) }
@@ -111,6 +110,8 @@ fn act_on(tree: &mut ViewTree, view: Key, act: Act) -> Result<Option<u64>, EditF
     }
     if names_views(act) {
         set_names(tree, view, act)?;
+    } else if let Act::Direction(direction) = act {
+        set_direction(tree, view, direction);
     } else {
         set_facts(tree, view, act);
     }

@@ -1,12 +1,13 @@
 //! Requests for layout that go with edits.
 ghost use Rattle.std.specs.Prelude.{◌≡◌, ℕ, IfSome};
-ghost use Rattle.tree_edits.specs.Asking.{asked_by_act, change_requests, flag_requests, listed, requested, requests_layout};
+ghost use Rattle.tree_edits.specs.Asking.{asked_by_act, change_requests, flag_requests, listed, requests_layout};
+ghost use Rattle.view_tree.specs.Requests.{requested};
 ghost use Rattle.view_tree.specs.Views.{IsLive, SameTree, held_of};
 
 use view_model::{Act, Change, Flag};
 use view_tree::{Key, ViewTree};
 
-/// Whether layout may be another one after an act.
+/// Whether an act may change the layout.
 pub fn requests_layout(act: Act) -> bool
     ensures { result ≡ requests_layout act }
 {
@@ -15,6 +16,7 @@ pub fn requests_layout(act: Act) -> bool
         Act::Flag { flag, on: _ } => flag_requests(flag),
         Act::WeightSum(_)
         | Act::Orient { .. }
+        | Act::Direction(_)
         | Act::Visible(_)
         | Act::Id(_)
         | Act::Rule { .. }
@@ -48,7 +50,7 @@ fn flag_requests(flag: Flag) -> bool
     }
 }
 
-/// Requests layout at a view after an act, where layout may be another one.
+/// Requests layout at a view after an act, if the act may change it.
 pub fn request_by(tree: &mut ViewTree, view: Key, act: Act)
     requires { IsLive tree.old view }
     ensures same { SameTree tree.old tree.new }
@@ -60,7 +62,7 @@ pub fn request_by(tree: &mut ViewTree, view: Key, act: Act)
     }
 }
 
-/// Requests layout at a view, where there is one.
+/// Requests layout at a view, if there is one.
 pub fn request_at(tree: &mut ViewTree, view: Option<Key>)
     requires { IfSome view (λ view. IsLive tree.old view) }
     ensures same { SameTree tree.old tree.new }

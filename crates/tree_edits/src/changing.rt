@@ -1,4 +1,4 @@
-//! What an act makes of the facts of a view.
+//! The result of an act on the facts of a view.
 ghost use Rattle.std.specs.Prelude.{◌≡◌, ◌<◌, slice_set};
 ghost use Rattle.tree_edits.specs.Applied.{IsVerb};
 ghost use Rattle.view_model.specs.Changes.{facts_after_act, facts_with_flag};
@@ -31,6 +31,7 @@ pub fn facts_after_act(act: Act, facts: Facts) -> Facts
         Act::Answer(answer) => Facts { answer, ..facts },
         Act::Intercept(intercept) => Facts { intercept, ..facts },
         Act::Scroll(offset) => Facts { offset, ..facts },
+        Act::Direction(direction) => Facts { direction, ..facts },
     }
 }
 

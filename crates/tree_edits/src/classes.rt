@@ -13,7 +13,7 @@ pub fn takes(class: Class, act: Act) -> bool
         Act::Flag { flag, on: _ } => takes_flag(class, flag),
         Act::Intercept(_) => class.is_group(),
         Act::WeightSum(_) | Act::Orient { .. } => lays_in_line(class),
-        Act::Visible(_) | Act::Id(_) | Act::Rule { .. } => true,
+        Act::Visible(_) | Act::Id(_) | Act::Rule { .. } | Act::Direction(_) => true,
         Act::Answer(_) => !class.scrolls(),
         Act::Scroll(_) => class.scrolls(),
         Act::Ink(_) => has_text(class),

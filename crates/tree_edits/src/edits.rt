@@ -6,7 +6,7 @@ use view_tree::Key;
 /// What is asked of a tree.
 #[derive(Clone, Copy, Debug, PartialEq, Eq)]
 pub enum Edit<'a> {
-    /// A new view, the last child of its parent, or the root where there is none. Its dimensions are a number of pixels
+    /// A new view, the last child of its parent, or the root if there is none. Its dimensions are a number of pixels
     /// from 0 upward, `MATCH` or `WRAP`.
     Add {
         parent: Option<Key>,
@@ -14,7 +14,7 @@ pub enum Edit<'a> {
         width: i32,
         height: i32,
     },
-    /// A view and all below it go.
+    /// Removes a view and all below it.
     Remove(Key),
     Act {
         view: Key,

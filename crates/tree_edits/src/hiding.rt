@@ -1,4 +1,4 @@
-//! Views that go out of layout.
+//! Views that are taken out of layout.
 ghost use Rattle.std.specs.Prelude.{◌≡◌, ℕ};
 ghost use Rattle.tree_edits.specs.Hiding.{gone_one, hidden_at};
 ghost use Rattle.view_tree.specs.Rows.{first_tree, part_from, count_of_key};
@@ -6,7 +6,7 @@ ghost use Rattle.view_tree.specs.Views.{IsLive, KeepsOthers, SameTree, held_of};
 
 use view_tree::{Key, ViewTree};
 
-/// Takes a view and all below it out of layout: they are forced, lie nowhere, and no size of theirs is known.
+/// Takes a view and all below it out of layout: they are forced, have no bounds, and no size of theirs is known.
 pub fn hide(tree: &mut ViewTree, view: Key)
     requires { IsLive tree.old view }
     ensures same { SameTree tree.old tree.new }

@@ -1,4 +1,4 @@
-//! Edits of a tree of views: what a line makes of the tree, or why it is refused.
+//! Edits of a tree of views: the effect of a line on the tree, or why it is refused.
 #![tactic(auto)]
 
 mod acting;

@@ -153,7 +153,7 @@ unfolding cut_of
 text_within picture clip top =
     mul-le _ _ _ _ (whole_width picture.width clip.left clip.right clip.left) (whole_width picture.height clip.top clip.bottom top)
 
--- a column that is seen is none of those before the left edge of a clip, and one of those before its right edge
+-- a column that is seen is not before the left edge of a clip, and is before its right edge
 before_edge : (most k : ℕ) (at : ℤ) → k < edge_within most at → pos k <ℤ at
 unfolding edge_within from_zero
 before_edge most k (pos n) lt = let h : k < n = omega arith in omega (arith, ints)

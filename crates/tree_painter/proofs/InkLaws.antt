@@ -173,7 +173,7 @@ text_none ink n (pos x) (pos y) u =
 text_none ink n (pos x) (negsuc y) u = refl
 text_none ink n (negsuc x) y u = refl
 
--- what the test of a rectangle says
+-- what the test of a rectangle shows
 pub holds_left : (rect : Rect) (x y : ℤ) → holds rect x y ≡ true → rect.left ≤ℤ x
 holds_left rect x y h = grind (arith, ints)
 

@@ -101,8 +101,8 @@ module _ (view : PlainView) (frame within : Frame) (part : Rect) (shows : shows_
       none true false t u e = refl
       none false false t u e = refl
 
--- a pixel of a view: its background where it is seen, its ink over that, and what its children make of it where they
--- are seen
+-- a pixel of a view: its background where it is seen, its ink over that, and the effect of its children where they are
+-- seen
 pixel_of : (a b i c : Bool) (kids ink back : Argb → Argb) (start mid inked end : Argb) → mid ≡ (if a && b then back start else start)
     → inked ≡ (if a && b then (if i then ink mid else mid) else mid) → end ≡ (if (a && b) && c then kids inked else inked)
     → end ≡ (if a then (if b then (if c then kids (if i then ink (back start) else back start) else (if i then ink (back start) else back start)) else start) else start)

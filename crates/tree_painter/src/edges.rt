@@ -10,7 +10,7 @@ pub struct Length {
     pub pixels: i64,
 }
 
-/// A number of pixels, and 0 where it is negative.
+/// A number of pixels, or 0 if it is negative.
 #[tactic(auto, unfolding(pixel_raster::specs::Cuts::from_zero))]
 pub fn from_zero(length: Length) -> usize
     ensures { result ≡ from_zero length.pixels }

@@ -57,7 +57,7 @@ fn row_end(canvas: Canvas) -> Length
     }
 }
 
-/// The edges of a column of a cell, as far as it is seen. Its corner is the origin of the canvas.
+/// The edges of the part of a column of a cell that is seen. Its corner is the origin of the canvas.
 fn column_edges(surface: &Surface, canvas: Canvas) -> Edges
     requires { IsCanvas (2 ^ 37) canvas }
     ensures left { result.left ≡ column_at surface.now canvas.clip canvas.left }

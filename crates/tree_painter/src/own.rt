@@ -20,8 +20,8 @@ use seen_parts::{Canvas, Frame, before, inner_frame, moved, part_in, past};
 use view_model::{Class, Facts, Visibility, Work};
 use view_tree::{Key, ViewTree};
 
-/// Paints what a view shows itself where it lies so in a canvas. The answer is where its children are to be painted, if it
-/// has any and they are seen anywhere. What lies elsewhere is seen by its bounds alone, so that these come first.
+/// Paints what a view shows itself with these bounds in a canvas. Returns where its children are to be painted, if it
+/// has any and they are seen anywhere. If nothing of the view is seen, only its bounds are read, so these come first.
 pub fn paint_own(
     tree: &ViewTree,
     view: Key,
@@ -75,7 +75,7 @@ fn has_children(tree: &ViewTree, view: Key) -> bool
     }
 }
 
-/// Blends the ink of a view that lies in this frame, as far as it is seen in a part of it.
+/// Blends the ink of a view in this frame, within the part of it that is seen.
 fn paint_ink(
     tree: &ViewTree,
     view: Key,
@@ -165,8 +165,8 @@ fn text_canvas(facts: &Facts, frame: Frame, clip: Rect) -> Canvas
     }
 }
 
-/// Where the children of a view that lies in this frame are painted, if a part of it is seen: higher by the view's
-/// offset, and where its padding cuts them off within that.
+/// Where the children of a view in this frame are painted, if a part of it is seen: higher by the view's offset, and
+/// within its padding if that cuts them off.
 fn children_canvas(facts: &Facts, frame: Frame, part: Rect) -> Option<Canvas>
     requires reach { IsInReach frame }
     requires seen { IsSeen frame }

@@ -15,8 +15,8 @@ use seen_parts::Canvas;
 use view_model::Work;
 use view_tree::{Key, ViewTree};
 
-/// Paints a whole tree, over black, in a rectangle of the window; the rest of the picture stays. The views lie
-/// where their last layout left them.
+/// Paints a whole tree, over black, in a rectangle of the window; the rest of the picture stays. The views have the
+/// bounds of their last layout.
 pub fn paint(tree: &ViewTree, surface: &mut Surface, damage: Rect, work: &mut Work)
     ensures painted { IsPainted (λ x y under. pixel_color (geometry_of tree.now) (plain_of tree.now) x y) damage surface.old surface.new }
     ensures counted { IsCounted ((2 * count_of tree.now.tree + 1) * area_in surface.old damage) surface.old surface.new work.old work.new }

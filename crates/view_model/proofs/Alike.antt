@@ -1,4 +1,5 @@
--- A view is the same to its group, whatever is below those of its children that are gone: these count by their facts alone.
+-- A view looks the same to its group, whatever is below those of its children that are gone: only the facts of these
+-- count.
 use Rattle.std.proofs.Common.{◌≡◌, ℕ, zero, suc, Bool, true, false, Option, None, List, [], ◌∷◌, ◌++◌, ap, ◌∙◌, sym, refl, subst, inl, inr}
 use Rattle.std.proofs.lemmas.Bool.{cases_Bool}
 use Rattle.std.specs.Prelude.{if◌then◌else◌, filter}
@@ -6,7 +7,7 @@ use Rattle.view_model.specs.Course.{Child, Course, Progress, Requested, after_ph
 use Rattle.view_model.specs.Facts.{is_shown}
 use Rattle.view_model.specs.Measuring.{Measured, Rule, Specs}
 
--- the same children, but for what is below those that are gone
+-- the same children, except for what is below those that are gone
 abbrev pub Alike : List Requested → List Requested → Type 0
 Alike [] [] = Unit {0}
 Alike [] (b ∷ more) = ⊥

@@ -1,4 +1,4 @@
--- A view of any class is the same to its group, whatever is below those of its children that are gone.
+-- A view of any class looks the same to its group, whatever is below those of its children that are gone.
 use Rattle.std.proofs.Common.{◌≡◌, ◌+◌, List, [], ◌∷◌, ap, ◌∙◌}
 use mathlib.Core.Path.{fun_ext}
 use Rattle.std.specs.Prelude.{ℤ, if◌then◌else◌, map, sum_by}
@@ -9,7 +9,7 @@ use Rattle.view_model.proofs.RelativeAlike.{relative_alike}
 use Rattle.view_model.specs.Course.{Child, Requested, last_of}
 use Rattle.view_model.specs.Facts.{is_shown}
 use Rattle.view_model.specs.Geometry.{Laid, size_of_rect}
-use Rattle.view_model.specs.Layout.{Placed, calls_by, child_by, course_by, course_in, laid_by, manner_of, measured_by, placed_from, requested_by, total_by}
+use Rattle.view_model.specs.Layout.{Placed, calls_by, child_by, course_by, course_in, laid_by, manner_of, measured_by, placed_in, requested_by, total_by}
 use Rattle.view_model.specs.Measuring.{Manner, ByRule, BySiblings, Specs}
 use Rattle.view_model.specs.PlainTree.{PlainView}
 
@@ -35,7 +35,7 @@ child_alike view some more h =
         if is_shown view.facts
         then record { number = view.number; rect = rect }
         ∷ flat_map (λ (kid : Placed). kid.child.lay kid.specs kid.rect)
-        (placed_from (record { view = view; specs = specs; room = size_of_rect rect; total = total }) []
+        (placed_in (record { view = view; specs = specs; room = size_of_rect rect; total = total })
         (map (λ (kid : Requested). record { child = kid.child; specs = last_of specs kid.requests; edges = kid.edges }) kids))
         else []
 

@@ -1,4 +1,4 @@
--- What a measuring in phases leaves of a child: what was asked of it is all that changes.
+-- What a measuring in phases leaves of a child: only what was asked of it changes.
 use Rattle.std.proofs.Common.{◌≡◌, ℕ, zero, suc, Bool, true, false, Option, Some, None, List, [], ◌∷◌, ◌++◌, refl, sym, ◌∙◌, ap}
 use Rattle.std.specs.Prelude.{if◌then◌else◌, map}
 use Rattle.view_model.specs.declared.facts.Facts.{Facts}

@@ -1,4 +1,4 @@
--- Worked words of layout files, by computation: what pixels and weights they stand for.
+-- Worked words of layout files, by computation: the pixels and weights that they represent.
 use Rattle.std.specs.Prelude.{◌≡◌, ◌+◌, ◌-◌, ◌*◌, ◌^◌, pos, negsuc, refl, Some, None}
 use Rattle.view_model.specs.Dimensions.{mantissa, nearest, never_lost, pixels_in_bounds, px_of, radix, unit_of, weight_near, weight_of}
 
@@ -29,7 +29,7 @@ nothing : px_of 0x0011 160 ≡ Some (pos 0)
 unfolding px_of mantissa radix unit_of nearest never_lost pixels_in_bounds
 nothing = refl
 
--- a half goes upward on both sides of 0: 1.5 px, and -1.5 px
+-- a half is rounded up on both sides of 0: 1.5 px, and -1.5 px
 half_up : px_of (192 * 256 + 0x10) 160 ≡ Some (pos 2)
 unfolding px_of mantissa radix unit_of nearest never_lost pixels_in_bounds
 half_up = refl

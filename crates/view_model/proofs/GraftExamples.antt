@@ -20,12 +20,12 @@ view number class = record { number = number; class = class; facts = new_facts (
 abbrev refused : ℕ → ℕ → Option PlainRefusal
 refused number element = Some (record { number = number; reason = Element element })
 
--- below a view that is no group it is the first element that does not come
+-- below a view that is no group the first element is refused
 below_a_view : graft_refusal (single (view 1 View)) (Some 1) (Branch (seed View) Nothing Nothing) ≡ refused NOT_GROUP 1
 unfolding growth_refusal
 below_a_view = refl
 
--- inside an element that is no group it is the inner one, also where the sapling becomes the root
+-- inside an element that is no group the inner one is refused, also if the sapling becomes the root
 inside_a_view : graft_refusal Nothing None (Branch (seed View) (Branch (seed View) Nothing Nothing) Nothing) ≡ refused NOT_GROUP 2
 unfolding growth_refusal
 inside_a_view = refl
@@ -40,28 +40,28 @@ too_many : refusal_below FrameLayout false 1 4095 1 (Branch (seed View) Nothing 
 unfolding growth_refusal
 too_many = refl
 
--- an earlier element decides, whatever the later ones are refused for
+-- an earlier element decides, whatever later ones would be refused for
 first_decides : refusal_below FrameLayout false 1 4096 1 (Branch (seed View) (Branch (seed View) Nothing Nothing) Nothing) ≡ refused TOO_MANY_VIEWS 1
 unfolding growth_refusal
 first_decides = refl
 
--- one that comes
+-- one that is accepted
 comes : graft_refusal (single (view 1 FrameLayout)) (Some 1) (Branch (seed FrameLayout) (Branch (seed View) Nothing Nothing) Nothing) ≡ None
 unfolding growth_refusal
 comes = refl
 
--- a second child of a scroll view is the one that does not come, whatever is below the first
+-- a second child of a scroll view is refused, whatever is below the first
 full_inside : graft_refusal Nothing None (Branch (seed ScrollView) (Branch (seed FrameLayout) (Branch (seed View) Nothing Nothing) (Branch (seed View) Nothing Nothing)) Nothing)
     ≡ refused SCROLL_FULL 4
 unfolding growth_refusal
 full_inside = refl
 
--- below a scroll view that has a child no element comes
+-- below a scroll view that has a child every element is refused
 full_before : graft_refusal (Branch (view 1 ScrollView) (single (view 2 View)) Nothing) (Some 1) (Branch (seed View) Nothing Nothing) ≡ refused SCROLL_FULL 1
 unfolding growth_refusal
 full_before = refl
 
--- and it is full before it is too deep, or the tree too large
+-- and a full scroll view is reported before a depth or a tree that is too large
 full_first : refusal_below ScrollView true 32 4096 1 (Branch (seed View) Nothing Nothing) ≡ refused SCROLL_FULL 1
 unfolding growth_refusal
 full_first = refl

@@ -77,7 +77,7 @@ all_are_as_wide_as_the_widest :
 unfolding match wrap view line summed leaf frame at window clamp_coordinate child_spec_of default_size_of remaining_of resolve_of second_spec after_share alignment_on claim dim_on extent first_dim first_length greater high_margin high_padding is_skipped line_begin low_margin low_padding margins_on min_on needed_breadth padding_on resolved_breadth share size_on spec_on used_before where_even where_weighted whole_weight
 all_are_as_wide_as_the_widest = refl
 
--- the group in the line gets its own width only by the uniform pass, and with it a child that matches it
+-- the group in the line gets its own width only in the uniform pass, and with it a child that matches it
 a_child_gets_its_width_in_the_last_pass :
     full_layout (Branch (line 1 true wrap wrap) (Branch (frame 2 match (pos 10)) (Branch (leaf 3 (pos 30) (pos 10) 0) Nothing (Branch (frame 4 match (pos 10)) Nothing Nothing)) Nothing) Nothing)
     (window 100 100)
@@ -85,7 +85,7 @@ a_child_gets_its_width_in_the_last_pass :
 unfolding match wrap view line summed leaf frame at window clamp_coordinate child_spec_of default_size_of remaining_of resolve_of second_spec after_share alignment_on claim dim_on extent first_dim first_length greater high_margin high_padding is_skipped line_begin low_margin low_padding margins_on min_on needed_breadth padding_on resolved_breadth share size_on spec_on used_before where_even where_weighted whole_weight
 a_child_gets_its_width_in_the_last_pass = refl
 
--- the group's gravity places the line from its end, or in the middle; beside it a child's own goes before the group's
+-- the group's gravity places the line from its end, or in the middle; a child's own gravity overrides the group's
 low_end : PlainView
 low_end = view 1 class.LinearLayout
     (record (new_facts match match) { vertical = true; gravity = record { given = true; across = across.Right; down = down.Bottom } })

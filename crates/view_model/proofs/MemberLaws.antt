@@ -9,13 +9,13 @@ use Rattle.view_model.specs.declared.relative.Link.{Link}
 use Rattle.view_model.specs.Orders.{AreMembers, AtOnce, IsAcyclic, Reaches, Through, leads_by, members_of}
 use Rattle.view_model.specs.SiblingRules.{leads, names, nobody, sibling_verbs, value_of}
 
--- one way behind the other
+-- one path after the other
 pub reach_both : {r : ℕ → ℕ → Bool} {a b c : ℕ} → Reaches r a b → Reaches r b c → Reaches r a c
 reach_both (AtOnce is) more = Through is more
 reach_both (Through is way) more = Through is (reach_both way more)
 
 module _ (r : ℕ → ℕ → Bool) where
-  -- a way by others below the next number goes by that number itself, or not
+  -- a path by others below the next number goes by that number itself, or not
   by_next : (k a b : ℕ) → leads_by r (suc k) a b ≡ true → (leads_by r k a b ≡ true) ⊎ ((leads_by r k a k ≡ true) × (leads_by r k k b ≡ true))
   by_next k a b is = elim (or_cases (leads_by r k a b) (leads_by r k a k && leads_by r k k b) is) [
     | inl at_once ↦ inl at_once
@@ -36,7 +36,7 @@ module _ (r : ℕ → ℕ → Bool) where
     | inr both ↦ reach_both (leads_by-reaches k a k both.0) (leads_by-reaches k k b both.1)
   ]
 
-  -- where a way ends at the next number, or begins there, it goes by fewer
+  -- if a path ends at the next number, or begins there, it goes by fewer
   to_next : (k a : ℕ) → leads_by r (suc k) a k ≡ true → leads_by r k a k ≡ true
   to_next k a is = elim (by_next k a k is) [ inl fewer ↦ fewer | inr both ↦ both.0 ]
 
@@ -148,7 +148,7 @@ module _ (r : ℕ → ℕ → Bool) (count : ℕ) (inside : (a b : ℕ) → r a 
     whole = λ place low high passes. are.whole place (omega arith) (leads_by-reaches r count place place passes);
   })
 
--- where none reaches itself, there are no members
+-- if no place reaches itself, there are no members
 nobody_passes : (test : ℕ → Bool) (list : List ℕ) → ((place : ℕ) → test place ≡ false) → filter test list ≡ []
 nobody_passes test [] none = refl
 nobody_passes test (place ∷ list) none = rw (none place) (nobody_passes test list none)
@@ -161,7 +161,7 @@ no_members r count acyclic =
       | inr not_itself ↦ not_itself
     ])
 
--- a child leads only to one that is there: nobody has the id 0
+-- a child leads only to one that is there: no child has the id 0
 pub leads_inside : (axis : Axis) (links : List Link) (a b : ℕ) → leads axis links a b ≡ true → b < length links
 unfolding leads names
 leads_inside axis links a b is = elim (cases_lt b (length links)) [

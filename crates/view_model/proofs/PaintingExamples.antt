@@ -21,34 +21,35 @@ use Rattle.view_model.specs.Painting.{picture}
 use Rattle.view_model.specs.PlainTree.{PlainView}
 use Rattle.view_model.specs.TextView.{cells_in}
 use Rattle.view_model.specs.Visible.{visible_rect}
+use Rattle.view_model.specs.Font.{font}
 
 -- glyphs: of the first character of the font, of the last, of those beside them, and right of a glyph
 a_space_is_empty : glyph_of 32 2 ≡ 0
-unfolding glyph_of
+unfolding glyph_of font
 a_space_is_empty = refl
 
 an_exclamation_mark_has_one_column : glyph_of 33 2 ≡ 0x5f
-unfolding glyph_of
+unfolding glyph_of font
 an_exclamation_mark_has_one_column = refl
 
 an_i_has_a_column : glyph_of 73 2 ≡ 0x7f
-unfolding glyph_of
+unfolding glyph_of font
 an_i_has_a_column = refl
 
 a_tilde_is_the_last : glyph_of 126 4 ≡ 0x08
-unfolding glyph_of
+unfolding glyph_of font
 a_tilde_is_the_last = refl
 
 the_next_character_is_a_box : glyph_of 127 0 ≡ 0x7f
-unfolding glyph_of
+unfolding glyph_of font
 the_next_character_is_a_box = refl
 
 a_control_character_is_a_box : glyph_of 31 1 ≡ 0x41
-unfolding glyph_of
+unfolding glyph_of font
 a_control_character_is_a_box = refl
 
 the_sixth_column_is_empty : glyph_of 126 5 ≡ 0
-unfolding glyph_of
+unfolding glyph_of font
 the_sixth_column_is_empty = refl
 
 match : ℤ
@@ -100,7 +101,7 @@ nothing_that_lies_nowhere_is_drawn : picture 2 1 [] (patched group patch) ≡ co
 unfolding match view color group patch patched
 nothing_that_lies_nowhere_is_drawn = refl
 
--- a group that is scrolled by 1 pixel: its child lies higher
+-- a group that is scrolled by 1 pixel: its child is higher
 a_scrolled_child_is_drawn_higher :
     picture 1 3 (at 1 (pos 0) (pos 0) (pos 1) (pos 3) ∷ at 2 (pos 0) (pos 2) (pos 1) (pos 3) ∷ [])
     (patched (record (new_facts match match) { offset = pos 1 }) (record (new_facts match match) { background = color 0xff00_00ff }))
@@ -121,11 +122,11 @@ white = color 0xffff_ffff
 a_glyph_is_inked :
     picture 6 2 (at 1 (pos 0) (pos 0) (pos 6) (pos 8) ∷ []) letter
     ≡ (black ∷ white ∷ white ∷ white ∷ black ∷ black ∷ []) ++ (black ∷ black ∷ white ∷ black ∷ black ∷ black ∷ [])
-unfolding match at letter color black white cells_in lines_for cell_in glyph_of alpha_of red_of green_of blue_of mixed opaque_of blend_of
+unfolding match at letter color black white cells_in lines_for cell_in glyph_of alpha_of red_of green_of blue_of mixed opaque_of blend_of font
 a_glyph_is_inked = refl
 
--- what is seen of views: a child within its group's padding, a view within its group's bounds, and one that lies
--- nowhere
+-- what is seen of views: a child within its group's padding, a view within its group's bounds, and one that has no
+-- bounds
 a_child_is_seen_within_the_padding : visible_rect (patched group patch) (full_layout (patched group patch) window) window 2 ≡ record { left = pos 1; top = pos 1; right = pos 3; bottom = pos 2 }
 unfolding match view color group patch patched window clamp_coordinate child_spec_of default_size_of remaining_of resolve_of second_spec meet_of larger_of smaller_of
 a_child_is_seen_within_the_padding = refl

@@ -1,4 +1,5 @@
--- A relative layout's measuring is the same, whatever is below those of its children that are gone: nobody is tied to these.
+-- Measuring a relative layout gives the same, whatever is below those of its children that are gone: no child is tied
+-- to these.
 use Rattle.std.proofs.Common.{◌≡◌, ℕ, zero, suc, ◌+◌, Bool, true, false, Option, Some, None, List, [], ◌∷◌, arith, ap, ◌∙◌, sym, refl, subst, inl, inr}
 use mathlib.Core.Path.{fun_ext}
 use Rattle.std.proofs.lemmas.Bool.{cases_Bool}
@@ -77,53 +78,53 @@ map_alike : {X Y : Type 0} (o : Option X) (f g : X → Y) → ((x : X) → o ≡
 map_alike None f g same = refl
 map_alike (Some x) f g same = ap Some (same x refl)
 
-anchor_alike : (axis : Axis) (some more : List Child) → KidsAlike some more → (f g : ℕ → ℤ × ℤ) → SpansAgree some f g → (tie : Tie) (place : ℕ)
-    → anchor_by axis some f tie place ≡ anchor_by axis more g tie place
-anchor_alike axis some more h f g same tie place =
+anchor_alike : (rtl : Bool) (axis : Axis) (some more : List Child) → KidsAlike some more → (f g : ℕ → ℤ × ℤ) → SpansAgree some f g → (tie : Tie) (place : ℕ)
+    → anchor_by rtl axis some f tie place ≡ anchor_by rtl axis more g tie place
+anchor_alike rtl axis some more h f g same tie place =
     let with : List Child → (ℕ → ℤ × ℤ) → ℕ → Anchor = λ kids spans sibling. anchor_with axis (child_at kids sibling).facts (spans sibling) in
-    let found = anchor_of axis tie (links_of some) (shown_at some) place in
-    let links : found ≡ anchor_of axis tie (links_of more) (shown_at some) place = ap (λ (links : List Link). anchor_of axis tie links (shown_at some) place) (links_alike some more h) in
-    let both : found ≡ anchor_of axis tie (links_of more) (shown_at more) place = links ∙ ap (λ shown. anchor_of axis tie (links_of more) shown place) (shown_alike_at some more h) in
+    let found = anchor_of rtl axis tie (links_of some) (shown_at some) place in
+    let links : found ≡ anchor_of rtl axis tie (links_of more) (shown_at some) place = ap (λ (links : List Link). anchor_of rtl axis tie links (shown_at some) place) (links_alike some more h) in
+    let both : found ≡ anchor_of rtl axis tie (links_of more) (shown_at more) place = links ∙ ap (λ shown. anchor_of rtl axis tie (links_of more) shown place) (shown_alike_at some more h) in
     let each = map_alike found (with some f) (with more g) (λ sibling is.
-    let here = anchor_shown (length (links_of some)) (shown_at some) (named_sibling axis tie (links_of some)) place sibling is in
+    let here = anchor_shown (length (links_of some)) (shown_at some) (named_sibling rtl axis tie (links_of some)) place sibling is in
     ap (λ (facts : Facts). anchor_with axis facts (f sibling)) (at_alike some more h sibling).facts
     ∙ ap (anchor_with axis (child_at more sibling).facts) (same sibling here)) in
     each ∙ ap (option_map (with more g)) both
 
-anchors_alike : (axis : Axis) (some more : List Child) → KidsAlike some more → (f g : ℕ → ℤ × ℤ) → SpansAgree some f g → (place : ℕ)
-    → anchors_by axis some f place ≡ anchors_by axis more g place
-anchors_alike axis some more h f g same place =
+anchors_alike : (rtl : Bool) (axis : Axis) (some more : List Child) → KidsAlike some more → (f g : ℕ → ℤ × ℤ) → SpansAgree some f g → (place : ℕ)
+    → anchors_by rtl axis some f place ≡ anchors_by rtl axis more g place
+anchors_alike rtl axis some more h f g same place =
     rw (
-      anchor_alike axis some more h f g same Before place,
-      anchor_alike axis some more h f g same After place,
-      anchor_alike axis some more h f g same AlignNear place,
-      anchor_alike axis some more h f g same AlignFar place,
+      anchor_alike rtl axis some more h f g same Before place,
+      anchor_alike rtl axis some more h f g same After place,
+      anchor_alike rtl axis some more h f g same AlignNear place,
+      anchor_alike rtl axis some more h f g same AlignFar place,
     ) refl
 
 asked_across_alike : (own : Facts) (specs : Specs) (some more : List Child) → KidsAlike some more → (f g : ℕ → ℤ × ℤ) → SpansAgree some f g → (place : ℕ)
     → asked_across own specs some f place ≡ asked_across own specs more g place
 asked_across_alike own specs some more h f g same place =
-    ap (λ anchors. across_specs own specs (child_at some place).facts anchors) (anchors_alike Horizontal some more h f g same place)
-    ∙ ap (λ (facts : Facts). across_specs own specs facts (anchors_by Horizontal more g place)) (at_alike some more h place).facts
+    ap (λ anchors. across_specs own specs (child_at some place).facts anchors) (anchors_alike own.rtl Horizontal some more h f g same place)
+    ∙ ap (λ (facts : Facts). across_specs own specs facts (anchors_by own.rtl Horizontal more g place)) (at_alike some more h place).facts
 
 asked_down_alike : (own : Facts) (specs : Specs) (some more : List Child) → KidsAlike some more → (across over f g : ℕ → ℤ × ℤ)
     → SpansAgree some across over → SpansAgree some f g → (place : ℕ) → shown_at some place ≡ true
     → asked_down own specs some across f place ≡ asked_down own specs more over g place
 asked_down_alike own specs some more h across over f g wide same place here =
-    ap (λ anchors. down_specs own specs (child_at some place).facts (across place) anchors) (anchors_alike Vertical some more h f g same place)
-    ∙ ap (λ (facts : Facts). down_specs own specs facts (across place) (anchors_by Vertical more g place)) (at_alike some more h place).facts
-    ∙ ap (λ span. down_specs own specs (child_at more place).facts span (anchors_by Vertical more g place)) (wide place here)
+    ap (λ anchors. down_specs own specs (child_at some place).facts (across place) anchors) (anchors_alike own.rtl Vertical some more h f g same place)
+    ∙ ap (λ (facts : Facts). down_specs own specs facts (across place) (anchors_by own.rtl Vertical more g place)) (at_alike some more h place).facts
+    ∙ ap (λ span. down_specs own specs (child_at more place).facts span (anchors_by own.rtl Vertical more g place)) (wide place here)
 
 -- one step
 across_alike : (own : Facts) (specs : Specs) (some more : List Child) → KidsAlike some more → (f g : ℕ → ℤ × ℤ) → SpansAgree some f g
     → SpansAgree some (span_across own specs some f) (span_across own specs more g)
 across_alike own specs some more h f g same place here =
-    rw (sym ((at_alike some more h place).whole here), anchors_alike Horizontal some more h f g same place) refl
+    rw (sym ((at_alike some more h place).whole here), anchors_alike own.rtl Horizontal some more h f g same place) refl
 
 down_alike : (own : Facts) (specs : Specs) (some more : List Child) → KidsAlike some more → (across over f g : ℕ → ℤ × ℤ)
     → SpansAgree some across over → SpansAgree some f g → SpansAgree some (span_down own specs some across f) (span_down own specs more over g)
 down_alike own specs some more h across over f g wide same place here =
-    rw (sym ((at_alike some more h place).whole here), sym (wide place here), anchors_alike Vertical some more h f g same place) refl
+    rw (sym ((at_alike some more h place).whole here), sym (wide place here), anchors_alike own.rtl Vertical some more h f g same place) refl
 
 -- all steps
 following_alike : (some : List Child) (step other : (ℕ → ℤ × ℤ) → ℕ → ℤ × ℤ)

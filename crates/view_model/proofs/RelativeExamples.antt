@@ -72,7 +72,7 @@ stand_in_a_row : all_sides (relative_course (new_facts match match) (told 100 10
 unfolding row told view with_rules child rect all_sides match near_side far_side bounded_spec available_to unbounded_spec loose_spec free_near span_of moved_span width_of default_size_of resolve_of clamp_coordinate
 stand_in_a_row = refl
 
--- where the second is gone, the third is beside the first
+-- if the second is gone, the third is beside the first
 hidden : List Facts
 hidden = view 1 (pos 20) (pos 10) [] ∷ gone (view 2 (pos 30) (pos 10) ((RIGHT_OF, 1) ∷ [])) ∷ view 0 (pos 10) (pos 10) ((RIGHT_OF, 2) ∷ []) ∷ []
 
@@ -88,7 +88,7 @@ last_of_two : all_sides (relative_course (new_facts match match) (told 100 100) 
 unfolding twins told view with_rules child rect all_sides match near_side far_side bounded_spec available_to unbounded_spec loose_spec free_near span_of moved_span width_of default_size_of resolve_of clamp_coordinate
 last_of_two = refl
 
--- a child that is the last with the id that it names is tied to nobody
+-- a child that is the last with the id that it names is tied to no sibling
 own_id : List Facts
 own_id = view 1 (pos 10) (pos 10) [] ∷ view 1 (pos 20) (pos 10) ((RIGHT_OF, 1) ∷ []) ∷ []
 
@@ -120,7 +120,7 @@ move_in_the_end : all_sides (relative_course (new_facts wrap wrap) loose (map ch
 unfolding wrapped loose view with_rules child rect all_sides match near_side far_side bounded_spec available_to unbounded_spec loose_spec free_near span_of moved_span width_of default_size_of resolve_of clamp_coordinate wrap
 move_in_the_end = refl
 
--- a limit is a size to go by: the child at the far side makes the group as wide as that
+-- a limit is a size to use: the child at the far side makes the group that wide
 limited : Specs
 limited = record { across = record { mode = AtMost; size = pos 100 }; down = record { mode = AtMost; size = pos 100 } }
 
@@ -136,7 +136,7 @@ fills_what_is_between : all_sides (relative_course (new_facts match match) (told
 unfolding between told view with_rules child rect all_sides match near_side far_side bounded_spec available_to unbounded_spec loose_spec free_near span_of moved_span width_of default_size_of resolve_of clamp_coordinate
 fills_what_is_between = refl
 
--- a start form takes the place of a left one, though it names no child
+-- a start form replaces a left one, even if it names no child
 starts : List Facts
 starts = view 1 (pos 10) (pos 10) ((PARENT_RIGHT, 1) ∷ []) ∷ view 0 (pos 5) (pos 5) ((LEFT_OF, 1) ∷ (START_OF, 7) ∷ []) ∷ []
 
@@ -144,7 +144,7 @@ start_form_wins : all_sides (relative_course (new_facts match match) (told 100 1
 unfolding starts told view with_rules child rect all_sides match near_side far_side bounded_spec available_to unbounded_spec loose_spec free_near span_of moved_span width_of default_size_of resolve_of clamp_coordinate
 start_form_wins = refl
 
--- a far side before the near one counts as that
+-- a far side before the near one counts as the near one
 turned_around : rect_between (pos 30, pos 20) (pos 0, pos 10) ≡ rect 30 0 30 10
 unfolding rect
 turned_around = refl
@@ -205,7 +205,7 @@ entangled first second third =
     group (Branch (plain 2 (view 1 (pos 5) (pos 5) ((first, 2) ∷ []))) Nothing
     (Branch (plain 3 (view 2 (pos 5) (pos 5) ((second, 1) ∷ []))) Nothing (Branch (plain 4 (view 3 (pos 5) (pos 5) ((third, 1) ∷ []))) Nothing Nothing)))
 
--- a pair that name each other are told; one that only names one of them is no member
+-- a pair that name each other are reported; one that only names one of them is no member
 a_pair_is_told : first_cycle member.View (entangled RIGHT_OF ALIGN_LEFT END_OF) ≡ Some (record { number = 18; reason = Cycle false (member.View 2 ∷ member.View 3 ∷ []) })
 unfolding entangled group plain view with_rules match leads names
 a_pair_is_told = refl

@@ -31,7 +31,7 @@ size w h = record { w = pos w; h = pos h }
 padded : Facts
 padded = record (new_facts match match) { padding = record { left = pos 0; top = pos 5; right = pos 0; bottom = pos 3 } }
 
--- one that is to be filled
+-- one whose child fills it
 filled : Facts
 filled = record padded { fill = true }
 

@@ -1,4 +1,4 @@
--- Worked lists in preorder, by computation: which trees they stand for.
+-- Worked lists in preorder, by computation: the trees that they represent.
 use Rattle.std.specs.Prelude.{◌≡◌, ℕ, pos, refl, [], ◌∷◌, List, true, false}
 use Rattle.view_model.specs.declared.kinds.Class.TheVariants.{FrameLayout}
 use Rattle.view_model.specs.declared.sprout.Sprout.{Sprout}
@@ -7,7 +7,7 @@ use Rattle.view_model.specs.Forest.{Forest, Nothing, Branch}
 use Rattle.view_model.specs.PlainTree.{numbers_of}
 use Rattle.view_model.specs.Sprouts.{Seed, is_preorder, numbered, preorder, seeds_of, sprout_of}
 
--- a view that is told from others by its width
+-- a view that is distinguished from others by its width
 seed : ℕ → Seed
 seed width = record { class = FrameLayout; facts = new_facts (pos width) (pos 0); text = [] }
 

@@ -1,4 +1,4 @@
--- A list in preorder with depths and its trees stand for one another.
+-- A list in preorder with depths and its trees represent one another.
 use Rattle.std.proofs.Common.{◌≡◌, ℕ, suc, ◌+◌, ◌<◌, ◌≤◌, List, [], ◌∷◌, ◌++◌, refl, sym, subst, ◌∙◌, ap, arith, append_assoc, true, false, Bool}
 use Rattle.std.proofs.lemmas.Bool.{and_parts, eqb-true, leb-true, le-ltb, lt-ltb, ltb-false, ltb-true}
 use Rattle.std.proofs.lemmas.List.{append-nil}
@@ -7,7 +7,7 @@ use Rattle.view_model.specs.declared.sprout.Sprout.{Sprout}
 use Rattle.view_model.specs.Forest.{Forest, Nothing, Branch}
 use Rattle.view_model.specs.Sprouts.{IsPreorder, Seed, Stem, beyond, deeper, follows, preorder, seeds_of, sprout_of, stems}
 
--- the outermost views of trees as stems, where they have this depth
+-- the outermost views of trees as stems, if they have this depth
 abbrev stems_at : ℕ → Forest Seed → List Stem
 stems_at depth Nothing = []
 stems_at depth (Branch seed below after) = record { depth = depth; seed = seed; below = below } ∷ stems_at depth after
@@ -50,7 +50,7 @@ pub seeds_of-preorder : (t : Forest Seed) → seeds_of (preorder 1 t) ≡ t
 seeds_of-preorder t =
     ap seeds_of (sym (append-nil (preorder 1 t))) ∙ ap (deeper 0) (stems-preorder 1 t [] tt) ∙ deeper-at 0 t [] tt
 
--- each of these is at most as deep as the one before it, the first as this
+-- each of these is at most as deep as the one before it, and the first at most this deep
 abbrev Sinks : ℕ → List Stem → Type 0
 Sinks most [] = Unit {0}
 Sinks most (stem ∷ more) = (stem.depth ≤ most) × Sinks stem.depth more
@@ -77,7 +77,7 @@ sinks-stems before (sprout ∷ more) f =
     let p = parts before sprout more f in
     (omega (arith, p.1.0), sinks-beyond sprout.depth (suc sprout.depth) (stems more) (sinks-stems sprout.depth more p.1.1))
 
--- the list that stems stand for
+-- the list that stems represent
 abbrev listed : List Stem → List Sprout
 listed [] = []
 listed (stem ∷ more) = sprout_of stem.depth stem.seed ∷ (preorder (suc stem.depth) stem.below ++ listed more)
@@ -113,7 +113,7 @@ beyond-beyond d (stem ∷ more) = by_test (nat_lt d stem.depth) refl (beyond-bey
         rw (is, some) later
     by_test false is later = rw is refl
 
--- none of the views stands outside of the trees
+-- no view is outside of the trees
 none_beyond : (before : ℕ) (sprouts : List Sprout) → follows before sprouts ≡ true → beyond 0 (stems sprouts) ≡ []
 none_beyond before [] f = refl
 none_beyond before (sprout ∷ more) f =

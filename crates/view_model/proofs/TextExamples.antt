@@ -41,7 +41,7 @@ a_segment_that_fits_takes_one_line : count_of_lines 5 (codes "Inbox") ≡ 1
 unfolding lines_for
 a_segment_that_fits_takes_one_line = refl
 
--- `ab` on its line, `c` on the next, and then `d` behind the newline
+-- `ab` on its line, `c` on the next, and then `d` after the newline
 a_cell_has_its_character : cell_of 2 (97 ∷ 98 ∷ 99 ∷ 10 ∷ 100 ∷ []) 1 0 ≡ Some 99
 unfolding lines_for cell_in
 a_cell_has_its_character = refl

@@ -24,7 +24,7 @@ lengths_of text = map length (segments_of text)
 abbrev pub widest_of : List ℕ → ℕ
 widest_of text = fold max 0 (lengths_of text)
 
--- how many lines of n cells a segment of so many characters takes: an empty one takes a line too
+-- how many lines of n cells a segment of this many characters takes: an empty one takes a line too
 unfoldable pub lines_for : ℕ → ℕ → ℕ
 lines_for n characters = max 1 (div_ceil characters n)
 

@@ -8,15 +8,15 @@ use Rattle.view_model.specs.Geometry.{Laid}
 use Rattle.view_model.specs.Measuring.{Specs, Measured, Rule}
 
 -- what a group may ask of a child: its facts, its size under two specs, how many views are measured for that, and the
--- views that are laid out where it has this rectangle under these specs, itself first
+-- views that are laid out if it has this rectangle under these specs, itself first
 pub record Child : Type 0 where
   pub facts : Facts
   pub measure : Specs → Size
   pub calls : Specs → ℕ
   pub lay : Specs → Rect → List Laid
 
--- a child with the specs under which its group has measured it so far, in order, and its four sides, where measuring
--- settles them
+-- a child with the specs under which its group has measured it so far, in order, and its four sides, if measuring
+-- determines them
 pub record Requested : Type 0 where
   pub child : Child
   pub requests : List Specs
@@ -40,7 +40,7 @@ abbrev pub asked_for : Option Specs → Requested → Requested
 asked_for None kid = kid
 asked_for (Some specs) kid = record kid { requests = kid.requests ++ specs ∷ [] }
 
--- a child after its turn in a phase in which the children before it came to these sizes
+-- a child after its turn in a phase in which the children before it got these sizes
 abbrev pub after_turn : (List Measured → Measured → Option Specs) → List Measured → Requested → Requested
 after_turn ask taken kid = if is_shown kid.child.facts then asked_for (ask taken (measured_of kid)) kid else kid
 
@@ -52,7 +52,7 @@ abbrev pub sizes_of : List Requested → List Measured
 sizes_of [] = []
 sizes_of (kid ∷ kids) = size_in kid ++ sizes_of kids
 
--- children after a phase, behind others that came to these sizes in it
+-- children after a phase, following others that got these sizes in it
 abbrev pub after_phase : (List Measured → Measured → Option Specs) → List Measured → List Requested → List Requested
 after_phase ask taken [] = []
 after_phase ask taken (kid ∷ kids) = after_turn ask taken kid ∷ after_phase ask (taken ++ size_in (after_turn ask taken kid)) kids
@@ -71,7 +71,7 @@ one_phase rule progress =
     let kids = after_phase (rule.ask progress.past) [] progress.kids in
     record { past = progress.past ++ sizes_of kids ∷ []; kids = kids }
 
--- after as many phases more as follow, up to this number
+-- after as many more phases as follow, up to this number
 abbrev pub phases_on : ℕ → Rule → Progress → Progress
 phases_on zero rule progress = progress
 phases_on (suc left) rule progress = if rule.turns progress.past then phases_on left rule (one_phase rule progress) else progress
@@ -81,7 +81,7 @@ abbrev pub ended : Rule → List Child → Progress
 ended rule kids = phases_on 2 rule (one_phase rule (begun kids))
 
 -- a measuring of a view: its children at the end, its size, and what they take along its axis. A child that is gone
--- stays in the list, with no request, and counts by its facts alone
+-- stays in the list, with no request, and only its facts count
 pub record Course : Type 0 where
   pub kids : List Requested
   pub size : Size

@@ -1,4 +1,4 @@
--- Cycles among the children of relative layouts, and why a tree is refused for one.
+-- Cycles among the children of relative layouts, and why they make a tree refused.
 use Rattle.std.specs.Prelude.{ℕ, suc, ◌-◌, Bool, true, false, if◌then◌else◌, nat_lt, List, [], ◌∷◌, length, map, slice_index, Option, Some, None}
 use Rattle.std.specs.Option.{option_or}
 use Rattle.view_model.specs.declared.kinds.Class.{Class}
@@ -26,7 +26,7 @@ is_relative class.LinearLayout = false
 is_relative class.ScrollView = false
 is_relative class.RelativeLayout = true
 
--- something of each view of a list, but not of those below them
+-- a value of each view of a list, but not of those below them
 abbrev pub each : {X : Type 0} → (PlainView → X) → Forest PlainView → List X
 each f Nothing = []
 each f (Branch view below after) = f view ∷ each f after
@@ -45,7 +45,7 @@ numbers_in list = each (λ view. view.number) list
 abbrev pub cyclic : Axis → Forest PlainView → List ℕ
 cyclic axis kids = map (slice_index (numbers_in kids)) (members_of (leads axis (links_in kids)) (length (links_in kids)))
 
--- a cycle with these members is told, by the names that these numbers have
+-- a cycle with these members is reported, by the names that these numbers have
 abbrev pub cycle_with : (ℕ → Member) → Bool → List ℕ → Option PlainRefusal
 cycle_with name down [] = None
 cycle_with name down (number ∷ more) = Some (record { number = CYCLE; reason = Cycle down (map name (number ∷ more)) })
@@ -57,16 +57,17 @@ cycle_among name kids = option_or (cycle_with name false (cyclic Horizontal kids
 abbrev pub cycle_below : (ℕ → Member) → Class → Forest PlainView → Option PlainRefusal
 cycle_below name class kids = if is_relative class then cycle_among name kids else None
 
--- why a tree can't be so: the cycles of the first relative layout in preorder that has some
+-- why a tree can't be so: the cycles of the first relative layout in preorder that has any
 abbrev pub first_cycle : (ℕ → Member) → Forest PlainView → Option PlainRefusal
 first_cycle name Nothing = None
 first_cycle name (Branch view below after) =
     option_or (cycle_below name view.class below) (option_or (first_cycle name below) (first_cycle name after))
 
--- a view that comes with a sapling, whose first view gets the number `next`, is told as an element; another as a view
+-- a view that comes with a sapling, whose first view gets the number `next`, is reported as an element; another as a
+-- view
 abbrev pub member_from : ℕ → ℕ → Member
 member_from next number = if nat_lt number next then member.View number else member.Element (suc number - next)
 
--- why a tree does not take a sapling, whose views get the numbers from `next` on, if nothing speaks against its size
+-- why a tree does not take a sapling, whose views get the numbers from `next` on, if its size is no reason
 abbrev pub graft_cycle : Forest PlainView → Option ℕ → ℕ → Forest Seed → Option PlainRefusal
 graft_cycle tree parent next sapling = first_cycle (member_from next) (grown_at parent (numbered next sapling) tree)

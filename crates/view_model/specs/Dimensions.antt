@@ -1,4 +1,4 @@
--- What the words of dimensions and of floats in a layout file stand for.
+-- The meaning of the words of dimensions and of floats in a layout file.
 use Rattle.std.specs.Prelude.{ℕ, ◌+◌, ◌*◌, ◌-◌, ◌^◌, ◌/◌, ◌%◌, ◌==◌, ◌&&◌, ◌||◌, not, nat_lt, int_lt, ℤ, pos, negsuc, ◌+ℤ◌, ◌*ℤ◌, Bool, Option, Some, None, if◌then◌else◌}
 use Rattle.std.specs.Int.{int_div_euclid}
 use Rattle.std.specs.Ordering.{int_eq}
@@ -22,11 +22,11 @@ mantissa word = if nat_lt (word / 256) 0x80_0000 then pos (word / 256) else negs
 unfoldable pub radix : ℕ → ℕ
 radix bits = if bits == 0 then 1 else (if bits == 1 then 2 ^ 7 else (if bits == 2 then 2 ^ 15 else 2 ^ 23))
 
--- a whole number that is near x, but where that is 0 and x is not, 1 or -1 by the sign of x
+-- an integer near x, but if that is 0 and x is not, 1 or -1 by the sign of x
 unfoldable pub never_lost : ℤ → ℤ → ℤ
 never_lost near x = if not (int_eq near (pos 0)) then near else (if int_eq x (pos 0) then near else (if int_lt x (pos 0) then negsuc 0 else pos 1))
 
--- x / d to the nearest whole number, a half upward, and never 0 where x is not 0
+-- x / d to the nearest integer, a half rounded up, and never 0 if x is not 0
 unfoldable pub nearest : ℤ → ℕ → ℤ
 nearest x d = never_lost (int_div_euclid (pos 2 *ℤ x +ℤ pos d) (pos 2 *ℤ pos d)) x
 
@@ -42,7 +42,7 @@ px_in word (Some unit) = pixels_in_bounds (nearest (mantissa word *ℤ pos unit.
 unfoldable pub px_of : ℕ → ℕ → Option ℤ
 px_of word dpi = px_in word (unit_of dpi (word % 16))
 
--- 256ths of a float with this fraction and exponent, to the nearest, a half upward:
+-- 256ths of a float with this fraction and exponent, to the nearest, a half rounded up:
 -- (2^23 + fraction) * 2^(exponent - 142)
 unfoldable pub weight_near : ℕ → ℕ → ℕ
 weight_near fraction exponent =

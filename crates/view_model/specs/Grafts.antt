@@ -8,12 +8,12 @@ use Rattle.view_model.specs.PlainTree.{PlainView, depth_of, has_child, view_in}
 use Rattle.view_model.specs.Refusals.{PlainRefusal, Element}
 use Rattle.view_model.specs.Sprouts.{Seed}
 
--- the reason, if there is one, told of an element
+-- the reason, if there is one, reported for an element
 abbrev pub at_element : ℕ → Option PlainRefusal → Option PlainRefusal
 at_element element reason = option_map (λ (refusal : PlainRefusal). record refusal { reason = Element element }) reason
 
--- why a view of this class and depth, which has a child or none, does not take these trees as children in a tree of so
--- many views; the first view of the trees is this element
+-- why a view of this class and depth, which has a child or none, does not take these trees as children in a tree of n
+-- views; the first view of the trees is this element
 abbrev pub refusal_below : (class : Class) (occupied : Bool) (depth count element : ℕ) → Forest Seed → Option PlainRefusal
 refusal_below class occupied depth count element Nothing = None
 refusal_below class occupied depth count element (Branch seed below after) =
@@ -25,7 +25,8 @@ abbrev pub refusal_below_of : (view : Option PlainView) (occupied : Bool) (depth
 refusal_below_of None occupied depth count sapling = None
 refusal_below_of (Some view) occupied depth count sapling = refusal_below view.class occupied depth count 1 sapling
 
--- why a tree of so many views does not take a sapling as its root: for what is below the outermost view, which is taken
+-- why a tree of n views does not take a sapling as its root: because of what is below the outermost view, which is
+-- taken
 abbrev pub root_refusal : ℕ → Forest Seed → Option PlainRefusal
 root_refusal count Nothing = None
 root_refusal count (Branch seed below after) = refusal_below seed.class false 1 (suc count) 2 below

@@ -26,8 +26,8 @@ takes_one_child LinearLayout = false
 takes_one_child ScrollView = true
 takes_one_child RelativeLayout = false
 
--- why a view of this class and depth, which has a child or none, takes no more in a tree of so many views: it is no
--- group, it has the one child that it takes, it is too deep, or the tree is full
+-- why a view of this class and depth, which has a child or none, takes no more in a tree of n views: it is no group, it
+-- has the one child that it takes, it is too deep, or the tree is full
 unfoldable pub growth_refusal : (class : Class) (occupied : Bool) (depth count : ℕ) → Option PlainRefusal
 growth_refusal class occupied depth count =
     if not (is_group class) then Some (refusal_numbered NOT_GROUP)
@@ -45,7 +45,7 @@ abbrev pub refusal_at : Forest PlainView → Option ℕ → Option PlainRefusal
 refusal_at tree None = None
 refusal_at tree (Some parent) = growth_refusal_of (view_in tree parent) (has_child parent tree) (depth_of parent tree) (count_of tree)
 
--- the tree with a view behind the children of its parent, or as its root
+-- the tree with a view after the children of its parent, or as its root
 abbrev pub grown_at : Option ℕ → Forest PlainView → Forest PlainView → Forest PlainView
 grown_at None new tree = new
 grown_at (Some parent) new tree = grown parent new tree

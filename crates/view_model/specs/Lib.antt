@@ -3,7 +3,10 @@ pub mod Changes
 pub mod Course
 pub mod Cycles
 pub mod Dimensions
+pub mod Directed
+pub mod Direction
 pub mod Facts
+pub mod Font
 pub mod Forest
 pub mod FrameLayout
 pub mod Geometry
@@ -14,6 +17,7 @@ pub mod Layout
 pub mod Leaf
 pub mod LinearLayout
 pub mod Measuring
+pub mod Numbers
 pub mod Offsets
 pub mod Orders
 pub mod Painting

@@ -1,5 +1,5 @@
--- A linear layout: its children stand in a line, from left to right or from top to bottom, and share by weight what is
--- left of its length. An axis is vertical or not: `vertical` is that of the line, and `not vertical` the one beside it.
+-- A linear layout: its children form a line, from left to right or from top to bottom, and share by weight what is left
+-- of its length. An axis is vertical or not: `vertical` is that of the line, and `not vertical` the one across it.
 use Rattle.std.specs.Prelude.{ℤ, pos, ℕ, ◌+◌, ◌==◌, ◌+ℤ◌, ◌-ℤ◌, ◌*ℤ◌, int_div, int_lt, Bool, false, ◌&&◌, ◌||◌, not, if◌then◌else◌, nat_lt, List, [], ◌∷◌, fold, sum_by, Option, Some, None}
 use Rattle.std.specs.Int.{int_max}
 use Rattle.std.specs.List.{list_all, list_any}
@@ -19,7 +19,7 @@ use Rattle.view_model.specs.Facts.{is_match, margin_left, margin_right, margins_
 use Rattle.view_model.specs.FrameLayout.{is_exactly}
 use Rattle.view_model.specs.Geometry.{rect_at}
 use Rattle.view_model.specs.Measuring.{Specs, Measured, Rule}
-use Rattle.view_model.specs.Placing.{alignment_across, alignment_down, low_edge}
+use Rattle.view_model.specs.Placing.{alignment_across, alignment_down, gravity_for, low_edge, started}
 
 -- what is read on an axis
 unfoldable pub size_on : Bool → Size → ℤ
@@ -53,8 +53,8 @@ low_padding vertical facts = if vertical then facts.padding.top else padding_lef
 unfoldable pub high_padding : Bool → Facts → ℤ
 high_padding vertical facts = if vertical then facts.padding.bottom else padding_right facts
 
-unfoldable pub alignment_on : Bool → Gravity → Alignment
-alignment_on vertical gravity = if vertical then alignment_down gravity.down else alignment_across gravity.across
+unfoldable pub alignment_on : Bool → Bool → Gravity → Alignment
+alignment_on vertical rtl gravity = if vertical then alignment_down gravity.down else alignment_across rtl gravity.across
 
 -- the two sides, the two specs and the rectangle of what is known along and beside a line
 abbrev pub size_by : Bool → ℤ → ℤ → Size
@@ -77,12 +77,12 @@ extent size margins = int_max (size +ℤ margins) (pos 0)
 abbrev pub extent_of : Bool → Measured → ℤ
 extent_of vertical kid = extent (size_on vertical kid.size) (margins_on vertical kid.facts)
 
--- its breadth, beside the line
+-- its breadth, across the line
 abbrev pub breadth_of : Bool → Measured → ℤ
 breadth_of vertical kid = size_on (not vertical) kid.size +ℤ margins_on (not vertical) kid.facts
 
--- its part in the breadth of a group that is as broad as its children are: none but the margins of one that wants to be
--- as broad as the group
+-- its part in the breadth of a group that is as broad as its children are: only its margins if it wants to be as broad
+-- as the group
 unfoldable pub claim : Bool → ℤ → ℤ → ℤ → ℤ
 claim exact dim size margins = if not exact && is_match dim then margins else size +ℤ margins
 
@@ -119,18 +119,18 @@ weighted_claim vertical exact kids = greatest_from (pos 0) (λ kid. where_weight
 abbrev pub claim_from : ℤ → Bool → Bool → List Measured → ℤ
 claim_from least vertical exact kids = greatest_from least (claim_of vertical exact) kids
 
--- whether the breadth of the group was told
+-- whether the breadth of the group was given
 abbrev pub is_exact_beside : Facts → Specs → Bool
 is_exact_beside own specs = is_exactly (spec_on (not own.vertical) specs).mode
 
--- the first pass: every child, but for those that get their length by weight alone
+-- the first pass: every child, except those that get their length by weight alone
 unfoldable pub is_skipped : Spec → ℤ → ℕ → Bool
 is_skipped along dim weight = is_exactly along.mode && (int_eq dim (pos 0) && nat_lt 0 weight)
 
 abbrev pub skips : Facts → Specs → Facts → Bool
 skips own specs kid = is_skipped (spec_on own.vertical specs) (dim_on own.vertical kid) kid.weight
 
--- what was taken of the line before a child counts as used where neither it nor one before it has a weight
+-- what was taken of the line before a child counts as used if neither it nor one before it has a weight
 unfoldable pub used_before : ℕ → ℕ → ℤ → ℤ
 used_before weights weight total = if weights + weight == 0 then total else pos 0
 
@@ -155,8 +155,8 @@ first_pass own specs taken kid =
     if skips own specs kid.facts then None
     else Some (specs_by own.vertical (first_along own specs taken kid.facts) (spec_beside own specs kid.facts))
 
--- what children and padding take of the line, the length of a group whose children came to this in the first pass, and
--- what is left of it, which may be below 0
+-- what children and padding take of the line, the length of a group whose children got these sizes in the first pass,
+-- and what is left of it, which may be below 0
 abbrev pub full_length : Facts → List Measured → ℤ
 full_length own kids = length_of own.vertical kids +ℤ padding_on own.vertical own
 
@@ -166,7 +166,7 @@ own_length own specs first = resolve_of (greater (full_length own first) (min_on
 abbrev pub spare_of : Facts → Specs → List Measured → ℤ
 spare_of own specs first = own_length own specs first -ℤ full_length own first
 
--- the weight pass: what is left is shared by weight. It runs where a child was skipped, or where there is a weight and
+-- the weight pass: what is left is shared by weight. It runs if a child was skipped, or if there is a weight and
 -- something to share
 abbrev pub has_weight_pass : Facts → Specs → List Measured → Bool
 has_weight_pass own specs first =
@@ -180,7 +180,7 @@ whole_weight sum weights = if nat_lt 0 sum then pos sum else pos weights
 unfoldable pub share : ℤ → ℤ → ℕ → ℤ
 share whole spare weight = if int_lt (pos 0) whole then int_div (pos weight *ℤ spare) whole else pos 0
 
--- what is left to share behind some children, and the weight against which that is counted
+-- what is left to share after some children, and the weight against which that is counted
 pub record Rest : Type 0 where
   pub weight : ℤ
   pub spare : ℤ
@@ -210,7 +210,7 @@ weight_pass own specs first taken kid =
     if kid.facts.weight == 0 then None
     else Some (specs_by own.vertical (exactly (shared_length own specs first taken kid)) (spec_beside own specs kid.facts))
 
--- what the children need beside the line: the greatest breadth where the group's was told or all children want to be as
+-- what the children need across the line: the greatest breadth if the group's was given or all children want to be as
 -- broad as the group, otherwise the greatest claim
 unfoldable pub needed_breadth : Bool → ℤ → ℤ → ℤ
 needed_breadth by_breadth broadest claim = if by_breadth then broadest else claim
@@ -246,7 +246,7 @@ own_breadth own specs (first ∷ []) = breadth_for own specs (breadth_once own s
 own_breadth own specs (first ∷ second ∷ more) =
     breadth_for own specs (if has_weight_pass own specs first then breadth_twice own specs first second else breadth_once own specs first)
 
--- the uniform pass: children that want to be as broad as the group are. It runs where the group's breadth was not told
+-- the uniform pass: children that want to be as broad as the group are. It runs if the group's breadth was not given
 abbrev pub uniform_pass : Facts → ℤ → Measured → Option Specs
 uniform_pass own breadth kid =
     let beside = not own.vertical in
@@ -287,6 +287,10 @@ linear_rule own specs = record {
   total = linear_total own specs;
 }
 
+-- whether children are in the line from the last to the first: in a horizontal one whose group runs from right to left
+abbrev pub is_backwards : Facts → Bool
+is_backwards own = not own.vertical && own.rtl
+
 -- where the line begins, by the group's gravity, in a group that has `room` pixels on its axis
 unfoldable pub line_begin : Alignment → ℤ → ℤ → ℤ → ℤ
 line_begin Low padding room total = padding
@@ -297,23 +301,19 @@ line_begin High padding room total = padding +ℤ (room -ℤ total)
 abbrev pub passed : Bool → List Measured → ℤ
 passed vertical before = fold (λ sum kid. sum +ℤ size_on vertical kid.size +ℤ margins_on vertical kid.facts) (pos 0) before
 
--- a child's own gravity goes before the group's
-abbrev pub gravity_for : Facts → Facts → Gravity
-gravity_for own kid = if kid.layout_gravity.given then kid.layout_gravity else own.gravity
-
--- the low edges of a child along the line and beside it
+-- the low edges of a child along the line and across it
 abbrev pub edge_along : Facts → Size → ℤ → List Measured → Facts → ℤ
 edge_along own room total before kid =
     let along = own.vertical in
-    line_begin (alignment_on along own.gravity) (low_padding along own) (size_on along room) total +ℤ passed along before +ℤ low_margin along kid
+    line_begin (alignment_on along own.rtl (started own.gravity)) (low_padding along own) (size_on along room) total +ℤ passed along before +ℤ low_margin along kid
 
 abbrev pub edge_beside : Facts → Size → Measured → ℤ
 edge_beside own room kid =
     let beside = not own.vertical in
-    low_edge (alignment_on beside (gravity_for own kid.facts)) (size_on beside room) (low_padding beside own) (high_padding beside own)
+    low_edge (alignment_on beside own.rtl (gravity_for own.gravity kid.facts.layout_gravity)) (size_on beside room) (low_padding beside own) (high_padding beside own)
     (size_on beside kid.size) (low_margin beside kid.facts) (high_margin beside kid.facts)
 
--- the rectangle of a child, behind those that were placed before it, in a group of the size `room` whose children take
+-- the rectangle of a child, after those that were placed before it, in a group of the size `room` whose children take
 -- `total` pixels of its length
 abbrev pub linear_place : Facts → Size → ℤ → List Measured → Measured → Rect
 linear_place own room total before kid =

@@ -10,8 +10,8 @@ use Rattle.view_model.specs.Geometry.{Laid, rect_in, size_of_rect}
 use Rattle.view_model.specs.PlainTree.{PlainView}
 use Rattle.view_model.specs.ScrollView.{offset_within, scroll_range}
 
--- whether a view of this class moves its child up by an offset, and can be told that the child fills it; it answers by moving,
--- and in no other way
+-- whether a view of this class moves its child up by an offset, and may have its child fill it; it handles touches by
+-- moving, and in no other way
 abbrev pub scrolls : Class → Bool
 scrolls View = false
 scrolls TextView = false
@@ -20,8 +20,8 @@ scrolls LinearLayout = false
 scrolls ScrollView = true
 scrolls RelativeLayout = false
 
--- the range of the offset of a view in this rectangle, whose child lies in that one: only a scroll view that lies somewhere
--- has one, and a child that lies nowhere counts as none
+-- the range of the offset of a view in this rectangle, whose child is in that one: only a scroll view that has bounds
+-- has one, and a child that has no bounds counts as none
 abbrev pub range_by : Class → Facts → Option Rect → Option Rect → Option ℤ
 range_by View own rect child = None
 range_by TextView own rect child = None
@@ -35,7 +35,7 @@ abbrev pub brought : Option ℤ → ℤ → ℤ
 brought None offset = offset
 brought (Some range) offset = offset_within range offset
 
--- where the first view of a list lies
+-- where the first view of a list is
 abbrev pub first_rect : List Laid → Forest PlainView → Option Rect
 first_rect geometry Nothing = None
 first_rect geometry (Branch view below after) = rect_in geometry view.number
@@ -46,7 +46,7 @@ ranged_view geometry view below =
     let range = range_by view.class view.facts (rect_in geometry view.number) (first_rect geometry below) in
     record view { facts = record view.facts { offset = brought range view.facts.offset } }
 
--- the trees of a list where their views lie so, each scroll view that lies somewhere with its offset in range
+-- the trees of a list if their views have these bounds, each scroll view that has bounds with its offset in range
 abbrev pub ranged : List Laid → Forest PlainView → Forest PlainView
 ranged geometry Nothing = Nothing
 ranged geometry (Branch view below after) = Branch (ranged_view geometry view below) (ranged geometry below) (ranged geometry after)

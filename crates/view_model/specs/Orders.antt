@@ -1,13 +1,13 @@
--- Relations between the places of a list: what a place reaches, orders that go by a relation, and its cycles.
+-- Relations between the places of a list: what a place reaches, orders that follow a relation, and its cycles.
 use Rattle.std.specs.Prelude.{◌≡◌, ℕ, zero, suc, ◌<◌, Bool, ◌||◌, ◌&&◌, true, List, filter, length, slice_index}
 use Rattle.std.specs.List.{range_with_len}
 
--- a leads to b, at once or by others between
+-- a leads to b, directly or through others
 pub data Reaches (leads : ℕ → ℕ → Bool) : ℕ → ℕ → Type 0 where
   AtOnce : {a b : ℕ} → leads a b ≡ true → Reaches leads a b
   Through : {a b c : ℕ} → leads a b ≡ true → Reaches leads b c → Reaches leads a c
 
--- nobody reaches itself
+-- no place reaches itself
 abbrev pub IsAcyclic : (ℕ → ℕ → Bool) → Type 0
 IsAcyclic leads = (place : ℕ) → Reaches leads place place → ⊥
 
@@ -35,7 +35,7 @@ pub record IsCycle (leads : ℕ → ℕ → Bool) (count : ℕ) (members : List 
   pub some : 0 < length members
   pub exact : AreMembers leads count members
 
--- the same as can be computed: a leads to b, at once or by others below a number alone
+-- the same in a form that can be computed: a leads to b, directly or only through others below a number
 abbrev pub leads_by : (ℕ → ℕ → Bool) → ℕ → ℕ → ℕ → Bool
 leads_by leads zero a b = leads a b
 leads_by leads (suc other) a b = leads_by leads other a b || (leads_by leads other a other && leads_by leads other other b)

@@ -21,7 +21,7 @@ use Rattle.view_model.specs.Glyphs.{glyph_of, has_bit}
 use Rattle.view_model.specs.PlainTree.{PlainView}
 use Rattle.view_model.specs.TextView.{cells_across}
 
--- a view with its rectangle in its parent's coordinates, where it lies anywhere
+-- a view with its rectangle in its parent's coordinates, if it has one
 pub record PlacedView : Type 0 where
   pub view : PlainView
   pub bounds : Option Rect
@@ -30,7 +30,7 @@ pub record PlacedView : Type 0 where
 abbrev pub placed_by : List Laid → Forest PlainView → Forest PlacedView
 placed_by geometry tree = map_rows (λ (view : PlainView). record { view = view; bounds = rect_in geometry view.number }) tree
 
--- what is made of the colour at a point
+-- what becomes of the colour at a point
 abbrev pub Painter : Type 0
 Painter = ℤ → ℤ → Argb → Argb
 
@@ -81,15 +81,15 @@ has_ink view size x y =
 abbrev pub reaches_children : Facts → Size → ℤ → ℤ → Bool
 reaches_children facts size x y = not facts.clip || holds (inner_rect facts size) x y
 
--- what a view of this size paints in its own coordinates: its background, its ink, and then its children, which lie
--- higher by its offset
+-- what a view of this size paints in its own coordinates: its background, its ink, and then its children, which are
+-- moved up by its offset
 abbrev pub content : PlainView → Size → Painter → Painter
 content view size children x y under =
     let back = blend_of view.facts.background under in
     let own = if has_ink view size x y then blend_of view.facts.ink back else back in
     if reaches_children view.facts size x y then children x (y +ℤ view.facts.offset) own else own
 
--- what it paints in its parent's coordinates: nothing but where it is visible and lies
+-- what it paints in its parent's coordinates: nothing unless it is visible and has bounds
 abbrev pub drawn_in : Option Rect → PlainView → Painter → Painter
 drawn_in None view children x y under = under
 drawn_in (Some rect) view children x y under =
@@ -102,7 +102,7 @@ abbrev pub painted : Forest PlacedView → Painter
 painted Nothing x y under = under
 painted (Branch it below after) x y under = painted after x y (drawn_in it.bounds it.view (painted below) x y under)
 
--- the colour of a point of a window in which the views of a tree lie so: what they paint over black
+-- the colour of a point of a window in which the views of a tree have these bounds: what they paint over black
 abbrev pub pixel_color : List Laid → Forest PlainView → ℤ → ℤ → Argb
 pixel_color geometry tree x y = painted (placed_by geometry tree) x y BLACK
 
@@ -110,6 +110,6 @@ pixel_color geometry tree x y = painted (placed_by geometry tree) x y BLACK
 abbrev pub picture_of : ℕ → ℕ → (ℤ → ℤ → Argb) → List Argb
 picture_of width height color = map (λ k. color (pos (k % width)) (pos (k / width))) (range_with_len 0 (width * height))
 
--- the picture of a window of this width and height in which the views of a tree lie so
+-- the picture of a window of this width and height in which the views of a tree have these bounds
 abbrev pub picture : ℕ → ℕ → List Laid → Forest PlainView → List Argb
 picture width height geometry tree = picture_of width height (pixel_color geometry tree)

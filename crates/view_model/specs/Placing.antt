@@ -1,5 +1,5 @@
--- Where on an axis a view lies in the room of its group, by its gravity and its margins.
-use Rattle.std.specs.Prelude.{ℤ, pos, ◌+ℤ◌, ◌-ℤ◌, int_div}
+-- Where on an axis a view is in the room of its group, by its gravity and its margins.
+use Rattle.std.specs.Prelude.{ℤ, pos, ◌+ℤ◌, ◌-ℤ◌, int_div, Bool, if◌then◌else◌}
 use Rattle.view_model.specs.declared.placing.Across.{Across}
 use Rattle.view_model.specs.declared.placing.Across.TheVariants as across
 use Rattle.view_model.specs.declared.placing.Across.TheVariants.{Unset, Left, Right, Start, End}
@@ -8,21 +8,39 @@ use Rattle.view_model.specs.declared.placing.Alignment.TheVariants.{Low, Middle,
 use Rattle.view_model.specs.declared.placing.Down.{Down}
 use Rattle.view_model.specs.declared.placing.Down.TheVariants as down
 use Rattle.view_model.specs.declared.placing.Down.TheVariants.{Top, Bottom}
+use Rattle.view_model.specs.declared.placing.Gravity.{Gravity}
+use Rattle.view_model.specs.Direction.{left_of_two, right_of_two}
 
--- where on an axis a child of this gravity is placed
-abbrev pub alignment_across : Across → Alignment
-alignment_across Unset = Low
-alignment_across Left = Low
-alignment_across Right = High
-alignment_across across.Center = Middle
-alignment_across Start = Low
-alignment_across End = High
+-- where on an axis a child of this gravity is placed, in a group that runs from right to left or not
+abbrev pub alignment_across : Bool → Across → Alignment
+alignment_across rtl Unset = Low
+alignment_across rtl Left = Low
+alignment_across rtl Right = High
+alignment_across rtl across.Center = Middle
+alignment_across rtl Start = left_of_two rtl Low High
+alignment_across rtl End = right_of_two rtl Low High
 
 abbrev pub alignment_down : Down → Alignment
 alignment_down down.Unset = Low
 alignment_down Top = Low
 alignment_down Bottom = High
 alignment_down down.Center = Middle
+
+abbrev pub or_start : Across → Across
+or_start Unset = Start
+or_start Left = Left
+or_start Right = Right
+or_start across.Center = across.Center
+or_start Start = Start
+or_start End = End
+
+-- a group's gravity for its children: without a part from left to right it is start
+abbrev pub started : Gravity → Gravity
+started gravity = record gravity { across = or_start gravity.across }
+
+-- the gravity by which a child is placed: its own, if one was given, or the group's
+abbrev pub gravity_for : Gravity → Gravity → Gravity
+gravity_for group own = if own.given then own else started group
 
 -- the low edge of a child of this size in a group that has `room` pixels on the axis
 abbrev pub low_edge : Alignment → ℤ → ℤ → ℤ → ℤ → ℤ → ℤ → ℤ

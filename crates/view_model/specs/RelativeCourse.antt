@@ -1,6 +1,6 @@
 -- The course of a relative layout's measuring, over the list of its children: what each is asked, its sides, and the
 -- size of the whole.
-use Rattle.std.specs.Prelude.{ℕ, zero, suc, ℤ, pos, if◌then◌else◌, List, [], ◌∷◌, filter, length, map, Option, Some, None, slice_index_or, unwrap_or}
+use Rattle.std.specs.Prelude.{ℕ, zero, suc, ℤ, pos, Bool, if◌then◌else◌, List, [], ◌∷◌, filter, length, map, Option, Some, None, slice_index_or, unwrap_or}
 use Rattle.std.specs.Option.{option_map}
 use Rattle.geom_core.specs.declared.geometry.Rect.{Rect}
 use Rattle.geom_core.specs.declared.geometry.Size.{Size}
@@ -17,7 +17,7 @@ use Rattle.view_model.specs.Course.{Child, Requested, Course}
 use Rattle.view_model.specs.Facts.{is_shown, new_facts}
 use Rattle.view_model.specs.Geometry.{rect_at}
 use Rattle.view_model.specs.Measuring.{Specs}
-use Rattle.view_model.specs.RelativeLayout.{Spanned, across_specs, down_specs, final_rect, relative_size, span_on, tied_on}
+use Rattle.view_model.specs.RelativeLayout.{Spanned, across_specs, down_specs, far_margin, final_rect, near_margin, relative_size, span_on}
 use Rattle.view_model.specs.SiblingRules.{anchor_of}
 
 -- a place beyond the list has a child that is gone
@@ -41,25 +41,24 @@ links_of kids = map (λ (kid : Child). link_of kid.facts) kids
 -- a sibling with these sides as an anchor
 abbrev pub anchor_with : Axis → Facts → ℤ × ℤ → Anchor
 anchor_with axis facts span =
-    let tied = tied_on axis facts in
-    record { near = span.0; far = span.1; margin_near = tied.margin_near; margin_far = tied.margin_far }
+    record { near = span.0; far = span.1; margin_near = near_margin axis facts; margin_far = far_margin axis facts }
 
--- the anchors of a child, where the sides of all children are known
-abbrev pub anchor_by : Axis → List Child → (ℕ → ℤ × ℤ) → Tie → ℕ → Option Anchor
-anchor_by axis kids spans tie place =
+-- the anchors of a child, if the sides of all children are known
+abbrev pub anchor_by : Bool → Axis → List Child → (ℕ → ℤ × ℤ) → Tie → ℕ → Option Anchor
+anchor_by rtl axis kids spans tie place =
     option_map (λ sibling. anchor_with axis (child_at kids sibling).facts (spans sibling))
-    (anchor_of axis tie (links_of kids) (λ sibling. is_shown (child_at kids sibling).facts) place)
+    (anchor_of rtl axis tie (links_of kids) (λ sibling. is_shown (child_at kids sibling).facts) place)
 
-abbrev pub anchors_by : Axis → List Child → (ℕ → ℤ × ℤ) → ℕ → Anchors
-anchors_by axis kids spans place = record {
-  before = anchor_by axis kids spans Before place;
-  after = anchor_by axis kids spans After place;
-  align_near = anchor_by axis kids spans AlignNear place;
-  align_far = anchor_by axis kids spans AlignFar place;
+abbrev pub anchors_by : Bool → Axis → List Child → (ℕ → ℤ × ℤ) → ℕ → Anchors
+anchors_by rtl axis kids spans place = record {
+  before = anchor_by rtl axis kids spans Before place;
+  after = anchor_by rtl axis kids spans After place;
+  align_near = anchor_by rtl axis kids spans AlignNear place;
+  align_far = anchor_by rtl axis kids spans AlignFar place;
 }
 
--- what a step makes of each place from what it made of the others, as many times over. Where no place leads to itself,
--- nothing changes once there were as many steps as places: each place has what the step makes of its anchors'
+-- what a step makes of each place from what it made of the others, repeated this many times. If no place leads to
+-- itself, nothing changes after as many steps as places: each place has what the step makes of its anchors'
 abbrev pub following : {X : Type 0} → ((ℕ → X) → ℕ → X) → (ℕ → X) → ℕ → ℕ → X
 following step start zero place = start place
 following step start (suc steps) place = step (following step start steps) place
@@ -69,12 +68,12 @@ unknown place = (pos 0, pos 0)
 
 -- the specs of a child in the first phase, and its sides from left to right, by those of its anchors
 abbrev pub asked_across : Facts → Specs → List Child → (ℕ → ℤ × ℤ) → ℕ → Specs
-asked_across own specs kids spans place = across_specs own specs (child_at kids place).facts (anchors_by Horizontal kids spans place)
+asked_across own specs kids spans place = across_specs own specs (child_at kids place).facts (anchors_by own.rtl Horizontal kids spans place)
 
 abbrev pub span_across : Facts → Specs → List Child → (ℕ → ℤ × ℤ) → ℕ → ℤ × ℤ
 span_across own specs kids spans place =
     let kid = child_at kids place in
-    span_on Horizontal own specs kid.facts (anchors_by Horizontal kids spans place) (kid.measure (asked_across own specs kids spans place))
+    span_on Horizontal own specs kid.facts (anchors_by own.rtl Horizontal kids spans place) (kid.measure (asked_across own specs kids spans place))
 
 abbrev pub spans_across : Facts → Specs → List Child → ℕ → ℤ × ℤ
 spans_across own specs kids = following (span_across own specs kids) unknown (length kids)
@@ -82,12 +81,12 @@ spans_across own specs kids = following (span_across own specs kids) unknown (le
 -- the specs of a child in the second phase, and its sides from top to bottom
 abbrev pub asked_down : Facts → Specs → List Child → (across down : ℕ → ℤ × ℤ) → ℕ → Specs
 asked_down own specs kids across down place =
-    down_specs own specs (child_at kids place).facts (across place) (anchors_by Vertical kids down place)
+    down_specs own specs (child_at kids place).facts (across place) (anchors_by own.rtl Vertical kids down place)
 
 abbrev pub span_down : Facts → Specs → List Child → (across down : ℕ → ℤ × ℤ) → ℕ → ℤ × ℤ
 span_down own specs kids across down place =
     let kid = child_at kids place in
-    span_on Vertical own specs kid.facts (anchors_by Vertical kids down place) (kid.measure (asked_down own specs kids across down place))
+    span_on Vertical own specs kid.facts (anchors_by own.rtl Vertical kids down place) (kid.measure (asked_down own specs kids across down place))
 
 abbrev pub spans_down : Facts → Specs → List Child → (ℕ → ℤ × ℤ) → ℕ → ℤ × ℤ
 spans_down own specs kids across = following (span_down own specs kids across) unknown (length kids)
@@ -145,6 +144,6 @@ relative_course own specs kids =
     let found = arranged own specs kids in
     record { kids = each_from 0 (requested_at own specs kids found) kids; size = found.size; total = pos 0 }
 
--- where a child of this size lies: between its sides, or at the origin where it has none
+-- where a child of this size is: between its sides, or at the origin if it has none
 abbrev pub relative_place : Size → Option Rect → Rect
 relative_place size edges = unwrap_or edges (rect_at (pos 0) (pos 0) size)

@@ -1,6 +1,6 @@
 -- A relative layout: its children are tied to its sides and to one another. It measures each child twice, on the
 -- horizontal axis and then on the vertical one, and a child always after its anchors. Lengths are in pixels.
-use Rattle.std.specs.Prelude.{ℕ, ℤ, pos, ◌+ℤ◌, ◌-ℤ◌, int_div, int_lt, Bool, ◌||◌, not, ◌==◌, if◌then◌else◌, List, [], ◌∷◌, fold, Option, Some, None, unwrap_or}
+use Rattle.std.specs.Prelude.{ℕ, ℤ, pos, ◌+ℤ◌, ◌-ℤ◌, int_div, int_lt, Bool, false, ◌&&◌, ◌||◌, not, ◌==◌, if◌then◌else◌, List, [], ◌∷◌, fold, Option, Some, None, unwrap_or}
 use Rattle.std.specs.Int.{int_max, int_min}
 use Rattle.std.specs.Option.{option_map}
 use Rattle.geom_core.specs.Limits.{clamp_coordinate, clamp_size}
@@ -20,10 +20,11 @@ use Rattle.view_model.specs.declared.relative.Band.{Band}
 use Rattle.view_model.specs.declared.relative.Edges.{Edges}
 use Rattle.view_model.specs.declared.relative.Tied.{Tied}
 use Rattle.view_model.specs.declared.verbs.TheConstants.{PARENT_LEFT, PARENT_TOP, PARENT_RIGHT, PARENT_BOTTOM, PARENT_START, PARENT_END, CENTER, CENTER_H, CENTER_V}
+use Rattle.view_model.specs.Direction.{left_of_two, right_of_two}
 use Rattle.view_model.specs.Facts.{is_match, margin_left, margin_right, padding_left, padding_right}
 use Rattle.view_model.specs.FrameLayout.{is_exactly}
 use Rattle.view_model.specs.Measuring.{Specs}
-use Rattle.view_model.specs.SiblingRules.{value_of}
+use Rattle.view_model.specs.SiblingRules.{is_free, value_of}
 
 -- One axis of a group and of a child.
 
@@ -34,29 +35,42 @@ abbrev pub band_on : Axis → Facts → Specs → Band
 band_on Horizontal own specs = record { spec = specs.across; padding_near = padding_left own; padding_far = padding_right own; min = own.min.w }
 band_on Vertical own specs = record { spec = specs.down; padding_near = own.padding.top; padding_far = own.padding.bottom; min = own.min.h }
 
-abbrev pub tied_on : Axis → Facts → Tied
-tied_on Horizontal kid = record {
+-- the margins of a child on an axis
+abbrev pub near_margin : Axis → Facts → ℤ
+near_margin Horizontal kid = margin_left kid
+near_margin Vertical kid = kid.margins.top
+
+abbrev pub far_margin : Axis → Facts → ℤ
+far_margin Horizontal kid = margin_right kid
+far_margin Vertical kid = kid.margins.bottom
+
+-- a child in a group that runs from right to left or not. Where it does, one without a rule for the axis rests at the far
+-- side; down there is no such thing
+abbrev pub tied_on : Bool → Axis → Facts → Tied
+tied_on rtl Horizontal kid = record {
   dim = kid.width;
   margin_near = margin_left kid;
   margin_far = margin_right kid;
-  at_near = is_set kid.rules PARENT_LEFT || is_set kid.rules PARENT_START;
-  at_far = is_set kid.rules PARENT_RIGHT || is_set kid.rules PARENT_END;
+  at_near = is_set kid.rules PARENT_LEFT || not (left_of_two rtl (value_of kid.rules PARENT_START) (value_of kid.rules PARENT_END) == 0);
+  at_far = is_set kid.rules PARENT_RIGHT || not (right_of_two rtl (value_of kid.rules PARENT_START) (value_of kid.rules PARENT_END) == 0);
   centered = is_set kid.rules CENTER || is_set kid.rules CENTER_H;
+  rests_far = rtl && is_free kid.rules;
 }
-tied_on Vertical kid = record {
+tied_on rtl Vertical kid = record {
   dim = kid.height;
   margin_near = kid.margins.top;
   margin_far = kid.margins.bottom;
   at_near = is_set kid.rules PARENT_TOP;
   at_far = is_set kid.rules PARENT_BOTTOM;
   centered = is_set kid.rules CENTER || is_set kid.rules CENTER_V;
+  rests_far = false;
 }
 
 abbrev pub length_on : Axis → Size → ℤ
 length_on Horizontal size = size.w
 length_on Vertical size = size.h
 
--- the size that a spec gives a group, where it does
+-- the size that a spec gives a group, if it does
 abbrev pub room_by : Mode → ℤ → Option ℤ
 room_by Unspecified size = None
 room_by Exactly size = Some size
@@ -111,7 +125,7 @@ near_side band kid anchors = last_set (
     ∷ where_so kid.at_near (Some (begins_at_parent band kid))
     ∷ [])
 
--- the far side: before an anchor, at an anchor's far side, at the group's where its size is known
+-- the far side: before an anchor, at an anchor's far side, at the group's if its size is known
 abbrev pub before_anchor : Tied → Anchor → ℤ
 before_anchor kid anchor = clamp_coordinate (outer_near anchor -ℤ kid.margin_far)
 
@@ -139,18 +153,18 @@ at_most size = record { mode = AtMost; size = clamp_size size }
 abbrev pub anything : Spec
 anything = record { mode = Unspecified; size = pos 0 }
 
--- where nothing is known: the number that it wants, or anything
+-- if nothing is known: the number that it wants, or anything
 unfoldable pub unbounded_spec : ℤ → Spec
 unbounded_spec dim = if int_lt dim (pos 0) then anything else exactly dim
 
--- where this much is between the sides, or between the group's where they are not set
+-- if this much is between the sides, or between the group's if they are not set
 unfoldable pub bounded_spec : ℤ → ℤ → Spec
 bounded_spec available dim =
     if int_lt dim (pos 0)
     then (if is_match dim then exactly available else if int_lt available (pos 0) then anything else at_most available)
     else (if int_lt available (pos 0) then exactly dim else exactly (int_min dim available))
 
--- what is between the sides, as far as they are set, of a child in a group of this size
+-- what is between the sides, if they are set, of a child in a group of this size
 unfoldable pub available_to : Band → Tied → Option ℤ → Option ℤ → ℤ → ℤ
 available_to band kid near far room = unwrap_or far (room -ℤ far_inset band kid) -ℤ unwrap_or near (near_inset band kid)
 
@@ -179,14 +193,19 @@ loose_spec_in band kid (Some room) = loose_spec band kid room
 abbrev pub span_at : ℤ → ℤ → ℤ × ℤ
 span_at near length = let edge = clamp_coordinate near in (edge, edge +ℤ length)
 
+-- the near side of a child that rests at the far side of a group of this size
+abbrev pub rest_near : Band → Tied → ℤ → ℤ → ℤ
+rest_near band kid room length = room -ℤ (far_inset band kid +ℤ length)
+
 abbrev pub centered_in : ℤ → ℤ → ℤ
 centered_in room length = int_div (room -ℤ length) (pos 2)
 
--- where no side is set: in the middle of a group of a told size, or at its near side
+-- if no side is set: in the middle of a group whose size is given, at its far side if it rests there, or at its near side
 unfoldable pub free_near : Band → Tied → ℤ → ℤ
 free_near band kid length =
     if is_exactly band.spec.mode
-    then (if kid.centered then centered_in band.spec.size length else near_inset band kid)
+    then (if kid.centered then centered_in band.spec.size length
+    else if kid.rests_far then rest_near band kid band.spec.size length else near_inset band kid)
     else near_inset band kid
 
 -- a side that is not set follows from the other and the length
@@ -196,7 +215,7 @@ span_of band kid (Some near) None length = (near, near +ℤ length)
 span_of band kid None (Some far) length = (clamp_coordinate (far -ℤ length), far)
 span_of band kid (Some near) (Some far) length = (near, far)
 
--- a child with these anchors that came to this length
+-- a child with these anchors that was measured with this length
 abbrev pub settled_span : Band → Tied → Anchors → ℤ → ℤ × ℤ
 settled_span band kid anchors length = span_of band kid (near_side band kid anchors) (far_side band kid anchors) length
 
@@ -207,7 +226,7 @@ pub record Spanned : Type 0 where
 
 -- how far its children reach, with their margins
 abbrev pub reach_of : Axis → Spanned → ℤ
-reach_of axis kid = kid.span.1 +ℤ (tied_on axis kid.facts).margin_far
+reach_of axis kid = kid.span.1 +ℤ far_margin axis kid.facts
 
 abbrev pub greatest_reach : Axis → List Spanned → ℤ
 greatest_reach axis kids = fold (λ most kid. int_max most (reach_of axis kid)) (pos 0) kids
@@ -218,15 +237,16 @@ own_length axis own specs kids =
     let band = band_on axis own specs in
     resolve_of (int_max band.min (greatest_reach axis kids +ℤ band.padding_far)) band.spec
 
--- where the group was not told its size, children in its middle or at its far side move once it is known; their
--- siblings don't move along
+-- if the group's size was not given, children in its middle or at its far side, and those that rest there, move once it
+-- is known; their siblings don't move along
 unfoldable pub moved_span : Band → Tied → ℤ → ℤ × ℤ → ℤ → ℤ × ℤ
 moved_span band kid own span length =
     if is_exactly band.spec.mode
     then span
     else (if kid.centered
     then span_at (centered_in own length) length
-    else if kid.at_far then span_at (own -ℤ (band.padding_far +ℤ length)) length else span)
+    else if kid.at_far then span_at (own -ℤ (band.padding_far +ℤ length)) length
+    else if kid.rests_far then span_at (rest_near band kid own length) length else span)
 
 -- The two phases.
 
@@ -241,18 +261,18 @@ width_of span = span.1 -ℤ span.0
 abbrev pub across_specs : Facts → Specs → Facts → Anchors → Specs
 across_specs own specs kid anchors =
     let band = band_on Horizontal own specs in
-    let tied = tied_on Horizontal kid in
+    let tied = tied_on own.rtl Horizontal kid in
     let lower = band_on Vertical own specs in
     record {
       across = side_spec band tied (near_side band tied anchors) (far_side band tied anchors);
-      down = loose_spec_in lower (tied_on Vertical kid) (room_of lower);
+      down = loose_spec_in lower (tied_on own.rtl Vertical kid) (room_of lower);
     }
 
 -- in the second, by its sides from left to right and its anchors from top to bottom
 abbrev pub down_specs : Facts → Specs → Facts → ℤ × ℤ → Anchors → Specs
 down_specs own specs kid span anchors =
     let band = band_on Vertical own specs in
-    let tied = tied_on Vertical kid in
+    let tied = tied_on own.rtl Vertical kid in
     record {
       across = exactly (width_of span);
       down = side_spec band tied (near_side band tied anchors) (far_side band tied anchors);
@@ -260,14 +280,14 @@ down_specs own specs kid span anchors =
 
 -- the sides of a child, measured with this size, on an axis
 abbrev pub span_on : Axis → Facts → Specs → Facts → Anchors → Size → ℤ × ℤ
-span_on axis own specs kid anchors size = settled_span (band_on axis own specs) (tied_on axis kid) anchors (length_on axis size)
+span_on axis own specs kid anchors size = settled_span (band_on axis own specs) (tied_on own.rtl axis kid) anchors (length_on axis size)
 
 -- the axis of a phase, by the phases before
 abbrev pub phase_axis : List (List Spanned) → Axis
 phase_axis [] = Horizontal
 phase_axis (first ∷ more) = Vertical
 
--- its specs in a phase, where these sides of it are known
+-- its specs in a phase, if these sides of it are known
 abbrev pub phase_specs : Facts → Specs → List (List Spanned) → Facts → Edges → Anchors → Specs
 phase_specs own specs [] kid edges anchors = across_specs own specs kid anchors
 phase_specs own specs (first ∷ more) kid edges anchors = down_specs own specs kid (span_or_none edges.across) anchors
@@ -286,19 +306,19 @@ sides_by (Some across) (Some down) = Some (record { left = across.0; top = down.
 abbrev pub sides_of : Edges → Option Rect
 sides_of edges = sides_by edges.across edges.down
 
--- the sides at which it lies in the end
+-- its final sides
 abbrev pub final_span : Axis → Facts → Specs → ℤ → Facts → ℤ × ℤ → Size → ℤ × ℤ
-final_span axis own specs size kid span kid_size = moved_span (band_on axis own specs) (tied_on axis kid) size span (length_on axis kid_size)
+final_span axis own specs size kid span kid_size = moved_span (band_on axis own specs) (tied_on own.rtl axis kid) size span (length_on axis kid_size)
 
 -- the size of the group, whose children were taken with these sides from left to right and from top to bottom
 abbrev pub relative_size : Facts → Specs → List Spanned → List Spanned → Size
 relative_size own specs across down = record { w = own_length Horizontal own specs across; h = own_length Vertical own specs down }
 
--- a rectangle between two pairs of sides: a far side before the near one counts as that
+-- a rectangle between two pairs of sides: a far side before the near one counts as the near one
 abbrev pub rect_between : ℤ × ℤ → ℤ × ℤ → Rect
 rect_between across down = record { left = across.0; top = down.0; right = int_max across.0 across.1; bottom = int_max down.0 down.1 }
 
--- where a child of this size lies in the end that has these sides after the second phase
+-- the final rectangle of a child of this size that has these sides after the second phase
 abbrev pub final_rect : Facts → Specs → Size → Facts → Edges → Size → Rect
 final_rect own specs size kid edges kid_size = rect_between
     (final_span Horizontal own specs size.w kid (span_or_none edges.across) kid_size)

@@ -20,12 +20,12 @@ Entries = List (ℕ × Resource)
 abbrev pub resource_of : Entries → ℕ → Option Resource
 resource_of entries id = lookup (nat_eq id) entries
 
--- the entries with this resource of an id: where the id has one already, in its place, and else behind all others
+-- the entries with this resource of an id: if the id has one already, in its place, and otherwise after all others
 abbrev pub with_resource : Entries → ℕ → Resource → Entries
 with_resource [] id resource = (id, resource) ∷ []
 with_resource (entry ∷ more) id resource = if nat_eq id entry.0 then (entry.0, resource) ∷ more else entry ∷ with_resource more id resource
 
--- why an id that has a resource already, or has none, gets none where so many are defined
+-- why an id that has a resource already, or has none, gets none if n are defined
 unfoldable pub definition_refusal : ℕ → Bool → Option PlainRefusal
 definition_refusal count defined = if not defined && not (nat_lt count MAX_RESOURCES) then Some (refusal_numbered TOO_MANY_RESOURCES) else None
 

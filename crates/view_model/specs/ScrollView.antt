@@ -1,4 +1,4 @@
--- A scroll view: a frame layout that lets its child be as high as that wants to be, and moves it up by an offset.
+-- A scroll view: a frame layout that lets its child be as high as the child wants to be, and moves it up by an offset.
 use Rattle.std.specs.Prelude.{ℤ, pos, ◌+ℤ◌, ◌-ℤ◌, int_lt, Bool, true, false, ◌&&◌, not, if◌then◌else◌, List, [], ◌∷◌, Option, Some, None}
 use Rattle.std.specs.Int.{int_min, int_max}
 use Rattle.geom_core.specs.Limits.{clamp_size}
@@ -11,8 +11,8 @@ use Rattle.view_model.specs.Facts.{margins_down, padding_down}
 use Rattle.view_model.specs.FrameLayout.{first_specs, frame_own_size, frame_size}
 use Rattle.view_model.specs.Measuring.{Specs, Measured, Rule}
 
--- the specs of a child's first measuring: a frame layout's across; down, any height, with what is left of the group's as
--- a hint, whatever height the child is to have
+-- the specs of a child's first measuring: a frame layout's across; down, any height, with what is left of the group's
+-- as a hint, whatever height the child asks for
 abbrev pub free_specs : Facts → Specs → Facts → Specs
 free_specs own specs kid = record {
   across = (first_specs own specs kid).across;
@@ -36,12 +36,12 @@ is_unspecified Unspecified = true
 is_unspecified Exactly = false
 is_unspecified AtMost = false
 
--- whether a child is to fill the group: the group was told so, and its height has a limit
+-- whether a child is to fill the group: the group is set so, and its height has a limit
 abbrev pub is_filled : Facts → Specs → Bool
 is_filled own specs = own.fill && not (is_unspecified specs.down.mode)
 
--- the rule of a scroll view: first every child, and then, where the group is to be filled, those that are too short for
--- that once more
+-- the rule of a scroll view: first every child, and then, if the child is to fill the group, those that are too short
+-- for that once more
 abbrev pub scroll_ask : Facts → Specs → List (List Measured) → List Measured → Measured → Option Specs
 scroll_ask own specs [] taken kid = Some (free_specs own specs kid.facts)
 scroll_ask own specs (first ∷ more) taken kid =

@@ -1,23 +1,29 @@
 -- Which children of a relative layout are tied to which: the rules that name a sibling, by axis.
 use Rattle.std.specs.Prelude.{ℕ, zero, suc, ◌==◌, Bool, ◌&&◌, not, if◌then◌else◌, List, [], ◌∷◌, length, Option, Some, None, slice_index, slice_index_or}
-use Rattle.std.specs.List.{list_any}
+use Rattle.std.specs.List.{list_all, list_any}
 use Rattle.view_model.specs.declared.facts.Rules.{Rules}
 use Rattle.view_model.specs.declared.relative.Axis.{Axis}
 use Rattle.view_model.specs.declared.relative.Axis.TheVariants.{Horizontal, Vertical}
 use Rattle.view_model.specs.declared.relative.Link.{Link}
 use Rattle.view_model.specs.declared.relative.Tie.{Tie}
 use Rattle.view_model.specs.declared.relative.Tie.TheVariants.{Before, After, AlignNear, AlignFar}
-use Rattle.view_model.specs.declared.verbs.TheConstants.{LEFT_OF, RIGHT_OF, ABOVE, BELOW, ALIGN_LEFT, ALIGN_TOP, ALIGN_RIGHT, ALIGN_BOTTOM, START_OF, END_OF, ALIGN_START, ALIGN_END}
+use Rattle.view_model.specs.declared.verbs.TheConstants.{LEFT_OF, RIGHT_OF, ABOVE, BELOW, ALIGN_LEFT, ALIGN_TOP, ALIGN_RIGHT, ALIGN_BOTTOM, START_OF, END_OF, ALIGN_START, ALIGN_END, PARENT_LEFT, PARENT_RIGHT, PARENT_START, PARENT_END, CENTER, CENTER_H}
+use Rattle.view_model.specs.Direction.{left_of_two, right_of_two}
 
 -- the verbs of an axis that name a sibling
 abbrev pub sibling_verbs : Axis → List ℕ
 sibling_verbs Horizontal = LEFT_OF ∷ RIGHT_OF ∷ ALIGN_LEFT ∷ ALIGN_RIGHT ∷ START_OF ∷ END_OF ∷ ALIGN_START ∷ ALIGN_END ∷ []
 sibling_verbs Vertical = ABOVE ∷ BELOW ∷ ALIGN_TOP ∷ ALIGN_BOTTOM ∷ []
 
+-- the verbs that speak of left and right
+abbrev pub across_verbs : List ℕ
+across_verbs = LEFT_OF ∷ RIGHT_OF ∷ ALIGN_LEFT ∷ ALIGN_RIGHT ∷ START_OF ∷ END_OF ∷ ALIGN_START ∷ ALIGN_END
+    ∷ PARENT_LEFT ∷ PARENT_RIGHT ∷ PARENT_START ∷ PARENT_END ∷ CENTER ∷ CENTER_H ∷ []
+
 abbrev pub value_of : Rules → ℕ → ℕ
 value_of rules verb = slice_index rules.values verb
 
--- whether rules name this id on an axis; nobody has the id 0
+-- whether rules name this id on an axis; no child has the id 0
 unfoldable pub names : Axis → Rules → ℕ → Bool
 names axis rules id = not (id == 0) && list_any (λ verb. value_of rules verb == id) (sibling_verbs axis)
 
@@ -29,20 +35,24 @@ nobody = record { id = 0; rules = record { values = [] } }
 unfoldable pub leads : Axis → List Link → ℕ → ℕ → Bool
 leads axis kids a b = not (a == b) && names axis (slice_index_or kids a nobody).rules (slice_index_or kids b nobody).id
 
--- a start or end form, where set, takes the place of the left or right form
+-- a start or end form, if set, replaces the left or right form
 abbrev pub form_of : ℕ → ℕ → ℕ
 form_of start left = if start == 0 then left else start
 
--- the id of the sibling to which rules tie a child, or 0
-abbrev pub anchor_id : Axis → Tie → Rules → ℕ
-anchor_id Horizontal Before rules = form_of (value_of rules START_OF) (value_of rules LEFT_OF)
-anchor_id Horizontal After rules = form_of (value_of rules END_OF) (value_of rules RIGHT_OF)
-anchor_id Horizontal AlignNear rules = form_of (value_of rules ALIGN_START) (value_of rules ALIGN_LEFT)
-anchor_id Horizontal AlignFar rules = form_of (value_of rules ALIGN_END) (value_of rules ALIGN_RIGHT)
-anchor_id Vertical Before rules = value_of rules ABOVE
-anchor_id Vertical After rules = value_of rules BELOW
-anchor_id Vertical AlignNear rules = value_of rules ALIGN_TOP
-anchor_id Vertical AlignFar rules = value_of rules ALIGN_BOTTOM
+-- the id of the sibling to which rules tie a child, or 0, in a group that runs from right to left or not
+abbrev pub anchor_id : Bool → Axis → Tie → Rules → ℕ
+anchor_id rtl Horizontal Before rules = form_of (left_of_two rtl (value_of rules START_OF) (value_of rules END_OF)) (value_of rules LEFT_OF)
+anchor_id rtl Horizontal After rules = form_of (right_of_two rtl (value_of rules START_OF) (value_of rules END_OF)) (value_of rules RIGHT_OF)
+anchor_id rtl Horizontal AlignNear rules = form_of (left_of_two rtl (value_of rules ALIGN_START) (value_of rules ALIGN_END)) (value_of rules ALIGN_LEFT)
+anchor_id rtl Horizontal AlignFar rules = form_of (right_of_two rtl (value_of rules ALIGN_START) (value_of rules ALIGN_END)) (value_of rules ALIGN_RIGHT)
+anchor_id rtl Vertical Before rules = value_of rules ABOVE
+anchor_id rtl Vertical After rules = value_of rules BELOW
+anchor_id rtl Vertical AlignNear rules = value_of rules ALIGN_TOP
+anchor_id rtl Vertical AlignFar rules = value_of rules ALIGN_BOTTOM
+
+-- whether no horizontal rule is set: a rule counts even if it names no sibling
+abbrev pub is_free : Rules → Bool
+is_free rules = list_all (λ verb. value_of rules verb == 0) across_verbs
 
 -- the last place below a number that passes a test
 abbrev pub last_below : (ℕ → Bool) → ℕ → Option ℕ
@@ -57,20 +67,20 @@ abbrev pub other_than : ℕ → Option ℕ → Option ℕ
 other_than place None = None
 other_than place (Some other) = if other == place then None else Some other
 
--- the sibling that a child's own rule names: the child itself is none, and then the rule has no effect
-abbrev pub named_sibling : Axis → Tie → List Link → ℕ → Option ℕ
-named_sibling axis tie kids place = other_than place (last_with_id kids (anchor_id axis tie (slice_index_or kids place nobody).rules))
+-- the sibling that a child's own rule names; if that is the child itself, the rule has no effect
+abbrev pub named_sibling : Bool → Axis → Tie → List Link → ℕ → Option ℕ
+named_sibling rtl axis tie kids place = other_than place (last_with_id kids (anchor_id rtl axis tie (slice_index_or kids place nobody).rules))
 
--- a sibling that takes part in layout, or what comes of one that is gone
+-- a sibling that takes part in layout, or what is used instead of one that is gone
 abbrev pub shown_or : (ℕ → Bool) → (ℕ → Option ℕ) → Option ℕ → Option ℕ
 shown_or shown instead None = None
 shown_or shown instead (Some sibling) = if shown sibling then Some sibling else instead sibling
 
--- the anchor of a child: the sibling that it names, or where that is gone, the one to which that one's rule leads in
--- the same way, through as many siblings as there are at most
+-- the anchor of a child: the sibling that it names, or if that is gone, the one to which that one's rule leads in the
+-- same way, through as many siblings as there are at most
 abbrev pub anchor_within : ℕ → (ℕ → Bool) → (ℕ → Option ℕ) → ℕ → Option ℕ
 anchor_within zero shown named place = None
 anchor_within (suc left) shown named place = shown_or shown (anchor_within left shown named) (named place)
 
-abbrev pub anchor_of : Axis → Tie → List Link → (ℕ → Bool) → ℕ → Option ℕ
-anchor_of axis tie kids shown place = anchor_within (length kids) shown (named_sibling axis tie kids) place
+abbrev pub anchor_of : Bool → Axis → Tie → List Link → (ℕ → Bool) → ℕ → Option ℕ
+anchor_of rtl axis tie kids shown place = anchor_within (length kids) shown (named_sibling rtl axis tie kids) place

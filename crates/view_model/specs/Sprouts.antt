@@ -18,7 +18,7 @@ seed_of sprout = record { class = sprout.class; facts = sprout.facts; text = spr
 abbrev pub sprout_of : ℕ → Seed → Sprout
 sprout_of depth seed = record { class = seed.class; facts = seed.facts; text = seed.text; depth = depth }
 
--- the views behind one of this depth are deeper than the outermost, and each at most one deeper than the one before
+-- the views after one of this depth are deeper than the outermost, and each at most one deeper than the one before
 abbrev pub follows : ℕ → List Sprout → Bool
 follows before [] = true
 follows before (sprout ∷ more) = nat_lt 1 sprout.depth && (nat_le sprout.depth (before + 1) && follows sprout.depth more)
@@ -31,7 +31,7 @@ is_preorder (sprout ∷ more) = (sprout.depth == 1) && follows 1 more
 abbrev pub IsPreorder : List Sprout → Type 0
 IsPreorder sprouts = is_preorder sprouts ≡ true
 
--- the views of trees in preorder, where the outermost have this depth
+-- the views of trees in preorder, if the outermost have this depth
 abbrev pub preorder : ℕ → Forest Seed → List Sprout
 preorder depth Nothing = []
 preorder depth (Branch seed below after) = sprout_of depth seed ∷ (preorder (suc depth) below ++ preorder depth after)
@@ -56,12 +56,12 @@ abbrev pub deeper : ℕ → List Stem → Forest Seed
 deeper depth [] = Nothing
 deeper depth (stem ∷ more) = if nat_lt depth stem.depth then Branch stem.seed stem.below (deeper depth more) else Nothing
 
--- the stems behind those
+-- the stems after those
 abbrev pub beyond : ℕ → List Stem → List Stem
 beyond depth [] = []
 beyond depth (stem ∷ more) = if nat_lt depth stem.depth then beyond depth more else stem ∷ more
 
--- the views of a list in preorder that are below no other: the deeper ones behind a view are below it
+-- the views of a list in preorder that are below no other: the deeper ones after a view are below it
 abbrev pub stems : List Sprout → List Stem
 stems [] = []
 stems (sprout ∷ more) =

@@ -10,7 +10,7 @@ use Rattle.view_model.specs.CellText.{count_of_lines, widest_of}
 use Rattle.view_model.specs.Facts.{padding_across, padding_down}
 use Rattle.view_model.specs.Measuring.{Specs}
 
--- how many cells a line has in this many pixels: at least one, also where there is no room
+-- how many cells a line has in this many pixels: at least one, even if there is no room
 unfoldable pub cells_in : ℤ → ℕ
 cells_in (pos room) = max 1 (room / CELL_WIDTH)
 cells_in (negsuc less) = 1

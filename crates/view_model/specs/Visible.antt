@@ -23,7 +23,7 @@ pub record Canvas : Type 0 where
   pub top : ℤ
   pub clip : Rect
 
--- what is seen of a view that lies in this rectangle of a canvas, if it lies anywhere
+-- what is seen of a view that is in this rectangle of a canvas, if it has bounds
 abbrev pub seen_in : Option Rect → Canvas → Rect
 seen_in None canvas = no_rect
 seen_in (Some rect) canvas = meet_of (moved_rect rect canvas.left canvas.top) canvas.clip
@@ -52,8 +52,8 @@ visible_in (Branch it below after) canvas number =
 abbrev pub whole_window : Size → Canvas
 whole_window window = record { left = pos 0; top = pos 0; clip = record { left = pos 0; top = pos 0; right = window.w; bottom = window.h } }
 
--- the rectangle of a window in which a view is seen: its bounds, met with the window and with what its ancestors let
--- through of their children. It is empty where the view or one of them lies nowhere. What is not drawn is seen all the
--- same
+-- the rectangle of a window in which a view is seen: its bounds, intersected with the window and with the parts that
+-- its ancestors show of their children. It is empty if the view or an ancestor has no bounds. Views that are not drawn
+-- count as seen
 abbrev pub visible_rect : Forest PlainView → List Laid → Size → ℕ → Rect
 visible_rect tree geometry window number = unwrap_or (visible_in (placed_by geometry tree) (whole_window window) number) no_rect

@@ -7,7 +7,7 @@ ghost use Rattle.view_model.specs.FrameLayout.{is_exactly};
 
 use geom_core::{Mode, Spec, child_spec, resolve};
 
-/// Whether a spec tells the size.
+/// Whether a spec gives the size.
 pub fn is_exact(spec: Spec) -> bool
     ensures { result ≡ is_exactly spec.mode }
 {
@@ -28,7 +28,7 @@ pub fn child_spec_within(spec: Spec, padding: i64, margins: i64, dim: i32) -> Sp
     child_spec(spec, padding + margins, dim)
 }
 
-/// The greater of the most that was needed so far and what a child of this size needs with its margins.
+/// The greater of what was needed so far and what a child of this size needs with its margins.
 pub fn greater_need(most: i64, size: i32, margins: i64) -> i64
     requires low { negsuc 4294967295 ≤ℤ margins }
     requires high { margins ≤ℤ pos 4294967294 }
@@ -37,7 +37,7 @@ pub fn greater_need(most: i64, size: i32, margins: i64) -> i64
     most.max(i64::from(size) + margins)
 }
 
-/// A side of a group whose children need at most `most` of it beside its padding.
+/// A side of a group whose children need at most `most` of it besides its padding.
 pub fn own_side(min: i32, most: i64, padding: i64, spec: Spec) -> i32
     ensures value { result ≡ resolve_of (int_max min (most +ℤ padding)) spec }
     ensures side { IsSide result }

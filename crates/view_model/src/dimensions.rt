@@ -8,8 +8,8 @@ use crate::limits::MAX_WEIGHT;
 /// The most pixels of a dimension.
 const MAX_PIXELS: i64 = 1 << 30;
 
-/// The pixels of a dimension's word at a density of so many dots an inch, to the nearest, a half upward; None where the
-/// unit is unknown or there are more than 2^30 either way.
+/// The pixels of a dimension's word at a density in dots an inch, to the nearest, a half rounded up; `None` if the unit
+/// is unknown or there are more than 2^30 either way.
 #[tactic(auto, unfolding(crate::specs::Dimensions::px_of))]
 pub fn px(word: u32, dpi: u32) -> Option<i32>
     ensures { result ≡ px_of word dpi }
@@ -20,7 +20,7 @@ pub fn px(word: u32, dpi: u32) -> Option<i32>
     pixels_in_bounds(nearest(scaled, divisor))
 }
 
-/// The weight of a float's word, in 256ths, to the nearest, a half upward; None where it is no number, negative or
+/// The weight of a float's word, in 256ths, to the nearest, a half rounded up; `None` if it is no number, negative or
 /// above the greatest weight.
 #[tactic(auto, unfolding(crate::specs::Dimensions::weight_of))]
 pub fn weight(word: u32) -> Option<u32>
@@ -99,7 +99,7 @@ fn scaled(mantissa: i64, numerator: u64) -> i64
     mantissa * numerator as i64
 }
 
-/// `x / divisor` to the nearest whole number, a half upward, but never 0 where `x` is not 0.
+/// `x / divisor` to the nearest integer, a half rounded up, but never 0 if `x` is not 0.
 #[tactic(auto, unfolding(crate::specs::Dimensions::nearest))]
 fn nearest(x: i64, divisor: u32) -> i64
     requires some { 0 < divisor }
@@ -110,7 +110,7 @@ fn nearest(x: i64, divisor: u32) -> i64
     never_lost(half_up(x, divisor), x)
 }
 
-/// A whole number near `x`, but where that is 0 and `x` is not, 1 or -1.
+/// An integer near `x`, but if that is 0 and `x` is not, 1 or -1.
 #[tactic(auto, unfolding(crate::specs::Dimensions::never_lost))]
 fn never_lost(near: i64, x: i64) -> i64
     ensures { result ≡ never_lost near x }
@@ -183,7 +183,7 @@ fn weight_of_parts(negative: bool, fraction: u32, exponent: u32) -> Option<u32>
     weight_in_bounds(negative, weight_near(fraction, exponent))
 }
 
-/// 256ths of a float's fraction and exponent, to the nearest, a half upward, where these are neither too few nor too
+/// 256ths of a float's fraction and exponent, to the nearest, a half rounded up, if these are neither too few nor too
 /// many to count.
 #[tactic(auto, unfolding(crate::specs::Dimensions::weight_near))]
 fn weight_near(fraction: u32, exponent: u32) -> u64
@@ -196,7 +196,7 @@ fn weight_near(fraction: u32, exponent: u32) -> u64
     (2 * (8388608 + u64::from(fraction)) + (1 << shift)) / (1 << (shift + 1))
 }
 
-/// A weight of so many 256ths, where it is not negative and not too large.
+/// A weight of this many 256ths, if it is not negative and not too large.
 fn weight_in_bounds(negative: bool, n: u64) -> Option<u32>
     ensures { result ≡ weight_in_bounds negative n }
 {

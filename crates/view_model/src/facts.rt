@@ -2,7 +2,7 @@
 ghost use Rattle.std.specs.Prelude.{◌≡◌, negsuc, pos, ◌≤ℤ◌};
 
 use crate::kinds::{Answer, Visibility};
-use crate::placing::{Across, Down, Gravity};
+use crate::placing::{Across, Direction, Down, Gravity, left_of_two, right_of_two};
 use geom_core::{Argb, Insets, MATCH, Size};
 
 /// The rules that tie a child of a relative layout to its siblings and its parent. The verbs are, in this order:
@@ -14,7 +14,7 @@ pub struct Rules {
     pub values: [u32; 21],
 }
 
-/// All that is set of a view beside its class and its text. Lengths are in pixels.
+/// All that is set of a view besides its class and its text. Lengths are in pixels.
 #[derive(Clone, Copy, Debug, PartialEq, Eq)]
 pub struct Facts {
     /// The number by which other views name it; 0 is none.
@@ -25,15 +25,15 @@ pub struct Facts {
     pub height: i32,
     /// `MIN_MARGIN`..`MAX_INSET` on each side.
     pub margins: Insets,
-    /// Where given, it stands for the left margin.
+    /// If given, it is used in place of the left margin, under `rtl` of the right one.
     pub margin_start: Option<i32>,
-    /// Where given, it stands for the right margin.
+    /// If given, it is used in place of the right margin, under `rtl` of the left one.
     pub margin_end: Option<i32>,
     /// 0..`MAX_INSET` on each side.
     pub padding: Insets,
-    /// Where given, it stands for the left padding.
+    /// If given, it is used in place of the left padding, under `rtl` of the right one.
     pub padding_start: Option<i32>,
-    /// Where given, it stands for the right padding.
+    /// If given, it is used in place of the right padding, under `rtl` of the left one.
     pub padding_end: Option<i32>,
     /// The least size that the view wants.
     pub min: Size,
@@ -58,17 +58,21 @@ pub struct Facts {
     pub clip: bool,
     /// Whether a scroll view's child fills it.
     pub fill: bool,
-    /// Whether a group hands pointers to its children one by one.
+    /// Whether a group passes pointers to its children one by one.
     pub split: bool,
     /// How far a scroll view has moved its child up.
     pub offset: i32,
     pub rules: Rules,
+    /// What is set of its direction.
+    pub direction: Direction,
+    /// Whether it runs from right to left: by its own direction, or where that is not set, as its parent does.
+    pub rtl: bool,
 }
 
 impl Facts {
     ghost use Rattle.view_model.specs.Facts.{new_facts, is_shown, matches_parent, margin_left, margin_right, padding_left, padding_right, margins_across, margins_down, padding_across, padding_down};
 
-    /// The facts of a new view of these dimensions: all else is as it is by default.
+    /// The facts of a new view of these dimensions: everything else has its default.
     pub fn new(width: i32, height: i32) -> Facts
         ensures { result ≡ new_facts width height }
     {
@@ -109,6 +113,8 @@ impl Facts {
             split: true,
             offset: 0,
             rules: Rules { values: [0; 21] },
+            direction: Direction::Inherit,
+            rtl: false,
         }
     }
 
@@ -129,32 +135,32 @@ impl Facts {
         self.width == MATCH || self.height == MATCH
     }
 
-    /// The margin on the left, a start value in the place of a left one.
+    /// The margin on the left, a start value in the place of a left one, or under `rtl` an end value.
     pub fn margin_left(&self) -> i32
         ensures { result ≡ margin_left self.now }
     {
-        self.margin_start.unwrap_or(self.margins.left)
+        left_of_two(self.rtl, self.margin_start, self.margin_end).unwrap_or(self.margins.left)
     }
 
-    /// The margin on the right, an end value in the place of a right one.
+    /// The margin on the right, an end value in the place of a right one, or under `rtl` a start value.
     pub fn margin_right(&self) -> i32
         ensures { result ≡ margin_right self.now }
     {
-        self.margin_end.unwrap_or(self.margins.right)
+        right_of_two(self.rtl, self.margin_start, self.margin_end).unwrap_or(self.margins.right)
     }
 
-    /// The padding on the left, a start value in the place of a left one.
+    /// The padding on the left, a start value in the place of a left one, or under `rtl` an end value.
     pub fn padding_left(&self) -> i32
         ensures { result ≡ padding_left self.now }
     {
-        self.padding_start.unwrap_or(self.padding.left)
+        left_of_two(self.rtl, self.padding_start, self.padding_end).unwrap_or(self.padding.left)
     }
 
-    /// The padding on the right, an end value in the place of a right one.
+    /// The padding on the right, an end value in the place of a right one, or under `rtl` a start value.
     pub fn padding_right(&self) -> i32
         ensures { result ≡ padding_right self.now }
     {
-        self.padding_end.unwrap_or(self.padding.right)
+        right_of_two(self.rtl, self.padding_start, self.padding_end).unwrap_or(self.padding.right)
     }
 
     /// Both margins from left to right.

@@ -1,6 +1,6 @@
 //! The class of a view, its visibility and how it answers events.
 
-/// The class of a view, by which it measures and lays out its children. A class joins the list together with its rules.
+/// The class of a view, by which it measures and lays out its children. A class is added here together with its rules.
 #[derive(Clone, Copy, Debug, PartialEq, Eq)]
 pub enum Class {
     /// A view with no content of its own, which has no children.

@@ -20,7 +20,7 @@ pub const MAX_WEIGHT: u32 = 16776960;
 pub const MAX_HOOKS: usize = 32;
 /// The most edits that a hook may have.
 pub const MAX_EDITS: usize = 8;
-/// The density of a screen of which none is told, in dots an inch.
+/// The density of a screen if none is set, in dots an inch.
 pub const NORMAL_DPI: u32 = 160;
 /// The most bytes that a layout file may have.
 pub const MAX_FILE: usize = 1048576;

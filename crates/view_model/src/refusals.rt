@@ -58,5 +58,5 @@ pub const WRONG_POINTER: u8 = 38;
 pub const MISSING_FILE: u8 = 39;
 /// A file has more bytes than it may have.
 pub const LONG_FILE: u8 = 40;
-/// The density is told of a screen on which there are views.
+/// The density is set for a screen on which there are views.
 pub const LATE_DPI: u8 = 41;

@@ -1,9 +1,10 @@
 //! What a relative layout looks at on an axis: the group, a child, and the siblings to which it is tied. Lengths are in
 //! pixels.
 ghost use Rattle.std.specs.Prelude.{◌≡◌};
-ghost use Rattle.view_model.specs.SiblingRules.{form_of};
+ghost use Rattle.view_model.specs.SiblingRules.{form_of, is_free};
 
 use crate::facts::{Facts, Rules};
+use crate::placing::{left_of_two, right_of_two};
 use crate::verbs::{
     ABOVE, ALIGN_BOTTOM, ALIGN_END, ALIGN_LEFT, ALIGN_RIGHT, ALIGN_START, ALIGN_TOP, BELOW, CENTER,
     CENTER_H, CENTER_V, END_OF, LEFT_OF, PARENT_BOTTOM, PARENT_END, PARENT_LEFT, PARENT_RIGHT,
@@ -31,14 +32,14 @@ pub enum Tie {
     AlignFar,
 }
 
-/// What the order of a relative layout's children hangs on: a child's id, and the ids that it names.
+/// What the order of a relative layout's children depends on: a child's id, and the ids that it names.
 #[derive(Clone, Copy, Debug, PartialEq, Eq)]
 pub struct Link {
     pub id: u32,
     pub rules: Rules,
 }
 
-/// The near and the far side of a child on each axis, in the coordinates of its group, as far as they are known.
+/// The near and the far side of a child on each axis, in the coordinates of its group, once they are known.
 #[derive(Clone, Copy, Debug, PartialEq, Eq)]
 pub struct Edges {
     pub across: Option<(i32, i32)>,
@@ -89,11 +90,14 @@ pub struct Tied {
     /// Whether it ends where its parent does.
     pub at_far: bool,
     pub centered: bool,
+    /// Whether it lies at the far side since no rule of the axis is set: from left to right in a group that runs from
+    /// right to left.
+    pub rests_far: bool,
 }
 
 impl Axis {
     ghost use Rattle.view_model.specs.Measuring.{Specs};
-    ghost use Rattle.view_model.specs.RelativeLayout.{band_on, length_on, tied_on};
+    ghost use Rattle.view_model.specs.RelativeLayout.{band_on, far_margin, length_on, near_margin, tied_on};
 
     /// A group with these facts under these specs.
     pub fn band(self, own: &Facts, ws: Spec, hs: Spec) -> Band
@@ -115,9 +119,9 @@ impl Axis {
         }
     }
 
-    /// A child with these facts.
-    pub fn tied(self, kid: &Facts) -> Tied
-        ensures { result ≡ tied_on self kid.now }
+    /// A child with these facts, in a group that runs from right to left or not.
+    pub fn tied(self, rtl: bool, kid: &Facts) -> Tied
+        ensures { result ≡ tied_on rtl self kid.now }
     {
         let rules = kid.rules.values;
         match self {
@@ -125,9 +129,12 @@ impl Axis {
                 dim: kid.width,
                 margin_near: kid.margin_left(),
                 margin_far: kid.margin_right(),
-                at_near: rules[PARENT_LEFT] != 0 || rules[PARENT_START] != 0,
-                at_far: rules[PARENT_RIGHT] != 0 || rules[PARENT_END] != 0,
+                at_near: rules[PARENT_LEFT] != 0
+                    || left_of_two(rtl, rules[PARENT_START], rules[PARENT_END]) != 0,
+                at_far: rules[PARENT_RIGHT] != 0
+                    || right_of_two(rtl, rules[PARENT_START], rules[PARENT_END]) != 0,
                 centered: rules[CENTER] != 0 || rules[CENTER_H] != 0,
+                rests_far: rtl && is_free(&kid.rules),
             },
             Axis::Vertical => Tied {
                 dim: kid.height,
@@ -136,7 +143,18 @@ impl Axis {
                 at_near: rules[PARENT_TOP] != 0,
                 at_far: rules[PARENT_BOTTOM] != 0,
                 centered: rules[CENTER] != 0 || rules[CENTER_V] != 0,
+                rests_far: false,
             },
+        }
+    }
+
+    /// The margins of a child with these facts, at its near and at its far side.
+    pub fn margins(self, kid: &Facts) -> (i32, i32)
+        ensures { result ≡ (near_margin self kid.now, far_margin self kid.now) }
+    {
+        match self {
+            Axis::Horizontal => (kid.margin_left(), kid.margin_right()),
+            Axis::Vertical => (kid.margins.top, kid.margins.bottom),
         }
     }
 
@@ -154,42 +172,58 @@ impl Axis {
 impl Tie {
     ghost use Rattle.view_model.specs.SiblingRules.{anchor_id};
 
-    /// The id of the sibling to which rules tie a child on an axis, or 0.
-    pub fn anchor_id(self, axis: Axis, rules: &Rules) -> u32
-        ensures { result ≡ anchor_id axis self rules.now }
-    {
-        match axis {
-            Axis::Horizontal => self.anchor_across(rules),
-            Axis::Vertical => self.anchor_down(rules),
-        }
-    }
-
-    fn anchor_across(self, rules: &Rules) -> u32
-        ensures { result ≡ anchor_id Axis.Horizontal self rules.now }
+    /// The id of the sibling to which rules tie a child on an axis, or 0; its group runs from right to left or not.
+    pub fn anchor_id(self, rtl: bool, axis: Axis, rules: &Rules) -> u32
+        ensures { result ≡ anchor_id rtl axis self rules.now }
     {
         let values = rules.values;
-        match self {
-            Tie::Before => form_of(values[START_OF], values[LEFT_OF]),
-            Tie::After => form_of(values[END_OF], values[RIGHT_OF]),
-            Tie::AlignNear => form_of(values[ALIGN_START], values[ALIGN_LEFT]),
-            Tie::AlignFar => form_of(values[ALIGN_END], values[ALIGN_RIGHT]),
-        }
-    }
-
-    fn anchor_down(self, rules: &Rules) -> u32
-        ensures { result ≡ anchor_id Axis.Vertical self rules.now }
-    {
-        let values = rules.values;
-        match self {
-            Tie::Before => values[ABOVE],
-            Tie::After => values[BELOW],
-            Tie::AlignNear => values[ALIGN_TOP],
-            Tie::AlignFar => values[ALIGN_BOTTOM],
+        match (axis, self) {
+            (Axis::Horizontal, Tie::Before) => form_of(
+                left_of_two(rtl, values[START_OF], values[END_OF]),
+                values[LEFT_OF],
+            ),
+            (Axis::Horizontal, Tie::After) => form_of(
+                right_of_two(rtl, values[START_OF], values[END_OF]),
+                values[RIGHT_OF],
+            ),
+            (Axis::Horizontal, Tie::AlignNear) => form_of(
+                left_of_two(rtl, values[ALIGN_START], values[ALIGN_END]),
+                values[ALIGN_LEFT],
+            ),
+            (Axis::Horizontal, Tie::AlignFar) => form_of(
+                right_of_two(rtl, values[ALIGN_START], values[ALIGN_END]),
+                values[ALIGN_RIGHT],
+            ),
+            (Axis::Vertical, Tie::Before) => values[ABOVE],
+            (Axis::Vertical, Tie::After) => values[BELOW],
+            (Axis::Vertical, Tie::AlignNear) => values[ALIGN_TOP],
+            (Axis::Vertical, Tie::AlignFar) => values[ALIGN_BOTTOM],
         }
     }
 }
 
-/// A start or end form, where it is set, takes the place of the left or right form.
+/// Whether no rule is set that speaks of left and right.
+fn is_free(rules: &Rules) -> bool
+    ensures { result ≡ is_free rules.now }
+{
+    let values = rules.values;
+    values[LEFT_OF] == 0
+        && values[RIGHT_OF] == 0
+        && values[ALIGN_LEFT] == 0
+        && values[ALIGN_RIGHT] == 0
+        && values[START_OF] == 0
+        && values[END_OF] == 0
+        && values[ALIGN_START] == 0
+        && values[ALIGN_END] == 0
+        && values[PARENT_LEFT] == 0
+        && values[PARENT_RIGHT] == 0
+        && values[PARENT_START] == 0
+        && values[PARENT_END] == 0
+        && values[CENTER] == 0
+        && values[CENTER_H] == 0
+}
+
+/// A start or end form, if it is set, replaces the left or right form.
 fn form_of(start: u32, left: u32) -> u32
     ensures { result ≡ form_of start left }
 {

@@ -1,10 +1,10 @@
-//! A view that is to come into a tree.
+//! A view that is to be added to a tree.
 
 use crate::facts::Facts;
 use crate::kinds::Class;
 use crate::text::Text;
 
-/// A view that is to come into a tree with others, and has no number yet.
+/// A view that is to be added to a tree with others, and has no number yet.
 #[derive(Debug, Drop)]
 pub struct Sprout {
     pub class: Class,

@@ -6,7 +6,7 @@ use Rattle.tool_io.specs.SinkState.{SinkState}
 use Rattle.view_tool.specs.Dump.{Dumps, status_of_text}
 use Rattle.view_tool.proofs.ToolLaws.{not_ended, whole_prefix}
 
--- a text that tells of a refused file was delivered, or a front part of it
+-- a text that reports a refused file was delivered, or a front part of it
 pub dumps_refusal : {E : Type 0} (page : List ℕ) (old new : SinkState) (outcome : Result (Unit {0}) E) → Delivered old new outcome page → Dumps page true old new (status_of_text 1 outcome)
 dumps_refusal page old new (Ok _) told = record {
   writes = record { whole = λ _. told.whole; part = whole_prefix old.gone new.gone page told.whole };

@@ -1,4 +1,5 @@
 pub mod CostLaws
+mod FocusLaws
 mod LoadLaws
 mod LookupLaws
 pub mod LongScriptLaws

@@ -1,4 +1,4 @@
--- What comes of a load.
+-- The results of a load.
 use Rattle.std.proofs.Common.{◌≡◌, ℕ, List, [], refl}
 use Rattle.std.specs.Prelude.{Some}
 use Rattle.load_maker.specs.Load.{load}

@@ -52,7 +52,7 @@ dumps_lines page old new (Err _) sent = record {
   ended = λ e. absurd (not_ended 4 (omega arith) e);
 }
 
--- the lines of a table that stands for what was read were delivered, or a front part of them
+-- the lines of a table that represents what was read were delivered, or a front part of them
 pub dumps_values : {E : Type 0} (table : Contents) (read : Result Contents Fault) (ids : List ℕ) (old new : SinkState) (outcome : Result (Unit {0}) E) → StandsFor table read
     → Delivered old new outcome (value_lines table ids) → Dumps (looked_up ids read) (is_broken read) old new (status_of_text 0 outcome)
 dumps_values table read ids old new outcome stands sent =

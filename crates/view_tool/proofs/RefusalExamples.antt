@@ -1,4 +1,4 @@
--- Worked lines that tell of refusals, by computation.
+-- Worked lines that report refusals, by computation.
 use Rattle.std.specs.Fmt.{digits}
 use Rattle.std.specs.Prelude.{◌≡◌, [], codes, refl}
 use Rattle.axml_chunks.specs.Faults.{not_table, truncated}

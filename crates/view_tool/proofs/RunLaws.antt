@@ -1,4 +1,4 @@
--- What lines come to, one after another, and where a run stops in them.
+-- The results of lines, one after another, and where a run stops in them.
 use Rattle.std.proofs.Common.{◌≡◌, ℕ, ◌+◌, ◌<◌, suc, true, length, take, drop, List, [], ◌∷◌, ◌++◌, refl, ap, sym, subst, ◌∙◌, arith, append_assoc, inl, inr, Err}
 use Rattle.std.specs.Prelude.{◌⊎◌, Option, Result, Ok, false, fold}
 use Rattle.std.specs.Io.KnownBytes.{Appends}
@@ -158,7 +158,7 @@ pub faulty_line : (files : Files) (world : World) (bytes : List ℕ) (fault : Li
 unfolding reply_to_line
 faulty_line files world bytes fault result passed read e = rw (passed, sym read ∙ e) refl
 
--- what a line leaves that was refused, or for which there was no memory
+-- what a line leaves that was refused, or that ran out of memory
 pub not_done : {X : Type 0} (fault : StepFault) (refusal : Refusal) → fault ≡ step.Refused refusal → IsDone (Err fault) ⊎ X → X
 not_done fault refusal e (inl done) = absurd (subst (λ (f : StepFault). IsDone (Err f)) e done)
 not_done fault refusal e (inr same) = same
@@ -225,7 +225,7 @@ refused_at files first mid now runner world text progress tally line number coun
       };
     })
 
--- a line was carried out, and its text has gone
+-- a line was carried out, and its text was written
 pub done_at : (files : Files) (first mid now : Trace) (runner : LineRunner) (world : KeyedWorld) (progress : Progress) (tally : Tally) (line : Line) (number : ℕ) (text : List ℕ) → HasCarriedOut first mid runner progress tally
     → reply_to_line files (world_of runner.world) line ≡ Done (world_of world) text → number ≡ progress.lines + 1 → Appends mid.gone now.gone text → HasTallied first.work now.work world (with_cost files tally line)
     → HasCarriedOut first now (record runner { world = world; lines = number }) (after_line files progress line) (with_cost files tally line)
@@ -294,7 +294,7 @@ behind_more shelf first now held runner before bytes line at stands e = record {
       (rw (after_lines-push files (cut_of before).lines line, tally_of-push files (cut_of before).lines line) (at files told));
 }
 
--- the last line, where there is none, and where there is one
+-- the last line, if there is none, and if there is one
 pub last_none : (script : List ℕ) → last_of (cut_of script).rest ≡ [] → lines_of script ≡ (cut_of script).lines
 unfolding lines_of
 last_none script e = ap (λ l. (cut_of script).lines ++ l) e ∙ append-nil (cut_of script).lines
@@ -303,6 +303,6 @@ pub last_one : (script : List ℕ) (line : Line) → last_of (cut_of script).res
 unfolding lines_of
 last_one script line e = ap (λ l. (cut_of script).lines ++ l) e
 
--- what was written and counted in a run that has come so far
+-- what was written and counted in a run so far
 pub works_of : (files : Files) (first now : Trace) (runner : LineRunner) (lines : List Line) → HasCarriedOut first now runner (after_lines files lines) (tally_of files lines) → Works files first now lines
 works_of files first now runner lines at = record { gone = at.gone; worth = at.tallied.worth }

@@ -40,10 +40,13 @@ pub consumed : (new : Option (List ℕ)) (script taken : List ℕ) → Consumes 
 consumed None script taken lost = elim lost [ ]
 consumed (Some rest) script taken lost = (rest, lost, refl)
 
--- where nothing is left, all was taken
+-- if nothing is left, all was taken
 pub taken_whole : (new : Option (List ℕ)) (script taken : List ℕ) → Consumes (Some script) new taken → IsAtEnd new → taken ≡ script
 taken_whole None script taken lost end = elim lost [ ]
 taken_whole (Some rest) script taken lost end = sym (lost ∙ ap (λ l. taken ++ l) end ∙ append-nil taken)
+
+pub taken_by_end : (old new : Option (List ℕ)) (script taken : List ℕ) → old ≡ Some script → Consumes old new taken → IsAtEnd new → taken ≡ script
+taken_by_end old new script taken told lost end = taken_whole new script taken (subst (λ l. Consumes l new taken) told lost) end
 
 -- the first bytes of a script that is too long, by what was taken
 take_front : (script taken bytes rest : List ℕ) (left : ℕ) → script ≡ (taken ++ bytes) ++ rest → length taken + left ≡ max_script → left ≤ length bytes
@@ -83,7 +86,7 @@ ends_stopped files first last new script taken bytes left stop lost count stops 
     let more = carried_front script (taken ++ take left bytes) (drop left bytes ++ c.0) split short in
     stops_further files first last (cut_of (taken ++ take left bytes)).lines more.0 (carried_lines script) stop more.1 stops
 
--- what a run has taken of a source, of which so many bytes more may come
+-- what a run has taken of a source, of which at most n more bytes are taken
 pub record HasTaken (shelf : Option Files) (before after : Option (List ℕ)) (first now : Trace) (run : Run) (left : ℕ) : Type 0 where
   pub bytes : List ℕ
   pub consumed : Consumes before after bytes
@@ -100,7 +103,7 @@ taken_on shelf before mid new first last now old run left n t within p = record 
   behind = p.comes;
 }
 
--- how a run ends that does not come to the end of its script
+-- how a run ends that does not get to the end of its script
 pub ends_early : (files : Files) (shelf : Option Files) (first last : Trace) (old mid new : Option (List ℕ)) (run : Run) (script taken : List ℕ) (left : ℕ) (early : End) → shelf ≡ Some files
     → old ≡ Some script → Consumes old mid taken → length taken + left ≡ max_script → ReadsPiece shelf first taken left mid new last run (Err early) → RunsTo files script new first last (Err early)
 ends_early files shelf first last old mid new run script taken left end.Source at_hand told lost count p =
@@ -114,19 +117,19 @@ ends_early files shelf first last old mid new run script taken left (end.Stopped
     let all = Consumes-Consumes (Some script) mid new taken p.bytes (subst (λ l. Consumes l mid taken) told lost) p.consumed in
     ends_stopped files first last new script taken p.bytes left stop all count (p.comes files at_hand)
 
--- the run came to the end of its script, and stopped in the last line
+-- the run got to the end of its script, and stopped in the last line
 pub ends_last : (files : Files) (first last : Trace) (old new : Option (List ℕ)) (script taken : List ℕ) (stop : Stop) → old ≡ Some script → Consumes old new taken → IsAtEnd new → length taken ≤ max_script
     → StopsIn files first last (lines_of taken) stop → StopsIn files first last (carried_lines script) stop
 ends_last files first last old new script taken stop told lost end short stops =
-    let all = taken_whole new script taken (subst (λ l. Consumes l new taken) told lost) end in
+    let all = taken_by_end old new script taken told lost end in
     let fits : length script ≤ max_script = subst (λ (l : List ℕ). length l ≤ max_script) all short in
     subst (λ (l : List Line). StopsIn files first last l stop) (ap lines_of all ∙ sym (carried_short script fits)) stops
 
--- the run came to the end of its script
+-- the run got to the end of its script
 pub ends_well : (files : Files) (first last : Trace) (old new : Option (List ℕ)) (script taken : List ℕ) (runner : LineRunner) → old ≡ Some script → Consumes old new taken → IsAtEnd new → length taken ≤ max_script
     → HasCarriedOut first last runner (after_lines files (lines_of taken)) (tally_of files (lines_of taken)) → RunsTo files script new first last (Ok (nat_lt 0 runner.refused))
 ends_well files first last old new script taken runner told lost end short at =
-    let all = taken_whole new script taken (subst (λ l. Consumes l new taken) told lost) end in (
+    let all = taken_by_end old new script taken told lost end in (
       subst (λ (l : List ℕ). length l ≤ max_script) all short,
       subst (λ (l : List ℕ). Works files first last (lines_of l)) all (record { gone = at.gone; worth = at.tallied.worth }),
       ap (nat_lt 0) (at.refused ∙ ap (λ (l : List ℕ). (after_lines files (lines_of l)).refused) all),

@@ -34,7 +34,7 @@ pub not_ended : (status : ℕ) → 2 ≤ status → IsComplete status → ⊥
 not_ended status big (inl e) = omega arith
 not_ended status big (inr e) = omega arith
 
--- a run that came to the end of its script
+-- a run that got to the end of its script
 ended_with : (files : Files) (script : List ℕ) (left first last : Option (List ℕ)) (status : ℕ) → status ≤ 1 → IsComplete status → length script ≤ max_script
     → Appends first last (after_lines files (lines_of script)).text → status ≡ (if nat_lt 0 (after_lines files (lines_of script)).refused then 1 else 0) → RunsWith files script left first last status
 ended_with files script left first last status small ended short gone told =
@@ -60,7 +60,7 @@ fetch_prefix : (files : Files) (lines : List Line) (first last : Option (List �
 fetch_prefix files lines first last s =
     prefix_lines files first last s.done (s.line ∷ s.left) lines s.all (whole_prefix first last (after_lines files s.done).text s.gone)
 
--- what has gone in a run, by what was also counted in it
+-- what was written in a run, by what was also counted in it
 
 written_taken : (files : Files) (script : List ℕ) (left : Option (List ℕ)) (first last : Trace) → WorksTaken files script left first last → WritesTaken files script left first.gone last.gone
 written_taken files script left first last w = record { taken = w.taken; takes = w.takes; within = w.within; text = w.works.gone }

@@ -17,7 +17,7 @@ use Rattle.view_tool.specs.Tool.{IsComplete, Writes}
 unfoldable pub refused_file_text : ℕ → List ℕ
 refused_file_text number = codes "file: " ⧺ refused_text number ⧺ codes "\n"
 
--- what is wrong with a file, and where it shows
+-- what is wrong with a file, and at which place
 unfoldable pub fault_text : Fault → List ℕ
 fault_text fault = codes "file: " ⧺ refused_text (cause_number fault.cause) ⧺ (codes " at " ⧺ decimal fault.at) ⧺ codes "\n"
 
@@ -30,7 +30,7 @@ abbrev pub is_fault : Result Document Fault → Bool
 is_fault (Ok document) = false
 is_fault (Err fault) = true
 
--- the text of a file, where there is one
+-- the text of a file, if there is one
 abbrev pub file_text : Option (List ℕ) → List ℕ
 file_text None = refused_file_text MISSING_FILE
 file_text (Some bytes) = if nat_lt MAX_FILE (length bytes) then refused_file_text LONG_FILE else decoded_text (decoded bytes)

@@ -8,11 +8,11 @@ use Rattle.text_lines.specs.Joined.{◌⧺◌}
 use Rattle.view_tool.specs.declared.loading.Outcome.{Outcome}
 use Rattle.view_tool.specs.Transcript.{Progress, after_lines}
 
--- what came of lines
+-- the results of lines
 abbrev pub outcome_after : Progress → Outcome
 outcome_after progress = record { lines = progress.lines; refused = progress.refused; digest = sha256 progress.text }
 
--- what comes of the load of a size, in a world of its own, without files
+-- the results of the load of a size, in a world of its own, without files
 unfoldable pub gen_outcome : ℕ → Outcome
 gen_outcome n = outcome_after (after_lines [] (lines_of (load n)))
 

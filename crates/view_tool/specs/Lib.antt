@@ -1,4 +1,5 @@
 pub mod Dump
+pub mod Focus
 pub mod Gen
 pub mod Lookup
 pub mod Names

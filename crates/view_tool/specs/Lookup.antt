@@ -1,4 +1,4 @@
--- What the tool writes of resources in a table: a line each, or why the file is refused.
+-- What the tool writes of resources in a table: one line each, or why the file is refused.
 use Rattle.std.specs.Prelude.{ℕ, nat_lt, Bool, true, false, if◌then◌else◌, List, length, Option, Some, None, Result, Ok, Err, string_bytes}
 use Rattle.std.specs.declared.alloc.Global.{Global}
 use Rattle.std.specs.declared.string.String.{String}
@@ -28,7 +28,7 @@ abbrev pub is_broken : Result Contents Fault → Bool
 is_broken (Ok table) = false
 is_broken (Err fault) = true
 
--- the same of a file, where there is one
+-- the same of a file, if there is one
 abbrev pub table_text : List ℕ → Option (List ℕ) → List ℕ
 table_text ids None = refused_file_text MISSING_FILE
 table_text ids (Some bytes) = if nat_lt max_table (length bytes) then refused_file_text LONG_FILE else looked_up ids (table_of bytes)

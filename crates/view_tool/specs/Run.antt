@@ -17,7 +17,7 @@ use Rattle.view_tool.specs.Works.{Trace, WorksBefore, WorksToFetch, WorksToWrite
 use Rattle.view_world.specs.KeyedWorld.{KeyedWorld, world_of}
 use Rattle.view_world.specs.Watched.{IsWatched, IsWorth}
 
--- a line as the code has it: none is too long
+-- a line as the code has it: it is not too long
 abbrev pub line_now : Option (Bor (List ℕ)) → Line
 line_now None = LongLine
 line_now (Some line) = Text line.now
@@ -26,7 +26,7 @@ line_now (Some line) = Text line.now
 abbrev pub IsShort : Option (Bor (List ℕ)) → Type 0
 IsShort line = IfSome line (λ bytes. length bytes.now ≤ max_line)
 
--- the line that has ended, where one has
+-- the line that has ended, if one has
 abbrev pub lines_now : Option (Option (Bor (List ℕ))) → List Line
 lines_now None = []
 lines_now (Some line) = line_now line ∷ []
@@ -36,7 +36,7 @@ pub record HasTallied (first now : Work) (world : KeyedWorld) (tally : Tally) : 
   pub watched : IsWatched world tally.watched
   pub worth : IsWorth tally.costs first now
 
--- a course has come so far, and since the first moment its text has gone, and what was counted is worth what its lines cost
+-- the state of a run so far: since its start its text was written, and what was counted is worth what its lines cost
 pub record HasCarriedOut (first now : Trace) (runner : LineRunner) (progress : Progress) (tally : Tally) : Type 0 where
   pub lines : runner.lines ≡ progress.lines
   pub world : world_of runner.world ≡ progress.world
@@ -45,16 +45,16 @@ pub record HasCarriedOut (first now : Trace) (runner : LineRunner) (progress : P
   pub gone : Appends first.gone now.gone progress.text
   pub tallied : HasTallied first.work now.work runner.world tally
 
--- what holds with the files that a shelf tells, if it tells them
+-- what holds with the files of a shelf, if it makes them visible
 abbrev pub WithFiles : Option Files → (Files → Type 0) → Type 0
 WithFiles shelf P = (files : Files) → shelf ≡ Some files → P files
 
--- a run has carried out the lines whose line feed is among these bytes, and holds what came behind them
+-- a run has carried out the lines whose line feed is among these bytes, and holds what comes after them
 pub record HasReadUpTo (shelf : Option Files) (first now : Trace) (run : Run) (bytes : List ℕ) : Type 0 where
   pub held : IsAfter run.lines bytes
   pub runner : WithFiles shelf (λ files. HasCarriedOut first now run.runner (after_lines files (cut_of bytes).lines) (tally_of files (cut_of bytes).lines))
 
--- the texts of the lines before one of these, which may want memory, have gone
+-- the texts of the lines before one of these, which may run out of memory, were written
 pub record StopsBefore (files : Files) (first now : Option (List ℕ)) (lines : List Line) : Type 0 where
   pub done : List Line
   pub line : Line
@@ -63,7 +63,7 @@ pub record StopsBefore (files : Files) (first now : Option (List ℕ)) (lines : 
   pub wants : MayWant line
   pub gone : Appends first now (after_lines files done).text
 
--- the texts of the lines before one of these, which asks the shelf for a file, have gone
+-- the texts of the lines before one of these, which asks the shelf for a file, were written
 pub record StopsAtFetch (files : Files) (first now : Option (List ℕ)) (lines : List Line) : Type 0 where
   pub done : List Line
   pub line : Line
@@ -78,7 +78,7 @@ StopsIn files first now lines stop.Sink = WorksToWrite files first now lines
 StopsIn files first now lines stop.NoMemory = WorksBefore files first now lines
 StopsIn files first now lines stop.Shelf = WorksToFetch files first now lines
 
--- a sink's count of failed calls once a run stopped so: a failed write raises it by one
+-- a sink's count of failed calls once a run stopped in this way: a failed write raises it by one
 abbrev pub stop_counted : Stop → ℕ → ℕ
 stop_counted stop.Sink faults = raised faults
 stop_counted stop.NoMemory faults = faults
@@ -89,7 +89,8 @@ abbrev pub writes_counted : {A : Type 0} → Result A Stop → ℕ → ℕ
 writes_counted (Ok _) faults = faults
 writes_counted (Err stop) faults = stop_counted stop faults
 
--- a shelf's count of failed calls once a run stopped so: a failed fetch raised it by one, and want of memory may count as one
+-- a shelf's count of failed calls once a run stopped in this way: a failed fetch raises it by one, and running out of
+-- memory may count as one
 abbrev pub CountsStop : ℕ → ℕ → Stop → Type 0
 CountsStop before now stop.Sink = now ≡ before
 CountsStop before now stop.NoMemory = before ≤ now

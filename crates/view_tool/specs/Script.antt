@@ -39,7 +39,7 @@ Comes shelf first before left bytes now run (Err ends.Source) = (bytes ≡ []) �
 Comes shelf first before left bytes now run (Err ends.Long) = (length bytes ≡ left + 1) × WithFiles shelf (λ files. Works files first now (cut_of (before ++ take left bytes)).lines)
 Comes shelf first before left bytes now run (Err (ends.Stopped stop)) = WithFiles shelf (λ files. StopsIn files first now (cut_of (before ++ take left bytes)).lines stop)
 
--- what a read and the bytes that it gave came to
+-- the result of a read and of the bytes that it gave
 pub record ReadsPiece (shelf : Option Files) (first : Trace) (before : List ℕ) (left : ℕ) (old new : Option (List ℕ)) (now : Trace) (run : Run) (result : Result ℕ End) : Type 0 where
   pub bytes : List ℕ
   pub consumed : Consumes old new bytes
@@ -47,8 +47,7 @@ pub record ReadsPiece (shelf : Option Files) (first : Trace) (before : List ℕ)
   pub count : IfOk result (λ n. n ≡ length bytes)
   pub comes : Comes shelf first before left bytes now run result
 
--- How the run of a script came to its end, where it has gone from the first moment to the last, and this is left of the
--- script.
+-- How the run of a script got to its end, if it went from the first moment to the last, and this is left of the script.
 abbrev pub RunsTo : Files → List ℕ → Option (List ℕ) → Trace → Trace → Result Bool End → Type 0
 RunsTo files script left first last (Ok refused) =
     (length script ≤ max_script) × Works files first last (lines_of script) × (refused ≡ nat_lt 0 (after_lines files (lines_of script)).refused)
@@ -64,7 +63,7 @@ pub record RunsFrom (shelf : Option Files) (before after : Option (List ℕ)) (f
   pub consumed : Consumes before after taken
   pub most : length taken ≤ max_script + 1
 
--- a source's count of failed calls once a run ended so: a failed read raises it by one
+-- a source's count of failed calls once a run ended in this way: a failed read raises it by one
 abbrev pub end_reads : End → ℕ → ℕ
 end_reads ends.Source faults = raised faults
 end_reads ends.Long faults = faults
@@ -84,7 +83,7 @@ abbrev pub ends_counted : {A : Type 0} → Result A End → ℕ → ℕ
 ends_counted (Ok _) faults = faults
 ends_counted (Err end) faults = end_writes end faults
 
--- a shelf's count of failed calls once a run ended so: a failed fetch raises it by one
+-- a shelf's count of failed calls once a run ended in this way: a failed fetch raises it by one
 abbrev pub CountsEnd : {A : Type 0} → ℕ → ℕ → Result A End → Type 0
 CountsEnd before now (Ok _) = now ≡ before
 CountsEnd before now (Err ends.Source) = now ≡ before

@@ -15,8 +15,7 @@ use Rattle.view_world.specs.World.{empty_world}
 abbrev pub with_costs : Costs → Costs → Costs
 with_costs some more = record { measured = some.measured + more.measured; least = some.least + more.least; most = some.most + more.most }
 
--- the lines so far: the world that they made, with what is known of its next frame, and what those cost that were carried
--- out
+-- the lines so far: the world that they made, with what is known of its next frame, and what the carried out ones cost
 pub record Tally : Type 0 where
   pub watched : Watched
   pub costs : Costs

@@ -47,7 +47,7 @@ status_of (Err (ends.Stopped stop.Shelf)) = 6
 abbrev pub IsOneOf : ℕ → List ℕ → Type 0
 IsOneOf status statuses = list_any (λ s. s == status) statuses ≡ true
 
--- what was written when a run ended with a status: the whole text where it ended by itself, and always a front part of it
+-- what was written when a run ended with a status: the whole text if it ended by itself, and always a front part of it
 pub record Writes (status : ℕ) (old new : Option (List ℕ)) (text : List ℕ) : Type 0 where
   pub whole : IsComplete status → Appends old new text
   pub part : AppendsPrefix old new text

@@ -86,7 +86,7 @@ has_refusal script files = nat_lt 0 (after_lines files (lines_of script)).refuse
 abbrev pub max_script : ℕ
 max_script = 16777216
 
--- the lines of a script that are carried out: all, or where it is too long those whose line feed is among the first bytes
+-- the lines of a script that are carried out: all, or if it is too long those whose line feed is among the first bytes
 unfoldable pub carried_lines : List ℕ → List Line
 carried_lines script = if nat_lt max_script (length script) then (cut_of (take max_script script)).lines else lines_of script
 
@@ -94,12 +94,12 @@ carried_lines script = if nat_lt max_script (length script) then (cut_of (take m
 abbrev pub cut_transcript : List ℕ → Files → List ℕ
 cut_transcript script files = (after_lines files (cut_of (take max_script script)).lines).text
 
--- the command of a line may want memory
+-- the command of a line may run out of memory
 abbrev pub CommandWants : Result PlainCommand LineFault → Type 0
 CommandWants (Ok command) = MayWantMemory command
 CommandWants (Err fault) = ⊥
 
--- a line that may want memory
+-- a line that may run out of memory
 abbrev pub MayWant : Line → Type 0
 MayWant LongLine = ⊥
 MayWant (Text bytes) = CommandWants (command_of bytes)

@@ -1,4 +1,4 @@
--- What was counted while lines were carried out, beside the texts that have gone.
+-- What was counted while lines were carried out, besides the texts that were written.
 use Rattle.std.specs.Prelude.{◌≡◌, ℕ, List, [], ◌∷◌, ◌++◌, Option}
 use Rattle.std.specs.Io.KnownBytes.{Appends}
 use Rattle.script_lines.specs.Lines.{Line}
@@ -10,7 +10,7 @@ use Rattle.view_tool.specs.Tally.{costs_of_lines}
 use Rattle.view_tool.specs.Transcript.{Asks, MayWant, after_lines, line_text}
 use Rattle.view_world.specs.Watched.{IsWorth}
 
--- what is known of a run at a moment: the bytes that have gone, where the sink tells them, and what was counted
+-- what is known of a run at a moment: the bytes that were written, if the sink makes them visible, and what was counted
 pub record Trace : Type 0 where
   pub gone : Option (List ℕ)
   pub work : Work
@@ -18,12 +18,12 @@ pub record Trace : Type 0 where
 abbrev pub trace : SinkState → Work → Trace
 trace state work = record { gone = state.gone; work = work }
 
--- lines were carried out between two moments: their texts have gone, and what was counted is worth what they cost
+-- lines were carried out between two moments: their texts were written, and what was counted is worth what they cost
 pub record Works (files : Files) (first now : Trace) (lines : List Line) : Type 0 where
   pub gone : Appends first.gone now.gone (after_lines files lines).text
   pub worth : IsWorth (costs_of_lines files lines) first.work now.work
 
--- the lines before one of these were carried out, which may want memory
+-- the lines before one of these were carried out, which may run out of memory
 pub record WorksBefore (files : Files) (first now : Trace) (lines : List Line) : Type 0 where
   pub done : List Line
   pub line : Line
@@ -41,13 +41,13 @@ pub record WorksToFetch (files : Files) (first now : Trace) (lines : List Line) 
   pub asks : Asks (after_lines files done).world line
   pub works : Works files first now done
 
--- one of these lines was the last that was carried out, and of its text only a front part has gone
+-- one of these lines was the last that was carried out, and only a front part of its text was written
 pub record WorksToWrite (files : Files) (first now : Trace) (lines : List Line) : Type 0 where
   pub done : List Line
   pub line : Line
   pub left : List Line
   pub all : done ++ line ∷ left ≡ lines
-  -- what had gone before its text
+  -- what was written before its text
   pub between : Option (List ℕ)
   pub gone : Appends first.gone between (after_lines files done).text
   pub part : AppendsPrefix between now.gone (line_text files (after_lines files done) line)

@@ -7,7 +7,7 @@ use Rattle.view_tool.specs.Tool.{IsComplete}
 use Rattle.view_tool.specs.Transcript.{carried_lines}
 use Rattle.view_tool.specs.Works.{Trace, Works, WorksBefore, WorksPart, WorksToFetch, WorksToWrite}
 
--- what the lines cost that were carried out, beside the texts that have gone: the first lines in any case
+-- what the carried out lines cost, besides the texts that were written: the first lines in any case
 pub record WorksWith (files : Files) (script : List ℕ) (left : Option (List ℕ)) (first last : Trace) (status : ℕ) : Type 0 where
   pub part : WorksPart files first.work last.work (carried_lines script)
   pub ended : IsComplete status → Works files first last (lines_of script)

@@ -17,7 +17,7 @@ use tool_io::{Failed, Found, Shelf, ShelfFault, Sink};
 use view_model::limits::MAX_FILE;
 use view_model::refusals::{LONG_FILE, MISSING_FILE};
 
-/// Prints the file of this name, or tells why it is refused.
+/// Prints the file of this name, or reports why it is refused.
 pub fn dump<K: Sink, F: Shelf>(alloc: Global, name: &str, shelf: &mut F, sink: &mut K) -> u8
     ensures dumps { (files : Files)
         → F.files shelf.old ≡ Some files
@@ -39,7 +39,7 @@ pub fn dump<K: Sink, F: Shelf>(alloc: Global, name: &str, shelf: &mut F, sink: &
     }
 }
 
-/// Prints a file that was fetched, or tells why it is refused.
+/// Prints a file that was fetched, or reports why it is refused.
 fn dump_found<K: Sink>(alloc: Global, found: Found, bytes: &[u8], sink: &mut K) -> u8
     ensures dumps { (files : Files) (name : List ℕ)
         → Fetched files name MAX_FILE found bytes.now
@@ -56,7 +56,7 @@ fn dump_found<K: Sink>(alloc: Global, found: Found, bytes: &[u8], sink: &mut K) 
     }
 }
 
-/// Prints a file, or tells what is wrong with it.
+/// Prints a file, or reports what is wrong with it.
 fn dump_bytes<K: Sink>(alloc: Global, bytes: &[u8], sink: &mut K) -> u8
     ensures dumps { Dumps (decoded_text (decoded bytes.now)) (is_fault (decoded bytes.now)) (K.state sink.old) (K.state sink.new) result }
     ensures known { IsOneOf result (0 ∷ 1 ∷ 4 ∷ 5 ∷ []) }
@@ -71,7 +71,7 @@ fn dump_bytes<K: Sink>(alloc: Global, bytes: &[u8], sink: &mut K) -> u8
     }
 }
 
-/// The status where a text was delivered so; `done` where the whole of it was.
+/// The status of a text that was delivered in this way; `done` if the whole of it was.
 pub fn status_of(done: u8, outcome: Result<(), Failed>) -> u8
     ensures { result ≡ status_of_text done outcome }
 {

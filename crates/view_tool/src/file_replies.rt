@@ -1,4 +1,4 @@
-//! The texts that tell of a file that is refused.
+//! The texts that report a refused file.
 
 ghost use Rattle.std.specs.Prelude.{◌≤◌};
 ghost use Rattle.text_lines.specs.Delivered.{Delivered};
@@ -10,7 +10,7 @@ use axml_chunks::Fault;
 use text_lines::TextBuffer;
 use tool_io::{Failed, Sink};
 
-/// Tells that a file is refused, by the number of the refusal.
+/// Reports that a file is refused, by the number of the refusal.
 pub fn write_refused_file<K: Sink>(sink: &mut K, number: u8) -> Result<(), Failed>
     requires first { 1 ≤ number }
     requires last { number ≤ 43 }
@@ -31,7 +31,7 @@ fn put_file<K: Sink>(reply: &mut TextBuffer, sink: &mut K, number: u8)
     reply.put(sink, b"\n");
 }
 
-/// Tells the first fault of a file.
+/// Reports the first fault of a file.
 pub fn write_fault<K: Sink>(sink: &mut K, fault: Fault) -> Result<(), Failed>
     ensures { Delivered (K.state sink.old) (K.state sink.new) result (fault_text fault) }
 {

@@ -30,7 +30,7 @@ use view_model::Work;
 /// How many bytes of a page are kept at a time.
 const PIECE: usize = 4096;
 
-/// What came of a load.
+/// The results of a load.
 #[derive(Clone, Copy, Debug, PartialEq, Eq)]
 pub struct Outcome {
     /// How many lines its script has.
@@ -41,7 +41,7 @@ pub struct Outcome {
     digest: [u8; 32],
 }
 
-/// Runs the load of this size in a world of its own, and writes what came of it.
+/// Runs the load of this size in a world of its own, and writes the results.
 pub fn run_load<K: Sink>(alloc: Global, n: u32, sink: &mut K, work: &mut Work) -> u8
     requires { n ≤ 100 }
     ensures dumps { Dumps (gen_page n) false (K.state sink.old) (K.state sink.new) result }
@@ -60,7 +60,7 @@ pub fn run_load<K: Sink>(alloc: Global, n: u32, sink: &mut K, work: &mut Work) -
     }
 }
 
-/// What comes of the load of this size, or none where there is no memory.
+/// The results of the load of this size, or `None` if there is no memory.
 fn load_outcome(alloc: Global, n: u32, work: &mut Work) -> Option<Outcome>
     requires { n ≤ 100 }
     ensures value { IfSome result (λ outcome. outcome ≡ gen_outcome n) }
@@ -99,7 +99,7 @@ fn carried_out(
     Ok(run)
 }
 
-/// What came of a script that was carried out, of which this is the page.
+/// The results of a script that was carried out, of which this is the page.
 fn outcome_of(run: &Run, page: &MemorySink) -> Outcome
     ensures { result ≡ record { lines = run.now.runner.lines; refused = run.now.runner.refused; digest = sha256 page.now.gone } }
 {
@@ -111,7 +111,7 @@ fn outcome_of(run: &Run, page: &MemorySink) -> Outcome
     }
 }
 
-/// Writes what came of a load.
+/// Writes the results of a load.
 fn write_outcome<K: Sink>(sink: &mut K, outcome: Outcome) -> Result<(), Failed>
     ensures { Delivered (K.state sink.old) (K.state sink.new) result (outcome_text outcome) }
 {

@@ -54,7 +54,7 @@ pub fn lookup<K: Sink, F: Shelf>(
     }
 }
 
-/// Writes of a table that was fetched what resources hold, or why the file is refused.
+/// Writes what resources hold in a table that was fetched, or why the file is refused.
 fn lookup_found<K: Sink>(
     alloc: Global,
     found: Found,

@@ -1,13 +1,15 @@
 //! The program `view_tool`: it carries out scripts over a tree of Android views, line by line, and writes exact bounds;
 //! and it prints compiled layout files.
 //!
-//! `tool` is the whole program over handed-in objects; `main` hands it the real ones, and `usage` tells what the words
-//! ask for. `script` reads a source in pieces, `run` carries out each line of them as soon as it has ended, by a world, and
-//! `refusals` tells of refused lines. `dump` prints a file, or has `file_replies` tell why it is refused.
+//! `tool` is the whole program over objects that it is given; `main` passes it the real ones, and `usage` reads what the
+//! words ask for. `script` reads a source in pieces, `run` carries out each line of them as soon as it has ended, by a
+//! world, and `refusals` reports refused lines. `dump` prints a file, or reports by `file_replies` why it is refused, and
+//! `focusing` answers which view gets the focus next after a script.
 #![tactic(auto)]
 
 mod dump;
 mod file_replies;
+mod focusing;
 mod loading;
 mod lookup;
 mod names;
@@ -36,7 +38,7 @@ fn main(rt: HostRuntime) -> ExitCode {
     })
 }
 
-/// The words behind the program's name. One that is not UTF-8 is an error.
+/// The words after the program's name. One that is not UTF-8 is an error.
 fn arguments(rt: &HostRuntime) -> io::Result<Vec<String>> {
     let mut arguments = Vec::new(rt.alloc());
     for argument in env::args(rt)?.skip(1) {

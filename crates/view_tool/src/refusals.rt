@@ -1,4 +1,4 @@
-//! The texts that tell of refusals.
+//! The texts that report refusals.
 
 ghost use Rattle.std.specs.Prelude.{◌≡◌, ◌≤◌, decimal, length};
 ghost use Rattle.text_lines.specs.Delivered.{Delivered};
@@ -12,7 +12,7 @@ use text_lines::TextBuffer;
 use tool_io::{Failed, Sink};
 use view_model::{Detail, Member, Refusal};
 
-/// Tells that the line of this number, counted from 1, is refused.
+/// Reports that the line of this number, counted from 1, is refused.
 pub fn write_refusal<K: Sink>(
     reply: &mut TextBuffer,
     sink: &mut K,

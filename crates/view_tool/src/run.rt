@@ -31,20 +31,20 @@ pub enum Stop {
     Shelf,
 }
 
-/// How far a run has come, line by line.
+/// The state of a run, line by line.
 #[derive(Drop)]
 pub struct LineRunner {
     world: World,
-    /// How many lines were taken, those that are passed over too.
+    /// How many lines were taken, including those that are passed over.
     lines: u64,
     /// How many of them were refused.
     refused: u64,
-    /// What gathers the texts that tell of refusals.
+    /// What gathers the texts that report refusals.
     text: TextBuffer,
 }
 
 impl LineRunner {
-    /// Takes the next line, which is carried out unless it is passed over. None is a line that is too long.
+    /// Takes the next line, which is carried out unless it is passed over. `None` is a line that is too long.
     #[inline]
     fn line<K: Sink, F: Shelf>(
         &mut self,
@@ -93,7 +93,7 @@ impl LineRunner {
     }
 }
 
-/// Whether a line is passed over. None is a line that is too long.
+/// Whether a line is passed over. `None` is a line that is too long.
 #[inline]
 fn is_passed(line: Option<&[u8]>) -> bool
     ensures { result ≡ is_idle (line_now line.entry) }
@@ -104,7 +104,8 @@ fn is_passed(line: Option<&[u8]>) -> bool
     }
 }
 
-/// Carries out a line, and writes its text; of one that is refused nothing is written. None is a line that is too long.
+/// Carries out a line, and writes its text; of one that is refused nothing is written. `None` is a line that is too
+/// long.
 #[inline(never)]
 #[tactic(auto, unfolding(crate::specs::Transcript::reply_to_line))]
 fn carry_out<K: Sink, F: Shelf>(
@@ -147,7 +148,8 @@ fn carry_out<K: Sink, F: Shelf>(
     }
 }
 
-/// The line that has ended, if one has: one in a piece, or the one that is held. None in it is a line that is too long.
+/// The line that has ended, if one has: one in a piece, or the one that is held. `None` in it is a line that is too
+/// long.
 #[inline]
 fn ended_line<'a>(place: LinePlace, piece: &'a [u8], held: &'a [u8]) -> Option<Option<&'a [u8]>>
     requires lent { IsLent place (length piece.now) }
@@ -198,6 +200,13 @@ impl Run {
         ensures { result ≡ (self.now.runner.lines, self.now.runner.refused) }
     {
         (self.runner.lines, self.runner.refused)
+    }
+
+    /// The world that the lines so far have made.
+    pub fn world(&self) -> &World
+        ensures { result.now ≡ self.now.runner.world }
+    {
+        &self.runner.world
     }
 
     /// Takes the bytes of a piece up to its first line feed, or all of them, and carries out the line that they end.

@@ -89,7 +89,7 @@ const NO_WORK: Work = Work {
     painted: 0,
 };
 
-/// A script, the numbers of the reads and of the writes that fail, and how its run ends. 16 bytes are read at a time.
+/// A script, the numbers of the reads and of the writes that fail, and how its run ends.
 struct Run {
     script: &'static [u8],
     reads: &'static [u64],
@@ -144,6 +144,14 @@ const SPLIT: &[u8] =
     v1 ask POINTER_DOWN(1) 0:10,5 1:60,5 no\nv2 touch POINTER_DOWN(1) 0:10,5 1:60,5 yes\ndone yes\n\
     v1 ask CANCEL no\nv2 touch CANCEL yes\ndone yes\n";
 
+// The pointer with the greatest id, and one beyond it.
+const GREATEST: &[u8] =
+    b"window 100 20\nadd root LinearLayout match match\nadd v1 View 50 match\nadd v1 View 50 match\nanswer v2 yes\nanswer v3 yes\nframe\n\
+    down 31 10 5\ndown 32 1 1\n";
+
+const GREATEST_DOWN: &[u8] =
+    b"v1\nv2\nv3\nsettled 0\nv1 ask DOWN 31:10,5 no\nv2 touch DOWN 31:10,5 yes\ndone yes\nline 9: refused 30 Range\n";
+
 // The view that has a gesture is taken away.
 const LEAVING: &[u8] =
     b"window 20 20\nadd root FrameLayout match match\nadd v1 View match match\nanswer v2 yes\nframe\ndown 0 5 5\nremove v2\nmove 0 6 6\nup 0\n";
@@ -168,14 +176,28 @@ const SAVING: &[u8] =
     size v3 match 70\nframe\nbounds v1\nid v1 @7f080001\nsave\nrestore 5653020100\nrestore 5653010100\nscroll v1 5\nrestore\nframe\nbounds v1\n";
 
 const SAVED: &[u8] =
-    b"v1\nv2\nv3\nsettled 0\nv1 0 0 50 40 scroll 60\nsettled 0\nv1 0 0 50 40 scroll 30\nstate 56530101000100087f011e000000\n\
-    line 14: refused 26 BadState at 2\nline 15: refused 26 BadState at 5\nsettled 0\nv1 0 0 50 40 scroll 30\n";
+    b"v1\nv2\nv3\nsettled 0\nv1 0 0 50 40 scroll 60\nsettled 0\nv1 0 0 50 40 scroll 30\nstate 56530201000100087f011e000000\n\
+    line 14: refused 26 BadState at 5\nline 15: refused 26 BadState at 5\nsettled 0\nv1 0 0 50 40 scroll 30\n";
+
+// The first version is read too, and a third is none.
+const READING_FIRST: &[u8] =
+    b"window 50 40\nadd root ScrollView match match\nadd v1 LinearLayout match wrap\norient v2 vertical\nadd v2 View match 100\nid v1 @1\n\
+    restore 5653030100\nrestore 5653010100\nrestore 565301010001000000011e000000\nframe\nbounds v1\n";
+
+const FIRST_READ: &[u8] =
+    b"v1\nv2\nv3\nline 7: refused 26 BadState at 2\nline 8: refused 26 BadState at 5\nsettled 0\nv1 0 0 50 40 scroll 30\n";
+
+// A text is saved and restored, and layout follows it.
+const TEXTS: &[u8] =
+    b"window 100 20\nadd root TextView wrap wrap\ntext v1 hi\nid v1 @1\nsave\ntext v1 x\nrestore\nframe\nbounds v1\n";
+
+const TEXTS_RESTORED: &[u8] = b"v1\nstate 5653020100010000000202006869\nsettled 0\nv1 0 0 12 8\n";
 
 #[rattlefmt::skip]
 const RUNS: [Run; 28] = [
     Run { script: b"", reads: &[], writes: &[], status: 0, text: b"" },
     Run { script: SIMPLE, reads: &[], writes: &[], status: 0, text: SIMPLE_BOUNDS },
-    // The window stands after the first read, and the first view after three.
+    // There is a window after the first read, and the first view after three.
     Run { script: SIMPLE, reads: &[2], writes: &[], status: 3, text: b"" },
     Run { script: SIMPLE, reads: &[4], writes: &[], status: 3, text: b"v1\n" },
     // Each reply is one write, before the next line is carried out.
@@ -185,7 +207,7 @@ const RUNS: [Run; 28] = [
     Run { script: WRAPPING, reads: &[], writes: &[], status: 0, text: WRAPPED },
     // A hidden view stays in the geometry until it is laid out again.
     Run { script: HIDING, reads: &[], writes: &[], status: 0, text: HIDDEN },
-    // The first reason in order is told.
+    // The first reason in order is reported.
     Run { script: REFUSING, reads: &[], writes: &[], status: 1, text: REFUSED_LINES },
     // Views are at most 32 deep.
     Run { script: DEEP, reads: &[], writes: &[], status: 1, text: DEEPEST },
@@ -194,7 +216,7 @@ const RUNS: [Run; 28] = [
     Run { script: SCROLLING, reads: &[], writes: &[], status: 0, text: SCROLLED },
     Run { script: CROWDING, reads: &[], writes: &[], status: 1, text: CROWDED },
     Run { script: NESTING, reads: &[], writes: &[], status: 0, text: NESTED },
-    // Where a sibling is gone, its own rule is followed; no rule may lead back.
+    // If a sibling is gone, its own rule is followed; no rule may lead back.
     Run { script: TYING, reads: &[], writes: &[], status: 1, text: TIED },
     // Of two siblings with one id the last counts.
     Run { script: b"window 100 100\nadd root RelativeLayout match match\nadd v1 View 10 10\nadd v1 View 20 10\nadd v1 View 5 5\nid v2 @1\nid v3 @1\nrule v4 right_of @1\nframe\nbounds v4\n", reads: &[], writes: &[], status: 0, text: b"v1\nv2\nv3\nv4\nsettled 0\nv4 20 0 25 5\n" },
@@ -202,7 +224,7 @@ const RUNS: [Run; 28] = [
     Run { script: BLENDING, reads: &[], writes: &[], status: 0, text: BLENDED },
     Run { script: WRITING, reads: &[], writes: &[], status: 0, text: WRITTEN },
     Run { script: b"window 1 1\nadd root View match match\nbg v1 #ff616263\nframe\ndigest\n", reads: &[], writes: &[], status: 0, text: DIGESTED },
-    // The picture of a frame is told of its window alone, and after a frame alone.
+    // The picture of a frame can be read only in its window, and only after a frame.
     Run { script: PICTURING, reads: &[], writes: &[], status: 1, text: PICTURED },
     Run { script: DRAGGING, reads: &[], writes: &[], status: 0, text: DRAGGED },
     Run { script: SPLITTING, reads: &[], writes: &[], status: 0, text: SPLIT },
@@ -213,6 +235,14 @@ const RUNS: [Run; 28] = [
     Run { script: BLUNDERING, reads: &[], writes: &[], status: 1, text: BLUNDERED },
 ];
 
+/// States of both versions that are read, texts that are restored, and the greatest pointer.
+#[rattlefmt::skip]
+const RESTORED: [Run; 3] = [
+    Run { script: GREATEST, reads: &[], writes: &[], status: 1, text: GREATEST_DOWN },
+    Run { script: READING_FIRST, reads: &[], writes: &[], status: 1, text: FIRST_READ },
+    Run { script: TEXTS, reads: &[], writes: &[], status: 0, text: TEXTS_RESTORED },
+];
+
 /// Runs in which a view has to be laid out again that was not edited.
 #[rattlefmt::skip]
 const REPEATED: [Run; 2] = [
@@ -220,6 +250,13 @@ const REPEATED: [Run; 2] = [
     Run { script: REACHING, reads: &[], writes: &[], status: 0, text: REACHED },
     // A rule of a view that is gone moves a sibling.
     Run { script: LOOSENING, reads: &[], writes: &[], status: 0, text: LOOSENED },
+];
+
+/// Runs in which each read and each write moves one byte.
+#[rattlefmt::skip]
+const SLOW: [Run; 2] = [
+    Run { script: SIMPLE, reads: &[], writes: &[], status: 0, text: SIMPLE_BOUNDS },
+    Run { script: SCREEN, reads: &[], writes: &[], status: 0, text: SHOWN },
 ];
 
 /// Words, a file that the shelf holds as `a.xml`, the numbers of the fetches and writes that fail, and how the call ends.
@@ -277,6 +314,85 @@ const LOOKUPS: [Print; 6] = [
     Print { words: &["lookup", "a.xml", "7f05000"], file: b"", fetches: &[], writes: &[], status: 2, text: b"" },
 ];
 
+/// A line of three views that share its length, and take clicks.
+const CLICKING: &[u8] =
+    b"window 100 20\nadd root LinearLayout match match\nadd v1 View 0 match\nadd v1 View 0 match\n\
+    add v1 View 0 match\nweight v2 1\nweight v3 1\nweight v4 1\nanswer v2 click\nanswer v3 click\nanswer v4 click\nframe\n";
+
+/// A view that has the last one in its beam, below, and a nearer one beside that: the beam comes first.
+const BEAMING: &[u8] =
+    b"window 100 100\nadd root FrameLayout match match\nadd v1 View 20 20\nadd v1 View 20 20\nadd v1 View 20 20\n\
+    margins v3 21 30 0 0\nmargins v4 0 80 0 0\nanswer v3 click\nanswer v4 click\nframe\n";
+
+/// The same, where an ancestor hides a candidate.
+const HIDING_ONE: &[u8] =
+    b"window 100 20\nadd root FrameLayout match match\nadd v1 View 10 20\nadd v1 FrameLayout 10 20\nadd v3 View 10 20\n\
+    margins v3 30 0 0 0\nanswer v4 click\nframe\nvisible v3 invisible\n";
+
+/// A hook fires in the first pass of a frame, and another one in the second.
+const UNSETTLING: &[u8] =
+    b"window 100 20\nadd root LinearLayout match match\nadd v1 View 10 match\nadd v1 View 20 match\nframe\n\
+    hook v2 size v3 30 match\nhook v3 size v2 50 match\nsize v2 45 match\nframe\n";
+
+/// Two tiles above a wide one, and a view around the second: all three are as far from the wide one.
+const MEETING: &[u8] =
+    b"window 100 100\nadd root FrameLayout match match\nadd v1 View 100 20\nadd v1 View 20 20\nadd v1 FrameLayout 40 30\n\
+    add v4 View 20 20\nmargins v2 0 60 0 0\nmargins v3 10 10 0 0\nmargins v4 60 0 0 0\nmargins v5 10 10 0 0\nanswer v3 click\n\
+    answer v4 click\nanswer v5 click\nframe\n";
+
+/// Views to the right of the first one: one that goes, one outside of the window, and one of no width.
+const VANISHING: &[u8] =
+    b"window 100 100\nadd root FrameLayout match match\nadd v1 View 20 20\nadd v1 View 20 20\nadd v1 View 20 20\n\
+    add v1 View 0 20\nmargins v3 30 0 0 0\nmargins v4 200 0 0 0\nmargins v5 60 0 0 0\nanswer v2 click\nanswer v3 click\nanswer v4 click\n\
+    answer v5 click\nframe\nvisible v3 gone\n";
+
+/// A question after a script, the numbers of the reads, writes and fetches that fail, and how its run ends.
+struct Asked {
+    script: &'static [u8],
+    side: &'static str,
+    view: &'static str,
+    reads: &'static [u64],
+    writes: &'static [u64],
+    fetches: &'static [u64],
+    status: u8,
+    text: &'static [u8],
+}
+
+#[rattlefmt::skip]
+const QUESTIONS: [Asked; 25] = [
+    Asked { script: CLICKING, side: "right", view: "v2", reads: &[], writes: &[], fetches: &[], status: 0, text: b"v1\nv2\nv3\nv4\nsettled 0\nfocus v3\n" },
+    Asked { script: CLICKING, side: "left", view: "v2", reads: &[], writes: &[], fetches: &[], status: 0, text: b"v1\nv2\nv3\nv4\nsettled 0\nfocus none\n" },
+    Asked { script: CLICKING, side: "right", view: "v9", reads: &[], writes: &[], fetches: &[], status: 1, text: b"v1\nv2\nv3\nv4\nsettled 0\nfocus: refused 28 NoView\n" },
+    Asked { script: CLICKING, side: "right", view: "@0", reads: &[], writes: &[], fetches: &[], status: 1, text: b"v1\nv2\nv3\nv4\nsettled 0\nfocus: refused 28 NoView\n" },
+    Asked { script: BEAMING, side: "down", view: "v2", reads: &[], writes: &[], fetches: &[], status: 0, text: b"v1\nv2\nv3\nv4\nsettled 0\nfocus v4\n" },
+    Asked { script: HIDING_ONE, side: "right", view: "v2", reads: &[], writes: &[], fetches: &[], status: 0, text: b"v1\nv2\nv3\nv4\nsettled 0\nfocus none\n" },
+    // Views that lie alike: the first one. Around a view, and within it, no view is on a side.
+    Asked { script: MEETING, side: "up", view: "v2", reads: &[], writes: &[], fetches: &[], status: 0, text: b"v1\nv2\nv3\nv4\nv5\nsettled 0\nfocus v3\n" },
+    Asked { script: MEETING, side: "right", view: "v5", reads: &[], writes: &[], fetches: &[], status: 0, text: b"v1\nv2\nv3\nv4\nv5\nsettled 0\nfocus none\n" },
+    Asked { script: MEETING, side: "left", view: "v4", reads: &[], writes: &[], fetches: &[], status: 0, text: b"v1\nv2\nv3\nv4\nv5\nsettled 0\nfocus v3\n" },
+    // Views that are gone, outside of the window, or of no size.
+    Asked { script: VANISHING, side: "right", view: "v2", reads: &[], writes: &[], fetches: &[], status: 0, text: b"v1\nv2\nv3\nv4\nv5\nsettled 0\nfocus none\n" },
+    Asked { script: VANISHING, side: "left", view: "v4", reads: &[], writes: &[], fetches: &[], status: 0, text: b"v1\nv2\nv3\nv4\nv5\nsettled 0\nfocus none\n" },
+    // Why a question has no answer: the first reason in order counts.
+    Asked { script: b"", side: "up", view: "v1", reads: &[], writes: &[], fetches: &[], status: 1, text: b"focus: refused 33 NoWindow\n" },
+    Asked { script: b"window 9 9\n", side: "up", view: "v1", reads: &[], writes: &[], fetches: &[], status: 1, text: b"focus: refused 34 NoRoot\n" },
+    Asked { script: b"window 9 9\nadd root View 1 1\n", side: "up", view: "v9", reads: &[], writes: &[], fetches: &[], status: 1, text: b"v1\nfocus: refused 37 NoFrame\n" },
+    Asked { script: UNSETTLING, side: "up", view: "v9", reads: &[], writes: &[], fetches: &[], status: 1, text: b"v1\nv2\nv3\nsettled 0\nagain 2\nfocus: refused 36 Unsettled\n" },
+    // A line was refused, and the question is answered all the same.
+    Asked { script: b"window 9 9\nadd root View 1 1\nbogus\nframe\n", side: "up", view: "v1", reads: &[], writes: &[], fetches: &[], status: 1, text: b"v1\nline 3: refused 31 Syntax\nsettled 0\nfocus none\n" },
+    // Where a call fails before, no question is answered.
+    Asked { script: CLICKING, side: "right", view: "v2", reads: &[4], writes: &[], fetches: &[], status: 3, text: b"v1\n" },
+    Asked { script: CLICKING, side: "right", view: "v2", reads: &[], writes: &[5], fetches: &[], status: 4, text: b"v1\nv2\nv3\nv4\n" },
+    Asked { script: CLICKING, side: "right", view: "v2", reads: &[], writes: &[6], fetches: &[], status: 4, text: b"v1\nv2\nv3\nv4\nsettled 0\n" },
+    Asked { script: b"window 9 9\nadd root View 1 1\ninflate a.xml into v1\nframe\n", side: "right", view: "v1", reads: &[], writes: &[], fetches: &[1], status: 6, text: b"v1\n" },
+    Asked { script: b"window 9 9\nadd root View 1 1\ninflate a.xml into v1\nframe\n", side: "right", view: "v1", reads: &[], writes: &[], fetches: &[], status: 1, text: b"v1\nline 3: refused 39 Missing\nsettled 0\nfocus none\n" },
+    // Words that have no form.
+    Asked { script: CLICKING, side: "north", view: "v2", reads: &[], writes: &[], fetches: &[], status: 2, text: b"" },
+    Asked { script: CLICKING, side: "right", view: "v02", reads: &[], writes: &[], fetches: &[], status: 2, text: b"" },
+    Asked { script: CLICKING, side: "right", view: "v2 ", reads: &[], writes: &[], fetches: &[], status: 2, text: b"" },
+    Asked { script: CLICKING, side: "right", view: "@123456789", reads: &[], writes: &[], fetches: &[], status: 2, text: b"" },
+];
+
 /// A line of four children that share its length.
 const SHARING: &[u8] = b"window 100 20\nadd root LinearLayout match match\nadd v1 View 0 match\n\
     add v1 View 0 match\nadd v1 View 0 match\nweight v2 1\nweight v3 1\nweight v4 1\n\
@@ -306,7 +422,7 @@ const SCROLLING: &[u8] = b"window 50 40\nadd root ScrollView match match\n\
 const SCROLLED: &[u8] =
     b"v1\nv2\nv3\nsettled 0\nv1 0 0 50 40 scroll 60\nsettled 0\nv1 0 0 50 40 scroll 30\n";
 
-/// A scroll view with a second child, also where the first one is gone, and again where there is none.
+/// A scroll view with a second child, also if the first one is gone, and again without any.
 const CROWDING: &[u8] = b"add root FrameLayout match match\nadd v1 ScrollView 9 9\n\
     add v2 View 9 9\nadd v2 View 9 9\nvisible v3 gone\nadd v2 View 9 9\nadd v1 View 9 9\n\
     remove v3\nadd v2 View 9 9\n";
@@ -350,7 +466,7 @@ const REACHING: &[u8] = b"window 100 20\nadd root LinearLayout match match\n\
 const REACHED: &[u8] = b"v1\nv2\nv3\nv4\nsettled 1\nv1 0 0 100 20\nv2 0 0 40 20\n\
     v3 0 0 40 20\nv4 40 0 60 20\n";
 
-/// A chain of siblings whose middle one is gone, and then tied to nobody.
+/// A chain of siblings whose middle one is gone, and then tied to no other.
 const LOOSENING: &[u8] = b"window 100 100\nadd root RelativeLayout match match\nadd v1 View 20 10\n\
     add v1 View 30 10\nadd v1 View 10 10\nid v2 @1\nid v3 @2\nrule v3 right_of @1\n\
     rule v4 right_of @2\nframe\nvisible v3 gone\nframe\nrule v3 right_of @0\nframe\nbounds v4\n";
@@ -412,7 +528,7 @@ enum Sample {
     Whole,
     /// Without its last bytes.
     Cut,
-    /// Without its last bytes, of which it doesn't tell.
+    /// Without its last bytes, which its header still counts.
     Shortened,
     /// Its height is a reference to the resource 7f050001.
     Referring,
@@ -451,19 +567,18 @@ fn ended(
     words: &[&str],
     source: &mut MemorySource,
     shelf: &mut MemoryShelf,
-    writes: &[u64],
+    sink: &mut MemorySink,
 ) -> Result<(u8, Vec<u8>), AllocError> {
     let mut owned = Vec::new(alloc);
     for word in words {
         owned.push(String::from_str(alloc, word)?)?;
     }
-    let mut sink = MemorySink::new(alloc, 4096, Vec::from_slice(alloc, writes)?);
     let mut work = NO_WORK;
-    let status = tool(alloc, owned.as_slice(), shelf, source, &mut sink, &mut work);
+    let status = tool(alloc, owned.as_slice(), shelf, source, sink, &mut work);
     Ok((status, Vec::from_slice(alloc, sink.gone())?))
 }
 
-/// The status of these words over a script, and what is measured and painted, where these writes fail.
+/// The status of these words over a script, and what is measured and painted, if these writes fail.
 fn counted(
     alloc: Global,
     words: &[&str],
@@ -488,6 +603,7 @@ fn work_of(alloc: Global, script: &[u8]) -> Result<Work, AllocError> {
     Ok(counted(alloc, &["run"], script, &[])?.1)
 }
 
+/// How a script's run ends that reads and writes at most `most` bytes a call, if these reads and writes fail.
 fn run_ended(
     alloc: Global,
     script: Vec<u8>,
@@ -499,7 +615,8 @@ fn run_ended(
 {
     let mut source = MemorySource::new(script, most, Vec::from_slice(alloc, reads)?);
     let mut shelf = MemoryShelf::new(Vec::new(alloc), Vec::new(alloc));
-    ended(alloc, &["run"], &mut source, &mut shelf, writes)
+    let mut sink = MemorySink::new(alloc, most, Vec::from_slice(alloc, writes)?);
+    ended(alloc, &["run"], &mut source, &mut shelf, &mut sink)
 }
 
 fn print_ended(
@@ -513,7 +630,8 @@ fn print_ended(
     files.push((String::from_str(alloc, "a.xml")?, file))?;
     let mut shelf = MemoryShelf::new(files, Vec::from_slice(alloc, fetches)?);
     let mut source = MemorySource::new(Vec::new(alloc), 1, Vec::new(alloc));
-    ended(alloc, words, &mut source, &mut shelf, writes)
+    let mut sink = MemorySink::new(alloc, 4096, Vec::from_slice(alloc, writes)?);
+    ended(alloc, words, &mut source, &mut shelf, &mut sink)
 }
 
 /// The table of its parts, or a file that is given.
@@ -529,14 +647,14 @@ fn table_or(alloc: Global, file: &[u8]) -> Result<Vec<u8>, AllocError> {
     Ok(table)
 }
 
-/// Puts a byte in the place of another.
+/// Replaces a byte.
 fn put(bytes: &mut Vec<u8>, at: usize, byte: u8) {
     if let Some(own) = bytes.get_mut(at) {
         *own = byte;
     }
 }
 
-/// The bytes of a sample. Its size stands at 4, the value of its second attribute at 272.
+/// The bytes of a sample. Its size is at 4, the value of its second attribute at 272.
 fn bytes_of(alloc: Global, sample: Sample) -> Result<Vec<u8>, AllocError> {
     let mut file = Vec::from_slice(alloc, &NARROW)?;
     match sample {
@@ -569,7 +687,8 @@ fn inflation_ended(
     let mut shelf = MemoryShelf::new(files, Vec::from_slice(alloc, fetches)?);
     let script = Vec::from_slice(alloc, script)?;
     let mut source = MemorySource::new(script, 4096, Vec::new(alloc));
-    ended(alloc, &["run"], &mut source, &mut shelf, &[])
+    let mut sink = MemorySink::new(alloc, 4096, Vec::new(alloc));
+    ended(alloc, &["run"], &mut source, &mut shelf, &mut sink)
 }
 
 /// A line that defines a resource for each id from 1 to 4096, and then one for an id more and one for the first.
@@ -631,6 +750,17 @@ fn scripts_are_carried_out(rt: HostRuntime) -> Result<(), Fail> {
 }
 
 #[test]
+fn states_are_read_and_restored(rt: HostRuntime) -> Result<(), Fail> {
+    let alloc = rt.alloc();
+    for run in &RESTORED {
+        let script = Vec::from_slice(alloc, run.script)?;
+        let (status, gone) = run_ended(alloc, script, 16, run.reads, run.writes)?;
+        assert_eq!(rt; (status, gone.as_slice()), (run.status, run.text));
+    }
+    Ok(())
+}
+
+#[test]
 fn views_are_laid_out_again(rt: HostRuntime) -> Result<(), Fail> {
     let alloc = rt.alloc();
     for run in &REPEATED {
@@ -638,6 +768,33 @@ fn views_are_laid_out_again(rt: HostRuntime) -> Result<(), Fail> {
         let (status, gone) = run_ended(alloc, script, 16, run.reads, run.writes)?;
         assert_eq!(rt; (status, gone.as_slice()), (run.status, run.text));
     }
+    Ok(())
+}
+
+#[test]
+fn bytes_are_moved_one_by_one(rt: HostRuntime) -> Result<(), Fail> {
+    let alloc = rt.alloc();
+    for run in &SLOW {
+        let script = Vec::from_slice(alloc, run.script)?;
+        let (status, gone) = run_ended(alloc, script, 1, run.reads, run.writes)?;
+        assert_eq!(rt; (status, gone.as_slice()), (run.status, run.text));
+    }
+    Ok(())
+}
+
+#[test]
+fn any_write_may_fail(rt: HostRuntime) -> Result<(), Fail> {
+    let alloc = rt.alloc();
+    for number in 1..24u64 {
+        let script = Vec::from_slice(alloc, SCREEN)?;
+        let (status, gone) = run_ended(alloc, script, 4096, &[], &[number])?;
+        assert_eq!(rt; status, 4);
+        assert!(rt; SHOWN.starts_with(gone.as_slice()));
+    }
+    // Each of the 23 replies is one write.
+    let script = Vec::from_slice(alloc, SCREEN)?;
+    let (status, gone) = run_ended(alloc, script, 4096, &[], &[24])?;
+    assert_eq!(rt; (status, gone.as_slice()), (0, SHOWN));
     Ok(())
 }
 
@@ -686,7 +843,7 @@ fn the_work_of_a_load_is_counted(rt: HostRuntime) -> Result<(), Fail> {
     let (status, work) = counted(alloc, &["gen", "1"], b"", &[])?;
     assert_eq!(rt; status, 0);
     assert!(rt; 38 <= work.measured && 0 < work.painted);
-    // The same where its lines can't be written.
+    // The same if its lines can't be written.
     let (status, lost) = counted(alloc, &["gen", "1"], b"", &[1])?;
     assert_eq!(rt; (status, lost), (4, work));
     Ok(())
@@ -720,6 +877,22 @@ fn resources_are_looked_up(rt: HostRuntime) -> Result<(), Fail> {
     for asked in &LOOKUPS {
         let file = table_or(alloc, asked.file)?;
         let (status, gone) = print_ended(alloc, asked.words, file, asked.fetches, asked.writes)?;
+        assert_eq!(rt; (status, gone.as_slice()), (asked.status, asked.text));
+    }
+    Ok(())
+}
+
+#[test]
+fn questions_are_answered(rt: HostRuntime) -> Result<(), Fail> {
+    let alloc = rt.alloc();
+    for asked in &QUESTIONS {
+        let script = Vec::from_slice(alloc, asked.script)?;
+        let mut source = MemorySource::new(script, 16, Vec::from_slice(alloc, asked.reads)?);
+        let fetches = Vec::from_slice(alloc, asked.fetches)?;
+        let mut shelf = MemoryShelf::new(Vec::new(alloc), fetches);
+        let words = ["focus", asked.side, asked.view];
+        let mut sink = MemorySink::new(alloc, 4096, Vec::from_slice(alloc, asked.writes)?);
+        let (status, gone) = ended(alloc, &words, &mut source, &mut shelf, &mut sink)?;
         assert_eq!(rt; (status, gone.as_slice()), (asked.status, asked.text));
     }
     Ok(())

@@ -7,6 +7,7 @@ ghost use Rattle.script_lines.specs.Lines.{lines_of};
 ghost use Rattle.tool_io.specs.Counts.{Rose, raised};
 ghost use Rattle.tool_io.specs.Fetched.{Files};
 ghost use Rattle.view_tool.specs.Dump.{dump_page, refuses_file};
+ghost use Rattle.view_tool.specs.Focus.{AsksWith, IsFocusOf, focus_page, refuses_focus};
 ghost use Rattle.view_tool.specs.Gen.{gen_page};
 ghost use Rattle.view_tool.specs.Lookup.{lookup_page, refuses_table};
 ghost use Rattle.view_tool.specs.Run.{StopsAtFetch, StopsBefore};
@@ -17,9 +18,11 @@ ghost use Rattle.view_world.specs.Watched.{IsWorth};
 ghost use Rattle.view_tool.specs.Script.{WritesTaken};
 ghost use Rattle.view_tool.specs.Tool.{IsComplete, IsDumpOf, IsLookupOf, IsOneOf, IsRunOf, RunsWith, Writes, status_of};
 ghost use Rattle.view_tool.specs.Transcript.{carried_lines, cut_transcript, has_refusal, max_script, transcript};
-ghost use Rattle.view_tool.specs.Usage.{Run, Dump, Gen, Lookup, Unknown, usage};
+ghost use Rattle.view_tool.specs.Usage.{Run, Dump, Gen, Lookup, Focus, Unknown, usage};
+ghost use Rattle.view_tool.specs.declared.focusing.Question.{Question};
 
 use crate::dump::dump;
+use crate::focusing::{Question, focus_source};
 use crate::loading::run_load;
 use crate::lookup::lookup;
 use crate::run::Stop;
@@ -32,7 +35,7 @@ use std::alloc::Global;
 use tool_io::{Shelf, Sink, Source};
 use view_model::Work;
 
-/// The whole tool. The words are those behind the program's name.
+/// The whole tool. The words are those after the program's name.
 pub fn tool<S: Source, K: Sink, F: Shelf>(
     alloc: Global,
     words: &[String],
@@ -41,20 +44,20 @@ pub fn tool<S: Source, K: Sink, F: Shelf>(
     sink: &mut K,
     work: &mut Work,
 ) -> u8
-    // For every script and every set of layout files, the bytes that the tool writes are those of the plain world, which
-    // at each settled frame measures, lays out and paints its whole present tree anew and delivers each touch by the
-    // dispatch rules alone; where memory was wanting or a handed-in source, sink or shelf failed, they are a prefix of
+    // For every script and every set of layout files, the bytes that the tool writes are those of the plain world,
+    // which at each settled frame measures, lays out and paints its whole present tree anew and delivers each touch by
+    // the dispatch rules alone; if memory runs out, or the given source, sink or shelf fails, they are a prefix of
     // these.
     //
     // It covers all lines: a tree of views is built, edited, inflated from layout files, measured, laid out, painted and
-    // touched, hooks change it in the middle of a frame, offsets are saved and restored, and bounds, colours and digests
-    // are told.
+    // touched, hooks change it in the middle of a frame, offsets and texts are saved and restored, and bounds, colours and digests
+    // are printed.
     ensures headline { (script : List ℕ) (files : Files)
         → IsRunOf (usage words.now) (S.left source.old) (F.files shelf.old) script files
         → length script ≤ max_script
         → Writes result (K.state sink.old).gone (K.state sink.new).gone (transcript script files) }
 
-    // A run that ended by itself tells whether a line was refused.
+    // The status of a run that ended by itself says whether a line was refused.
     ensures refused { (script : List ℕ) (files : Files)
         → IsRunOf (usage words.now) (S.left source.old) (F.files shelf.old) script files
         → length script ≤ max_script
@@ -77,8 +80,9 @@ pub fn tool<S: Source, K: Sink, F: Shelf>(
     ensures untouched { result ≡ 2
         → (source.new ≡ source.old) × (sink.new ≡ sink.old) × (shelf.new ≡ shelf.old) × (work.new ≡ work.old) }
 
-    // A failed read: exactly the lines whose line feed was taken were carried out. A failed write: some prefix has gone. A
-    // failed fetch: exactly the texts of the lines before the one that asked for the file have gone; of a file, nothing.
+    // A failed read: exactly the lines whose line feed was taken were carried out. A failed write: some prefix was
+    // written. A failed fetch: exactly the texts of the lines before the one that asked for the file were written; of a
+    // file, nothing.
     ensures lines_taken { (script : List ℕ) (files : Files)
         → IsRunOf (usage words.now) (S.left source.old) (F.files shelf.old) script files
         → result ≡ 3
@@ -89,8 +93,9 @@ pub fn tool<S: Source, K: Sink, F: Shelf>(
         → StopsAtFetch files (K.state sink.old).gone (K.state sink.new).gone (carried_lines script) }
     ensures dump_failed_fetch { (name : List ℕ) → usage words.now ≡ Dump name → result ≡ 6 → sink.new ≡ sink.old }
 
-    // The call that failed is the one that the status tells of, and after it nothing more is asked of that object: its
-    // count of failed calls is one higher, and each other count is as it was. Want of memory may count as a failed fetch.
+    // The call that failed is the one that the status reports, and after it nothing more is asked of that object: its
+    // count of failed calls is one higher, and each other count is as it was. Running out of memory may count as a
+    // failed fetch.
     ensures source_failed { S.faults source.new ≡ (if result == 3 then raised (S.faults source.old) else S.faults source.old) }
     ensures sink_failed { (K.state sink.new).faults
         ≡ (if result == 4 then raised (K.state sink.old).faults else (K.state sink.old).faults) }
@@ -98,7 +103,7 @@ pub fn tool<S: Source, K: Sink, F: Shelf>(
         → F.faults shelf.new ≡ (if result == 6 then raised (F.faults shelf.old) else F.faults shelf.old) }
     ensures shelf_later { F.faults shelf.old ≤ F.faults shelf.new }
 
-    // No memory: exactly the texts of the lines before one that may want memory have gone; of a file, nothing.
+    // No memory: exactly the texts of the lines before one that may run out of memory were written; of a file, nothing.
     ensures no_memory { (script : List ℕ) (files : Files)
         → IsRunOf (usage words.now) (S.left source.old) (F.files shelf.old) script files
         → result ≡ 5
@@ -120,7 +125,7 @@ pub fn tool<S: Source, K: Sink, F: Shelf>(
         → result ≡ 7
         → max_script < length script }
 
-    // There is no other status, and where no object failed, only want of memory keeps a call from its end.
+    // There is no other status, and if no object failed, only running out of memory keeps a call from its end.
     ensures run_statuses { usage words.now ≡ Run → IsOneOf result (0 ∷ 1 ∷ 3 ∷ 4 ∷ 5 ∷ 6 ∷ 7 ∷ []) }
     ensures dump_statuses { (name : List ℕ)
         → usage words.now ≡ Dump name
@@ -150,7 +155,7 @@ pub fn tool<S: Source, K: Sink, F: Shelf>(
     // The work of a run, in whatever way it ends: of the frames that were carried out it measures at most as many views, and
     // paints at least and at most as many pixels, as they cost in the plain world. All lines of the script were carried out
     // where the run ended by itself, and else the first ones: the very lines whose texts were written. The work of a load
-    // is that of its script. Nothing else is counted.
+    // is that of its script. Of a script with a question after it `focus_ends` says the same, and nothing else is counted.
     ensures worth { (script : List ℕ) (files : Files)
         → IsRunOf (usage words.now) (S.left source.old) (F.files shelf.old) script files
         → IsComplete result
@@ -160,9 +165,12 @@ pub fn tool<S: Source, K: Sink, F: Shelf>(
         → WorksWith files script (S.left source.new) (trace (K.state sink.old) work.old) (trace (K.state sink.new) work.new) result }
     ensures gen_worth { (n : ℕ) → usage words.now ≡ Gen n → result ≢ 5 → IsWorth (costs_of_script (load n) []) work.old work.new }
     ensures gen_works { (n : ℕ) → usage words.now ≡ Gen n → WorksPart [] work.old work.new (lines_of (load n)) }
-    ensures uncounted { usage words.now ≢ Run → ((n : ℕ) → usage words.now ≢ Gen n) → work.new ≡ work.old }
+    ensures uncounted { usage words.now ≢ Run
+        → ((n : ℕ) → usage words.now ≢ Gen n)
+        → ((question : Question) → usage words.now ≢ Focus question)
+        → work.new ≡ work.old }
 
-    // The load of a size, in a world of its own: what came of it. Neither the source nor the shelf is asked.
+    // The results of the load of a size, in a world of its own. Neither the source nor the shelf is asked.
     ensures load { (n : ℕ) → usage words.now ≡ Gen n → Writes result (K.state sink.old).gone (K.state sink.new).gone (gen_page n) }
     ensures gen_accepts { (n : ℕ) → usage words.now ≡ Gen n → IsComplete result → result ≡ 0 }
     ensures gen_alone { (n : ℕ) → usage words.now ≡ Gen n → (source.new ≡ source.old) × (shelf.new ≡ shelf.old) }
@@ -173,8 +181,8 @@ pub fn tool<S: Source, K: Sink, F: Shelf>(
         → (Rose (K.state sink.old).faults (K.state sink.new).faults → ⊥)
         → (result ≡ 0) ⊎ (result ≡ 5) }
 
-    // What resources hold in a compiled table: a line an id, or why the file is refused. The source is not asked, and
-    // nothing is measured or painted.
+    // What resources hold in a compiled table: one line per id, or why the file is refused. The source is not asked,
+    // and nothing is measured or painted.
     ensures lookup { (name ids : List ℕ) (files : Files)
         → IsLookupOf (usage words.now) (F.files shelf.old) name ids files
         → Writes result (K.state sink.old).gone (K.state sink.new).gone (lookup_page files name ids) }
@@ -197,12 +205,44 @@ pub fn tool<S: Source, K: Sink, F: Shelf>(
         → (Rose (K.state sink.old).faults (K.state sink.new).faults → ⊥)
         → (Rose (F.faults shelf.old) (F.faults shelf.new) → ⊥)
         → IsComplete result ⊎ (result ≡ 5) }
+
+    // Which view gets the focus next after a script: its transcript and then the answer, which is that of the plain world
+    // after its lines, or the refusal of a `bounds` line of the same view. Where the run ends by another status than 0 or 1,
+    // no question is answered, and what was written, counted, read and fetched is as of the run alone; but a write may fail
+    // at the answer too.
+    ensures focus { (script : List ℕ) (files : Files) (question : Question)
+        → IsFocusOf (usage words.now) (S.left source.old) (F.files shelf.old) script files question
+        → length script ≤ max_script
+        → Writes result (K.state sink.old).gone (K.state sink.new).gone (focus_page script files question) }
+    ensures focus_refused { (script : List ℕ) (files : Files) (question : Question)
+        → IsFocusOf (usage words.now) (S.left source.old) (F.files shelf.old) script files question
+        → IsComplete result
+        → result ≡ (if refuses_focus script files question then 1 else 0) }
+    ensures focus_read_to_end { (question : Question) → usage words.now ≡ Focus question → IsComplete result → IsAtEnd (S.left source.new) }
+    ensures focus_ends { (script : List ℕ) (files : Files) (question : Question)
+        → IsFocusOf (usage words.now) (S.left source.old) (F.files shelf.old) script files question
+        → AsksWith files script question (S.left source.new) (trace (K.state sink.old) work.old) (trace (K.state sink.new) work.new) result }
+    ensures focus_worth { (script : List ℕ) (files : Files) (question : Question)
+        → IsFocusOf (usage words.now) (S.left source.old) (F.files shelf.old) script files question
+        → IsComplete result
+        → IsWorth (costs_of_script script files) work.old work.new }
+    ensures focus_statuses { (question : Question)
+        → usage words.now ≡ Focus question
+        → IsOneOf result (0 ∷ 1 ∷ 3 ∷ 4 ∷ 5 ∷ 6 ∷ 7 ∷ []) }
+    ensures focus_complete { (script : List ℕ) (files : Files) (question : Question)
+        → IsFocusOf (usage words.now) (S.left source.old) (F.files shelf.old) script files question
+        → length script ≤ max_script
+        → (Rose (S.faults source.old) (S.faults source.new) → ⊥)
+        → (Rose (K.state sink.old).faults (K.state sink.new).faults → ⊥)
+        → (Rose (F.faults shelf.old) (F.faults shelf.new) → ⊥)
+        → IsComplete result ⊎ (result ≡ 5) }
 {
     match form_of(words) {
         Some(Form::Run) => run(alloc, shelf, source, sink, work),
         Some(Form::Dump(name)) => dump(alloc, name, shelf, sink),
         Some(Form::Gen(n)) => run_load(alloc, n, sink, work),
         Some(Form::Lookup { name, ids }) => lookup(alloc, name, ids, shelf, sink),
+        Some(Form::Focus(question)) => focus(alloc, question, shelf, source, sink, work),
         None => USAGE,
     }
 }
@@ -240,6 +280,38 @@ fn run<S: Source, K: Sink, F: Shelf>(
     ensures measured { min work.old.measured (2 ^ 64 - 1) ≤ work.new.measured }
 {
     status(run_source(alloc, source, shelf, sink, work))
+}
+
+/// Carries out the script on a source, and then answers a question.
+fn focus<S: Source, K: Sink, F: Shelf>(
+    alloc: Global,
+    question: Question,
+    shelf: &mut F,
+    source: &mut S,
+    sink: &mut K,
+    work: &mut Work,
+) -> u8
+    ensures asks { (files : Files) (script : List ℕ)
+        → F.files shelf.old ≡ Some files
+        → S.left source.old ≡ Some script
+        → AsksWith files script question (S.left source.new) (trace (K.state sink.old) work.old) (trace (K.state sink.new) work.new) result }
+    ensures known { IsOneOf result (0 ∷ 1 ∷ 3 ∷ 4 ∷ 5 ∷ 6 ∷ 7 ∷ []) }
+    ensures whole { result ≢ 3 → result ≢ 4 → result ≢ 6 → result ≢ 7 → IsComplete result ⊎ (result ≡ 5) }
+    ensures read_to_end { IsComplete result → IsAtEnd (S.left source.new) }
+    ensures taken { (taken : List ℕ)
+        × Consumes (S.left source.old) (S.left source.new) taken
+        × (length taken ≤ max_script + 1) }
+    ensures source_failed { S.faults source.new ≡ (if result == 3 then raised (S.faults source.old) else S.faults source.old) }
+    ensures sink_failed { (K.state sink.new).faults
+        ≡ (if result == 4 then raised (K.state sink.old).faults else (K.state sink.old).faults) }
+    ensures shelf_failed { result ≢ 5
+        → F.faults shelf.new ≡ (if result == 6 then raised (F.faults shelf.old) else F.faults shelf.old) }
+    ensures shelf_later { F.faults shelf.old ≤ F.faults shelf.new }
+    ensures files_stay { F.files shelf.new ≡ F.files shelf.old }
+    ensures painted { work.old.painted ≤ work.new.painted }
+    ensures measured { min work.old.measured (2 ^ 64 - 1) ≤ work.new.measured }
+{
+    status(focus_source(alloc, question, source, shelf, sink, work))
 }
 
 /// The status of a run.

@@ -1,4 +1,4 @@
--- What other crates cite is `pub`.
+-- What other crates use is `pub`.
 pub mod forest
 pub mod values
 mod calls

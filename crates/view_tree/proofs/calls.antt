@@ -1,4 +1,4 @@
--- What single calls need. No other crate cites them.
+-- Laws for single calls. No other crate uses them.
 pub mod ClimbLaws
 pub mod DetachedOrders
 pub mod EmptyingLaws

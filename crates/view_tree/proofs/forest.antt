@@ -1,8 +1,10 @@
 -- Laws of forests, of keys and numbers in them, and of walks over them.
 pub mod AncestorLaws
+pub mod Backwards
 pub mod ChangingWalks
 pub mod ChildLaws
 pub mod DepthLaws
+pub mod DirectedLaws
 pub mod ForestLaws
 pub mod Forests
 pub mod GrownParts

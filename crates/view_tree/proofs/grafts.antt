@@ -1,4 +1,4 @@
--- Laws of saplings that come into a tree. No other crate cites them.
+-- Laws of saplings that are added to a tree. No other crate uses them.
 pub mod CheckedSprouts
 pub mod EntryLaws
 pub mod GainLaws

@@ -1,4 +1,4 @@
--- Laws of nodes and their links. No other crate cites them.
+-- Laws of nodes and their links. No other crate uses them.
 pub mod ChangedNodes
 pub mod ChangedTree
 pub mod ChildEdits
@@ -11,5 +11,12 @@ pub mod NodeRemoval
 pub mod NodeWrites
 pub mod PrunedPart
 pub mod PrunedTree
+pub mod TurnWalks
+pub mod TurnedFields
+pub mod TurnedHeld
+pub mod TurnedNodes
+pub mod TurnedRequests
+pub mod TurnedTree
+pub mod TurnedWhole
 pub mod UnlinkedNodes
 pub mod WholeTree

@@ -1,4 +1,4 @@
--- Laws of the kept orders of relative layouts. No other crate cites them.
+-- Laws of the kept orders of relative layouts. No other crate uses them.
 pub mod CycleLaws
 pub mod CycleLists
 pub mod FirstCycles

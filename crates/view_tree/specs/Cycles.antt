@@ -1,4 +1,4 @@
--- Cycles among the children of relative layouts, and why a tree is refused for one.
+-- Cycles among the children of relative layouts, and why they make a tree refused.
 use Rattle.std.specs.Prelude.{◌≡◌, ℕ, Bool, true, false, List, length, map, slice_index, Option, Some, None, Result, Ok, Err}
 use Rattle.view_model.specs.declared.refusal.Member.{Member}
 use Rattle.view_model.specs.declared.refusal.Member.TheVariants as member
@@ -23,12 +23,12 @@ pub record IsFree (links : List Link) : Type 0 where
   pub across : IsAcyclic (leads Horizontal links)
   pub down : IsAcyclic (leads Vertical links)
 
--- the members of the cycles on the horizontal axis, or on the vertical where there are none on the horizontal
+-- the members of the cycles on the horizontal axis, or on the vertical if there are none on the horizontal
 abbrev pub AreCyclic : List Link → Bool → List ℕ → Type 0
 AreCyclic links false members = IsCycle (leads Horizontal links) (length links) members
 AreCyclic links true members = IsAcyclic (leads Horizontal links) × IsCycle (leads Vertical links) (length links) members
 
--- there is a cycle, and its members are told under these names
+-- there is a cycle, and its members are reported under these names
 pub record IsCycleTold (name : ℕ → Member) (links : List Link) (refusal : PlainRefusal) : Type 0 where
   pub down : Bool
   pub members : List ℕ
@@ -43,7 +43,7 @@ view_member kids place = member.View (slice_index (numbers_in kids) place)
 abbrev pub HasNoCycle : Forest PlainView → Type 0
 HasNoCycle tree = EveryBranch (λ (view : PlainView) (kids : Forest PlainView). is_relative view.class ≡ true → IsFree (links_in kids)) tree
 
--- the answer tells a cycle with these members, unless memory is wanting
+-- the result reports a cycle with these members, unless memory runs out
 abbrev pub IsToldOf : (ℕ → Member) → Bool → List ℕ → AttachFault → Type 0
 IsToldOf name down members (fault.Refused refusal) = plain_refusal refusal ≡ record { number = CYCLE; reason = Cycle down (map name members) }
 IsToldOf name down members fault.NoMemory = Unit {0}
@@ -52,7 +52,7 @@ IsToldOf name down members fault.NoMemory = Unit {0}
 abbrev pub links_below : Views → ℕ → ℕ → Link → List Link
 links_below views parent number link = linked_in number link (views_of (children_of_first (part_from parent views.tree)))
 
--- orders of the children of a view's parent, once the view has another id and other rules, or why there are none; where
+-- orders of the children of a view's parent, once the view has another id and other rules, or why there are none; if
 -- the parent is no relative layout there is nothing to put in order
 abbrev pub AreNewOrders : Views → ℕ → Link → Option ℕ → Result (Option Orders) AttachFault → Type 0
 AreNewOrders views view link None (Ok None) = Unit {0}

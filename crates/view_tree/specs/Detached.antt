@@ -1,4 +1,4 @@
--- What is left of the kept orders once a view is taken away with all below it.
+-- What is left of the kept orders once a view is removed with all below it.
 use Rattle.std.specs.Prelude.{◌≡◌, ◌≢◌, ℕ, true, Option, Some, None, nat_eq, slice_get}
 use Rattle.std.specs.Map.{lookup}
 use Rattle.view_model.specs.Cycles.{is_relative, numbers_in}
@@ -21,10 +21,10 @@ pub record AreLowered (place : ℕ) (old new : PlainOrders) : Type 0 where
   pub down : IsLowered place old.down new.down
 
 pub record Detached (old new : Views) (key : ℕ) : Type 0 where
-  -- relative layouts that stay keep their orders, but for the parent
+  -- relative layouts that stay keep their orders, except the parent
   pub kept : (number : ℕ) → group_number old (parent_of old key) ≢ Some number → count_of_number number (first_tree (part_from key old.tree)) ≡ 0
       → lookup (nat_eq number) new.orders ≡ lookup (nat_eq number) old.orders
-  -- out of the orders of the parent goes the place of the view, if the parent is a relative layout
+  -- the orders of the parent lose the place of the view, if the parent is a relative layout
   pub lowered : (parent : ℕ) → parent_of old key ≡ Some parent → is_relative (class_of old parent) ≡ true
       → AreLowered (place_below old parent key) (orders_of old parent) (orders_under new (number_of old parent))
   -- and no number has orders that is not the number of a relative layout of the tree

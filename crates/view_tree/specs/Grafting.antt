@@ -1,4 +1,4 @@
--- What is kept of relative layouts when a sapling comes, and which of their cycles are told then.
+-- What is kept of relative layouts when a sapling is added, and which of their cycles are reported then.
 use Rattle.std.specs.Prelude.{◌≡◌, ℕ, suc, ◌==◌, ◌++◌, Bool, true, false, if◌then◌else◌, nat_eq, nat_lt, List, [], ◌∷◌, length, map, slice_index, Option, Some, None, Result, Ok, Err}
 use Rattle.std.specs.Option.{option_or}
 use Rattle.view_model.specs.Cycles.{cycle_with, is_relative, links_in, member_from, numbers_in}
@@ -16,18 +16,18 @@ use Rattle.view_tree.specs.Ordering.{IsGroupFor, PlainGroup, plain_group}
 use Rattle.view_tree.specs.Rows.{children_of_first, part_from, views_of}
 use Rattle.view_tree.specs.Views.{Views, class_of, number_of}
 
--- what rules read of a view that comes
+-- what rules read of a view that is added
 abbrev pub sprout_link : Sprout → Link
 sprout_link sprout = record { id = sprout.facts.id; rules = sprout.facts.rules }
 
--- what is told where children with these links and these numbers are to be put in order
+-- what is reported if children with these links and these numbers are to be put in order
 abbrev pub cycle_of : (ℕ → Member) → List Link → List ℕ → Option PlainRefusal
 cycle_of name links numbers =
     option_or (cycle_with name false (map (slice_index numbers) (members_of (leads Horizontal links) (length links))))
     (cycle_with name true (map (slice_index numbers) (members_of (leads Vertical links) (length links))))
 
--- of each child of a view of this depth something, by its number: the children are those one deeper among the views
--- behind it in preorder, until one is no deeper; the first of these has this number
+-- a value of each child of a view of this depth, by its number: the children are those one deeper among the views after
+-- it in preorder, until one is no deeper; the first of these has this number
 abbrev pub behind : {X : Type 0} → (ℕ → Sprout → X) → ℕ → ℕ → List Sprout → List X
 behind f depth number [] = []
 behind f depth number (sprout ∷ more) =
@@ -41,14 +41,14 @@ links_behind depth number sprouts = behind (λ number sprout. sprout_link sprout
 abbrev pub numbers_behind : ℕ → ℕ → List Sprout → List ℕ
 numbers_behind depth number sprouts = behind (λ number sprout. number) depth number sprouts
 
--- what is told of a view of this number, which has these behind it in preorder
+-- what is reported of a view of this number, which has these after it in preorder
 abbrev pub cycle_behind : (ℕ → Member) → ℕ → Sprout → List Sprout → Option PlainRefusal
 cycle_behind name number sprout more =
     if is_relative sprout.class
     then cycle_of name (links_behind sprout.depth (suc number) more) (numbers_behind sprout.depth (suc number) more)
     else None
 
--- what is told of views in preorder, the first of which has this number
+-- what is reported of views in preorder, the first of which has this number
 abbrev pub cycle_in : (ℕ → Member) → ℕ → List Sprout → Option PlainRefusal
 cycle_in name number [] = None
 cycle_in name number (sprout ∷ more) = option_or (cycle_behind name number sprout more) (cycle_in name (suc number) more)
@@ -64,7 +64,7 @@ abbrev pub IsOwnFor : Bool → ℕ → List Link → List ℕ → List (ℕ × G
 IsOwnFor false number links numbers entries = entries ≡ []
 IsOwnFor true number links numbers entries = IsEntryFor number links numbers entries
 
--- an entry of a view of this number, which has these behind it in preorder
+-- an entry of a view of this number, which has these after it in preorder
 abbrev pub IsBehind : ℕ → Sprout → List Sprout → List (ℕ × Group) → Type 0
 IsBehind number sprout more entries =
     IsOwnFor (is_relative sprout.class) number (links_behind sprout.depth (suc number) more) (numbers_behind sprout.depth (suc number) more) entries
@@ -75,47 +75,47 @@ AreEntries number [] entries = entries ≡ []
 AreEntries number (sprout ∷ more) entries =
     (own : List (ℕ × Group)) × (rest : List (ℕ × Group)) × (entries ≡ own ++ rest) × IsBehind number sprout more own × AreEntries (suc number) more rest
 
--- something is made, or a reason is told that stands against it, unless memory is wanting
+-- a value is made, or the reason against it is reported, unless memory runs out
 abbrev pub IsMadeUnless : {A : Type 0} → Option PlainRefusal → (A → Type 0) → Result A AttachFault → Type 0
 IsMadeUnless reason Made (Ok made) = (reason ≡ None) × Made made
 IsMadeUnless reason Made (Err (fault.Refused refusal)) = reason ≡ Some (plain_refusal refusal)
 IsMadeUnless reason Made (Err fault.NoMemory) = Unit {0}
 
--- what comes of children that are to be put in order
+-- the result for children that are to be put in order
 abbrev pub IsGroupOrCycle : (ℕ → Member) → List Link → List ℕ → Result Group AttachFault → Type 0
 IsGroupOrCycle name links numbers result = IsMadeUnless (cycle_of name links numbers) (λ group. IsGroupFor links numbers (plain_group group)) result
 
--- some entries stand behind others
+-- some entries come after others
 pub record HasAdded (old new : List (ℕ × Group)) (Made : List (ℕ × Group) → Type 0) : Type 0 where
   pub added : List (ℕ × Group)
   pub is : new ≡ old ++ added
   pub made : Made added
 
--- the children of a parent with one that comes
+-- the children of a parent with one that is added
 abbrev pub links_then : Views → ℕ → Link → List Link
 links_then views parent link = links_in (views_of (children_of_first (part_from parent views.tree))) ++ link ∷ []
 
 abbrev pub numbers_then : Views → ℕ → List ℕ
 numbers_then views parent = numbers_in (views_of (children_of_first (part_from parent views.tree))) ++ views.next ∷ []
 
--- what is told of a parent below which a view comes
+-- what is reported of a parent below which a view is added
 abbrev pub parent_cycle : Views → Option ℕ → Sprout → Option PlainRefusal
 parent_cycle views None sprout = None
 parent_cycle views (Some parent) sprout =
     if is_relative (class_of views parent) then cycle_of (member_from views.next) (links_then views parent (sprout_link sprout)) (numbers_then views parent) else None
 
--- an entry of a parent below which a view comes, if it is a relative layout
+-- an entry of a parent below which a view is added, if it is a relative layout
 abbrev pub IsParentEntry : Views → Option ℕ → Sprout → List (ℕ × Group) → Type 0
 IsParentEntry views None sprout entries = entries ≡ []
 IsParentEntry views (Some parent) sprout entries =
     IsOwnFor (is_relative (class_of views parent)) (number_of views parent) (links_then views parent (sprout_link sprout)) (numbers_then views parent) entries
 
--- what a table has under a number once entries are noted in it one after another, where it had this before
+-- what a table has under a number once entries are inserted one after another, if it had this before
 abbrev pub noted : List (ℕ × Group) → ℕ → Option PlainGroup → Option PlainGroup
 noted [] number before = before
 noted (entry ∷ entries) number before = noted entries number (if nat_eq entry.0 number then Some (plain_group entry.1) else before)
 
--- what is told where a sapling comes: of its parent, or else of its own views
+-- what is reported if a sapling is added: of its parent, or else of its own views
 abbrev pub entries_cycle : Views → Option ℕ → List Sprout → Option PlainRefusal
 entries_cycle views parent [] = None
 entries_cycle views parent (sprout ∷ more) = option_or (parent_cycle views parent sprout) (cycle_in (member_from views.next) views.next (sprout ∷ more))

@@ -2,7 +2,7 @@
 use Rattle.std.specs.Prelude.{ℕ, ◌==◌, ◌+◌, ◌-◌, ◌%◌, ◌^◌, nat_lt, Option, Some, None, if◌then◌else◌}
 use Rattle.view_tree.specs.declared.ids.Holders.{Holders}
 
--- so many views whose keys have this sum, if there are any
+-- n views whose keys have this sum, if there are any
 abbrev pub holders : ℕ → ℕ → Option Holders
 holders count sum = if count == 0 then None else Some (record { count = count; sum = sum % 2 ^ 64 })
 

@@ -2,6 +2,7 @@ pub mod Attached
 pub mod Codes
 pub mod Cycles
 pub mod Detached
+pub mod Directions
 pub mod Faults
 pub mod Grafted
 pub mod Grafting
@@ -15,4 +16,5 @@ pub mod Preorder
 pub mod Requests
 pub mod Rows
 pub mod Sowing
+pub mod Turning
 pub mod Views

@@ -1,7 +1,7 @@
--- How the nodes of a tree stand for its views.
+-- How the nodes of a tree represent its views.
 use Rattle.std.specs.declared.hash.BuildHasherDefault.{BuildHasherDefault}
 use Rattle.std.specs.declared.hash.FoldHasher.{FoldHasher}
-use Rattle.std.specs.Prelude.{ℕ, zero, suc, ◌≡◌, ◌<◌, ◌≤◌, ◌==◌, ◌^◌, nat_eq, map, Bool, [], Option, Some, None, if◌then◌else◌, option_map, ◌⊎◌}
+use Rattle.std.specs.Prelude.{ℕ, zero, suc, ◌≡◌, ◌<◌, ◌≤◌, ◌==◌, ◌^◌, nat_eq, map, Bool, false, [], Option, Some, None, if◌then◌else◌, option_map, ◌⊎◌}
 use Rattle.slab.specs.Slab.{Slab, get, slab_len}
 use Rattle.indexmap.specs.IndexMap.{IndexMap, get as get_key, hasher_of}
 use Rattle.indexmap.specs.Layout.{hash_map}
@@ -16,7 +16,7 @@ use Rattle.view_tree.specs.declared.ids.Holders.{Holders}
 use Rattle.view_tree.specs.declared.node.Node.{Node}
 use Rattle.view_tree.specs.declared.tree.ViewTree.TheInside.{Inside}
 
--- what a node says of the tree: its view and its neighbours, and nothing of its state
+-- what a node holds about the tree: its view and its neighbours, and nothing of its state
 pub record PlainNode : Type 0 where
   pub view : PlainView
   pub parent : Option ℕ
@@ -25,7 +25,7 @@ pub record PlainNode : Type 0 where
   pub previous : Option ℕ
   pub next : Option ℕ
 
--- the view of a node, as it stands in a row
+-- the view of a node, as it is in a row
 abbrev pub view_of_node : Node → PlainView
 view_of_node node = unscrolled (record { number = node.number; class = node.class; facts = node.facts; text = node.text })
 
@@ -46,6 +46,15 @@ links_in (Some node) = Some (links_of node)
 abbrev pub links_at : Slab Node → ℕ → Option PlainNode
 links_at nodes key = links_in (get nodes key)
 
+-- whether the view of a node runs from right to left; where there is none, nothing does
+abbrev pub node_runs : Option PlainNode → Bool
+node_runs None = false
+node_runs (Some node) = node.view.facts.rtl
+
+abbrev pub runs_at : (ℕ → Option PlainNode) → Option ℕ → Bool
+runs_at at None = false
+runs_at at (Some key) = node_runs (at key)
+
 -- what is kept of a node's view beside the tree
 abbrev pub held_by : Node → Held
 held_by node = record { state = node.state; offset = node.facts.offset; cache = node.cache }
@@ -54,18 +63,18 @@ abbrev pub held_in : Option Node → Option Held
 held_in None = None
 held_in (Some node) = Some (held_by node)
 
--- a view that a node stands for, where its children and its later siblings are known
+-- a view that a node represents, if its children and its later siblings are known
 abbrev pub branch_at : ℕ → Option PlainNode → (Option ℕ → Forest Row) → Forest Row
 branch_at key None grow = Nothing
 branch_at key (Some node) grow = Branch (record { key = key; view = node.view }) (grow node.first) (grow node.next)
 
--- the forest that begins at a node, as far as the fuel goes
+-- the forest that begins at a node, until the fuel runs out
 unfoldable pub forest : ℕ → (ℕ → Option PlainNode) → Option ℕ → Forest Row
 forest zero at key = Nothing
 forest (suc fuel) at None = Nothing
 forest (suc fuel) at (Some key) = branch_at key (at key) (forest fuel at)
 
--- what the node of a view says that has these around it
+-- what the node of a view holds that has these around it
 abbrev pub links_for : Row → Option ℕ → Option ℕ → Forest Row → Forest Row → PlainNode
 links_for row parent before kids siblings = record {
   view = row.view;
@@ -76,7 +85,7 @@ links_for row parent before kids siblings = record {
   next = first_key siblings;
 }
 
--- the nodes stand for a list of trees, under this parent and behind this sibling
+-- the nodes represent a list of trees, under this parent and after this sibling
 abbrev pub RepresentsPart : (ℕ → Option PlainNode) → Option ℕ → Option ℕ → Forest Row → Type 0
 RepresentsPart at parent before Nothing = Unit {0}
 RepresentsPart at parent before (Branch row kids siblings) =
@@ -86,25 +95,25 @@ RepresentsPart at parent before (Branch row kids siblings) =
 abbrev pub IsAround : PlainNode → ℕ → Type 0
 IsAround node key = (node.parent ≡ Some key) ⊎ ((node.previous ≡ Some key) ⊎ (node.next ≡ Some key))
 
--- what nodes say after a change of one of them, if any
+-- what nodes hold after a change of one of them, if any
 abbrev pub changed_at : (ℕ → Option PlainNode) → Option ℕ → (PlainNode → PlainNode) → ℕ → Option PlainNode
 changed_at at None change key = at key
 changed_at at (Some changed) change key = if key == changed then option_map change (at key) else at key
 
--- what nodes say once there is one more
+-- what nodes hold once there is one more
 abbrev pub with_node : (ℕ → Option PlainNode) → ℕ → PlainNode → ℕ → Option PlainNode
 with_node at new node key = if key == new then Some node else at key
 
--- what nodes say once one is gone
+-- what nodes hold once one is removed
 abbrev pub without : (ℕ → Option PlainNode) → ℕ → ℕ → Option PlainNode
 without at gone key = if key == gone then None else at key
 
--- the second where the first is none, and else the third
+-- the second if the first is `None`, and otherwise the third
 abbrev pub replaced_if_none : Option ℕ → Option ℕ → Option ℕ → Option ℕ
 replaced_if_none None new old = new
 replaced_if_none (Some key) new old = old
 
--- the first key, or the second where there is none
+-- the first key, or the second if there is none
 abbrev pub key_or : Option ℕ → ℕ → Option ℕ
 key_or None key = Some key
 key_or (Some first) key = Some first
@@ -118,14 +127,14 @@ abbrev pub last_child : (ℕ → Option PlainNode) → Option ℕ → Option ℕ
 last_child at None = None
 last_child at (Some parent) = last_named (at parent)
 
--- what nodes say once a view has come under this key, the last child of its parent, behind a sibling
+-- what nodes hold once a view was added under this key, the last child of its parent, after a sibling
 abbrev pub linked : (ℕ → Option PlainNode) → Option ℕ → ℕ → PlainView → Option ℕ → ℕ → Option PlainNode
 linked at parent key view before =
     changed_at (changed_at (with_node at key (record { view = unscrolled view; parent = parent; first = None; last = None; previous = before; next = None }))
     before (λ node. record node { next = Some key }))
     parent (λ node. record node { first = key_or node.first key; last = Some key })
 
--- what nodes say once one that said this is taken out from among its siblings
+-- what nodes hold once one that held this is taken out from among its siblings
 abbrev pub unlinked : (ℕ → Option PlainNode) → ℕ → PlainNode → ℕ → Option PlainNode
 unlinked at key node =
     changed_at (changed_at (changed_at (without at key)
@@ -133,7 +142,7 @@ unlinked at key node =
     node.next (λ behind. record behind { previous = node.previous }))
     node.parent (λ above. record above { first = replaced_if_none node.previous node.next above.first; last = replaced_if_none node.next node.previous above.last })
 
--- the nodes and the root stand for the whole tree
+-- the nodes and the root represent the whole tree
 pub record RepresentsTree (at : ℕ → Option PlainNode) (root : Option ℕ) (next : ℕ) (tree : Forest Row) : Type 0 where
   pub outer : first_key tree ≡ root
   pub single : later_siblings tree ≡ Nothing
@@ -149,7 +158,7 @@ fields nodes keys ids root next =
 abbrev pub tree_of : Inside → Forest Row
 tree_of inside = forest inside.next (links_at inside.nodes) inside.root
 
--- what contracts see of a tree with this root, where this is the number of the view that is made next, but for the
+-- what contracts see of a tree with this root, if this is the number of the view that is made next, except for the
 -- orders of relative layouts
 abbrev pub views_in : Slab Node → Option ℕ → ℕ → Views
 views_in nodes root next = record { tree = forest next (links_at nodes) root; held = map held_in nodes.slots; orders = []; next = next; counts = no_counts }

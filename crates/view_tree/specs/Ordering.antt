@@ -28,7 +28,7 @@ plain_orders orders = record { across = orders.across.items; down = orders.down.
 abbrev pub no_orders : PlainOrders
 no_orders = record { across = []; down = [] }
 
--- the same, where the view of a number is another
+-- the same, if the view of a number is another
 abbrev pub link_or : ℕ → Link → PlainView → Link
 link_or number link view = if view.number == number then link else link_of view
 
@@ -76,7 +76,7 @@ with_kid kid group = record {
 abbrev pub with_orders : PlainOrders → PlainGroup → PlainGroup
 with_orders orders group = record group { orders = orders }
 
--- where a number stands in a list, or the length where it does not
+-- where a number is in a list, or the length if it is not
 abbrev pub place_in : ℕ → List ℕ → ℕ
 place_in number [] = 0
 place_in number (first ∷ numbers) = if first == number then 0 else suc (place_in number numbers)
@@ -87,7 +87,7 @@ pub record IsWithoutKid (kid : ℕ) (old new : PlainGroup) : Type 0 where
   pub across : IsLowered (place_in kid old.kids) old.orders.across new.orders.across
   pub down : IsLowered (place_in kid old.kids) old.orders.down new.orders.down
 
--- what becomes of a group when a view goes: it loses the child, if the view was one
+-- how the removal of a view changes a group: it loses the child, if the view was one
 abbrev pub IsTaken : ℕ → PlainGroup → PlainGroup → Type 0
 IsTaken kid old new =
     (place_in kid old.kids < length old.kids → IsWithoutKid kid old new)

@@ -24,7 +24,7 @@ abbrev pub first_row_key : List Row → Option ℕ
 first_row_key [] = None
 first_row_key (row ∷ list) = Some row.key
 
--- the rows in preorder behind the view of this key and all below it; `later` are those behind the list
+-- the rows in preorder after the view of this key and all below it; `later` are those after the list
 abbrev pub rows_behind : List Row → ℕ → Forest Row → List Row
 rows_behind later key Nothing = later
 rows_behind later key (Branch row kids siblings) =

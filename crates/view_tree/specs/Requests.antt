@@ -21,3 +21,12 @@ unforced held (first ∷ more) = if (held first).state.forced then [] else first
 -- the views that a request at this view forces: itself, and those around it up to one that is forced
 abbrev pub asking : (ℕ → Held) → ℕ → Forest Row → List ℕ
 asking held view tree = view ∷ unforced held (ancestors view tree)
+
+-- some views are forced
+abbrev pub pressed : (ℕ → Held) → List ℕ → ℕ → Held
+pressed held keys key = if among key keys then forced_one (held key) else held key
+
+-- what is kept once layout was requested at these views, one after the other
+abbrev pub requested : (ℕ → Held) → List ℕ → Forest Row → ℕ → Held
+requested held [] tree = held
+requested held (view ∷ views) tree = requested (pressed held (asking held view tree)) views tree

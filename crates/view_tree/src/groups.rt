@@ -81,7 +81,7 @@ pub fn add_kid(groups: &mut IndexMap<u64, Group>, parent: u64, kid: u64)
     }
 }
 
-/// Where a child stands in its group, or past the end.
+/// Where a child is in its group, or past the end.
 fn place_of_kid(kids: &[u64], kid: u64) -> usize
     ensures { result ≡ place_in kid kids.now }
 {
@@ -93,7 +93,7 @@ fn place_of_kid(kids: &[u64], kid: u64) -> usize
     kids.len()
 }
 
-/// A child goes, and its place goes out of both orders; no other view is a child.
+/// A child is removed, and its place is removed from both orders; no other view is a child.
 fn take_kid(group: &mut Group, kid: u64)
     ensures { IsTaken kid (plain_group group.old) (plain_group group.new) }
 {
@@ -105,7 +105,7 @@ fn take_kid(group: &mut Group, kid: u64)
     }
 }
 
-/// The same in a table, where the child had a parent.
+/// The same in a table, if the child had a parent.
 pub fn remove_kid(groups: &mut IndexMap<u64, Group>, parent: Option<u64>, kid: u64)
     ensures own { (k : ℕ) → parent ≡ Some k → IsTakenAt kid (group_at groups.old k) (group_at groups.new k) }
     ensures others { (k : ℕ) → parent ≢ Some k → group_at groups.new k ≡ group_at groups.old k }
@@ -118,8 +118,8 @@ pub fn remove_kid(groups: &mut IndexMap<u64, Group>, parent: Option<u64>, kid: u
     }
 }
 
-/// Takes the memory for another relative layout, if the view that comes is one, and for another child of its parent, if
-/// that is one.
+/// Takes the memory for another relative layout, if the added view is one, and for another child of its parent, if that
+/// is one.
 pub fn make_group_room(
     groups: &mut IndexMap<u64, Group>,
     parent: Option<u64>,
@@ -140,7 +140,7 @@ pub fn make_group_room(
     }
 }
 
-/// Notes a group under its number.
+/// Inserts a group under its number.
 pub fn note_group(groups: &mut IndexMap<u64, Group>, number: u64, group: Group)
     requires { 0 < spare groups.old }
     ensures groups { (k : ℕ) → group_at groups.new k ≡ (if nat_eq number k then Some (plain_group group) else group_at groups.old k) }
@@ -152,7 +152,7 @@ pub fn note_group(groups: &mut IndexMap<u64, Group>, number: u64, group: Group)
     }
 }
 
-/// Notes groups under their numbers.
+/// Inserts groups under their numbers.
 pub fn note_groups(groups: &mut IndexMap<u64, Group>, entries: Vec<(u64, Group)>)
     requires { length entries.items ≤ spare groups.old }
     ensures { (k : ℕ) → group_at groups.new k ≡ noted entries.items k (group_at groups.old k) }
@@ -175,8 +175,8 @@ fn empty_group(alloc: Global) -> Group
     }
 }
 
-/// Notes that a view without children has come, the last child of the relative layout of the number `parent`, if there
-/// is one. It is tied to none of its siblings.
+/// Records that a view without children was added, the last child of the relative layout of the number `parent`, if
+/// there is one. It is tied to none of its siblings.
 pub fn join_group(groups: &mut IndexMap<u64, Group>, parent: Option<u64>, number: u64, class: Class)
     requires spare { 0 < spare groups.old }
     requires room { (k : ℕ) → parent ≡ Some k → IfSome (held_at nat_eq groups.old k) HasKidRoom }
@@ -195,7 +195,7 @@ pub fn join_group(groups: &mut IndexMap<u64, Group>, parent: Option<u64>, number
     }
 }
 
-/// Notes that a view is taken out, a child of the view of the number `parent`, if it had a parent.
+/// Records that a view is taken out, a child of the view of the number `parent`, if it had a parent.
 pub fn leave_group(groups: &mut IndexMap<u64, Group>, parent: Option<u64>, number: u64)
     ensures own { (k : ℕ) → parent ≡ Some k → k ≢ number → IsTakenAt number (group_at groups.old k) (group_at groups.new k) }
     ensures others { (k : ℕ) → parent ≢ Some k → k ≢ number → group_at groups.new k ≡ group_at groups.old k }
@@ -205,7 +205,7 @@ pub fn leave_group(groups: &mut IndexMap<u64, Group>, parent: Option<u64>, numbe
     groups.swap_remove(&number);
 }
 
-/// Sets the orders of the relative layout of a number; where none is given, nothing changes.
+/// Sets the orders of the relative layout of a number; if none are given, nothing changes.
 pub fn set_orders(groups: &mut IndexMap<u64, Group>, number: Option<u64>, orders: Option<Orders>)
     ensures own { (k : ℕ) (new : Orders) → number ≡ Some k → orders ≡ Some new → group_at groups.new k ≡ option_map (with_orders (plain_orders new)) (group_at groups.old k) }
     ensures others { (k : ℕ) → number ≢ Some k → group_at groups.new k ≡ group_at groups.old k }

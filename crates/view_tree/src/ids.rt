@@ -8,7 +8,7 @@ ghost use Rattle.view_tree.specs.Holders.{dropped, noted, renamed, with_holder, 
 use crate::fault::AttachFault;
 use indexmap::IndexMap;
 
-/// How many views have an id, and the sum of their keys modulo 2 ^ 64, which is the key where it is one view.
+/// How many views have an id, and the sum of their keys modulo 2 ^ 64, which is the key if it is one view.
 #[derive(Clone, Copy, Debug, PartialEq, Eq)]
 pub struct Holders {
     pub count: u32,
@@ -29,7 +29,7 @@ fn one_more(held: Option<Holders>, key: usize) -> Holders
     }
 }
 
-/// These views without the one of a key; none where it was the only one.
+/// These views without the one of a key; `None` if it was the only one.
 fn one_less(holders: Holders, key: usize) -> Option<Holders>
     ensures { result ≡ without_holder (Some holders) key }
 {
@@ -42,7 +42,7 @@ fn one_less(holders: Holders, key: usize) -> Option<Holders>
     None
 }
 
-/// Notes that the view of this key has an id; 0 names nothing and has no entry.
+/// Records that the view of this key has an id; 0 names nothing and has no entry.
 pub fn note_id(ids: &mut IndexMap<u32, Holders>, id: u32, key: usize) -> Result<(), AttachFault>
     requires { IfSome (holders_at nat_eq ids.old id) (λ holders. holders.count ≤ MAX_VIEWS) }
     ensures refused { IsRefusedExactlyFor None result }
@@ -61,7 +61,7 @@ pub fn note_id(ids: &mut IndexMap<u32, Holders>, id: u32, key: usize) -> Result<
     }
 }
 
-/// Notes that the view of this key has an id no more.
+/// Records that the view of this key no longer has an id.
 pub fn drop_id(ids: &mut IndexMap<u32, Holders>, id: u32, key: usize)
     ensures { (i : ℕ) → holders_at nat_eq ids.new i ≡ dropped (holders_at nat_eq ids.old i) id key i }
 {
@@ -82,7 +82,7 @@ pub fn drop_id(ids: &mut IndexMap<u32, Holders>, id: u32, key: usize)
     }
 }
 
-/// Notes that the view of this key has another id than before.
+/// Records that the view of this key has another id than before.
 pub fn rename(
     ids: &mut IndexMap<u32, Holders>,
     key: usize,

@@ -31,7 +31,7 @@ impl Kids {
         }
     }
 
-    /// One more child, behind the others.
+    /// One more child, after the others.
     pub fn push(&mut self, number: u64, link: Link) -> Result<(), AllocError>
         ensures links { OnOk result (self.new.links.items ≡ self.old.links.items ++ link ∷ []) }
         ensures numbers { OnOk result (self.new.numbers.items ≡ self.old.numbers.items ++ number ∷ []) }
@@ -42,7 +42,7 @@ impl Kids {
     }
 }
 
-/// What is kept of children, or a cycle among them: those with numbers from this one on are told as elements.
+/// What is kept of children, or a cycle among them: those with numbers from this one on are reported as elements.
 pub fn group_of(alloc: Global, kids: Kids, next: u64) -> Result<Group, AttachFault>
     requires few { length kids.links.items ≤ MAX_VIEWS }
     requires alike { length kids.numbers.items ≡ length kids.links.items }
@@ -61,7 +61,7 @@ pub fn group_of(alloc: Global, kids: Kids, next: u64) -> Result<Group, AttachFau
     }
 }
 
-/// The refusal for a cycle, of which these places are members.
+/// The refusal for a cycle with members at these places.
 fn told(alloc: Global, next: u64, numbers: &[u64], down: bool, places: &[u32]) -> AttachFault
     requires inside { (p : ℕ) → p < length places.now → slice_index places.now p < length numbers.now }
     requires near { (p : ℕ) → p < length numbers.now → slice_index numbers.now p < next + MAX_VIEWS }
@@ -94,7 +94,7 @@ fn members_at(
     Ok(members)
 }
 
-/// A view with a number from `next` on comes with a sapling, and is told as an element of it.
+/// A view with a number from `next` on comes with a sapling, and is reported as an element of it.
 fn member_from(next: u64, number: u64) -> Member
     requires { number < next + MAX_VIEWS }
     ensures { result ≡ member_from next number }

@@ -1,4 +1,4 @@
-//! How nodes come among their neighbours and leave them. A key that is `None` stands for a neighbour that is not there.
+//! How nodes join and leave their neighbours. A key that is `None` means that there is no such neighbour.
 ghost use Rattle.std.specs.Prelude.{◌≡◌, ◌≢◌, ◌+◌, ℕ, Some, None};
 ghost use Rattle.slab.specs.Slab.{get, slab_len, ContainsKey, HasRoomFor};
 ghost use Rattle.view_tree.specs.Nodes.{PlainNode, IsAround, changed_at, held_in, linked, replaced_if_none, key_or, last_child, links_at, unlinked};
@@ -39,7 +39,7 @@ fn set_previous(nodes: &mut Slab<Node>, key: Option<usize>, previous: Option<usi
     }
 }
 
-/// A child comes after the others.
+/// A child is added after the others.
 fn set_last(nodes: &mut Slab<Node>, parent: Option<usize>, kid: usize)
     requires { (k : ℕ) → parent ≡ Some k → ContainsKey nodes.old k }
     ensures links { (x : ℕ) → links_at nodes.new x ≡ changed_at (links_at nodes.old) parent (λ node. record node { first = key_or node.first kid; last = Some kid }) x }

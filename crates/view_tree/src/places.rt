@@ -1,9 +1,9 @@
-//! The order of a relative layout's children on one axis, when a child comes or goes. Neither takes memory.
+//! The order of a relative layout's children on one axis, when a child is added or removed. Neither takes memory.
 ghost use Rattle.std.specs.Prelude.{◌≡◌, ◌≢◌, ℕ, ◌<◌, ◌++◌, ◌∷◌, [], length, slice_index};
 ghost use Rattle.std.specs.Vec.{vec_capacity, vec_len};
 ghost use Rattle.view_tree.specs.Places.{IsLowered, passing};
 
-/// Takes the place of a child that goes out of an order, and lowers the greater places: those that stay are in an order
+/// Takes the place of a removed child out of an order, and lowers the greater places: those that stay are in an order
 /// by every relation that they had before.
 pub fn remove_place(order: &mut Vec<u32>, gone: usize)
     ensures { IsLowered gone order.old.items order.new.items }
@@ -15,7 +15,7 @@ pub fn remove_place(order: &mut Vec<u32>, gone: usize)
     }
 }
 
-/// Where a place stands in an order, or past its end.
+/// Where a place is in an order, or past its end.
 fn place_of(order: &[u32], gone: usize) -> usize
     ensures { ((p : ℕ) × (p < length order.now) × (slice_index order.now p ≡ gone)) → (result < length order.now) × (slice_index order.now result ≡ gone) }
 {
@@ -27,7 +27,7 @@ fn place_of(order: &[u32], gone: usize) -> usize
     order.len()
 }
 
-/// Lowers each place above the one that goes.
+/// Lowers each place above the removed one.
 fn lower(order: &mut [u32], gone: usize)
     ensures { ((q : ℕ) → q < length order.old → slice_index order.old q ≢ gone)
         → (q : ℕ) → q < length order.old → passing gone (slice_index order.new q) ≡ slice_index order.old q }
@@ -47,7 +47,7 @@ fn lowered(place: u32, gone: usize) -> u32
     place - 1
 }
 
-/// Puts the place of a new child behind the others: it leads to nobody, and nobody leads to it. There is room for it.
+/// Appends the place of a new child: it leads to no child, and no child leads to it. There is room for it.
 pub fn add_place(order: &mut Vec<u32>, place: u32)
     requires { vec_len order.old < vec_capacity order.old }
     ensures items { order.new.items ≡ order.old.items ++ place ∷ [] }

@@ -10,7 +10,7 @@ use crate::node::Node;
 use indexmap::IndexMap;
 use slab::Slab;
 
-/// Notes the key of a number, where there is room for it.
+/// Records the key of a number, for which there is room.
 pub fn note_key(keys: &mut IndexMap<u64, usize>, number: u64, key: usize)
     requires { 0 < spare keys.old }
     ensures noted { (n : ℕ) → key_of nat_eq keys.new n ≡ (if nat_eq number n then Some key else key_of nat_eq keys.old n) }
@@ -22,14 +22,14 @@ pub fn note_key(keys: &mut IndexMap<u64, usize>, number: u64, key: usize)
     }
 }
 
-/// Takes a number and its key out.
+/// Removes a number and its key.
 pub fn drop_key(keys: &mut IndexMap<u64, usize>, number: u64)
     ensures { (n : ℕ) → key_of nat_eq keys.new n ≡ (if nat_eq number n then None else key_of nat_eq keys.old n) }
 {
     keys.swap_remove(&number);
 }
 
-/// Takes the memory for so many more views and their numbers, and for so many more ids.
+/// Takes the memory for this many more views and their numbers, and for this many more ids.
 pub fn make_room(
     nodes: &mut Slab<Node>,
     keys: &mut IndexMap<u64, usize>,

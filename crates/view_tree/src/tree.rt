@@ -7,6 +7,7 @@ ghost use Rattle.view_tree.specs.Views.{IsLive, IsTree, no_views};
 
 mod attach;
 mod detach;
+mod direct;
 mod find;
 mod graft;
 mod look_up;
@@ -27,7 +28,7 @@ use slab::Slab;
 use std::alloc::Global;
 use std::marker::Model;
 
-/// What a live view is found by without a search. Each call that takes one wants it to be live.
+/// What a live view is found by without a search. Each call that takes one requires it to be live.
 pub type Key = usize;
 
 /// A tree of views.

@@ -12,14 +12,14 @@ use Rattle.view_tree.specs.Rows.{Row, ancestors, around, count_of_key, first_tre
 use Rattle.view_tree.specs.Views.{Held, IsLive, IsTree, Views, held_of, number_of, plain_of, plain_rows}
 use Rattle.view_world.specs.Touching.{ancestors_of, around_number, nearest, parent_of}
 
--- where no view has a key, none has its number
+-- if no view has a key, none has its number
 part_unkeyed : (held : ℕ → Held) (key number : ℕ) (tree : Forest Row) → count_of_key key tree ≡ 0 → Agree key number tree → part_of number (plain_rows held tree) ≡ Nothing
 part_unkeyed held key number tree none agree = plain-part held key number tree agree ∙ ap (λ t. plain_rows held (first_tree t)) (absent key tree none)
 
 part_keyed : (held : ℕ → Held) (key number : ℕ) (tree : Forest Row) → 0 < count_of_key key tree → Agree key number tree → has_row (part_of number (plain_rows held tree)) ≡ true
 part_keyed held key number tree live agree = ap has_row (plain-part held key number tree agree) ∙ (let f = located key tree live in rw f.is refl)
 
--- the views around a view, where each key has its number
+-- the views around a view, if each key has its number
 around-named : (named : ℕ → ℕ) (held : ℕ → Held) (outer : List ℕ) (key number : ℕ) (tree : Forest Row) → EveryRow (λ (row : Row). named row.key ≡ row.view.number) tree
     → 0 < count_of_key key tree → Agree key number tree → around_number (map named outer) number (plain_rows held tree) ≡ map named (around outer key tree)
 around-named named held outer key number Nothing names live agree = absurd (omega arith)

@@ -98,7 +98,7 @@ armed_calm hook hooks (laid ∷ geometry) sized none =
     ] in
     rw own (armed_calm hook hooks geometry sized.1 both.1)
 
--- no hook fires once another is armed so
+-- no hook fires once another is armed in this way
 pub armed_unfired : (views : Views) (hooks : List Hook) (hook : Hook) → IsTree views → hook.reported ≡ size_in (geometry_of views) hook.view → fired_in hooks (geometry_of views) ≡ None
     → fired_in (armed hook hooks) (geometry_of views) ≡ None
 armed_unfired views hooks hook is size none =

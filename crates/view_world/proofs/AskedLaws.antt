@@ -3,24 +3,32 @@ use Rattle.std.proofs.Common.{◌≡◌, ℕ, ◌+◌, ◌<◌, ◌≤◌, Bool,
 use Rattle.std.proofs.lemmas.Bool.{cases_Bool, cases_eq, eq-eqb, ne_eqb}
 use Rattle.std.proofs.lemmas.List.{map-append}
 use Rattle.std.proofs.lemmas.List.Folds.{list_any-append}
-use Rattle.std.specs.Prelude.{◌≢◌, ◌⊎◌, ◌==◌, ◌||◌, if◌then◌else◌, IfSome}
+use Rattle.std.specs.Prelude.{◌≢◌, ◌⊎◌, ◌==◌, ◌||◌, if◌then◌else◌, not, IfSome}
 use Rattle.std.specs.Option.{option_map}
 use Rattle.damage_rect.specs.Within.{LiesIn}
 use Rattle.geom_core.specs.declared.geometry.Rect.{Rect}
 use Rattle.touch_dispatch.specs.TreeEvents.{OnlyScrolls}
 use Rattle.tree_edits.specs.Applied.{IsEdit}
-use Rattle.tree_edits.specs.Asking.{LeavesUnasked as EditLeaves, asked_by_act as asked_key, excused, is_in_part, is_on_paths as are_on_paths, listed as listed_key, nearest as nearest_key, requests_layout}
-use Rattle.tree_edits.specs.Editing.{hides}
+use Rattle.tree_edits.specs.Asking.{LeavesUnasked as EditLeaves, acted_view, asked_by_act as asked_key, asked_by_turn, excused, is_in_part, is_on_paths as are_on_paths, listed as listed_key, nearest as nearest_key, requests_layout}
+use Rattle.tree_edits.specs.Editing.{hides, turns}
 use Rattle.tree_edits.specs.declared.edits.Edit.{Edit}
 use Rattle.tree_edits.specs.declared.edits.Edit.TheVariants as edit
 use Rattle.kept_views.specs.Pressing.{path_of}
 use Rattle.view_model.specs.declared.changes.Act.{Act}
+use Rattle.view_model.specs.declared.changes.Act.TheVariants as act
+use Rattle.view_model.specs.declared.placing.Direction.{Direction}
+use Rattle.view_model.specs.Changes.{facts_after_act}
+use Rattle.view_model.specs.Directed.{turned}
+use Rattle.view_model.specs.Direction.{dir}
 use Rattle.view_model.specs.Forest.{Forest, Nothing, Branch, EveryRow, rows}
-use Rattle.view_model.specs.PlainTree.{PlainView, numbers_of, part_of}
+use Rattle.view_model.specs.PlainTree.{PlainView, numbers_of, part_of, with_facts}
+use Rattle.view_tree.proofs.forest.ForestLaws.{every-edited}
 use Rattle.view_tree.proofs.forest.KeyLaws.{Within, here, in_below, in_after, located, times_self, zero_or_more}
+use Rattle.view_tree.proofs.forest.NumberLaws.{count_of_key-put}
+use Rattle.view_tree.proofs.forest.PlainLaws.{agree_live, plain-change_facts}
 use Rattle.view_tree.specs.Requests.{among}
-use Rattle.view_tree.specs.Rows.{Row, ancestors, around, count_of_key, first_tree, part_from, views_of}
-use Rattle.view_tree.specs.Views.{Held, IsLive, IsTree, Views, held_of, number_of, plain_of}
+use Rattle.view_tree.specs.Rows.{Row, ancestors, around, changed_at_key, count_of_key, first_tree, part_from, views_of}
+use Rattle.view_tree.specs.Views.{Held, IsLive, IsTree, Views, held_of, number_of, plain_of, plain_rows, scrolled}
 use Rattle.view_world.proofs.AncestorLaws.{ancestors_named, numbers_named}
 use Rattle.view_world.proofs.RemovalLaws.{part_numbers}
 use Rattle.view_world.proofs.GrowingLaws.{addable_live}
@@ -165,17 +173,116 @@ off_place : (views : Views) (parent : Option ℕ) (key : ℕ) → IsTree views �
 off_place views None key is live none = refl
 off_place views (Some parent) key is live none = off_paths views (parent ∷ []) key is (live, tt) none
 
+-- the views that run another way, by their numbers and by their keys
+
+pub live_append : (views : Views) (first second : List ℕ) → AllLive views first → AllLive views second → AllLive views (first ++ second)
+live_append views [] second one other = other
+live_append views (key ∷ first) second one other = (one.0, live_append views first second one.1 other)
+
+turned_keys : Bool → Forest Row → List ℕ
+turned_keys above list = map (λ (row : Row). row.key) (turned (λ (row : Row). row.view.facts) above list)
+
+turned_numbers : (ℕ → Held) → Bool → Forest Row → List ℕ
+turned_numbers held above list = map (λ (view : PlainView). view.number) (turned (λ (view : PlainView). view.facts) above (plain_rows held list))
+
+turned_named : (named : ℕ → ℕ) (held : ℕ → Held) (above : Bool) (list : Forest Row) → EveryRow (λ (row : Row). named row.key ≡ row.view.number) list
+    → turned_numbers held above list ≡ map named (turned_keys above list)
+unfolding turned_numbers turned_keys
+turned_named named held above Nothing every = refl
+turned_named named held above (Branch row kids siblings) every =
+    let number : PlainView → ℕ = λ view. view.number in
+    let key : Row → ℕ = λ row. row.key in
+    let rtl = dir above row.view.facts.direction in
+    let below = turned (λ (view : PlainView). view.facts) rtl (plain_rows held kids) in
+    let after = turned (λ (view : PlainView). view.facts) above (plain_rows held siblings) in
+    let below_rows = turned (λ (row : Row). row.view.facts) rtl kids in
+    let after_rows = turned (λ (row : Row). row.view.facts) above siblings in
+    let rest : map number (below ++ after) ≡ map named (map key (below_rows ++ after_rows)) =
+    map-append number below after
+    ∙ ap (λ (numbers : List ℕ). numbers ++ map number after) (turned_named named held rtl kids every.1)
+    ∙ ap (λ (numbers : List ℕ). map named (map key below_rows) ++ numbers) (turned_named named held above siblings every.2)
+    ∙ sym (map-append named (map key below_rows) (map key after_rows))
+    ∙ ap (map named) (sym (map-append key below_rows after_rows)) in
+    by (if rtl then row.view.facts.rtl else not row.view.facts.rtl) (below ++ after) (below_rows ++ after_rows) rest
+  where
+    by : (t : Bool) (views : List PlainView) (list : List Row) → map (λ (view : PlainView). view.number) views ≡ map named (map (λ (row : Row). row.key) list)
+        → map (λ (view : PlainView). view.number) ((if t then [] else scrolled held row ∷ []) ++ views) ≡ map named (map (λ (row : Row). row.key) ((if t then [] else row ∷ []) ++ list))
+    by true views list rest = rest
+    by false views list rest = ap (λ (numbers : List ℕ). row.view.number ∷ numbers) rest ∙ ap (λ (number : ℕ). number ∷ map named (map (λ (row : Row). row.key) list)) (sym every.0)
+
+turned_live : (views : Views) (above : Bool) (list : Forest Row) → EveryRow (λ (row : Row). IsLive views row.key) list → AllLive views (turned_keys above list)
+unfolding turned_keys
+turned_live views above Nothing every = tt
+turned_live views above (Branch row kids siblings) every =
+    let key : Row → ℕ = λ row. row.key in
+    let rtl = dir above row.view.facts.direction in
+    let below = turned (λ (row : Row). row.view.facts) rtl kids in
+    let after = turned (λ (row : Row). row.view.facts) above siblings in
+    by (if rtl then row.view.facts.rtl else not row.view.facts.rtl) (below ++ after)
+    (subst (AllLive views) (sym (map-append key below after))
+    (live_append views (map key below) (map key after) (turned_live views rtl kids every.1) (turned_live views above siblings every.2)))
+  where
+    by : (t : Bool) (list : List Row) → AllLive views (map (λ (row : Row). row.key) list) → AllLive views (map (λ (row : Row). row.key) ((if t then [] else row ∷ []) ++ list))
+    by true list rest = rest
+    by false list rest = (every.0, rest)
+
+-- an act that sets a direction
+turns_is : (a : Act) → turns a ≡ true → (direction : Direction) × (a ≡ act.Direction direction)
+turns_is (act.Change change) is = absurd cc
+turns_is (act.WeightSum sum) is = absurd cc
+turns_is (act.Orient vertical) is = absurd cc
+turns_is (act.Direction direction) is = (direction, refl)
+turns_is (act.Flag flag on) is = absurd cc
+turns_is (act.Visible visibility) is = absurd cc
+turns_is (act.Ink color) is = absurd cc
+turns_is (act.Id id) is = absurd cc
+turns_is (act.Rule verb value) is = absurd cc
+turns_is (act.Answer answer) is = absurd cc
+turns_is (act.Intercept actions) is = absurd cc
+turns_is (act.Scroll offset) is = absurd cc
+
+off_turned : (views : Views) (view key : ℕ) (direction : Direction) → IsTree views → IsLive views view
+    → is_on_paths (asked_by_act (plain_of views) (Some (number_of views view)) (act.Direction direction)) (plain_of views) (number_of views key) ≡ false
+    → are_on_paths (asked_by_turn views.tree view (act.Direction direction)) views.tree key ≡ false
+unfolding turned_numbers turned_keys
+off_turned views view key direction is live none =
+    let turn = act.Direction direction in
+    let tree = changed_at_key view (acted_view turn) views.tree in
+    let plain : plain_rows (held_of views) tree ≡ with_facts (number_of views view) (facts_after_act turn) (plain_of views) =
+    plain-change_facts (held_of views) view (number_of views view) (acted_view turn) (facts_after_act turn) views.tree (agree_live views view is live) (λ row. refl) in
+    let named : EveryRow (λ (row : Row). number_of views row.key ≡ row.view.number) tree =
+    every-edited (λ (row : Row). number_of views row.key ≡ row.view.number) (λ (row : Row). row.key == view)
+    (λ row kids siblings. Branch (record row { view = acted_view turn row.view }) kids siblings) (λ row kids siblings own below later. (own, below, later)) views.tree (numbers_named views is) in
+    let there = every_live views tree (λ other. let count = count_of_key-put other view (acted_view turn) views.tree in omega (arith, count)) in
+    let numbers : map (λ (view : PlainView). view.number) (turned (λ (view : PlainView). view.facts) false (with_facts (number_of views view) (facts_after_act turn) (plain_of views))) ≡ map (number_of views) (turned_keys false tree) =
+    ap (λ (list : Forest PlainView). map (λ (view : PlainView). view.number) (turned (λ (view : PlainView). view.facts) false list)) (sym plain)
+    ∙ turned_named (number_of views) (held_of views) false tree named in
+    off_paths views (view ∷ turned_keys false tree) key is (live, turned_live views false tree there)
+    (subst (λ (list : List ℕ). is_on_paths (number_of views view ∷ list) (plain_of views) (number_of views key) ≡ false) numbers none)
+
+off_asked : (views : Views) (view key : ℕ) (a : Act) → IsTree views → IsLive views view
+    → is_on_paths (asked_by_act (plain_of views) (Some (number_of views view)) a) (plain_of views) (number_of views key) ≡ false
+    → are_on_paths (if turns a then asked_by_turn views.tree view a else asked_key view a) views.tree key ≡ false
+off_asked views view key a is live none = elim (cases_Bool (turns a)) [
+  | inl e ↦
+      let turn = turns_is a e in
+      let none : is_on_paths (asked_by_act (plain_of views) (Some (number_of views view)) (act.Direction turn.0)) (plain_of views) (number_of views key) ≡ false =
+      subst (λ (a : Act). is_on_paths (asked_by_act (plain_of views) (Some (number_of views view)) a) (plain_of views) (number_of views key) ≡ false) turn.1 none in
+      rw e (subst (λ (a : Act). are_on_paths (asked_by_turn views.tree view a) views.tree key ≡ false) (sym turn.1) (off_turned views view key turn.0 is live none))
+  | inr still ↦ elim (cases_Bool (requests_layout a)) [
+    | inl e ↦ let none : is_on_paths (number_of views view ∷ []) (plain_of views) (number_of views key) ≡ false = rw (e, still) at none in rw (still, e) (off_paths views (view ∷ []) key is (live, tt) none)
+    | inr e ↦ rw (still, e) refl
+  ]
+]
+
 off_act : (views : Views) (view key : ℕ) (act : Act) → IsTree views → IsLive views view
-    → is_excused (asked_by_act (Some (number_of views view)) act) (gone_by_act (Some (number_of views view)) act) (plain_of views) (number_of views key) ≡ false
+    → is_excused (asked_by_act (plain_of views) (Some (number_of views view)) act) (gone_by_act (Some (number_of views view)) act) (plain_of views) (number_of views key) ≡ false
     → excused views (edit.Act view act) key ≡ false
 off_act views view key act is live none =
     let number = number_of views view in
     let both =
-    unless (is_on_paths (asked_by_act (Some number) act) (plain_of views) (number_of views key)) (is_in_parts (gone_by_act (Some number) act) (plain_of views) (number_of views key)) none in
-    let asked : are_on_paths (asked_key view act) views.tree key ≡ false = elim (cases_Bool (requests_layout act)) [
-      | inl e ↦ let none : is_on_paths (number_of views view ∷ []) (plain_of views) (number_of views key) ≡ false = rw e at both.0 in rw e (off_paths views (view ∷ []) key is (live, tt) none)
-      | inr e ↦ rw e refl
-    ] in
+    unless (is_on_paths (asked_by_act (plain_of views) (Some number) act) (plain_of views) (number_of views key)) (is_in_parts (gone_by_act (Some number) act) (plain_of views) (number_of views key)) none in
+    let asked = off_asked views view key act is live both.0 in
     let gone : (if hides act then is_in_part view views.tree key else false) ≡ false = elim (cases_Bool (hides act)) [
       | inl e ↦
           let none : is_in_parts (number_of views view ∷ []) (plain_of views) (number_of views key) ≡ false = rw e at both.1 in
@@ -196,10 +303,10 @@ excused_same : (old mid : Views) (edit : Edit) (key : ℕ) → mid.tree ≡ old.
 excused_same old mid (edit.Add parent class width height) key same = ap (λ (tree : Forest Row). if are_on_paths (listed_key parent) tree key then true else false) same
 excused_same old mid (edit.Remove view) key same = ap (λ (tree : Forest Row). if are_on_paths (nearest_key (ancestors view tree)) tree key then true else false) same
 excused_same old mid (edit.Act view act) key same =
-    ap (λ (tree : Forest Row). if are_on_paths (asked_key view act) tree key then true else (if hides act then is_in_part view tree key else false)) same
+    ap (λ (tree : Forest Row). if are_on_paths (if turns act then asked_by_turn tree view act else asked_key view act) tree key then true else (if hides act then is_in_part view tree key else false)) same
 excused_same old mid (edit.Text view text) key same = ap (λ (tree : Forest Row). if are_on_paths (view ∷ []) tree key then true else false) same
 
--- what comes of a file leaves all views but those around it
+-- the views of a file leave all views except those around them
 pub graft_keeps : (old new : KeyedScreen) (place : Option ℕ) → IsTree old.views → IfSome place (λ (view : ℕ). IsLive old.views view)
     → ((key : ℕ) → IsLive old.views key → are_on_paths (listed_key place) old.views.tree key ≡ false → held_of new.views key ≡ held_of old.views key) → new.views.counts ≡ old.views.counts
     → new.damage ≡ old.damage → new.stage ≡ old.stage → new.surface ≡ old.surface → KeepsBut Asks (listed (option_map (number_of old.views) place)) [] [] old new

@@ -1,4 +1,4 @@
--- A cancel is the same wherever views lie, and however far a pointer may slip.
+-- A cancel is the same whatever bounds views have, and however far a pointer may slip.
 use Rattle.std.proofs.Common.{◌≡◌, ℕ, ℤ, Bool, true, false, List, [], ◌∷◌, Option, Some, None, refl, sym, ◌∙◌, ap, inl, inr}
 use Rattle.std.proofs.lemmas.Bool.{cases_Bool}
 use Rattle.std.specs.Prelude.{◌==◌, ◌||◌}
@@ -17,7 +17,7 @@ use Rattle.view_model.specs.PlainTree.{PlainView}
 use Rattle.view_model.specs.declared.kinds.Answer.{Answer}
 use Rattle.view_model.specs.declared.kinds.Answer.TheVariants.{Off, Yes, Click}
 
--- what a view looks at that handles an event itself
+-- what is read of a view that handles an event itself
 abbrev received : ℕ → Bool → Answer → ℕ → Option Rect → ℤ → Bool → ℤ → Receiver
 received number moves answer intercept rect range childless slop = record {
   number = number;
@@ -87,7 +87,7 @@ part_cancelled first second child (Branch view below after) progress alike =
       | inr e ↦ rw e (part_cancelled first second child after progress alike.1)
     ]
 
--- each target is handed the whole cancel
+-- each target gets the whole cancel
 hand_to_cancel : (scene : Scene) (own : PlainView) (kids : List EventChild) (intercepted : Bool) (target : Target) (progress : Progress)
     → hand_to scene own kids cancel_event intercepted Nobody target progress ≡ hand_part (Some cancel_event) (child_of target.child kids) progress
 hand_to_cancel scene own kids true target progress = refl
@@ -121,7 +121,7 @@ answered_cancelled first second own below intercepted progress alike =
       | inr e ↦ rw e (hand_out_cancelled first second own below intercepted (targets_at progress own.number) false progress alike)
     ]
 
--- what a group answers that was asked so
+-- the answer of a group that was asked in this way
 abbrev group_answered : Scene → PlainView → List EventChild → Reached → Reached
 group_answered scene own kids first =
     let third = answered scene own kids cancel_event first.yes Nobody first.progress in
@@ -165,7 +165,7 @@ reach_cancelled : (first second : Scene) (part : Forest PlainView) (progress : P
 reach_cancelled first second Nothing progress = refl
 reach_cancelled first second (Branch view below after) progress = reached_cancelled first second view below progress (cancels_alike first second below)
 
--- a cancel reads no place of a view
+-- a cancel reads no bounds of a view
 pub same_cancel : (first second : Scene) (parent : Option ℕ) (number : ℕ) (part : Forest PlainView) (progress : Progress)
     → cancelled first parent number part progress ≡ cancelled second parent number part progress
 same_cancel first second None number part progress = ap (λ (r : Reached). r.progress) (reach_cancelled first second part progress)

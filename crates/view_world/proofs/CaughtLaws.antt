@@ -1,4 +1,4 @@
--- A gesture in a tree, said of the plain tree.
+-- A gesture in a tree, stated for the plain tree.
 use Rattle.std.proofs.Common.{◌≡◌, ℕ, ◌+◌, ◌<◌, ◌≤◌, true, refl, sym, ◌∙◌, ap, subst, arith, eqb-true, inl, inr}
 use Rattle.std.proofs.lemmas.Bool.{cases_Bool}
 use Rattle.std.specs.Prelude.{if◌then◌else◌, ◌==◌}

@@ -17,7 +17,7 @@ pub path_above : (key : ℕ) (above : Option ℕ) (tree : Forest Row) → MatchO
 path_above key None tree path = path
 path_above key (Some parent) tree path = path
 
--- a view is told, and then those above it: all are
+-- a view gets the flag, and then those above it: all have it
 pub disallowed_on : (on : Bool) (named : ℕ → ℕ) (tree : Forest Row) (key : ℕ) (above : Option ℕ) (old new : PlainGesture)
     → MatchOption above (ancestors key tree ≡ []) (λ parent. ancestors key tree ≡ parent ∷ ancestors parent tree) → new ≡ set_disallow (named key) on old
     → all_disallowed on (map named (path_from above tree)) new ≡ all_disallowed on (map named (path_from (Some key) tree)) old

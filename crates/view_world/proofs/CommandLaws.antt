@@ -1,4 +1,4 @@
--- Commands that take up a state.
+-- Commands that restore a state.
 use Rattle.std.proofs.Common.{◌≡◌, ℕ, List, Bor, refl}
 use Rattle.std.specs.Prelude.{Option, Some, None}
 use Rattle.std.specs.Option.{option_map}

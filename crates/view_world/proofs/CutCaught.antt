@@ -86,7 +86,7 @@ root_pruned child number (Branch view below after) once none root =
           ]
     ]
 
--- a child stays one where neither it nor its group is in the part
+-- a child stays one if neither it nor its group is in the part
 child_pruned : (child group number : ℕ) (tree : Forest PlainView) → times_in number tree ≤ 1 → times_in group (part_of number tree) ≡ 0 → times_in child (part_of number tree) ≡ 0
     → is_root child (below_first (part_of group tree)) ≡ true → is_root child (below_first (part_of group (pruned number tree))) ≡ true
 child_pruned child group number Nothing once outside apart_child root = absurd (cc)
@@ -119,7 +119,7 @@ child_pruned child group number (Branch view below after) once outside apart_chi
           ]
     ]
 
--- a part goes, with all that is kept of its views
+-- a part is removed, with all that is kept of its views
 pub caught_pruned : (number : ℕ) (tree : Forest PlainView) (before after : Kept) → ((other : ℕ) → times_in other tree ≤ 1)
     → gesture_of after ≡ all_closed (numbers_of (part_of number tree)) (gesture_of before)
     → ((other : ℕ) → times_in other (part_of number tree) ≡ 0 → is_open before other ≡ true → is_open after other ≡ true) → IsCaughtIn tree before → IsCaughtIn (pruned number tree) after

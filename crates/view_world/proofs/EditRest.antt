@@ -1,18 +1,19 @@
--- What an edit of a screen keeps: where it requests no layout, what rested still does.
+-- What an edit of a screen keeps: if it requests no layout, what rested still does.
 use Rattle.std.proofs.Common.{◌≡◌, ◌≢◌, ℕ, ◌<◌, Bool, true, false, List, [], ◌∷◌, Option, Some, None, Result, Ok, Err, refl, sym, ◌∙◌, ap, subst, arith, inl, inr}
 use Rattle.std.proofs.lemmas.Bool.{cases_Bool}
 use Rattle.std.specs.Prelude.{◌==◌, ◌||◌, if◌then◌else◌, chars, OnOk}
 use Rattle.damage_rect.specs.Within.{LiesIn}
 use Rattle.geom_core.specs.declared.geometry.Size.{Size}
 use Rattle.pixel_raster.specs.Raster.{size_of}
+use Rattle.tree_edits.proofs.SpreadLaws.{count_of_key-spread, unspread}
 use Rattle.seen_edits.specs.Shown.{GrowsWithin, IsChange, act_is_unseen, edited, flag_is_unseen, is_unseen, seen_of}
 use Rattle.touch_dispatch.specs.TreeEvents.{OnlyScrolls}
 use Rattle.traversal.specs.Frames.{fired_in}
 use Rattle.geom_core.specs.declared.geometry.Rect.{Rect}
 use Rattle.tree_edits.specs.Applied.{AppliesEdit, IsEdit, numbered}
-use Rattle.tree_edits.specs.Asking.{LeavesUnasked as EditLeaves, change_requests, flag_requests, requests_layout}
-use Rattle.tree_edits.specs.Editing.{Outcome, ActOn, cycle_of_act, hides, outcome_of_act, outcome_of_edit, outcome_unless, takes}
-use Rattle.tree_edits.specs.Keeping.{KeepsViews, acted_view}
+use Rattle.tree_edits.specs.Asking.{LeavesUnasked as EditLeaves, acted_view, change_requests, flag_requests, requests_layout}
+use Rattle.tree_edits.specs.Editing.{Outcome, ActOn, cycle_of_act, hides, outcome_of_act, outcome_of_edit, outcome_unless, takes, turns}
+use Rattle.tree_edits.specs.Keeping.{KeepsViews, spread}
 use Rattle.tree_edits.specs.Scene.{Scene, scene_of as edited_of}
 use Rattle.tree_edits.specs.declared.edits.Edit.{Edit}
 use Rattle.tree_edits.specs.declared.edits.Edit.TheVariants as edit
@@ -36,6 +37,7 @@ use Rattle.view_tree.proofs.forest.NumberLaws.{count_of_key-put}
 use Rattle.view_tree.specs.Rows.{Row, changed_at_key, count_of_key, first_key, head_view, part_from}
 use Rattle.view_tree.specs.Views.{IsLive, IsTree, Views, geometry_of, number_of, plain_of}
 use Rattle.view_world.proofs.AskedLaws.{leaves_edit}
+use Rattle.view_world.proofs.EditedCaught.{number-spread}
 use Rattle.view_world.proofs.LeaveLaws.{scrolls_none}
 use Rattle.view_world.proofs.RestLaws.{rest_along}
 use Rattle.view_world.proofs.SeenLaws.{among_first, number_changed, seen_named}
@@ -61,6 +63,7 @@ quiet_sides (act.Change (change.Weight weight)) facts quiet = absurd cc
 quiet_sides (act.Change (change.Gravity kids gravity)) facts quiet = absurd cc
 quiet_sides (act.WeightSum sum) facts quiet = absurd cc
 quiet_sides (act.Orient vertical) facts quiet = absurd cc
+quiet_sides (act.Direction direction) facts quiet = absurd cc
 quiet_sides (act.Flag flag.Clip on) facts quiet = record { shown = refl; specs = λ window. refl }
 quiet_sides (act.Flag flag.Fill on) facts quiet = absurd cc
 quiet_sides (act.Flag flag.Split on) facts quiet = record { shown = refl; specs = λ window. refl }
@@ -76,6 +79,7 @@ quiet_shows : (act : Act) → requests_layout act ≡ false → hides act ≡ fa
 quiet_shows (act.Change change) quiet = refl
 quiet_shows (act.WeightSum sum) quiet = refl
 quiet_shows (act.Orient vertical) quiet = refl
+quiet_shows (act.Direction direction) quiet = refl
 quiet_shows (act.Flag flag on) quiet = refl
 quiet_shows (act.Visible visibility) quiet = absurd cc
 quiet_shows (act.Ink color) quiet = refl
@@ -85,11 +89,26 @@ quiet_shows (act.Answer answer) quiet = refl
 quiet_shows (act.Intercept actions) quiet = refl
 quiet_shows (act.Scroll offset) quiet = refl
 
+quiet_turns : (act : Act) → requests_layout act ≡ false → turns act ≡ false
+quiet_turns (act.Change change) quiet = refl
+quiet_turns (act.WeightSum sum) quiet = refl
+quiet_turns (act.Orient vertical) quiet = refl
+quiet_turns (act.Direction direction) quiet = absurd cc
+quiet_turns (act.Flag flag on) quiet = refl
+quiet_turns (act.Visible visibility) quiet = refl
+quiet_turns (act.Ink color) quiet = refl
+quiet_turns (act.Id id) quiet = refl
+quiet_turns (act.Rule verb value) quiet = refl
+quiet_turns (act.Answer answer) quiet = refl
+quiet_turns (act.Intercept actions) quiet = refl
+quiet_turns (act.Scroll offset) quiet = refl
+
 pub hides_asks : (act : Act) → hides act ≡ true → effect_by (requests_layout act) (act_paints act) ≡ Asks
 hides_asks (act.Visible visibility) hidden = refl
 hides_asks (act.Change change) hidden = absurd cc
 hides_asks (act.WeightSum sum) hidden = absurd cc
 hides_asks (act.Orient vertical) hidden = absurd cc
+hides_asks (act.Direction direction) hidden = absurd cc
 hides_asks (act.Flag flag on) hidden = absurd cc
 hides_asks (act.Ink color) hidden = absurd cc
 hides_asks (act.Id id) hidden = absurd cc
@@ -146,7 +165,8 @@ quiet_rests : (old : KeyedScreen) (new : Views) (view : ℕ) (act : Act) (made :
     → KeepsViews old.views new (edit.Act view act) → EditLeaves old.views new (edit.Act view act) → IsResting old → IsResting (record old { views = new })
 quiet_rests old new view act made quiet applied keeps leaves rests =
     let stays = quiet_shows act quiet in
-    let tree : new.tree ≡ changed_at_key view (acted_view act) old.views.tree = keeps.tree in
+    let still = quiet_turns act quiet in
+    let tree : new.tree ≡ changed_at_key view (acted_view act) old.views.tree = keeps.tree ∙ unspread act (changed_at_key view (acted_view act) old.views.tree) still in
     let sides = head_sides view act old.views.tree quiet in
     record {
       settled = rests.settled;
@@ -155,8 +175,8 @@ quiet_rests old new view act made quiet applied keeps leaves rests =
           (ap (λ (t : Forest Row). root_specs (size_of old.surface) (head_view t).facts) tree ∙ sides.specs (size_of old.surface))
           (λ root first.
           let live = first_live old.views root first in
-          let still : IsLive new root = subst (λ (t : Forest Row). 0 < count_of_key root t) (sym tree) (let count = count_of_key-put root view (acted_view act) old.views.tree in omega (arith, count, live)) in
-          (leaves root live still (rw (quiet, stays) refl)).0)
+          let there : IsLive new root = subst (λ (t : Forest Row). 0 < count_of_key root t) (sym tree) (let count = count_of_key-put root view (acted_view act) old.views.tree in omega (arith, count, live)) in
+          (leaves root live there (rw (still, quiet, stays) refl)).0)
           rests.laid;
       unfired = ap (fired_in old.hooks) (lies_still old.views new (number_of old.views view) act made applied stays) ∙ rests.unfired;
     }
@@ -214,6 +234,7 @@ unpainted : (act : Act) → (requests_layout act || act_paints act) ≡ false �
 unpainted (act.Change change) e = unpainted_change change e
 unpainted (act.WeightSum sum) e = absurd cc
 unpainted (act.Orient vertical) e = absurd cc
+unpainted (act.Direction direction) e = absurd cc
 unpainted (act.Flag flag on) e = unpainted_flag flag e
 unpainted (act.Visible visibility) e = absurd cc
 unpainted (act.Ink color) e = absurd cc
@@ -223,7 +244,7 @@ unpainted (act.Answer answer) e = refl
 unpainted (act.Intercept actions) e = refl
 unpainted (act.Scroll offset) e = absurd cc
 
--- what was seen of a view, and what is seen of it after an edit, lies where it is known to lie
+-- what was seen of a view, and what is seen of it after an edit, is within a known rectangle
 seen_edited : (old new : KeyedScreen) (view : ℕ) (box : Rect) → IsTree old.views → IsTree new.views → IsLive old.views view → IsLive new.views view → number_of new.views view ≡ number_of old.views view
     → size_of new.surface ≡ size_of old.surface → LiesIn (seen_on old (number_of old.views view)) box → LiesIn (seen_on new (number_of old.views view)) box
     → LiesIn (seen_of (size_of old.surface) old.views view) box × LiesIn (seen_of (size_of old.surface) new.views view) box
@@ -233,7 +254,7 @@ seen_edited old new view box was is live there number size before after = (
       (subst (λ (rect : Rect). LiesIn rect box) (seen_named new view is there) (subst (λ (n : ℕ). LiesIn (seen_on new n) box) (sym number) after)),
 )
 
--- an edit that was made damages what is seen of its view alone
+-- an edit that was made damages only what is seen of its view
 within_act : (old new : KeyedScreen) (view : ℕ) (act : Act) (requests paints : Bool) (box : Rect) → requests_layout act ≡ requests → act_paints act ≡ paints → IsTree old.views → IsTree new.views
     → IsLive old.views view → IsLive new.views view → number_of new.views view ≡ number_of old.views view → size_of new.surface ≡ size_of old.surface
     → GrowsWithin (size_of old.surface) view old.views new.views old.damage new.damage → (act_is_unseen act ≡ true → new.damage ≡ old.damage)
@@ -256,6 +277,12 @@ edited_same old mid (edit.Remove view) same = ap (λ (tree : Forest Row). (head_
 edited_same old mid (edit.Act view act) same = ap (λ (tree : Forest Row). edited_by_act (Some (head_view (part_from view tree)).number) act) (sym same)
 edited_same old mid (edit.Text view text) same = ap (λ (tree : Forest Row). (head_view (part_from view tree)).number ∷ []) (sym same)
 
+number_acted : (old new : Views) (view : ℕ) (act : Act) → new.tree ≡ spread act (changed_at_key view (acted_view act) old.tree) → number_of new view ≡ number_of old view
+number_acted old new view act tree =
+    ap (λ (t : Forest Row). (head_view (part_from view t)).number) tree
+    ∙ number-spread view act (changed_at_key view (acted_view act) old.tree)
+    ∙ number_changed old (record old { tree = changed_at_key view (acted_view act) old.tree }) view view (acted_view act) (λ own. refl) refl
+
 pub within_edit : (old new : KeyedScreen) (edit : Edit) (box : Rect) → IsChange edit → IsTree old.views → IsTree new.views → IsEdit old.views edit → KeepsViews old.views new.views edit
     → size_of new.surface ≡ size_of old.surface → GrowsWithin (size_of old.surface) (edited edit) old.views new.views old.damage new.damage → (is_unseen edit ≡ true → new.damage ≡ old.damage)
     → LiesIn old.damage box → AreSeenIn box (numbers_edited old.views edit) old new → LiesIn new.damage box
@@ -263,8 +290,9 @@ within_edit old new (edit.Add parent class width height) box leaves was is made 
 within_edit old new (edit.Remove view) box leaves was is made keeps size grows unseen lies seen = absurd leaves
 within_edit old new (edit.Act view act) box leaves was is made keeps size grows unseen lies seen =
     within_act old new view act (requests_layout act) (act_paints act) box refl refl was is made.0
-    (subst (λ (t : Forest Row). 0 < count_of_key view t) (sym keeps.tree) (let count = count_of_key-put view view (acted_view act) old.views.tree in let live = made.0 in omega (arith, count, live)))
-    (number_changed old.views new.views view view (acted_view act) (λ own. refl) keeps.tree) size grows unseen lies seen
+    (subst (λ (t : Forest Row). 0 < count_of_key view t) (sym keeps.tree)
+    (let count = count_of_key-spread view act (changed_at_key view (acted_view act) old.views.tree) ∙ count_of_key-put view view (acted_view act) old.views.tree in let live = made.0 in omega (arith, count, live)))
+    (number_acted old.views new.views view act keeps.tree) size grows unseen lies seen
 within_edit old new (edit.Text view text) box leaves was is made keeps size grows unseen lies seen =
     let there = subst (λ (t : Forest Row). 0 < count_of_key view t) (sym keeps.tree) (let count = count_of_key-put view view (λ own. record own { text = chars text.now }) old.views.tree in let live = made.0 in omega (arith, count, live)) in
     let number = number_changed old.views new.views view view (λ own. record own { text = chars text.now }) (λ own. refl) keeps.tree in
@@ -272,7 +300,7 @@ within_edit old new (edit.Text view text) box leaves was is made keeps size grow
     let own = seen_edited old new view box was is made.0 there number size both.0 both.1 in
     grows box lies own.0 own.1
 
--- an edit was made by which no view comes or goes, or none was
+-- an edit that adds and removes no view was made, or none was
 pub edit_keeps : (old : KeyedScreen) (new : Views) (damage : Rect) (edit : Edit) (result : Result (Option ℕ) EditFault) → IsTree old.views → IsEdit old.views edit
     → AppliesEdit (outcome_of_edit (edited_of old.views) (numbered old.views edit)) (edited_of new) result → OnOk result (KeepsViews old.views new edit) → EditLeaves old.views new edit
     → new.counts.measures ≡ old.views.counts.measures → IsChange edit → (OnOk result (IsTree new)) → GrowsWithin (size_of old.surface) (edited edit) old.views new old.damage damage → (is_unseen edit ≡ true → damage ≡ old.damage)

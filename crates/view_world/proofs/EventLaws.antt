@@ -33,21 +33,21 @@ use Rattle.view_world.specs.declared.stage.Stage.TheVariants.{NoWindow, NoFrame,
 use Rattle.view_world.specs.declared.screen.Screen.TheInside.{Inside}
 use Rattle.view_world.proofs.SceneLaws.{offsets_plain, scene_plain, scrolls_count, scrolls_geometry, scrolls_plain, views_plain}
 
--- where the views of a settled world lie, for dispatch
+-- the bounds of the views of a settled world, for dispatch
 scene_settled : (world : KeyedScreen) (slop : ℤ) → IsTree world.views → world.stage ≡ Settled → slop ≡ slop_at world.dpi → scene_in (world_of world) ≡ scene_of world.views slop
 scene_settled world slop is settled same =
     ap (λ (stage : Stage). let scene : Scene = record { rects = rect_in (geometry_in stage world.views); slop = slop_at world.dpi } in scene) settled
     ∙ ap (λ slop. let scene : Scene = record { rects = rect_in (geometry_of world.views); slop = slop } in scene) (sym same)
     ∙ sym (scene_plain world.views slop is)
 
--- no view was handed anything yet
+-- no view got anything yet
 pub progress_plain : (world : KeyedScreen) (entries : List Entry) → IsTree world.views → entries ≡ []
     → progress_in (world_of world) ≡ progress_by (offsets_kept world.views) (gesture_of world.gesture) entries
 progress_plain world entries is none =
     ap (λ offsets. progress_by offsets (gesture_of world.gesture) []) (sym (offsets_plain world.views is))
     ∙ ap (progress_by (offsets_kept world.views) (gesture_of world.gesture)) (sym none)
 
--- the world with what was made of its gesture and its offsets
+-- the world with the new gesture and offsets
 geometry_scrolled : (stage : Stage) (old new : Views) → OnlyScrolls old new → geometry_in stage new ≡ geometry_in stage old
 geometry_scrolled NoWindow old new scrolls = refl
 geometry_scrolled NoFrame old new scrolls = refl
@@ -64,7 +64,7 @@ world_scrolled old new kept told entries is scrolls =
     ∙ ap (λ next. with (after_progress (world_of old) (progress_by (offsets_kept new) (gesture_of kept) entries)).tree next (geometry_in old.stage new)) scrolls.same.next
     ∙ ap (with (after_progress (world_of old) (progress_by (offsets_kept new) (gesture_of kept) entries)).tree old.views.next) (geometry_scrolled old.stage old.views new scrolls)
 
--- what becomes of an event
+-- the outcome of an event
 reached_plain : (world : KeyedScreen) (log : Log) (slop : ℤ) (event : Event) → IsTree world.views → world.stage ≡ Settled → slop ≡ slop_at world.dpi → log.entries.items ≡ []
     → reached_in (world_of world) event ≡ dispatched (scene_of world.views slop) (views_of world.views.tree) event (progress_of world.views world.gesture log)
 reached_plain world log slop event is settled same none =
@@ -72,7 +72,7 @@ reached_plain world log slop event is settled same none =
     ∙ ap (λ (tree : Forest PlainView). dispatched (scene_of world.views slop) tree event (progress_in (world_of world))) (sym (views_plain world.views is))
     ∙ ap (dispatched (scene_of world.views slop) (views_of world.views.tree) event) (progress_plain world log.entries.items is none)
 
--- an event was handed to the root, and these pointers are down then
+-- an event went to the root, and these pointers are down then
 pub handed : (old : KeyedScreen) (new : Views) (kept : Kept) (before after : Log) (slop : ℤ) (event : Event) (pointers : List Point) (yes_ : Bool)
     → IsTree old.views → old.stage ≡ Settled → slop ≡ slop_at old.dpi → before.entries.items ≡ []
     → (let reached : Reached = record { yes = yes_; progress = progress_of new kept after } in

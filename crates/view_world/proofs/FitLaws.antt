@@ -1,4 +1,4 @@
--- Views that lie somewhere keep sizes that can be told.
+-- Views that have bounds keep sizes that can be printed.
 use Rattle.std.proofs.Common.{◌≡◌, ℕ, List, [], ◌∷◌, sym, subst, inl, inr}
 use Rattle.std.proofs.lemmas.Bool.{cases_Bool}
 use Rattle.std.specs.Prelude.{◌==◌, ℤ, OnErr, Option, Some, None, Result, Ok, Err}

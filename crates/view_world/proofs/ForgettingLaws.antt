@@ -66,7 +66,7 @@ module _ (key : ℕ) (tree : Forest Row) (live : 0 < count_of_key key tree) wher
       none_of-both was (other == (head_view (part_from key tree)).number) (is_among other (numbers_in (children_of_first (part_from key tree))))
       ∙ sym (ap (λ (l : List ℕ). was && not (is_among other l)) numbers_alone)
 
-  -- then what is behind it
+  -- then what is after it
   pub disarmed_list : (hooks : List Hook) → all_disarmed (numbers_in (later_siblings (part_from key tree))) (all_disarmed (numbers_in (first_tree (part_from key tree))) hooks)
       ≡ all_disarmed (numbers_in (part_from key tree)) hooks
   disarmed_list hooks =

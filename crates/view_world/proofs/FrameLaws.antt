@@ -114,7 +114,7 @@ Changed-unsettled now new hooks size outcome root window er some framed next uns
     ∙ framed_world now new hooks now.surface Unsettled size outcome after framed next window (ap Some (window-size now size window)) (ap stage_after has)
     (unsettled_nowhere (plain_of now.views) now.hooks size has) (unsettled_picture size after has)
 
--- what a test that was negated has said
+-- what a negated test has shown
 pub is_false : (test : Bool) → not test ≡ true → test ≡ false
 is_false true e = absurd cc
 is_false false e = refl
@@ -150,7 +150,7 @@ still_clean old added more is one other = ap is_empty is ∙ by (is_empty old) (
     by true false first second one other = absurd cc
     by false t first second one other = absurd cc
 
--- what lies in a rectangle without a point has none
+-- what is within a rectangle without a point has none
 pub empty_in : (inner outer : Rect) → LiesIn inner outer → is_empty outer ≡ true → is_empty inner ≡ true
 empty_in inner outer lies empty = by (is_empty inner) refl
   where
@@ -169,7 +169,7 @@ still_lain old new window damage same within = empty_in damage no_rect (within n
     unshifted key (inl moved) = moved (ap (λ (views : Views). (held_of views key).state.bounds) same)
     unshifted key (inr scrolled) = scrolled (ap (λ (views : Views). (held_of views key).offset) same)
 
--- what is painted of the damage is no more than the points in which that lies
+-- what is painted of the damage is no more than the points of a rectangle around it
 pub damage_most : (times : ℕ) (picture : Raster) (damage box : Rect) (before after : ℕ) → LiesIn damage box → after ≤ before + times * area_in picture damage → after ≤ before + times * rect_area box
 damage_most times picture damage box before after lies most = let product = mul-le-mul_left times (covered_in picture damage box lies) in omega (arith, most, product)
 
@@ -182,7 +182,7 @@ same_work one other measured painted =
     let work : ℕ → ℕ → Work = λ measured painted. record { measured = measured; painted = painted } in
     ap (λ m. work m one.painted) measured ∙ ap (work other.measured) painted
 
--- where there is nothing to paint, nothing is counted
+-- if there is nothing to paint, nothing is counted
 pub still_work : (mid after : Work) (times : ℕ) (picture : Raster) (rect : Rect) → is_empty rect ≡ true → after.measured ≡ mid.measured → mid.painted ≤ after.painted
     → after.painted ≤ mid.painted + times * area_in picture rect → after ≡ mid
 still_work mid after times picture rect clean measured grew most =

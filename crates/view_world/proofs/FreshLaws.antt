@@ -1,4 +1,4 @@
--- No view that is to come is a target, so it has a place that can be taken back.
+-- No view that is to be added is a target, so it has a place that can be taken back.
 use Rattle.std.proofs.Common.{◌≡◌, ℕ, ◌+◌, ◌<◌, ◌≤◌, true, false, arith, inl, inr}
 use Rattle.std.proofs.lemmas.Bool.{cases_Bool}
 use Rattle.std.specs.Prelude.{◌==◌}
@@ -42,7 +42,7 @@ times_part child number (Branch view below after) =
           rw e (omega (arith, one, two, both))
     ]
 
--- no view that is to come is a target
+-- no view that is to be added is a target
 pub free_next : (views : Views) (kept : Kept) → IsTree views → IsGestureIn views.tree kept → (number : ℕ) → views.next ≤ number
     → (group : ℕ) → is_target number ((gesture_of kept).targets group) ≡ false
 free_next views kept is caught number later group =

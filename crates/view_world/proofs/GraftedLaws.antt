@@ -1,27 +1,31 @@
--- A sapling that has come, and the request for layout at its parent.
+-- A sapling that was added, and the request for layout at its parent.
 use Rattle.std.proofs.Common.{◌≡◌, ℕ, ◌<◌, Bool, true, false, Option, Some, None, refl, sym, ◌∙◌, ap, subst, arith}
 use Rattle.std.specs.Prelude.{IfSome, if◌then◌else◌}
+use Rattle.std.specs.Option.{option_map}
 use Rattle.kept_views.proofs.GraftedKept.{grafted_kept, grafted_live, grafted_root, grafted_unasked}
 use mathlib.Core.Path.{fun_ext}
 use Rattle.kept_views.specs.Kept.{IsConsistent, IsKept}
 use Rattle.kept_views.specs.Pressing.{path_of}
-use Rattle.tree_edits.specs.Asking.{is_on_paths, listed, requested}
+use Rattle.tree_edits.proofs.SpreadLaws.{runs_named}
+use Rattle.tree_edits.specs.Asking.{is_on_paths, listed}
+use Rattle.view_model.specs.Directed.{directed}
 use Rattle.view_model.specs.Forest.{Forest, Nothing}
-use Rattle.view_model.specs.Sprouts.{Seed}
+use Rattle.view_model.specs.Growth.{grown_at}
+use Rattle.view_model.specs.Sprouts.{Seed, numbered}
 use Rattle.view_tree.proofs.forest.PlainLaws.{plain_along}
 use Rattle.view_tree.proofs.values.GeometryLaws.{geometry-gained, laid_along}
 use Rattle.view_tree.specs.Grafted.{Grafted}
-use Rattle.view_tree.specs.Requests.{among, asking, forced_one}
+use Rattle.view_tree.specs.Requests.{among, asking, forced_one, requested}
 use Rattle.view_tree.specs.Rows.{Row, count_of_key}
-use Rattle.view_tree.specs.Views.{Held, IsLive, IsTree, SameTree, Views, held_of, laid_rows, plain_rows}
+use Rattle.view_tree.specs.Views.{Held, IsLive, IsTree, SameTree, Views, held_of, laid_rows, number_of, plain_of, plain_rows}
 use Rattle.view_world.specs.Places.{HasGained}
 
--- the parent is there still
+-- the parent is still there
 pub place_live : (old mid : Views) (sapling : Forest Seed) (place : Option ℕ) (key : ℕ) → IfSome place (λ (view : ℕ). IsLive old view) → Grafted old place sapling key mid → IfSome place (λ (view : ℕ). IsLive mid view)
 place_live old mid sapling None key live came = tt
 place_live old mid sapling (Some parent) key live came = grafted_live old mid sapling parent key live came
 
--- a request leaves where views lie, and how far they are scrolled
+-- a request leaves the bounds of views, and how far they are scrolled
 record KeepsPlace (old new : Held) : Type 0 where
   bounds : new.state.bounds ≡ old.state.bounds
   offset : new.offset ≡ old.offset
@@ -41,7 +45,8 @@ module _ (old mid new : Views) (sapling : Forest Seed) (place : Option ℕ) (key
 
   pub has_gained : HasGained old place sapling new
   has_gained = record {
-    plain = ap (plain_rows (held_of new)) same.tree ∙ plain_along (held_of mid) (held_of new) mid.tree (λ other there. (kept_place other).offset) ∙ came.plain;
+    plain = ap (plain_rows (held_of new)) same.tree ∙ plain_along (held_of mid) (held_of new) mid.tree (λ other there. (kept_place other).offset) ∙ came.plain
+        ∙ ap (λ (rtl : Bool). grown_at (option_map (number_of old) place) (directed rtl (numbered old.next sapling)) (plain_of old)) (runs_named old place is live);
     next = same.next ∙ came.next;
     geometry = ap (laid_rows (held_of new)) same.tree ∙ laid_along (held_of mid) (held_of new) mid.tree (λ other there. (kept_place other).bounds)
         ∙ geometry-gained old mid place came.added root came.gained;

@@ -1,6 +1,6 @@
--- What a world keeps once the views of a file have come.
+-- What a world keeps once the views of a file were added.
 use Rattle.std.proofs.Common.{◌≡◌, ◌∙◌, ℕ, suc, ◌+◌, ◌*◌, ◌≤◌, arith, List, length, length-append, refl, sym, ap, subst, inl, inr}
-use Rattle.std.specs.Prelude.{◌==◌, ◌<◌, true, IfSome, Option, Some, None, Result, Err}
+use Rattle.std.specs.Prelude.{◌==◌, ◌<◌, Bool, true, IfSome, Option, Some, None, Result, Err}
 use Rattle.std.specs.Option.{option_map, option_or}
 use Rattle.std.proofs.lemmas.Bool.{cases_Bool, cases_eq, cases_lt, eq-eqb}
 use Rattle.saved_state.specs.Saving.{OffsetsFit}
@@ -11,7 +11,9 @@ use Rattle.touch_dispatch.specs.TreeEvents.{room_of}
 use Rattle.touch_dispatch.specs.declared.log.Log.{Log}
 use Rattle.inflater.specs.Inflating.{Plan}
 use Rattle.traversal.specs.Changing.{FitAll}
+use Rattle.view_model.specs.Directed.{directed, rtl_at}
 use Rattle.view_model.specs.Forest.{Forest, Nothing, Branch, count_of, joined}
+use Rattle.view_model.specs.Geometry.{rect_in}
 use Rattle.view_model.specs.Growth.{grown_at}
 use Rattle.view_model.specs.PlainTree.{PlainView, grown}
 use Rattle.view_model.specs.Refusals.{PlainRefusal}
@@ -20,12 +22,13 @@ use Rattle.view_model.specs.declared.sprout.Sprout.{Sprout}
 use Rattle.view_model.proofs.SproutLaws.{preorder-seeds_of}
 use Rattle.view_tree.specs.Faults.{IsRefusedOrCyclic}
 use Rattle.kept_views.specs.Kept.{IsConsistent}
-use Rattle.view_tree.specs.Views.{IsLive, IsTree, Views, held_of, number_of, plain_of, plain_rows}
+use Rattle.view_tree.specs.Views.{IsLive, IsTree, Views, geometry_of, held_of, number_of, plain_of, plain_rows}
 use Rattle.view_tree.specs.declared.fault.AttachFault.{AttachFault}
 use Rattle.view_tree.specs.declared.fault.AttachFault.TheVariants as attach
 use Rattle.view_tree.proofs.forest.KeyLaws.{number_live, zero_or_more}
 use Rattle.view_tree.proofs.forest.PlainLaws.{plain-count}
 use Rattle.view_world.proofs.CaughtLaws.{times-plain}
+use Rattle.view_world.proofs.DirectedLaws.{count-directed, every-directed, times-directed}
 use Rattle.view_world.proofs.GrowingLaws.{placed_root, plain_root}
 use Rattle.view_world.proofs.GrownCaught.{gesture_grafted}
 use Rattle.view_world.proofs.GrownShown.{nowhere_numbered, shown_come}
@@ -97,20 +100,21 @@ count-grown_at : (place : Option ℕ) (new tree : Forest PlainView) → ((number
 count-grown_at None new tree once = omega arith
 count-grown_at (Some parent) new tree once = count-grown parent new tree (once parent)
 
--- no more views come than a sapling has
-pub count_grafted : (old new : Views) (place : Option ℕ) (seeds : Forest Seed) → IsTree old → plain_of new ≡ grown_at (option_map (number_of old) place) (numbered old.next seeds) (plain_of old)
+-- no more views are added than a sapling has
+pub count_grafted : (old new : Views) (place : Option ℕ) (rtl : Bool) (seeds : Forest Seed) → IsTree old
+    → plain_of new ≡ grown_at (option_map (number_of old) place) (directed rtl (numbered old.next seeds)) (plain_of old)
     → count_of new.tree ≤ count_of old.tree + count_of seeds
-count_grafted old new place seeds is grew =
+count_grafted old new place rtl seeds is grew =
     let at = option_map (number_of old) place in
     let once : (number : ℕ) → times_in number (plain_of old) ≤ 1 =
     λ number. let same = times-plain (held_of old) number old.tree in let few = is.numbers number in omega (arith, same, few) in
-    let most = count-grown_at at (numbered old.next seeds) (plain_of old) once in
+    let most = count-grown_at at (directed rtl (numbered old.next seeds)) (plain_of old) once in
     let now = sym (plain-count (held_of new) new.tree) ∙ ap count_of grew in
     let before = plain-count (held_of old) old.tree in
-    let come = count-numbered old.next seeds in
+    let come = count-directed rtl (numbered old.next seeds) ∙ count-numbered old.next seeds in
     omega (arith, most, now, before, come)
 
--- views that come leave those that are there, and are there then
+-- views that are added leave those that are there, and are there then
 
 times_grown : (number parent : ℕ) (new tree : Forest PlainView) → times_in number tree ≤ times_in number (grown parent new tree)
 times_grown number parent new Nothing = omega arith
@@ -177,16 +181,18 @@ pub sound_grafted : (inside : Inside) (new : Views) (gesture : Kept) (log : Log)
 sound_grafted inside new gesture log place sprouts sound is live root order came consistent same opened room offsets =
     let count = count-seeds_of sprouts order in
     let old = inside.tree in
+    let rtl = rtl_at (option_map (number_of old) place) (plain_of old) in
+    let views = directed rtl (numbered old.next (seeds_of sprouts)) in
     record {
       consistent = consistent;
       caught =
-          gesture_grafted old new (option_map (number_of old) place) (seeds_of sprouts) inside.gesture gesture is (placed_root old place root) came.plain same
+          gesture_grafted old new (option_map (number_of old) place) rtl (seeds_of sprouts) inside.gesture gesture is (placed_root old place root) came.plain same
           (stay old.next (length sprouts) inside.gesture gesture opened)
           (λ number from to. opened.there number from (omega (arith, to, count))) sound.caught;
       closed = λ number none.
-          let times : times_in number (grown_at (option_map (number_of old) place) (numbered old.next (seeds_of sprouts)) (plain_of old)) ≡ 0 =
+          let times : times_in number (grown_at (option_map (number_of old) place) views (plain_of old)) ≡ 0 =
           ap (times_in number) (sym came.plain) ∙ times-plain (held_of new) number new.tree ∙ none in
-          let before = times_still number (option_map (number_of old) place) (numbered old.next (seeds_of sprouts)) (plain_of old)
+          let before = times_still number (option_map (number_of old) place) views (plain_of old)
           (λ e. ap (plain_rows (held_of old)) (placed_root old place root e)) in
           let was = times-plain (held_of old) number old.tree in
           let shut = sound.closed number (omega (arith, times, before, was)) in
@@ -196,16 +202,19 @@ sound_grafted inside new gesture log place sprouts sound is live root order came
               | inr above ↦ opened.above number above ∙ shut
               | inl to ↦ absurd (
                   let some = numbered_there number old.next (seeds_of sprouts) from (omega (arith, to, count)) in
-                  let come = times_come number (option_map (number_of old) place) (numbered old.next (seeds_of sprouts)) (plain_of old) (placed_there old place live) in
-                  omega (arith, some, come, times)
+                  let same = times-directed number rtl (numbered old.next (seeds_of sprouts)) in
+                  let come = times_come number (option_map (number_of old) place) views (plain_of old) (placed_there old place live) in
+                  omega (arith, some, same, come, times)
                   )
             ]
           ];
-      room = room (let most = count_grafted old new place (seeds_of sprouts) is came.plain in omega (arith, most, count));
+      room = room (let most = count_grafted old new place rtl (seeds_of sprouts) is came.plain in omega (arith, most, count));
       down = sound.down;
       narrow = subst FitAll (sym came.geometry) sound.narrow;
       offsets = offsets;
       shows = shows_on inside.surface inside.damage.rect inside.damage.rect old new sound.shows
-          (shown_come (size_of inside.surface) inside.damage.rect old new (option_map (number_of old) place) (numbered old.next (seeds_of sprouts)) (nowhere_numbered old old.next (seeds_of sprouts) is (omega arith))
+          (shown_come (size_of inside.surface) inside.damage.rect old new (option_map (number_of old) place) views
+          (every-directed (λ (view : PlainView). rect_in (geometry_of old) view.number ≡ None) (λ rtl view none. none) rtl (numbered old.next (seeds_of sprouts))
+          (nowhere_numbered old old.next (seeds_of sprouts) is (omega arith)))
           (plain_root old place root) came.plain came.geometry);
     }

@@ -1,4 +1,4 @@
--- What a world keeps and tells once it has got views, or has not.
+-- What a world keeps and prints once it has got views, or has not.
 use Rattle.std.proofs.Common.{◌≡◌, ◌≢◌, ◌∙◌, ℕ, ◌+◌, ◌*◌, ◌<◌, ◌≤◌, arith, true, false, List, refl, sym, ap, subst}
 use Rattle.std.specs.Prelude.{◌==◌, ◌||◌, if◌then◌else◌, ℤ, Option, Some, None, Result, Ok, Err, OnErr, IfSome}
 use Rattle.std.specs.Option.{option_map}
@@ -20,12 +20,14 @@ use Rattle.tree_edits.specs.Keeping.{KeepsViews}
 use Rattle.tree_edits.specs.Scene.{Scene, scene_of}
 use Rattle.tree_edits.specs.declared.edits.Edit.TheVariants as edit
 use Rattle.tree_edits.specs.declared.fault.EditFault.{EditFault}
+use Rattle.view_model.specs.Directed.{rtl_at, running}
 use Rattle.view_model.specs.Forest.{Nothing, count_of}
 use Rattle.view_model.specs.Growth.{grown_at, refusal_at}
 use Rattle.view_model.specs.PlainTree.{single}
 use Rattle.view_model.specs.Refusals.{PlainRefusal}
 use Rattle.view_model.specs.declared.kinds.Class.{Class}
 use Rattle.kept_views.specs.Kept.{IsConsistent}
+use Rattle.view_tree.specs.Directions.{running_below}
 use Rattle.view_tree.specs.Rows.{Row, count_of_key, count_of_number, leaf}
 use Rattle.view_tree.specs.Views.{IsTree, Views, geometry_of, held_of, number_of, plain_of, plain_rows}
 use Rattle.view_tree.proofs.forest.NumberLaws.{count-with_child, number-leaf_own, sum-with_child}
@@ -41,7 +43,7 @@ use Rattle.view_world.specs.declared.fault.StepFault.TheVariants as fault
 use Rattle.view_world.specs.declared.response.Response.{Response}
 use Rattle.view_world.specs.declared.screen.Screen.TheInside.{Inside}
 
--- what a call ensures where it has failed
+-- what a call ensures if it has failed
 pub failed : {A E : Type 0} (P : Type 0) (result : Result A E) → true ≡ is_err result → OnErr result P → P
 failed P (Ok value) e h = absurd (cc)
 failed P (Err error) e h = h
@@ -115,12 +117,13 @@ pub placed_root : (views : Views) (parent : Option ℕ) → (parent ≡ None →
 placed_root views None root e = root refl
 placed_root views (Some parent) root e = absurd (cc)
 
--- where there is no place, there is no view
+-- if there is no place, there is no view
 pub plain_root : (views : Views) (parent : Option ℕ) → (parent ≡ None → views.tree ≡ Nothing) → option_map (number_of views) parent ≡ None → plain_of views ≡ Nothing
 plain_root views parent root e = ap (plain_rows (held_of views)) (placed_root views parent root e)
 
 added_tree : (scene after : Scene) (parent : Option ℕ) (class : Class) (width height : ℤ) (number : Option ℕ) (reason : Option PlainRefusal)
-    → outcome_of_add scene parent class width height reason ≡ Ok (after, number) → after.tree ≡ grown_at parent (single (new_view scene.next class width height)) scene.tree
+    → outcome_of_add scene parent class width height reason ≡ Ok (after, number)
+    → after.tree ≡ grown_at parent (single (running (rtl_at parent scene.tree) (new_view scene.next class width height))) scene.tree
 added_tree scene after parent class width height number (Some refusal) e = absurd (cc)
 added_tree scene after parent class width height number None e = sym (ap (λ (p : Scene × Option ℕ). p.0.tree) (same_outcome e))
   where
@@ -135,7 +138,7 @@ added_geometry scene after parent class width height number None e = sym (ap (λ
     same_outcome : {one other : Scene × Option ℕ} → (let o : Result (Scene × Option ℕ) PlainRefusal = Ok one in o) ≡ Ok other → one ≡ other
     same_outcome e = cc
 
--- a new view lies nowhere
+-- a new view has no bounds
 pub grown_nowhere : (old new : Views) (parent : Option ℕ) (class : Class) (width height : ℤ) (result : Result (Option ℕ) EditFault) → false ≡ is_err result
     → AppliesEdit (outcome_of_edit (scene_of old) (Add (option_map (number_of old) parent) class width height)) (scene_of new) result → geometry_of new ≡ geometry_of old
 grown_nowhere old new parent class width height (Err error) ok applied = absurd (cc)
@@ -144,7 +147,7 @@ grown_nowhere old new parent class width height (Ok number) ok applied =
 
 pub grown_as : (old new : Views) (parent : Option ℕ) (class : Class) (width height : ℤ) (result : Result (Option ℕ) EditFault) → false ≡ is_err result
     → AppliesEdit (outcome_of_edit (scene_of old) (Add (option_map (number_of old) parent) class width height)) (scene_of new) result
-    → plain_of new ≡ grown_at (option_map (number_of old) parent) (single (new_view old.next class width height)) (plain_of old)
+    → (let place = option_map (number_of old) parent in plain_of new ≡ grown_at place (single (running (rtl_at place (plain_of old)) (new_view old.next class width height))) (plain_of old))
 grown_as old new parent class width height (Err error) ok applied = absurd (cc)
 grown_as old new parent class width height (Ok number) ok applied =
     added_tree (scene_of old) (scene_of new) (option_map (number_of old) parent) class width height number (refusal_at (plain_of old) (option_map (number_of old) parent)) applied
@@ -152,17 +155,19 @@ grown_as old new parent class width height (Ok number) ok applied =
 -- one more view is in the tree, and has a place
 pub sound_grown : (inside : Inside) (new : Views) (gesture : Kept) (log : Log) (parent : Option ℕ) (class : Class) (width height : ℤ) → IsSound inside → IsTree inside.tree
     → IsAddable inside.tree parent → IsConsistent new → KeepsViews inside.tree new (edit.Add parent class width height)
-    → plain_of new ≡ grown_at (option_map (number_of inside.tree) parent) (single (new_view inside.tree.next class width height)) (plain_of inside.tree)
+    → (let place = option_map (number_of inside.tree) parent in
+    plain_of new ≡ grown_at place (single (running (rtl_at place (plain_of inside.tree)) (new_view inside.tree.next class width height))) (plain_of inside.tree))
     → gesture_of gesture ≡ gesture_of inside.gesture → ((other : ℕ) → is_open gesture other ≡ (is_open inside.gesture other || other == inside.tree.next))
     → 3 * (count_of inside.tree.tree + 1) ≤ room_of log → FitAll (geometry_of new) → OffsetsFit (plain_of new)
     → KeepsShown (size_of inside.surface) inside.damage.rect inside.damage.rect inside.tree new → IsSound (record inside { tree = new; gesture = gesture; log = log })
 sound_grown inside new gesture log parent class width height sound is addable consistent keeps grew same opened room narrow offsets shown = record {
   shows = shows_on inside.surface inside.damage.rect inside.damage.rect inside.tree new sound.shows shown;
   consistent = consistent;
-  caught = gesture_grown inside.tree new (option_map (number_of inside.tree) parent) (new_view inside.tree.next class width height) inside.gesture gesture is
+  caught = gesture_grown inside.tree new (option_map (number_of inside.tree) parent)
+      (running (rtl_at (option_map (number_of inside.tree) parent) (plain_of inside.tree)) (new_view inside.tree.next class width height)) inside.gesture gesture is
       (placed_root inside.tree parent (addable_root inside.tree parent addable)) refl grew same opened sound.caught;
   closed = λ number none.
-      let view = new_view inside.tree.next class width height in
+      let view = running_below parent inside.tree.tree (new_view inside.tree.next class width height) in
       let count : count_of_number number new.tree ≡ count_of_number number inside.tree.tree + count_of_number number (leaf keeps.fresh view) =
       ap (count_of_number number) keeps.tree
       ∙ sum-with_child (λ (row : Row). if row.view.number == number then 1 else 0) parent (leaf keeps.fresh view) inside.tree.tree (addable_live inside.tree parent addable) (addable_root inside.tree parent addable) is.keys in
@@ -171,7 +176,7 @@ sound_grown inside new gesture log parent class width height sound is addable co
       ) in
       opened number ∙ rw (sound.closed number (omega (arith, count, none)), ne_eqb number inside.tree.next apart) refl;
   room =
-      let view = new_view inside.tree.next class width height in
+      let view = running_below parent inside.tree.tree (new_view inside.tree.next class width height) in
       let count : count_of new.tree ≡ count_of inside.tree.tree + 1 =
       ap count_of keeps.tree
       ∙ count-with_child parent (leaf keeps.fresh view) inside.tree.tree (addable_live inside.tree parent addable) (addable_root inside.tree parent addable) is.keys in
@@ -181,7 +186,7 @@ sound_grown inside new gesture log parent class width height sound is addable co
   offsets = offsets;
 }
 
--- the place of a view that has not come is taken back
+-- the place of a view that was not added is taken back
 pub place_back : (views : Views) (before opened closed : Kept) (number : ℕ) → IsTree views → IsGestureIn views.tree before → HasNoneElse views.tree before → number ≡ views.next
     → (is_open before number ≡ false → opened ≡ with_place number before)
     → ((other : ℕ) → is_open before other ≡ false → IsUnknown before other)

@@ -5,6 +5,7 @@ use Rattle.std.specs.Prelude.{◌==◌, ◌||◌}
 use Rattle.touch_dispatch.specs.Gestures.{PlainGesture}
 use Rattle.touch_dispatch.specs.Kept.{Kept, gesture_of, is_open}
 use Rattle.touch_dispatch.specs.TreeEvents.{AreChildren, IsGestureIn, below_first, is_root}
+use Rattle.view_model.specs.Directed.{directed}
 use Rattle.view_model.specs.Forest.{Forest, Nothing, Branch, count_of, joined, or_else}
 use Rattle.view_model.specs.Growth.{grown_at}
 use Rattle.view_model.specs.PlainTree.{PlainView, grown, part_of, single}
@@ -12,6 +13,7 @@ use Rattle.view_model.specs.Sprouts.{Seed, numbered}
 use Rattle.view_tree.specs.Views.{IsTree, Views, held_of, plain_of, plain_rows}
 use Rattle.view_tree.proofs.forest.KeyLaws.{zero_or_more}
 use Rattle.view_world.proofs.CaughtLaws.{IsCaughtIn, caught_keyed, caught_plain, times-plain}
+use Rattle.view_world.proofs.DirectedLaws.{times-directed}
 use Rattle.view_world.proofs.PartCounts.{numbered_within, part-joined, part_first, part_none, times_grown_none}
 use Rattle.view_world.proofs.ShapeLaws.{times_in}
 
@@ -37,7 +39,7 @@ pub or_else_root : (child : ℕ) (first second : Forest PlainView) → is_root c
 or_else_root child Nothing second root = absurd (cc)
 or_else_root child (Branch view below after) second root = root
 
--- a child stays one, where its group is none of the new views
+-- a child stays one, if its group is none of the new views
 child_grown : (child group parent : ℕ) (new tree : Forest PlainView) → times_in group new ≡ 0
     → is_root child (below_first (part_of group tree)) ≡ true → is_root child (below_first (part_of group (grown parent new tree))) ≡ true
 child_grown child group parent new Nothing none root = absurd (cc)
@@ -62,7 +64,7 @@ child_grown child group parent new (Branch view below after) none root =
           ]
     ]
 
--- where the new views are none of the tree, and have places
+-- if the new views are none of the tree, and have places
 pub record ComesFresh (new tree : Forest PlainView) (kept : Kept) (number : ℕ) : Type 0 where
   pub unused : times_in number tree ≡ 0
   pub opened : is_open kept number ≡ true
@@ -87,7 +89,7 @@ opened_below parent number new tree kept fresh before there =
       ]
     ]
 
--- views come below another, or as all there is
+-- views are added below another, or as the whole tree
 pub caught_grown : (place : Option ℕ) (new tree : Forest PlainView) (before after : Kept) → (place ≡ None → tree ≡ Nothing) → gesture_of after ≡ gesture_of before
     → ((number : ℕ) → is_open before number ≡ true → is_open after number ≡ true) → ((number : ℕ) → 0 < times_in number new → ComesFresh new tree after number)
     → IsCaughtIn tree before → IsCaughtIn (grown_at place new tree) after
@@ -116,7 +118,7 @@ unused_next views number is later = times-plain (held_of views) number views.tre
 plain_root : (views : Views) (place : Option ℕ) → (place ≡ None → views.tree ≡ Nothing) → place ≡ None → plain_of views ≡ Nothing
 plain_root views place root e = ap (plain_rows (held_of views)) (root e)
 
--- a view comes under the next number, for which there is a place
+-- a view is added under the next number, for which there is a place
 pub gesture_grown : (old new : Views) (place : Option ℕ) (view : PlainView) (before after : Kept) → IsTree old → (place ≡ None → old.tree ≡ Nothing) → view.number ≡ old.next
     → plain_of new ≡ grown_at place (single view) (plain_of old) → gesture_of after ≡ gesture_of before
     → ((other : ℕ) → is_open after other ≡ (is_open before other || other == old.next)) → IsGestureIn old.tree before → IsGestureIn new.tree after
@@ -133,15 +135,16 @@ gesture_grown old new place view before after is root own grew same opened caugh
     or_true true = refl
     or_true false = refl
 
--- the views of a file come under the next numbers, for which there are places
-pub gesture_grafted : (old new : Views) (place : Option ℕ) (seeds : Forest Seed) (before after : Kept) → IsTree old → (place ≡ None → old.tree ≡ Nothing)
-    → plain_of new ≡ grown_at place (numbered old.next seeds) (plain_of old) → gesture_of after ≡ gesture_of before
+-- the views of a file are added under the next numbers, for which there are places
+pub gesture_grafted : (old new : Views) (place : Option ℕ) (rtl : Bool) (seeds : Forest Seed) (before after : Kept) → IsTree old → (place ≡ None → old.tree ≡ Nothing)
+    → plain_of new ≡ grown_at place (directed rtl (numbered old.next seeds)) (plain_of old) → gesture_of after ≡ gesture_of before
     → ((number : ℕ) → is_open before number ≡ true → is_open after number ≡ true)
     → ((number : ℕ) → old.next ≤ number → number < old.next + count_of seeds → is_open after number ≡ true) → IsGestureIn old.tree before → IsGestureIn new.tree after
-gesture_grafted old new place seeds before after is root grew same stay opened caught =
-    let fresh : (number : ℕ) → 0 < times_in number (numbered old.next seeds) → ComesFresh (numbered old.next seeds) (plain_of old) after number =
+gesture_grafted old new place rtl seeds before after is root grew same stay opened caught =
+    let views = directed rtl (numbered old.next seeds) in
+    let fresh : (number : ℕ) → 0 < times_in number views → ComesFresh views (plain_of old) after number =
     λ number there.
-    let within = numbered_within number old.next seeds there in
+    let within = numbered_within number old.next seeds (subst (λ (n : ℕ). 0 < n) (times-directed number rtl (numbered old.next seeds)) there) in
     record { unused = unused_next old number is within.0; opened = opened number within.0 within.1 } in
     caught_keyed new after (subst (λ t. IsCaughtIn t after) (sym grew)
-    (caught_grown place (numbered old.next seeds) (plain_of old) before after (plain_root old place root) same stay fresh (caught_plain old before is caught)))
+    (caught_grown place views (plain_of old) before after (plain_root old place root) same stay fresh (caught_plain old before is caught)))

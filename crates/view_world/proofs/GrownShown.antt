@@ -1,4 +1,4 @@
--- Views that come lie nowhere, so no picture shows them.
+-- Views that are added have no bounds, so no picture shows them.
 use Rattle.std.proofs.Common.{◌≡◌, ℕ, suc, ◌+◌, ◌≤◌, ℤ, pos, true, false, List, Option, None, Some, refl, sym, ◌∙◌, ap, arith, inl, inr}
 use Rattle.std.specs.Prelude.{◌==◌}
 use Rattle.std.specs.Option.{option_map}
@@ -19,7 +19,7 @@ use Rattle.view_model.specs.Sprouts.{Seed, numbered}
 use Rattle.view_tree.proofs.values.GeometryLaws.{find-laid_absent}
 use Rattle.view_tree.specs.Views.{IsTree, Views, geometry_of, held_of, plain_of}
 
--- none of these views lies anywhere
+-- none of these views has bounds
 abbrev pub AreNowhere : List Laid → Forest PlainView → Type 0
 AreNowhere geometry list = EveryRow (λ (view : PlainView). rect_in geometry view.number ≡ None) list
 
@@ -56,14 +56,14 @@ color_grown : (geometry : List Laid) (place : Option ℕ) (more tree : Forest Pl
 color_grown geometry None more tree none root x y = painted_nowhere geometry more none x y BLACK ∙ ap (λ (tree : Forest PlainView). pixel_color geometry tree x y) (sym (root refl))
 color_grown geometry (Some parent) more tree none root x y = painted_grown geometry parent more tree none x y BLACK
 
--- the same views that lie where they lay are shown as before
+-- the same views with the bounds that they had are shown as before
 pub shows_alike : (picture : Raster) (damage : Rect) (old new : Views) → plain_of new ≡ plain_of old → geometry_of new ≡ geometry_of old → Shows picture damage old → Shows picture damage new
 shows_alike picture damage old new plain geometry shows x y column row out =
     shows x y column row out
     ∙ ap (λ (list : List Laid). pixel_color list (plain_of old) (pos x) (pos y)) (sym geometry)
     ∙ ap (λ (tree : Forest PlainView). pixel_color (geometry_of new) tree (pos x) (pos y)) (sym plain)
 
--- views have come that lie nowhere
+-- views were added that have no bounds
 pub shown_come : (window : Size) (damage : Rect) (old new : Views) (place : Option ℕ) (more : Forest PlainView) → AreNowhere (geometry_of old) more → (place ≡ None → plain_of old ≡ Nothing)
     → plain_of new ≡ grown_at place more (plain_of old) → geometry_of new ≡ geometry_of old → KeepsShown window damage damage old new
 shown_come window damage old new place more none root plain geometry = record {
@@ -74,7 +74,7 @@ shown_come window damage old new place more none root plain geometry = record {
       ∙ color_grown (geometry_of old) place more (plain_of old) none root x y;
 }
 
--- no view of the next number lies anywhere, nor one of a later number
+-- no view of the next number has bounds, nor one of a later number
 pub nowhere_next : (views : Views) (number : ℕ) → IsTree views → views.next ≤ number → rect_in (geometry_of views) number ≡ None
 nowhere_next views number is later = ap (option_map (λ (laid : Laid). laid.rect)) (find-laid_absent (held_of views) number views.tree (is.earlier number later))
 

@@ -1,4 +1,4 @@
--- Bytes in hexadecimal digits, one behind the other.
+-- Bytes in hexadecimal digits, one after the other.
 use Rattle.std.proofs.Common.{◌≡◌, ℕ, ◌/◌, ◌%◌, List, [], ◌∷◌, slice_index, refl, ap}
 use Rattle.hex.specs.Hex.{encode_lower, encode_with, lower_digits}
 use Rattle.text_lines.specs.Joined.{texts_of}

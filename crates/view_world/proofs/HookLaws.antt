@@ -21,7 +21,7 @@ use Rattle.view_world.specs.KeyedScreen.{KeyedScreen, geometry_in, world_of}
 use Rattle.view_world.specs.Step.{Done, Refused, hook_asked, hooked, is_full, may_change, size_in}
 use Rattle.view_world.specs.World.{World}
 
--- the edits of a hook, behind those that have their numbers already
+-- the edits of a hook, after those that have their numbers already
 abbrev pub behind_edits : List NumEdit → Option (List NumEdit) → Option (List NumEdit)
 behind_edits edits more = option_map (λ (more : List NumEdit). edits ++ more) more
 
@@ -56,7 +56,7 @@ pub full_world : (now : KeyedScreen) (number : ℕ) (edits : List NumEdit) → (
     → hooked (world_of now) number edits ≡ Refused (refusal_numbered TOO_MANY_HOOKS)
 full_world now number edits full = rw (eq-eqb (length now.hooks) MAX_HOOKS full.0, full.1) refl
 
--- a view that lies somewhere fits
+-- a view that has bounds fits
 pub rect_fits : (geometry : List Laid) (number : ℕ) (rect : Rect) → FitAll geometry → rect_in geometry number ≡ Some rect → IsNarrow rect
 rect_fits [] number rect fit found = absurd cc
 rect_fits (laid ∷ geometry) number rect fit found = elim (cases_eq laid.number number) [
@@ -64,6 +64,6 @@ rect_fits (laid ∷ geometry) number rect fit found = elim (cases_eq laid.number
   | inr ne ↦ let later : rect_in geometry number ≡ Some rect = rw (ne_eqb laid.number number ne) at found in rect_fits geometry number rect fit.1 later
 ]
 
--- the size of a view where it lies, and nothing where it does not
+-- the size of a view that has bounds, and nothing if it has none
 abbrev pub size_or : Option Rect → Size
 size_or found = unwrap_or (option_map size_of_rect found) (record { w = pos 0; h = pos 0 })

@@ -1,4 +1,4 @@
--- A view that goes away, in terms of the plain world: what it is told first, and what is told of that.
+-- A view that goes away, in terms of the plain world: the cancel that it gets first, and what is printed of that.
 use Rattle.std.proofs.Common.{◌≡◌, ℕ, ℤ, pos, Bool, true, false, List, [], ◌∷◌, length, Option, Some, None, refl, sym, ◌∙◌, ap, subst, arith}
 use Rattle.std.proofs.lemmas.Bool.{ne_eqb}
 use Rattle.std.specs.Prelude.{◌==◌, ◌&&◌, not, if◌then◌else◌, MatchOption, Result, Ok, Err}
@@ -43,7 +43,7 @@ use Rattle.view_world.specs.Step.{Reply, Done, acted, after_edit, all_disarmed, 
 use Rattle.view_world.specs.Touching.{after_progress, all_closed, is_told, leaving, parent_of, scene_in, scrolled_to, told_away, unscrolled_tree, without_part}
 use Rattle.view_world.specs.World.{World}
 
--- no view was handed anything yet
+-- no view got anything yet
 abbrev start_of : KeyedScreen → List Entry → Progress
 start_of world before = progress_by (offsets_kept world.views) (gesture_of world.gesture) before
 
@@ -52,7 +52,7 @@ abbrev cancel_of : KeyedScreen → ℕ → ℤ → List Entry → Progress
 cancel_of world key slop before =
     cancelled (scene_of world.views slop) (parent_number world.views key) (number_of world.views key) (part_at world.views key) (start_of world before)
 
--- whether a view is told, by its key
+-- whether a view gets a cancel, by its key
 abbrev is_told_of : KeyedScreen → ℕ → Bool
 is_told_of world key = is_told (parent_number world.views key) (facts_of world.views key) world.pointers
 
@@ -69,14 +69,14 @@ leaving_plain world key slop before is live none =
     ∙ ap (λ (t : Forest PlainView). if is_told_of world key then cancelled (scene_of world.views slop) parent number t (start_of world before) else start_of world before)
     (sym (part_plain world.views key is live))
 
--- whether a view is told, by its number
+-- whether a view gets a cancel, by its number
 abbrev is_told_in : KeyedScreen → ℕ → Bool
 is_told_in world key = is_told (parent_of (number_of world.views key) (plain_of world.views)) (facts_of world.views key) world.pointers
 
 told_same : (world : KeyedScreen) (key : ℕ) (told : Bool) → IsTree world.views → IsLive world.views key → is_told_in world key ≡ told → is_told_of world key ≡ told
 told_same world key told is live same = ap (λ (p : Option ℕ). is_told p (facts_of world.views key) world.pointers) (sym (parent_named world.views key is live)) ∙ same
 
--- a view that is told, and one that is not
+-- a view that gets a cancel, and one that does not
 pub leaving_told : (world : KeyedScreen) (key : ℕ) (slop : ℤ) (new : Views) (kept : Kept) (before after : Log) → IsTree world.views → IsLive world.views key
     → before.entries.items ≡ [] → is_told_in world key ≡ true
     → progress_of new kept after
@@ -90,7 +90,7 @@ pub leaving_silent : (world : KeyedScreen) (key : ℕ) (before : Log) → IsTree
 leaving_silent world key before is live none silent =
     sym (leaving_plain world key (pos 0) before.entries.items is live none ∙ rw (told_same world key false is live silent) refl)
 
--- a view with a parent is told, and a root where it is not gone and a pointer is down
+-- a view with a parent gets a cancel, and a root if it is not gone and a pointer is down
 
 pub told_child : (views : Views) (key : ℕ) (above : Option ℕ) (facts : Facts) (pointers : List Point) → IsTree views → IsLive views key → is_some above ≡ true
     → MatchOption above (ancestors key views.tree ≡ []) (λ parent. ancestors key views.tree ≡ parent ∷ ancestors parent views.tree)
@@ -113,7 +113,7 @@ nil-length (p ∷ points) = ne_eqb (length (p ∷ points)) 0 (λ e. absurd (omeg
 pub scrolls_none : (views : Views) → OnlyScrolls views views
 scrolls_none views = record { same = record { tree = refl; orders = refl; next = refl }; counts = refl; consistent = λ consistent. consistent; held = λ key. refl; fits = λ key side. side }
 
--- where no offset has changed, the plain tree is the same
+-- if no offset has changed, the plain tree is the same
 plain_still : (old new : Views) → IsTree old → OnlyScrolls old new → offsets_kept new ≡ offsets_kept old → plain_of new ≡ plain_of old
 plain_still old new is scrolls same =
     scrolls_plain old new is scrolls ∙ ap (λ (offsets : ℕ → ℤ). map_rows (scrolled_to offsets) (plain_of old)) same ∙ sym (scrolls_plain old old is (scrolls_none old))
@@ -124,7 +124,7 @@ pub plain_cancelled : (old new : Views) (before after : Kept) (log new_log : Log
 plain_cancelled old new before after log new_log scene parent number part is scrolls done =
     plain_still old new is scrolls (ap (λ (progress : Progress). progress.offsets) done ∙ still_cancelled scene parent number part (progress_of old before log))
 
--- the world once a view was told, by what was made of the gesture and of the offsets
+-- the world once a view got a cancel, with the new gesture and offsets
 pub world_told : (old : KeyedScreen) (new : Views) (kept : Kept) (after : Log) (number : ℕ) → IsTree old.views → OnlyScrolls old.views new
     → progress_of new kept after ≡ leaving (world_of old) number
     → (let now : KeyedScreen = record old { views = new; gesture = kept; told = after.entries.items } in world_of now ≡ after_progress (world_of old) (leaving (world_of old) number))
@@ -150,7 +150,7 @@ deliveries : (views : Views) (surface : Raster) (told : List Entry) (saved : Lis
 deliveries views surface [] saved world reply e = (told_text (entries_text []) world reply e ∙ ap (Done world) no_entries, tt)
 deliveries views surface (entry ∷ entries) saved world reply e = (told_text (entries_text (entry ∷ entries)) world reply e, λ none. absurd (cc))
 
--- edits that are never refused, and want no memory
+-- edits that are never refused, and need no memory
 
 outcome_number : Outcome → Option ℕ
 outcome_number (Ok outcome) = outcome.1
@@ -187,6 +187,7 @@ hide_done scene after number (act.Visible visibility) result hiding applied memo
 hide_done scene after number (act.Change change) result hiding applied memory = absurd (cc)
 hide_done scene after number (act.WeightSum sum) result hiding applied memory = absurd (cc)
 hide_done scene after number (act.Orient vertical) result hiding applied memory = absurd (cc)
+hide_done scene after number (act.Direction direction) result hiding applied memory = absurd (cc)
 hide_done scene after number (act.Flag flag on) result hiding applied memory = absurd (cc)
 hide_done scene after number (act.Ink color) result hiding applied memory = absurd (cc)
 hide_done scene after number (act.Id id) result hiding applied memory = absurd (cc)
@@ -195,7 +196,7 @@ hide_done scene after number (act.Answer answer) result hiding applied memory = 
 hide_done scene after number (act.Intercept actions) result hiding applied memory = absurd (cc)
 hide_done scene after number (act.Scroll offset) result hiding applied memory = absurd (cc)
 
--- a view was told, and then an edit was made
+-- a view got a cancel, and then an edit was made
 
 same_number : (old mid : Views) (key : ℕ) → SameTree old mid → number_of mid key ≡ number_of old key
 same_number old mid key same = ap (λ tree. number_of (record mid { tree = tree }) key) same.tree

@@ -1,4 +1,4 @@
--- What a world keeps, where a view goes with all that is kept of it.
+-- What a world keeps, if a view is removed with all that is kept of it.
 use Rattle.std.proofs.Common.{◌≡◌, ℕ, ◌≤◌, Bool, true, false, List, refl, ap, sym, ◌∙◌, arith, inl, inr}
 use Rattle.std.proofs.lemmas.Bool.{cases_Bool}
 use Rattle.std.specs.Prelude.{◌&&◌, not}

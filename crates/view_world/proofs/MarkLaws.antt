@@ -61,7 +61,7 @@ frame_or_not command.Digest = inr (λ e. cc)
 frame_or_not command.Save = inr (λ e. cc)
 frame_or_not (command.Restore text) = inr (λ e. cc)
 
--- a screen rests where the marks say that it does
+-- a screen rests if the marks say so
 rests_by : (effect : Effect) (marks : Marks) (scrolled : Bool) (old new : KeyedScreen) → (leaves_layout effect ≡ true → IsResting old → IsResting new) → (effect ≡ Lays → new.stage ≡ Settled → IsShown new)
     → (marks.quiet ≡ true → IsResting old) → (marked effect marks (has_settled (stage_of new.stage)) scrolled).quiet ≡ true → IsResting new
 rests_by Opens marks scrolled old new kept laid rest quiet = absurd cc
@@ -76,7 +76,7 @@ both true true e = absurd cc
 both true false e = (refl, refl)
 both false t e = absurd cc
 
--- and is shown where they say so
+-- and is shown if they say so
 shows_by : (effect : Effect) (marks : Marks) (scrolled : Bool) (old new : KeyedScreen) → (effect ≡ Leaves → IsShown old → IsShown new) → (effect ≡ Touches → scrolled ≡ false → IsShown old → IsShown new)
     → (effect ≡ Lays → new.stage ≡ Settled → IsShown new) → (marks.idle ≡ true → IsShown old) → (marked effect marks (has_settled (stage_of new.stage)) scrolled).idle ≡ true → IsShown new
 shows_by Opens marks scrolled old new kept touched laid was idle = absurd cc

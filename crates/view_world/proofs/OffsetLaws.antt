@@ -2,7 +2,7 @@
 use Rattle.std.proofs.Common.{◌≡◌, ℕ, suc, ◌+◌, ℤ, Bool, true, false, List, [], ◌∷◌, Option, Some, None, Result, Ok, Err, refl, sym, subst, arith, inl, inr}
 use Rattle.std.proofs.lemmas.Bool.{cases_Bool}
 use Rattle.std.proofs.lemmas.Int.{ints}
-use Rattle.std.specs.Prelude.{chars, pos, ◌==◌, ◌≤ℤ◌, ◌-ℤ◌, OnErr}
+use Rattle.std.specs.Prelude.{chars, pos, ◌==◌, ◌≤ℤ◌, ◌-ℤ◌, OnErr, if◌then◌else◌}
 use Rattle.std.specs.Option.{option_map}
 use Rattle.geom_core.specs.Limits.{IsSide}
 use Rattle.geom_core.proofs.Sides.{clamp_size-is_side}
@@ -17,12 +17,13 @@ use Rattle.traversal.specs.Frames.{Pass, after_frame, after_pass, edited_by, edi
 use Rattle.traversal.specs.declared.outcome.Frame.{Frame}
 use Rattle.script_lines.specs.Changes.{IsActInBounds}
 use Rattle.tree_edits.specs.Applied.{AppliesEdit, numbered}
-use Rattle.tree_edits.specs.Editing.{cycle_of_act, hides, outcome_of_act, outcome_of_add, outcome_of_edit, outcome_of_text, outcome_unless, takes, has_text, new_view}
+use Rattle.tree_edits.specs.Editing.{cycle_of_act, hides, outcome_of_act, outcome_of_add, outcome_of_edit, outcome_of_text, outcome_unless, takes, has_text, new_view, turns}
 use Rattle.tree_edits.specs.Scene.{Scene, scene_of}
 use Rattle.tree_edits.specs.declared.edits.Edit.{Edit}
 use Rattle.tree_edits.specs.declared.edits.Edit.TheVariants as edit
 use Rattle.tree_edits.specs.declared.fault.EditFault.{EditFault}
 use Rattle.view_model.specs.Changes.{facts_after_act, facts_after_change}
+use Rattle.view_model.specs.Directed.{directed, rtl_at, running}
 use Rattle.view_model.specs.Facts.{padding_down}
 use Rattle.view_model.specs.Forest.{count_of, Forest, Nothing, Branch, changed_where, joined}
 use Rattle.view_model.specs.Geometry.{Laid, rect_in, size_of_rect}
@@ -45,6 +46,7 @@ use Rattle.view_model.specs.declared.kinds.Class.TheVariants.{View, TextView, Fr
 use Rattle.view_tree.proofs.forest.ForestLaws.{every-edited, every-joined}
 use Rattle.view_tree.specs.Rows.{Row}
 use Rattle.view_tree.specs.Views.{Held, Views, held_of, number_of, plain_of, plain_rows}
+use Rattle.view_world.proofs.DirectedLaws.{every-directed}
 use Rattle.view_world.specs.Offsets.{AreUnscrolled, EditsWithin, ScrollsWithin}
 
 -- a view with another offset
@@ -103,6 +105,7 @@ fits_acted : (act : Act) (view : PlainView) → ScrollsWithin act → FitsOffset
 fits_acted (act.Change change) view bounds fits = kept_fits view (facts_after_change change view.facts) (offset_changed change view.facts) fits
 fits_acted (act.WeightSum sum) view bounds fits = fits
 fits_acted (act.Orient vertical) view bounds fits = fits
+fits_acted (act.Direction direction) view bounds fits = fits
 fits_acted (act.Flag flag.Clip on) view bounds fits = fits
 fits_acted (act.Flag flag.Fill on) view bounds fits = fits
 fits_acted (act.Flag flag.Split on) view bounds fits = fits
@@ -121,13 +124,23 @@ Fits (Err refusal) = Unit {0}
 fits_added : (scene : Scene) (parent : Option ℕ) (class : Class) (width height : ℤ) (reason : Option PlainRefusal) → OffsetsFit scene.tree → Fits (outcome_of_add scene parent class width height reason)
 fits_added scene parent class width height (Some refusal) every = tt
 fits_added scene parent class width height None every =
-    fits_grown parent (single (new_view scene.next class width height)) scene.tree (zero_fits (new_view scene.next class width height) refl, tt, tt) every
+    let view = running (rtl_at parent scene.tree) (new_view scene.next class width height) in
+    fits_grown parent (single view) scene.tree (zero_fits view refl, tt, tt) every
+
+-- a direction that goes down a tree scrolls nothing
+fits_spread : (act : Act) (tree : Forest PlainView) → OffsetsFit tree → OffsetsFit (if turns act then directed false tree else tree)
+fits_spread act tree every = by (turns act)
+  where
+    by : (t : Bool) → OffsetsFit (if t then directed false tree else tree)
+    by true = every-directed FitsOffset (λ rtl view fits. fits) false tree every
+    by false = every
 
 fits_unless : (scene : Scene) (number : ℕ) (act : Act) (reason : Option PlainRefusal) → ScrollsWithin act → OffsetsFit scene.tree → Fits (outcome_unless scene number act reason)
 fits_unless scene number act (Some refusal) within every = tt
 fits_unless scene number act None within every =
-    fits_changed (λ (view : PlainView). view.number == number) (λ (view : PlainView). record view { facts = facts_after_act act view.facts })
-    (λ view fits. fits_acted act view within fits) scene.tree every
+    fits_spread act (with_facts number (facts_after_act act) scene.tree)
+    (fits_changed (λ (view : PlainView). view.number == number) (λ (view : PlainView). record view { facts = facts_after_act act view.facts })
+    (λ view fits. fits_acted act view within fits) scene.tree every)
 
 fits_act : (scene : Scene) (number : ℕ) (act : Act) (found : Option PlainView) → ScrollsWithin act → OffsetsFit scene.tree → Fits (outcome_of_act scene number act found)
 fits_act scene number act None within every = every
@@ -156,6 +169,7 @@ pub bounds_within : (act : Act) → IsActInBounds act → ScrollsWithin act
 bounds_within (act.Change change) bounds = tt
 bounds_within (act.WeightSum sum) bounds = tt
 bounds_within (act.Orient vertical) bounds = tt
+bounds_within (act.Direction direction) bounds = tt
 bounds_within (act.Flag flag on) bounds = tt
 bounds_within (act.Visible visibility) bounds = tt
 bounds_within (act.Ink color) bounds = tt
@@ -169,6 +183,7 @@ pub hides_within : (act : Act) → hides act ≡ true → ScrollsWithin act
 hides_within (act.Change change) hidden = tt
 hides_within (act.WeightSum sum) hidden = tt
 hides_within (act.Orient vertical) hidden = tt
+hides_within (act.Direction direction) hidden = tt
 hides_within (act.Flag flag on) hidden = tt
 hides_within (act.Visible visibility) hidden = tt
 hides_within (act.Ink color) hidden = tt
@@ -253,7 +268,7 @@ pub offsets_framed : (old new : Views) (before hooks : List Hook) (window : Size
 offsets_framed old new before hooks window frame framed every =
     subst OffsetsFit (sym framed.plain) (fits_followed window (after_pass (plain_of old) before window) (fits_passed (plain_of old) before window every))
 
--- what comes of a file
+-- the views of a file
 
 fits_seeds : (number : ℕ) (seeds : Forest Seed) → AreUnscrolled seeds → OffsetsFit (numbered_seeds number seeds)
 fits_seeds number Nothing every = tt
@@ -263,8 +278,11 @@ fits_seeds number (Branch seed below after) every = (
   fits_seeds (suc number + count_of below) after every.2,
 )
 
--- views that are not scrolled have come, under the next numbers
-pub offsets_grafted : (old new : Views) (place : Option ℕ) (number : ℕ) (seeds : Forest Seed) → plain_of new ≡ grown_at place (numbered_seeds number seeds) (plain_of old)
+-- views that are not scrolled were added, under the next numbers
+pub offsets_grafted : (old new : Views) (place : Option ℕ) (number : ℕ) (seeds : Forest Seed) → plain_of new ≡ grown_at place (directed (rtl_at place (plain_of old)) (numbered_seeds number seeds)) (plain_of old)
     → AreUnscrolled seeds → OffsetsFit (plain_of old) → OffsetsFit (plain_of new)
 offsets_grafted old new place number seeds is unscrolled every =
-    subst OffsetsFit (sym is) (fits_grown place (numbered_seeds number seeds) (plain_of old) (fits_seeds number seeds unscrolled) every)
+    let rtl = rtl_at place (plain_of old) in
+    let views = numbered_seeds number seeds in
+    subst OffsetsFit (sym is)
+    (fits_grown place (directed rtl views) (plain_of old) (every-directed FitsOffset (λ rtl view fits. fits) rtl views (fits_seeds number seeds unscrolled)) every)

@@ -1,4 +1,4 @@
--- Places for views that are to come: what they leave as it was.
+-- Places for views that are to be added: what they leave as it was.
 use Rattle.std.proofs.Common.{◌≡◌, ◌≢◌, ◌∙◌, ℕ, zero, suc, ◌+◌, ◌≤◌, arith, Bool, true, false, List, [], ◌∷◌, ◌++◌, Some, None, refl, sym, ap, inl, inr}
 use Rattle.std.specs.Prelude.{◌==◌, ◌||◌, nat_eq, Result, Ok, Err, OnOk}
 use Rattle.std.specs.Result.{is_err}
@@ -81,7 +81,7 @@ opened_more first count old kept new opened more = record {
     still : (number : ℕ) → number ≢ first + count → is_open new number ≡ is_open kept number
     still number apart = more number ∙ rw (ne_eqb number (first + count) apart) (or_false (is_open kept number))
 
--- what a call ensures where it has not failed
+-- what a call ensures if it has not failed
 pub done : {A E : Type 0} (P : Type 0) (result : Result A E) → false ≡ is_err result → OnOk result P → P
 done P (Ok value) ok h = h
 done P (Err error) ok h = absurd (cc)

@@ -59,7 +59,7 @@ pairs_head p points rising = λ k d less. rising 0 (suc k) d (omega arith) (omeg
 all_tail : (P : Point → Type 0) (p : Point) (points : List Point) → All P (p ∷ points) → All P points
 all_tail P p points all = λ k d less. all (suc k) d (omega (arith, less))
 
--- rising points behind rising points that are all below a point, and that below all of these
+-- rising points after rising points that are all below a point, and that below all of these
 pairs_both : (point : Point) (xs ys : List Point) → AllPairs Rises xs → AllPairs Rises ys → All (λ (p : Point). Rises p point) xs → All (Rises point) ys
     → AllPairs Rises (xs ++ point ∷ ys)
 pairs_both point [] ys first second below above = AllPairs-cons Rises point ys above second

@@ -1,4 +1,4 @@
--- The numbers of the views of a part that goes, and what is left of a gesture then.
+-- The numbers of the views of a removed part, and what is left of a gesture then.
 use Rattle.std.proofs.Common.{◌≡◌, ℕ, Bool, true, false, List, [], ◌∷◌, map, refl, sym, ◌∙◌, ap, arith, eqb-true, inl, inr}
 use Rattle.std.proofs.lemmas.Bool.{cases_Bool, eq-eqb, ne_eqb}
 use Rattle.std.proofs.lemmas.List.{map-append}

@@ -58,7 +58,7 @@ idle_still screen = record { views = refl; stage = refl; surface = refl; damage 
 pub idle_same : (old new : KeyedScreen) → new ≡ old → IsIdle old new
 idle_same old new same = subst (IsIdle old) (sym same) (idle_still old)
 
--- where neither the tree nor the hooks have changed
+-- if neither the tree nor the hooks have changed
 pub idle_keeps : (effect : Effect) (asked gone changed : List ℕ) (old new : KeyedScreen) → effect ≢ Touches → effect ≢ Opens → IsIdle old new → KeepsBut effect asked gone changed old new
 idle_keeps effect asked gone changed old new other no_window idle = record {
   measures = ap (λ (views : Views). views.counts.measures) idle.views;
@@ -83,7 +83,7 @@ scrolls_rest old new window scrolls rest =
     rest_along old new window (ap first_key same) (ap (λ (tree : Forest Row). is_shown (head_view tree).facts) same)
     (ap (λ (tree : Forest Row). root_specs window (head_view tree).facts) same) (λ root first. scrolls_state old new scrolls root) rest
 
--- where views have been scrolled alone
+-- if views have only been scrolled
 pub scrolls_keep : (asked gone changed : List ℕ) (old new : KeyedScreen) → OnlyScrolls old.views new.views → new.stage ≡ old.stage → new.surface ≡ old.surface → new.hooks ≡ old.hooks
     → ((box : Rect) → LiesIn old.damage box → AreSeenIn box changed old new → LiesIn new.damage box) → scrolled_in new.told ≡ changed → KeepsBut Touches asked gone changed old new
 scrolls_keep asked gone changed old new scrolls stage surface hooks within scrolled = record {
@@ -102,7 +102,7 @@ scrolls_keep asked gone changed old new scrolls stage surface hooks within scrol
   opened = λ opens. absurd cc;
 }
 
--- the event of a line is the one that was handed to the root
+-- the event of a line is the one that went to the root
 pub touch_keeps : (old new : KeyedScreen) (event line : Event) → event ≡ line → KeepsBut Touches [] [] (scrolled_in (deliveries_of (world_of old) event)) old new
     → KeepsBut Touches [] [] (scrolled_in (deliveries_of (world_of old) line)) old new
 touch_keeps old new event line same = subst (λ (event : Event). KeepsBut Touches [] [] (scrolled_in (deliveries_of (world_of old) event)) old new) same

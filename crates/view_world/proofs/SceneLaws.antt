@@ -1,4 +1,4 @@
--- What dispatch sees of a tree, as the plain tree tells it, and what scrolling leaves of a tree.
+-- What dispatch sees of a tree, by the plain tree, and what scrolling leaves of a tree.
 use Rattle.std.proofs.Common.{◌≡◌, ℕ, ℤ, pos, Option, Some, None, ◌⊎◌, inl, inr, refl, sym, ◌∙◌, ap, subst, arith}
 use Rattle.std.proofs.lemmas.Bool.{cases_Bool}
 use Rattle.std.proofs.lemmas.List.Folds.{find-append}
@@ -57,7 +57,7 @@ numbered_or_absent views number is =
       | Some key ↦ λ some named live. inr (record { key = key; live = live; number_is = named })
     ] refl (find_number views number is.keys) (key_where_lives views test)
 
--- where views lie
+-- the bounds of views
 rects_same : (views : Views) → IsTree views → (number : ℕ) → (held_at views number).state.bounds ≡ rect_in (geometry_of views) number
 rects_same views is number =
     elim (numbered_or_absent views number is) [

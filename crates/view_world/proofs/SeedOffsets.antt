@@ -69,6 +69,9 @@ offset_given slot.MinWidth (given.Text text) draft = refl
 offset_given slot.MinHeight (given.Pixels n) draft = refl
 offset_given slot.MinHeight (given.Word word) draft = refl
 offset_given slot.MinHeight (given.Text text) draft = refl
+offset_given slot.Direction (given.Pixels n) draft = refl
+offset_given slot.Direction (given.Word word) draft = refl
+offset_given slot.Direction (given.Text text) draft = refl
 offset_given slot.Weight (given.Pixels n) draft = refl
 offset_given slot.Weight (given.Word word) draft = refl
 offset_given slot.Weight (given.Text text) draft = refl
@@ -238,7 +241,7 @@ views_unscrolled : (document : Result Document PlainRefusal) (resources : Entrie
 views_unscrolled (Ok document) resources dpi plan is = seeds_unscrolled document resources dpi plan is
 views_unscrolled (Err refusal) resources dpi plan is = absurd (cc)
 
--- nor are those that come of a file's bytes
+-- nor are those of a file's bytes
 pub grown_unscrolled : (bytes : List ℕ) (resources : Entries) (dpi : ℕ) (plan : Plan) (grown : Grown) → views_in bytes resources dpi ≡ Ok plan → IsGrown plan grown
     → AreUnscrolled (seeds_of grown.sapling.sprouts.items)
 grown_unscrolled bytes resources dpi plan grown is made = rw made.seeds (views_unscrolled (document_of (decoded bytes)) resources dpi plan is)

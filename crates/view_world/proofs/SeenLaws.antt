@@ -1,4 +1,4 @@
--- Where views are seen on a screen, by their keys and by their numbers, and what lies within a rectangle.
+-- Where views are seen on a screen, by their keys and by their numbers, and what is within a rectangle.
 use Rattle.std.proofs.Common.{◌≡◌, ℕ, ◌<◌, Bool, true, false, List, [], ◌∷◌, ◌++◌, map, Option, Some, None, refl, sym, ◌∙◌, ap, subst, arith, inl, inr}
 use Rattle.std.specs.Prelude.{◌==◌, ◌&&◌, ◌||◌}
 use Rattle.std.specs.Option.{option_or, unwrap_or}
@@ -30,7 +30,7 @@ use Rattle.view_world.specs.Touching.{is_among}
 pub seen_named : (screen : KeyedScreen) (key : ℕ) → IsTree screen.views → IsLive screen.views key → seen_on screen (number_of screen.views key) ≡ seen_of (size_of screen.surface) screen.views key
 seen_named screen key is live = seen_visible screen.views (size_of screen.surface) key is live
 
--- the same where neither the plain tree, nor where views lie, nor the window has changed
+-- the same if neither the plain tree, nor the bounds of views, nor the window has changed
 pub seen_alike : (old new : KeyedScreen) (number : ℕ) → plain_of new.views ≡ plain_of old.views → geometry_of new.views ≡ geometry_of old.views → size_of new.surface ≡ size_of old.surface
     → seen_on new number ≡ seen_on old number
 seen_alike old new number plain geometry size =
@@ -38,7 +38,8 @@ seen_alike old new number plain geometry size =
     ∙ ap (λ (list : List Laid). visible_rect (plain_of old.views) list (size_of new.surface) number) geometry
     ∙ ap (λ (window : Size). visible_rect (plain_of old.views) (geometry_of old.views) window number) size
 
--- what is seen of views before a step lies where it lay before an earlier one that left where they are seen
+-- what is seen of views before a step is within the same rectangle as before an earlier one that left where they are
+-- seen
 pub seen_mid : (old mid now : KeyedScreen) (box : Rect) (numbers : List ℕ) → plain_of mid.views ≡ plain_of old.views → geometry_of mid.views ≡ geometry_of old.views → size_of mid.surface ≡ size_of old.surface
     → AreSeenIn box numbers old now → AreSeenIn box numbers mid now
 seen_mid old mid now box numbers plain geometry size seen = λ number there.
@@ -56,7 +57,7 @@ among_first number numbers = rw (eq-eqb number number refl) refl
 pub among_later : (number first : ℕ) (numbers : List ℕ) → is_among number numbers ≡ true → is_among number (first ∷ numbers) ≡ true
 among_later number first numbers there = or_right (number == first) (is_among number numbers) there
 
--- one that is not among none
+-- one that is not among those
 pub among_none : {P : Type 0} (number : ℕ) → is_among number [] ≡ true → P
 among_none number there = absurd cc
 
@@ -89,7 +90,7 @@ among_scrolled number (entry ∷ entries) there = elim (cases_Bool (is_scroll en
   | inr e ↦ rw e (among_scrolled number entries (rw e at there))
 ]
 
--- what is seen of the views that have scrolled lies where it is known to lie
+-- what is seen of the views that have scrolled is within a known rectangle
 pub scrolled_seen : (old new : KeyedScreen) (box : Rect) → IsTree new.views → size_of new.surface ≡ size_of old.surface → AreSeenIn box (scrolled_in new.told) old new
     → ScrolledIn (size_of old.surface) box new.views new.told
 scrolled_seen old new box is size seen key live there =

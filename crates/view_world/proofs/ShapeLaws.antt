@@ -1,4 +1,4 @@
--- Which views are children is told by the numbers of the views and the shape of their tree.
+-- Which views are children is determined by the numbers of the views and the shape of their tree.
 use Rattle.std.proofs.Common.{◌≡◌, ℕ, Bool, false, refl, sym, ◌∙◌, ap, inl, inr}
 use Rattle.std.proofs.lemmas.Bool.{cases_Bool}
 use Rattle.std.specs.Prelude.{if◌then◌else◌, ◌==◌, ◌||◌}
@@ -65,7 +65,7 @@ pub shape-map : (change : PlainView → PlainView) (tree : Forest PlainView) →
 shape-map change Nothing same = refl
 shape-map change (Branch view below after) same = rw (same view, shape-map change below same, shape-map change after same) refl
 
--- the offsets of views are none of their numbers
+-- the offsets of views are independent of their numbers
 pub shape-views : (held : ℕ → Held) (tree : Forest Row) → shape_of (views_of tree) ≡ shape_of (plain_rows held tree)
 shape-views held Nothing = refl
 shape-views held (Branch row kids siblings) = rw (shape-views held kids, shape-views held siblings) refl

@@ -103,7 +103,7 @@ module _ (old new : KeyedScreen) (box : Rect) (was : IsTree old.views) (is : IsT
   there : (key : ℕ) → IsLive old.views key → IsLive new.views key
   there key live = subst (λ (n : ℕ). 0 < n) (sym (count_of_key-same key shape)) live
 
-  -- where a view lies in a world, and how far it is scrolled
+  -- the bounds of a view in a world, and how far it is scrolled
   place_of : (screen : KeyedScreen) (key : ℕ) → IsTree screen.views → IsLive screen.views key → screen.stage ≡ Settled → rect_in (world_of screen).geometry (number_of screen.views key) ≡ (state_of screen.views key).bounds
   place_of screen key tree live settled =
       ap (λ (stage : Stage). rect_in (geometry_in stage screen.views) (number_of screen.views key)) settled ∙ rect_live screen.views key tree live
@@ -122,7 +122,7 @@ module _ (old new : KeyedScreen) (box : Rect) (was : IsTree old.views) (is : IsT
       or_right (place_differs (rect_in (world_of old).geometry (number_of old.views key)) (rect_in (world_of new).geometry (number_of old.views key))) _
       (untrue _ (λ e. scrolled (sym now ∙ sym (int_is _ _ e) ∙ offset_in old key was live)))
 
-  -- what is seen of the views that a frame has moved lies where it is known to lie
+  -- what is seen of the views that a frame has moved is within a known rectangle
   pub shifted_in : size_of new.surface ≡ size_of old.surface → MovedIn box old new → HasShifted (size_of old.surface) box old.views new.views
   shifted_in size seen key live shifted =
       let number = number_of old.views key in

@@ -1,9 +1,11 @@
--- What a world keeps, where its tree is another one.
+-- What a world keeps, if its tree is another one.
 use Rattle.std.proofs.Common.{◌≡◌, ◌∙◌, ℕ, ◌*◌, ◌≤◌, arith, sym, subst}
-use Rattle.std.specs.Prelude.{OnErr, OnOk, Option, Result, Ok, Err}
+use Rattle.std.specs.Prelude.{List, OnErr, OnOk, Option, Result, Ok, Err}
 use Rattle.damage_rect.specs.declared.bounding.Damage.{Damage}
 use Rattle.pixel_raster.specs.Raster.{size_of}
+use Rattle.saved_state.specs.Restored.{Retells}
 use Rattle.saved_state.specs.Saving.{OffsetsFit}
+use Rattle.saved_state.specs.State.{StateEntry}
 use Rattle.seen_edits.proofs.ShownLaws.{shows_on}
 use Rattle.seen_edits.specs.Shown.{KeepsShown}
 use Rattle.traversal.specs.Changing.{FitAll}
@@ -15,11 +17,14 @@ use Rattle.touch_dispatch.specs.TreeEvents.{IsGestureIn, room_of}
 use Rattle.view_model.specs.Forest.{Forest, count_of}
 use Rattle.kept_views.specs.Kept.{IsConsistent}
 use Rattle.view_tree.specs.Rows.{Row}
-use Rattle.view_tree.specs.Views.{SameTree, Views, geometry_of, plain_of}
+use Rattle.view_tree.specs.Views.{Views, geometry_of, plain_of}
 use Rattle.view_world.specs.Changed.{LeavesViews}
 use Rattle.view_world.specs.Sound.{HasNoneElse, IsSound}
 use Rattle.view_world.specs.declared.screen.Screen.TheInside.{Inside}
+use Rattle.view_world.specs.declared.fault.StepFault.{StepFault}
+use Rattle.view_world.specs.declared.response.Response.{Response}
 use Rattle.view_world.proofs.EditedCaught.{Stays, edit_stays, same_stays}
+use Rattle.view_world.proofs.ToldCaught.{restored_stays}
 
 pub sound_stays : (inside : Inside) (new : Views) (damage : Damage) → KeepsShown (size_of inside.surface) inside.damage.rect damage.rect inside.tree new → Stays inside.tree new inside.gesture → IsConsistent new
     → FitAll (geometry_of new) → OffsetsFit (plain_of new) → IsSound inside → IsSound (record inside { tree = new; damage = damage })
@@ -34,22 +39,15 @@ sound_stays inside new damage shown stays consistent narrow offsets sound = reco
   shows = shows_on inside.surface inside.damage.rect damage.rect inside.tree new sound.shows shown;
 }
 
--- an edit was made by which no view comes or goes, or none was
+-- an edit that adds and removes no view was made, or none was
 pub result_stays : (old new : Views) (edit : Edit) (kept : Kept) (result : Result (Option ℕ) EditFault) → LeavesViews edit → OnOk result (KeepsViews old new edit) → OnErr result (new ≡ old)
     → Stays old new kept
 result_stays old new edit kept (Ok number) leaves keeps same = edit_stays old new edit kept leaves keeps
 result_stays old new edit kept (Err fault) leaves keeps same = same_stays old new kept same
 
--- nothing but offsets is other
-pub sound_restored : (inside : Inside) (new : Views) (damage : Damage) → KeepsShown (size_of inside.surface) inside.damage.rect damage.rect inside.tree new → IsSound inside → SameTree inside.tree new
-    → geometry_of new ≡ geometry_of inside.tree → IsConsistent new → OffsetsFit (plain_of new) → IsSound (record inside { tree = new; damage = damage })
-sound_restored inside new damage shown sound same geometry consistent offsets = record {
-  consistent = consistent;
-  caught = subst (λ (tree : Forest Row). IsGestureIn tree inside.gesture) (sym same.tree) sound.caught;
-  closed = subst (λ (tree : Forest Row). HasNoneElse tree inside.gesture) (sym same.tree) sound.closed;
-  room = subst (λ (tree : Forest Row). 3 * count_of tree ≤ room_of inside.log) (sym same.tree) sound.room;
-  down = sound.down;
-  narrow = subst FitAll (sym geometry) sound.narrow;
-  offsets = offsets;
-  shows = shows_on inside.surface inside.damage.rect damage.rect inside.tree new sound.shows shown;
-}
+-- a state was taken up, or it was not
+pub sound_restored : (inside : Inside) (new : Views) (damage : Damage) (entries : List StateEntry) (result : Result Response StepFault) → KeepsShown (size_of inside.surface) inside.damage.rect damage.rect inside.tree new
+    → OnOk result (Retells entries inside.tree new) → OnErr result (new ≡ inside.tree) → geometry_of new ≡ geometry_of inside.tree → IsConsistent new → OffsetsFit (plain_of new)
+    → IsSound inside → IsSound (record inside { tree = new; damage = damage })
+sound_restored inside new damage entries result shown retells same geometry consistent offsets sound =
+    sound_stays inside new damage shown (restored_stays inside.tree new entries inside.gesture result retells same) consistent (subst FitAll (sym geometry) sound.narrow) offsets sound

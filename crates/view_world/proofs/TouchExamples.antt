@@ -1,4 +1,4 @@
--- What short scripts with touches tell, by computation.
+-- What short scripts with touches print, by computation.
 use Rattle.std.specs.Prelude.{◌≡◌, pos, negsuc, refl, List, [], ◌∷◌, ◌++◌, codes, Some, None, Ok, Err}
 use Rattle.std.specs.Fmt.{digits}
 use Rattle.geom_core.specs.Limits.{clamp_coordinate}
@@ -76,3 +76,8 @@ a_second_pointer_goes_to_the_view_under_it : told pair (Down 1 (pos 60) (pos 5))
     ≡ Ok (codes "v1 ask POINTER_DOWN(1) 0:10,5 1:60,5 no\nv3 touch DOWN 1:10,5 yes\nv2 touch MOVE 0:10,5 yes\ndone yes\n")
 unfolding told told_by after world_after digits growth_refusal ◌⧺◌ texts_of child_spec_of remaining_of resolve_of default_size_of clamp_coordinate is_inside local_point alignment_on dim_on extent first_dim is_skipped line_begin low_margin low_padding margins_on padding_on size_on spec_on
 a_second_pointer_goes_to_the_view_under_it = refl
+
+the_greatest_pointer_beside_the_first : told pair (Down 31 (pos 60) (pos 5))
+    ≡ Ok (codes "v1 ask POINTER_DOWN(31) 0:10,5 31:60,5 no\nv3 touch DOWN 31:10,5 yes\nv2 touch MOVE 0:10,5 yes\ndone yes\n")
+unfolding told told_by after world_after digits growth_refusal ◌⧺◌ texts_of child_spec_of remaining_of resolve_of default_size_of clamp_coordinate is_inside local_point alignment_on dim_on extent first_dim is_skipped line_begin low_margin low_padding margins_on padding_on size_on spec_on
+the_greatest_pointer_beside_the_first = refl

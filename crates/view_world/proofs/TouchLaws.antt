@@ -81,7 +81,7 @@ pub Refused-disallow : (now : KeyedScreen) (number : ℕ) (on : Bool) (view : Pl
     → disallow_told (world_of now) number on (view_in (plain_of now.views) number) ≡ Refused (refusal_numbered WRONG_CLASS)
 Refused-disallow now number on view there no_group = rw (there, no_group) refl
 
--- who may take events away is no matter of targets
+-- the targets do not depend on which groups may take events away
 pub targets-disallowed : (on : Bool) (numbers : List ℕ) (gesture : PlainGesture) → (all_disallowed on numbers gesture).targets ≡ gesture.targets
 targets-disallowed on [] gesture = refl
 targets-disallowed on (number ∷ numbers) gesture = targets-disallowed on numbers (set_disallow number on gesture)

@@ -1,4 +1,4 @@
--- What is known beside a world after a line, and what a line costs.
+-- What is known besides a world after a line, and what a line costs.
 use Rattle.std.proofs.Common.{◌≡◌, ◌≢◌, ℕ, ◌+◌, ◌*◌, ◌-◌, ◌^◌, ◌≤◌, min, Bool, true, false, List, [], ◌∷◌, ◌++◌, Option, Some, None, Result, Ok, Err, refl, sym, ◌∙◌, ap, subst, arith, inl, inr}
 use Rattle.std.specs.Prelude.{◌⊎◌, ◌==◌, ◌&&◌, ◌||◌, not, if◌then◌else◌}
 use Rattle.std.proofs.lemmas.Bool.{cases_eq, eqb-true, ne_eqb}
@@ -190,7 +190,7 @@ based_back Repaints marks settled scrolled ne based = based
 based_back Touches marks settled scrolled ne based = based
 based_back Leaves marks settled scrolled ne based = based
 
--- the damage lies in the box still, after a line that is neither a window nor a frame
+-- the damage is still in the box, after a line that is neither a window nor a frame
 kept_box : (line : PlainCommand) (marks : Marks) (old new : KeyedScreen) (box : Rect) → KeepsLine line old new → effect_of line ≢ Opens → effect_of line ≢ Lays → (marks.based ≡ true → old.stage ≡ Settled)
     → (marks.based ≡ true → LiesIn old.damage box) → (marks_after (world_of old) line (world_of new) marks).based ≡ true
     → LiesIn new.damage (if marks.based then hull_of box (line_box (world_of old) line (world_of new)) else no_rect)
@@ -202,7 +202,7 @@ kept_box line marks old new box keeps no_window no_frame settled has based =
 no_point : (rect other : Rect) → is_empty rect ≡ true → LiesIn rect other
 no_point rect other empty = λ x y h. absurd (let clash : true ≡ false = sym h ∙ empty_none rect x y empty in cc)
 
--- it lies in the box after each line
+-- it is in the box after each line
 pub box_kept : (line : PlainCommand) (marks : Marks) (old new : KeyedScreen) (box : Rect) → (line ≢ command.Frame → KeepsLine line old new) → (line ≡ command.Frame → new.stage ≡ Settled → is_empty new.damage ≡ true)
     → (marks.based ≡ true → old.stage ≡ Settled) → (marks.based ≡ true → LiesIn old.damage box) → (marks_after (world_of old) line (world_of new) marks).based ≡ true
     → LiesIn new.damage (box_after (world_of old) line (world_of new) marks.based box)
@@ -273,7 +273,7 @@ whole_most : (old : KeyedScreen) (size : Size) (before after : ℕ) → window_o
 unfolding paint_bound
 whole_most old size before after window rises = subst (λ (window : Option Size). after ≤ before + layers (world_of old) * area_of window) window rises.most
 
--- what is known beside a screen
+-- what is known besides a screen
 abbrev watched_on : KeyedScreen → Marks → Rect → Watched
 watched_on screen marks box = record { world = world_of screen; marks = marks; box = box; shown = screen.surface.pixels }
 

@@ -25,11 +25,11 @@ area_of (Some window) = unsigned_abs window.w * unsigned_abs window.h
 unfoldable pub paint_bound : World → ℕ
 paint_bound world = (2 * count_of world.tree + 1) * area_of world.window
 
--- a count rises by at most so much, and does not fall
+-- a count rises by at most n, and does not fall
 pub record RisesWithin (bound old new : ℕ) : Type 0 where
   pub grew : old ≤ new
   pub most : new ≤ old + bound
 
--- a picture counts as many filled pixels as were painted, unless one of the counts has come to the greatest number
+-- a picture counts as many filled pixels as were painted, unless one of the counts is at the greatest number
 abbrev pub FillsAlike : ℕ → ℕ → ℕ → ℕ → Type 0
 FillsAlike filled full before after = after < 2 ^ 64 - 1 → full < 2 ^ 64 - 1 → after + filled ≡ before + full

@@ -11,7 +11,7 @@ use Rattle.touch_event.specs.declared.event.Event.{Event}
 use Rattle.touch_event.specs.declared.event.Point.{Point}
 use Rattle.view_world.specs.Replies.{scroll_text, view_name}
 
--- `(p)`, the pointer that acts beside others
+-- `(p)`, the pointer that acts, if there are others
 abbrev pub pointer_text : ℕ → List ℕ
 pointer_text pointer = codes "(" ⧺ decimal pointer ⧺ codes ")"
 
@@ -41,7 +41,7 @@ abbrev pub said_text : Bool → List ℕ
 said_text true = codes " yes\n"
 said_text false = codes " no\n"
 
--- what an entry tells behind the name of its view
+-- what an entry prints after the name of its view
 abbrev pub told_text : Kind → Entry → List ℕ
 told_text Ask entry = codes " ask " ⧺ event_text entry.event ⧺ said_text entry.yes
 told_text Touch entry = codes " touch " ⧺ event_text entry.event ⧺ said_text entry.yes

@@ -23,7 +23,7 @@ abbrev pub bytes_in : Option (List ℕ) → Result (List ℕ) PlainRefusal
 bytes_in None = Err (refusal_numbered MISSING_FILE)
 bytes_in (Some bytes) = if nat_lt MAX_FILE (length bytes) then Err (refusal_numbered LONG_FILE) else Ok bytes
 
--- a fault is told with its place
+-- a fault is reported with its place
 abbrev pub fault_refusal : Fault → PlainRefusal
 fault_refusal fault = record { number = cause_number fault.cause; reason = AtPlace fault.at }
 
@@ -44,7 +44,7 @@ abbrev pub place_named : Option ℕ → Result (Option ℕ) PlainRefusal
 place_named None = Err (refusal_numbered NO_VIEW)
 place_named (Some number) = Ok (Some number)
 
--- the view below which the tree of a file goes, none where it goes as the root; or why it goes nowhere
+-- the view below which the tree of a file goes, none if it goes as the root; or why it goes nowhere
 abbrev pub place_in : Forest PlainView → Option Name → Result (Option ℕ) PlainRefusal
 place_in Nothing None = Ok None
 place_in Nothing (Some name) = Err (refusal_numbered NO_ROOT)
@@ -74,7 +74,7 @@ inflation_of command.Digest = None
 inflation_of command.Save = None
 inflation_of (command.Restore text) = None
 
--- the name of a file, where its tree has a place
+-- the name of a file, if its tree has a place
 abbrev pub asked_at : List ℕ → Result (Option ℕ) PlainRefusal → Option (List ℕ)
 asked_at name (Ok place) = Some name
 asked_at name (Err refusal) = None

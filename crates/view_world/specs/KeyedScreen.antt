@@ -1,5 +1,5 @@
--- What contracts see of a screen: its tree of views, how far its script has come, its picture, its density, its
--- resources and its gesture.
+-- What contracts see of a screen: its tree of views, the stage of its script, its picture, its density, its resources
+-- and its gesture.
 use Rattle.std.specs.Prelude.{ℕ, Bool, if◌then◌else◌, List, [], Option, Some, None, refl}
 use Rattle.std.specs.Coded.{Coded, code_by, coded×, coded_ℕ, coded_list}
 use Rattle.geom_core.specs.contracts.geometry.Rect.{the_row as rect_row}
@@ -8,6 +8,8 @@ use Rattle.geom_core.specs.declared.geometry.Rect.{Rect}
 use Rattle.geom_core.specs.declared.geometry.Size.{Size}
 use Rattle.pixel_raster.specs.Raster.{Raster, empty_raster, size_of}
 use Rattle.pixel_raster.specs.contracts.surface.Surface.{the_row as surface_row}
+use Rattle.saved_state.specs.State.{StateEntry}
+use Rattle.saved_state.specs.contracts.states.States.{the_row as states_row}
 use Rattle.size_hooks.specs.Entries.{hooks_code}
 use Rattle.size_hooks.specs.Hook.{Hook}
 use Rattle.touch_dispatch.specs.Kept.{Kept, gesture_of, kept_code, nothing_kept}
@@ -30,9 +32,9 @@ use Rattle.view_world.specs.declared.stage.Stage.TheVariants.{NoWindow, NoFrame,
 pub record KeyedScreen : Type 0 where
   pub views : Views
   pub stage : Stage
-  -- black where there was no frame yet, and of no size where there is no window
+  -- black if there was no frame yet, and of no size if there is no window
   pub surface : Raster
-  -- where the picture may be another than that of the views as they are now
+  -- where the picture may differ from that of the views as they are now
   pub damage : Rect
   pub dpi : ℕ
   pub resources : Entries
@@ -41,16 +43,16 @@ pub record KeyedScreen : Type 0 where
   -- the deliveries of the last line that had any
   pub told : List Entry
   pub hooks : List Hook
-  -- the offsets that were kept last, by the ids of views
-  pub kept : List (ℕ × ℕ)
-  -- the bytes of these, as they were told
+  -- the offsets and texts that were kept last, by the ids of views
+  pub kept : List StateEntry
+  -- the bytes of these, as they were printed
   pub saved : List ℕ
 
 abbrev pub screen_code : Coded KeyedScreen
 screen_code =
-    code_by ((((Views × (Stage × (Raster × Rect))) × (ℕ × Entries)) × (Kept × (List Point × List Entry))) × ((List Hook × List (ℕ × ℕ)) × List ℕ))
+    code_by ((((Views × (Stage × (Raster × Rect))) × (ℕ × Entries)) × (Kept × (List Point × List Entry))) × ((List Hook × List StateEntry) × List ℕ))
     (coded× (coded× (coded× (coded× views_code (coded× stage_row.coded (coded× surface_row.coded rect_row.coded))) (coded× coded_ℕ resources_row.coded))
-    (coded× kept_code (coded× (coded_list point_row.coded) (coded_list entry_row.coded)))) (coded× (coded× hooks_code (coded_list (coded× coded_ℕ coded_ℕ))) (coded_list coded_ℕ)))
+    (coded× kept_code (coded× (coded_list point_row.coded) (coded_list entry_row.coded)))) (coded× (coded× hooks_code states_row.coded) (coded_list coded_ℕ)))
     (λ w. ((((w.views, (w.stage, (w.surface, w.damage))), (w.dpi, w.resources)), (w.gesture, (w.pointers, w.told))), ((w.hooks, w.kept), w.saved)))
     (λ p. record {
       views = p.0.0.0.0;
@@ -68,7 +70,7 @@ screen_code =
     })
     (λ _. refl)
 
--- the size of the window, where there is one
+-- the size of the window, if there is one
 abbrev pub window_in : Stage → Raster → Option Size
 window_in NoWindow surface = None
 window_in NoFrame surface = Some (size_of surface)
@@ -88,7 +90,7 @@ stage_of Settled = plain.Settled
 abbrev pub stage_after : Bool → Stage
 stage_after settled = if settled then Settled else Unsettled
 
--- where views lie counts only where the last frame has settled
+-- the bounds of views count only if the last frame has settled
 abbrev pub geometry_in : Stage → Views → List Laid
 geometry_in NoWindow views = []
 geometry_in NoFrame views = []

@@ -9,7 +9,8 @@ use Rattle.view_world.specs.declared.world.World.TheInside.{Inside}
 abbrev pub keyed : Inside → KeyedWorld
 keyed inside = record { screen = inside.screen; marks = inside.marks }
 
--- where there is a frame to go on from, it has settled; where the next frame is quiet, it finds nothing to lay out, and where it is idle, nothing to paint
+-- if there is a frame to go on from, it has settled; if the next frame is quiet, it finds nothing to lay out, and if it
+-- is idle, nothing to paint
 pub record IsMarked (inside : Inside) : Type 0 where
   pub based : inside.marks.based ≡ true → inside.screen.stage ≡ Settled
   pub rest : inside.marks.quiet ≡ true → IsResting inside.screen

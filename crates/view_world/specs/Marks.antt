@@ -83,6 +83,6 @@ marked Leaves marks settled scrolled = marks
 abbrev pub marks_after : World → PlainCommand → World → Marks → Marks
 marks_after before line after marks = marked (effect_of line) marks (has_settled after.stage) (has_any_scrolled (line_deliveries before line))
 
--- how many views a frame of this world measures at most: none where it is quiet
+-- how many views a frame of this world measures at most: none if it is quiet
 abbrev pub measure_bound : World → Marks → ℕ
 measure_bound world marks = if marks.quiet then 0 else frame_calls world

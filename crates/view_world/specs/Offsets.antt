@@ -1,4 +1,4 @@
--- Where offsets of scroll views stay within their limits.
+-- When offsets of scroll views stay within their limits.
 use Rattle.std.specs.Prelude.{◌≡◌, pos, ◌≤ℤ◌}
 use Rattle.tree_edits.specs.declared.edits.Edit.{Edit}
 use Rattle.tree_edits.specs.declared.edits.Edit.TheVariants as edit
@@ -13,6 +13,7 @@ abbrev pub ScrollsWithin : Act → Type 0
 ScrollsWithin (act.Change change) = Unit {0}
 ScrollsWithin (act.WeightSum sum) = Unit {0}
 ScrollsWithin (act.Orient vertical) = Unit {0}
+ScrollsWithin (act.Direction direction) = Unit {0}
 ScrollsWithin (act.Flag flag on) = Unit {0}
 ScrollsWithin (act.Visible visibility) = Unit {0}
 ScrollsWithin (act.Ink color) = Unit {0}

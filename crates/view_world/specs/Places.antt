@@ -1,14 +1,15 @@
--- Places for views that are to come.
+-- Places for views that are to be added.
 use Rattle.std.specs.Prelude.{◌≡◌, ℕ, zero, suc, ◌+◌, ◌<◌, ◌≤◌, false, true, Option}
 use Rattle.std.specs.Option.{option_map}
 use Rattle.touch_dispatch.specs.Kept.{IsUnknown, Kept, gesture_of, is_open, with_place}
 use Rattle.touch_targets.specs.Captures.{is_target}
+use Rattle.view_model.specs.Directed.{directed, rtl_at}
 use Rattle.view_model.specs.Forest.{Forest, count_of}
 use Rattle.view_model.specs.Growth.{grown_at}
 use Rattle.view_model.specs.Sprouts.{Seed, numbered}
 use Rattle.view_tree.specs.Views.{Views, geometry_of, number_of, plain_of}
 
--- places for so many views, from this number on
+-- places for n views, from this number on
 abbrev pub with_places : ℕ → ℕ → Kept → Kept
 with_places first zero kept = kept
 with_places first (suc count) kept = with_place (first + count) (with_places first count kept)
@@ -22,18 +23,20 @@ pub record AreFree (first : ℕ) (kept : Kept) : Type 0 where
   pub closed : HasNoneFrom first kept
   pub free : (number : ℕ) → first ≤ number → (group : ℕ) → is_target number ((gesture_of kept).targets group) ≡ false
 
--- nothing is kept of so many views, from this number on
+-- nothing is kept of n views, from this number on
 abbrev pub AreUnknown : ℕ → ℕ → Kept → Type 0
 AreUnknown first count kept = (number : ℕ) → first ≤ number → number < first + count → IsUnknown kept number
 
--- so many views, from this number on, have places, and all others as before
+-- n views, from this number on, have places, and all others as before
 pub record AreOpened (first count : ℕ) (old new : Kept) : Type 0 where
   pub there : (number : ℕ) → first ≤ number → number < first + count → is_open new number ≡ true
   pub below : (number : ℕ) → number < first → is_open new number ≡ is_open old number
   pub above : (number : ℕ) → first + count ≤ number → is_open new number ≡ is_open old number
 
--- the views of a sapling have come below a view, or as all there is, under the next numbers, and lie nowhere
+-- the views of a sapling have come below a view, or as all there is, under the next numbers; each runs as its direction
+-- says, or as its parent, and has no bounds
 pub record HasGained (old : Views) (place : Option ℕ) (seeds : Forest Seed) (new : Views) : Type 0 where
-  pub plain : plain_of new ≡ grown_at (option_map (number_of old) place) (numbered old.next seeds) (plain_of old)
+  pub plain : let number = option_map (number_of old) place in
+      plain_of new ≡ grown_at number (directed (rtl_at number (plain_of old)) (numbered old.next seeds)) (plain_of old)
   pub next : new.next ≡ old.next + count_of seeds
   pub geometry : geometry_of new ≡ geometry_of old

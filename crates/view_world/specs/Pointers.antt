@@ -35,10 +35,10 @@ without_point id points = filter (λ (p : Point). not (p.id == id)) points
 abbrev pub event_of : Action → ℕ → List Point → Event
 event_of action pointer points = record { action = action; pointer = pointer; points = record { items = points } }
 
--- what a pointer that goes down does, where these are down already
+-- the event of a pointer that goes down, if these are down already
 abbrev pub down_action : List Point → Action
 down_action others = if is_nil others then Down else PointerDown
 
--- what a pointer that goes up does, where these stay down
+-- the event of a pointer that goes up, if these stay down
 abbrev pub up_action : List Point → Action
 up_action others = if is_nil others then Up else PointerUp

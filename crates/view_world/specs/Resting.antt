@@ -45,13 +45,13 @@ pub record IsShown (screen : KeyedScreen) : Type 0 where
 abbrev pub seen_on : KeyedScreen → ℕ → Rect
 seen_on screen number = visible_rect (plain_of screen.views) (geometry_of screen.views) (size_of screen.surface) number
 
--- what is seen of some views, on one screen and on another, lies in a rectangle
+-- what is seen of some views, on one screen and on another, is within a rectangle
 abbrev pub AreSeenIn : Rect → List ℕ → KeyedScreen → KeyedScreen → Type 0
 AreSeenIn box numbers old new = (number : ℕ) → is_among number numbers ≡ true → LiesIn (seen_on old number) box × LiesIn (seen_on new number) box
 
--- A line that is no frame measures nothing; where it requests no layout, what rested still does; it leaves all views but
--- those that it has a reason to lay out; unless it opens a window, it damages the picture only where the views that it
--- changes are seen, before or after it; and the deliveries of a touch say which views it has scrolled.
+-- A line that is no frame measures nothing; if it requests no layout, what rested still does; it leaves all views
+-- except those that it has a reason to lay out; unless it opens a window, it damages the picture only where the views
+-- that it changes are seen, before or after it; and the deliveries of a touch say which views it has scrolled.
 pub record KeepsBut (effect : Effect) (asked gone changed : List ℕ) (old new : KeyedScreen) : Type 0 where
   pub measures : new.views.counts.measures ≡ old.views.counts.measures
   pub rests : leaves_layout effect ≡ true → IsResting old → IsResting new
@@ -71,7 +71,7 @@ KeepsLine line old new = KeepsBut (effect_of line) (asked_views (world_of old) l
 abbrev pub KeepsEdit : Edit → KeyedScreen → KeyedScreen → Type 0
 KeepsEdit edit old new = KeepsBut (effect_of_edit edit) (numbers_asked old.views edit) (numbers_gone old.views edit) (numbers_edited old.views edit) old new
 
--- nothing but the density, the resources, the gesture, the pointers, or what is kept for replies is other
+-- nothing changes except the density, the resources, the gesture, the pointers, or what is kept for replies
 pub record IsIdle (old new : KeyedScreen) : Type 0 where
   pub views : new.views ≡ old.views
   pub stage : new.stage ≡ old.stage
@@ -85,9 +85,9 @@ pub record CountsMeasures (before after : Counts) (old new : Work) : Type 0 wher
   pub work : min new.measured (2 ^ 64 - 1) ≡ min (old.measured + by) (2 ^ 64 - 1)
   pub tree : min after.measures (2 ^ 64 - 1) ≡ min (before.measures + by) (2 ^ 64 - 1)
 
--- How often a frame sets where views lie: at most twice each, and where no hook fires, only where a view lies elsewhere
--- then. What is kept of the sizes of a view grows by those that the frame has to find, unless a hook has edited the
--- view or one below it in the frame.
+-- How often a frame sets the bounds of views: at most twice each, and if no hook fires, only those that differ then.
+-- What is kept of the sizes of a view grows by those that the frame has to find, unless a hook has edited the view or
+-- one below it in the frame.
 pub record LaysOut (old new : KeyedScreen) (window : Size) : Type 0 where
   pub once : (frame_of (plain_of old.views) old.hooks window).fired ≡ 0
       → new.views.counts.laid ≤ old.views.counts.laid + differ (held_of old.views) (held_of new.views) old.views.tree
@@ -95,14 +95,14 @@ pub record LaysOut (old new : KeyedScreen) (window : Size) : Type 0 where
   pub caches : (key : ℕ) → IsLive old.views key → IsUnedited old.views.tree (frame_edits (plain_of old.views) old.hooks window) key
       → Grew (IsMeasuredByFrame (plain_of old.views) old.hooks window (number_of old.views key)) (cache_of old.views key) (cache_of new.views key)
 
--- what is seen, on one screen and on another, of the views that lie elsewhere there or have another offset lies in a
+-- what is seen, on one screen and on another, of the views that have other bounds there or another offset is within a
 -- rectangle
 abbrev pub MovedIn : Rect → KeyedScreen → KeyedScreen → Type 0
 MovedIn box old new = AreSeenIn box (moved_views (world_of old) (world_of new)) old new
 
--- How many pixels a frame paints: at least those whose colour is another then, and where no hook fired, at most the points
--- in which the damage and the views that moved lie, once and twice for each view. The picture counts as many, unless a
--- count has come to the greatest number. A frame that has not settled leaves the picture.
+-- How many pixels a frame paints: at least those whose colour changes, and if no hook fired, at most the points of a
+-- rectangle around the damage and the views that moved, once and twice for each view. The picture counts as many,
+-- unless a count is at the greatest number. A frame that has not settled leaves the picture.
 pub record FramePaints (old new : KeyedScreen) (before after : Work) : Type 0 where
   pub least : min (before.painted + differing old.surface.pixels new.surface.pixels) (2 ^ 64 - 1) ≤ after.painted
   pub most : old.stage ≡ Settled → new.stage ≡ Settled → (window : Size) → window_of old ≡ Some window → (frame_of (plain_of old.views) old.hooks window).fired ≡ 0

@@ -54,6 +54,7 @@ abbrev pub act_paints : Act → Bool
 act_paints (act.Change change) = change_paints change
 act_paints (act.WeightSum sum) = false
 act_paints (act.Orient vertical) = false
+act_paints (act.Direction direction) = false
 act_paints (act.Flag flag on) = flag_paints flag
 act_paints (act.Visible visibility) = false
 act_paints (act.Ink color) = true
@@ -63,7 +64,7 @@ act_paints (act.Answer answer) = false
 act_paints (act.Intercept actions) = false
 act_paints (act.Scroll offset) = false
 
--- the view of an act after which layout or the picture may be another one
+-- the view of an act that may change the layout or the picture
 abbrev pub edited_by_act : Option ℕ → Act → List ℕ
 edited_by_act view act = if act_requests act || act_paints act then listed view else []
 
@@ -124,7 +125,7 @@ place_differs None (Some after) = true
 place_differs (Some before) None = true
 place_differs (Some before) (Some after) = not (same_rect before after)
 
--- whether the view of this number lies elsewhere after a line, or has another offset
+-- whether the view of this number has other bounds after a line, or another offset
 abbrev pub has_moved : World → World → ℕ → Bool
 has_moved before after number =
     place_differs (rect_in before.geometry number) (rect_in after.geometry number) || not (int_eq (offsets_in before.tree number) (offsets_in after.tree number))

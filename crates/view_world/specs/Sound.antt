@@ -39,11 +39,11 @@ pub record IsSound (inside : Inside) : Type 0 where
   -- each view has a place in the gesture, and no other number has one
   pub caught : IsGestureIn inside.tree.tree inside.gesture
   pub closed : HasNoneElse inside.tree.tree inside.gesture
-  -- there is room for all that an event can tell
+  -- there is room for all that is recorded of an event
   pub room : 3 * count_of inside.tree.tree ≤ room_of inside.log
   pub down : AreDown inside.pointers.items
-  -- each view has a size that can be told, and each scroll view an offset that can be kept
+  -- each view has a size that can be printed, and each scroll view an offset that can be saved
   pub narrow : FitAll (geometry_of inside.tree)
   pub offsets : OffsetsFit (plain_of inside.tree)
-  -- the picture shows the views as they are now, but for the damage
+  -- the picture shows the views as they are now, except for the damage
   pub shows : Shows inside.surface inside.damage.rect inside.tree

@@ -1,5 +1,6 @@
--- How states are read and taken up in lines.
+-- How states are read and restored in lines.
 use Rattle.std.specs.Prelude.{◌≡◌, ℕ, Bool, true, false, List, Result, Ok, Err}
+use Rattle.saved_state.specs.State.{StateEntry}
 use Rattle.saved_state.specs.declared.fault.StateFault.{StateFault}
 use Rattle.saved_state.specs.declared.fault.StateFault.TheVariants as state
 use Rattle.view_model.specs.Refusals.{AtPlace, plain_refusal, refusal_numbered}
@@ -9,23 +10,23 @@ use Rattle.view_world.specs.declared.fault.StepFault.TheVariants as fault
 use Rattle.view_world.specs.declared.response.Response.{Response}
 use Rattle.view_world.specs.declared.response.Response.TheVariants as response
 
--- the fault of a line by which a state was not read, or not taken up
+-- the fault of a line by which a state was not read, or not restored
 abbrev pub fault_of_state : StateFault → StepFault
 fault_of_state (state.Refused refusal) = fault.Refused refusal
 fault_of_state state.NoMemory = fault.NoMemory
 
--- the state was read that is defined, or its first wrong place is told
-abbrev pub ReadsState : Result (List (ℕ × ℕ)) ℕ → Result (List (ℕ × ℕ)) StepFault → Type 0
+-- the state was read that is defined, or its first wrong place is reported
+abbrev pub ReadsState : Result (List StateEntry) ℕ → Result (List StateEntry) StepFault → Type 0
 ReadsState decoded (Ok states) = decoded ≡ Ok states
 ReadsState decoded (Err (fault.Refused refusal)) = (place : ℕ) × (decoded ≡ Err place) × (plain_refusal refusal ≡ record { number = BAD_STATE; reason = AtPlace place })
 ReadsState decoded (Err fault.NoMemory) = Unit {0}
 ReadsState decoded (Err fault.Sink) = ⊥
 ReadsState decoded (Err fault.Shelf) = ⊥
 
--- a state is taken up unless it is for views of other classes, and nothing is told
+-- a state is taken up, without a reply, unless it is for views of other classes; only if it is not, memory may run out
 abbrev pub TakesUp : Bool → Result Response StepFault → Type 0
 TakesUp other (Ok told) = (other ≡ false) × (told ≡ response.Nothing)
 TakesUp other (Err (fault.Refused refusal)) = (other ≡ true) × (plain_refusal refusal ≡ refusal_numbered STATE_CLASS)
-TakesUp other (Err fault.NoMemory) = ⊥
+TakesUp other (Err fault.NoMemory) = other ≡ false
 TakesUp other (Err fault.Sink) = ⊥
 TakesUp other (Err fault.Shelf) = ⊥

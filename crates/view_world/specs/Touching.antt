@@ -20,7 +20,7 @@ use Rattle.view_world.specs.World.{World}
 unfoldable pub slop_at : ℕ → ℤ
 slop_at dpi = unwrap_or (px_of 0x801 dpi) (pos 0)
 
--- where views lie, and how far a pointer may slip
+-- the bounds of views, and how far a pointer may slip
 abbrev pub scene_in : World → Scene
 scene_in world = record { rects = rect_in world.geometry; slop = slop_at world.dpi }
 
@@ -36,14 +36,14 @@ offset_or (Some view) = view.facts.offset
 abbrev pub offsets_in : Forest PlainView → ℕ → ℤ
 offsets_in tree number = offset_or (view_in tree number)
 
--- no view was handed anything yet
+-- no view got anything yet
 abbrev pub progress_in : World → Progress
 progress_in world = record { gesture = world.gesture; offsets = offsets_in world.tree; entries = [] }
 
 abbrev pub scrolled_to : (ℕ → ℤ) → PlainView → PlainView
 scrolled_to offsets view = record view { facts = record view.facts { offset = offsets view.number } }
 
--- the world with what an event has made of the gesture and of the offsets
+-- the world with the new gesture and offsets of an event
 abbrev pub after_progress : World → Progress → World
 after_progress world progress =
     record world { tree = map_rows (scrolled_to progress.offsets) world.tree; gesture = progress.gesture }
@@ -54,7 +54,7 @@ reached_in world event = dispatched (scene_in world) (unscrolled_tree world.tree
 
 -- views that go away
 
--- the numbers of the views around the view of this number, the nearest first, behind those around the list
+-- the numbers of the views around the view of this number, the nearest first, followed by those around the list
 abbrev pub around_number : List ℕ → ℕ → Forest PlainView → List ℕ
 around_number outer number Nothing = outer
 around_number outer number (Branch view below after) =
@@ -73,7 +73,7 @@ nearest (number ∷ numbers) = Some number
 abbrev pub parent_of : ℕ → Forest PlainView → Option ℕ
 parent_of number tree = nearest (ancestors_of number tree)
 
--- a root is told that it goes away where it is not gone and a pointer is down; of another view its parent decides
+-- a root gets a cancel when it goes away, if it is not gone and a pointer is down; for another view its parent decides
 abbrev pub is_told : Option ℕ → Facts → List Point → Bool
 is_told None facts pointers = is_shown facts && not (is_nil pointers)
 is_told (Some parent) facts pointers = true
@@ -85,7 +85,7 @@ told_away world number parent (Some view) =
     then cancelled (scene_in world) parent number (unscrolled_tree (part_of number world.tree)) (progress_in world)
     else progress_in world
 
--- the view of this number is told that it goes away
+-- the view of this number gets a cancel since it goes away
 abbrev pub leaving : World → ℕ → Progress
 leaving world number = told_away world number (parent_of number world.tree) (view_in world.tree number)
 

@@ -1,4 +1,4 @@
--- The work of frames: what is known beside a world from line to line, and how much a line measures and paints.
+-- The work of frames: what is known besides a world from line to line, and how much a line measures and paints.
 use Rattle.std.specs.Prelude.{◌≡◌, ℕ, ◌+◌, ◌*◌, ◌-◌, ◌^◌, ◌≤◌, ◌==◌, Bool, true, ◌&&◌, ◌||◌, not, min, if◌then◌else◌, List, [], Option, Some, None}
 use Rattle.damage_rect.specs.Within.{LiesIn}
 use Rattle.damage_rect.specs.Areas.{rect_area}
@@ -25,7 +25,7 @@ use Rattle.view_world.specs.declared.marks.Marks.{Marks}
 pub record Watched : Type 0 where
   pub world : World
   pub marks : Marks
-  -- around what was seen of the views that lines have changed since the last frame, where that has settled and no window
+  -- around what was seen of the views that lines have changed since the last frame, if that has settled and no window
   -- came since
   pub box : Rect
   -- the picture of the last frame that has settled since the window opened, and black before that
@@ -55,7 +55,7 @@ watched_after watched line after = record {
 abbrev pub watched_in : KeyedWorld → Rect → Watched
 watched_in world box = record { world = world_of world; marks = world.marks; box = box; shown = world.screen.surface.pixels }
 
--- the damage of a world lies in a box, where it has one
+-- the damage of a world is in a box, if it has one
 abbrev pub HasBox : KeyedWorld → Rect → Type 0
 HasBox world box = world.marks.based ≡ true → LiesIn world.screen.damage box
 
@@ -64,7 +64,7 @@ pub record IsWatched (world : KeyedWorld) (watched : Watched) : Type 0 where
   pub same : watched_in world watched.box ≡ watched
   pub box : HasBox world watched.box
 
--- what lines cost: at most so many views measured, and between these many pixels painted
+-- what lines cost: at most this many views measured, and between these numbers of pixels painted
 pub record Costs : Type 0 where
   pub measured : ℕ
   pub least : ℕ
@@ -73,7 +73,7 @@ pub record Costs : Type 0 where
 abbrev pub no_costs : Costs
 no_costs = record { measured = 0; least = 0; most = 0 }
 
--- how many pixels a frame paints at least: each whose colour is another than the one that is shown
+-- how many pixels a frame paints at least: each whose colour differs from the one that is shown
 unfoldable pub painted_least : List Argb → Size → Framed → ℕ
 painted_least shown window frame = if frame.settled then differing shown (picture_after window frame) else 0
 
@@ -85,12 +85,12 @@ layers world = 2 * count_of world.tree + 1
 abbrev pub frame_box : Watched → Size → Framed → Rect
 frame_box watched window frame = hull_of watched.box (line_box watched.world command.Frame (with_frame watched.world window frame))
 
--- how many points a frame paints at most: those of the box, or of the window where no box is known or a hook fired
+-- how many points a frame paints at most: those of the box, or of the window if no box is known or a hook fired
 abbrev pub points_most : Watched → Size → Framed → ℕ
 points_most watched window frame =
     if watched.marks.based && (frame.fired == 0) then rect_area (frame_box watched window frame) else area_of (Some window)
 
--- how many pixels a frame paints at most: none where it is idle or does not settle
+-- how many pixels a frame paints at most: none if it is idle or does not settle
 unfoldable pub painted_most : Watched → Size → Framed → ℕ
 painted_most watched window frame = if watched.marks.idle || not frame.settled then 0 else layers watched.world * points_most watched window frame
 
@@ -105,11 +105,11 @@ abbrev pub costs_of : Watched → PlainCommand → Costs
 costs_of watched command.Frame = costs_of_frame watched watched.world.window
 costs_of watched line = no_costs
 
--- the greatest number that a count comes to
+-- the greatest number that a count reaches
 abbrev pub max_count : ℕ
 max_count = 2 ^ 64 - 1
 
--- what was counted is worth these costs; a count that has come to the greatest number rises no more
+-- what was counted is worth these costs; a count that has reached the greatest number rises no more
 pub record IsWorth (costs : Costs) (old new : Work) : Type 0 where
   pub measured : new.measured ≤ old.measured + costs.measured
   pub measured_later : min old.measured max_count ≤ new.measured

@@ -1,5 +1,6 @@
 -- The plain world of a script: what the lines so far have made, with no flag, no cache and nothing left to do.
 use Rattle.std.specs.Prelude.{ℕ, List, [], Option, None}
+use Rattle.saved_state.specs.State.{StateEntry}
 use Rattle.size_hooks.specs.Hook.{Hook}
 use Rattle.geom_core.specs.declared.color.Argb.{Argb}
 use Rattle.geom_core.specs.declared.geometry.Size.{Size}
@@ -11,7 +12,7 @@ use Rattle.view_model.specs.declared.limits.TheConstants.{NORMAL_DPI}
 use Rattle.touch_dispatch.specs.Gestures.{PlainGesture, no_gesture}
 use Rattle.touch_event.specs.declared.event.Point.{Point}
 
--- how far a script has come
+-- the stage of a script
 pub data Stage : Type 0 where
   NoWindow : Stage
   NoFrame : Stage
@@ -24,12 +25,12 @@ pub record World : Type 0 where
   pub tree : Forest PlainView
   -- the number of the view that is made next
   pub next : ℕ
-  -- how many dots the screen has an inch
+  -- how many dots the screen has per inch
   pub dpi : ℕ
   pub resources : Entries
   pub window : Option Size
   pub stage : Stage
-  -- the layout of the last frame, where that settled and no window came since; otherwise empty
+  -- the layout of the last frame, if that settled and no window came since; otherwise empty
   pub geometry : List Laid
   -- the picture of that frame: the colour of each point of the window, row by row from the top; otherwise empty
   pub picture : List Argb
@@ -38,8 +39,8 @@ pub record World : Type 0 where
   pub gesture : PlainGesture
   -- the armed hooks, at most one of a view
   pub hooks : List Hook
-  -- the offsets that were kept last, by the ids of views, which rise
-  pub kept : List (ℕ × ℕ)
+  -- the offsets and texts that were kept last, by the ids of views, which rise
+  pub kept : List StateEntry
 
 abbrev pub empty_world : World
 empty_world = record {

@@ -12,7 +12,7 @@ use tool_io::Sink;
 use touch_dispatch::{Entry, Kind};
 use touch_event::{Action, Event, Point};
 
-/// The pointer that acts beside others.
+/// The pointer that acts, if there are others.
 fn put_pointer<K: Sink>(text: &mut TextBuffer, sink: &mut K, pointer: u8)
     ensures { Sends (K.state sink.old) (K.state sink.new) text.old text.new (pointer_text pointer) }
 {
@@ -54,7 +54,7 @@ fn put_action<K: Sink>(text: &mut TextBuffer, sink: &mut K, action: Action, poin
     }
 }
 
-/// Where a pointer is, behind a space.
+/// Where a pointer is, after a space.
 fn put_point<K: Sink>(text: &mut TextBuffer, sink: &mut K, point: Point)
     ensures { Sends (K.state sink.old) (K.state sink.new) text.old text.new (point_text point) }
 {
@@ -105,7 +105,7 @@ fn put_said<K: Sink>(text: &mut TextBuffer, sink: &mut K, yes: bool)
     }
 }
 
-/// What an entry tells behind the name of its view.
+/// What an entry prints after the name of its view.
 fn put_told<K: Sink>(text: &mut TextBuffer, sink: &mut K, entry: &Entry)
     ensures { Sends (K.state sink.old) (K.state sink.new) text.old text.new (told_text entry.now.kind entry.now) }
 {
@@ -135,7 +135,7 @@ fn put_entry<K: Sink>(text: &mut TextBuffer, sink: &mut K, entry: &Entry)
     put_told(text, sink, entry);
 }
 
-/// The deliveries, a line each.
+/// The deliveries, one line each.
 fn put_entries<K: Sink>(text: &mut TextBuffer, sink: &mut K, entries: &[Entry])
     ensures { Sends (K.state sink.old) (K.state sink.new) text.old text.new (entries_text entries.now) }
 {
@@ -152,7 +152,7 @@ fn put_done<K: Sink>(text: &mut TextBuffer, sink: &mut K, yes: bool)
     put_said(text, sink, yes);
 }
 
-/// The deliveries, and behind those of an event what the root has said to it.
+/// The deliveries, and after those of an event what the root has said to it.
 pub fn put_deliveries<K: Sink>(
     text: &mut TextBuffer,
     sink: &mut K,

@@ -12,7 +12,7 @@ use size_hooks::Hooks;
 use touch_dispatch::Gesture;
 use view_tree::{Key, ViewTree};
 
-/// Takes away the hooks of a view and of all below it, and what is kept of them for touches.
+/// Removes the hooks of a view and of all below it, and what is kept of them for touches.
 pub fn forget(tree: &ViewTree, hooks: &mut Hooks, gesture: &mut Gesture, view: Key)
     requires { IsLive tree.now view }
     ensures hooks { hooks.new ≡ all_disarmed (numbers_of (views_of (first_tree (part_from view tree.now.tree)))) hooks.old }

@@ -1,13 +1,14 @@
-//! Views that come into a tree.
+//! Views that are added to a tree.
 ghost use Rattle.std.specs.Prelude.{◌≡◌, ◌<◌, ◌≤◌, ◌+◌, ℕ, false, OnErr, OnOk, None, IfOk, IfSome};
 ghost use Rattle.std.specs.Option.{option_map};
 ghost use Rattle.kept_views.specs.Kept.{IsConsistent};
-ghost use Rattle.tree_edits.specs.Asking.{is_on_paths, listed, requested};
+ghost use Rattle.tree_edits.specs.Asking.{is_on_paths, listed};
 ghost use Rattle.view_model.specs.Cycles.{graft_cycle};
 ghost use Rattle.view_model.specs.Forest.{Nothing};
 ghost use Rattle.view_model.specs.Grafts.{graft_refusal};
 ghost use Rattle.view_model.specs.Sprouts.{seeds_of};
 ghost use Rattle.view_model.specs.declared.limits.TheConstants.{MAX_VIEWS, NUMBERS_END};
+ghost use Rattle.view_tree.specs.Requests.{requested};
 ghost use Rattle.view_tree.specs.Faults.{IsRefusedOrCyclic};
 ghost use Rattle.view_tree.specs.Views.{IsLive, SameTree, held_of, number_of, plain_of};
 ghost use Rattle.view_world.specs.Places.{HasGained};
@@ -16,7 +17,7 @@ use crate::naming::tell_tree;
 use view_model::Sapling;
 use view_tree::{AttachFault, Key, ViewTree};
 
-/// Adds views under the next numbers, and requests layout at the view below which they come.
+/// Adds views under the next numbers, and requests layout at the view below which they are added.
 pub fn graft(tree: &mut ViewTree, place: Option<Key>, sapling: Sapling) -> Result<Key, AttachFault>
     requires live { IfSome place (λ view. IsLive tree.old view) }
     requires root { place ≡ None → tree.old.tree ≡ Nothing }
@@ -37,7 +38,7 @@ pub fn graft(tree: &mut ViewTree, place: Option<Key>, sapling: Sapling) -> Resul
     Ok(first)
 }
 
-/// Requests layout at a view, where there is one.
+/// Requests layout at a view, if there is one.
 fn request_at(tree: &mut ViewTree, view: Option<Key>)
     requires { IfSome view (λ view. IsLive tree.old view) }
     ensures same { SameTree tree.old tree.new }

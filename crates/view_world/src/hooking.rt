@@ -1,4 +1,4 @@
-//! What decides of a hook that is to be armed.
+//! The conditions on a hook that is to be armed.
 
 ghost use Rattle.std.specs.Prelude.{◌≡◌, ◌≤◌, length};
 ghost use Rattle.std.specs.List.{list_all};
@@ -22,10 +22,10 @@ use view_model::NumEdit;
 use view_model::limits::MAX_EDITS;
 use view_tree::{Key, ViewTree};
 
-/// The size of a view that lies nowhere.
+/// The size of a view that has no bounds.
 const NOTHING: Size = Size { w: 0, h: 0 };
 
-/// The edits of a hook, each with the number of its view, or none where a view is not there.
+/// The edits of a hook, each with the number of its view, or `None` if a view is not there.
 pub fn numbered_edits(tree: &ViewTree, asked: &[Asked]) -> Option<ArrayVec<NumEdit, MAX_EDITS>>
     requires { length asked.now ≤ MAX_EDITS }
     ensures { option_map (λ edits. edits.items) result ≡ numbered_edits (plain_of tree.now) asked.now }
@@ -63,7 +63,7 @@ fn may_change(tree: &ViewTree, edit: NumEdit) -> bool
     }
 }
 
-/// The size of a view where it lies, and nothing where it lies nowhere or the last frame has not settled.
+/// The size of a view, and nothing if it has no bounds or the last frame has not settled.
 pub fn size_at(tree: &ViewTree, stage: Stage, view: Key) -> Size
     requires live { IsLive tree.now view }
     requires narrow { FitAll (geometry_of tree.now) }
@@ -75,7 +75,7 @@ pub fn size_at(tree: &ViewTree, stage: Stage, view: Key) -> Size
     }
 }
 
-/// The size of a view where the last frame has settled, and nothing where it lies nowhere.
+/// The size of a view if the last frame has settled, and nothing if it has no bounds.
 fn present_size(tree: &ViewTree, view: Key) -> Size
     requires live { IsLive tree.now view }
     requires narrow { FitAll (geometry_of tree.now) }

@@ -22,7 +22,7 @@ use view_model::limits::MAX_FILE;
 use view_model::refusals::{LONG_FILE, MISSING_FILE};
 use view_model::{Detail, Refusal};
 
-/// The file of an `inflate` line, and the view below which its tree goes, none where it is the whole tree.
+/// The file of an `inflate` line, and the view below which its tree goes, `None` if it is the whole tree.
 pub fn inflation_of<'a>(command: &Command<'a>) -> Option<(&'a str, Option<Name>)>
     ensures { option_map (λ inflation. (inflation.0.now, inflation.1)) result ≡ inflation_of (plain_command command.now) }
 {

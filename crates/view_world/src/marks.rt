@@ -48,8 +48,8 @@ impl Marks {
         }
     }
 
-    /// The marks after a line. `settled`: whether the last frame has settled by then, and no window came since. `scrolled`:
-    /// whether a touch has moved the children of a scroll view.
+    /// The marks after a line. `settled`: whether the last frame has settled by then, and no window came since.
+    /// `scrolled`: whether a touch has moved the children of a scroll view.
     pub fn after(self, effect: Effect, settled: bool, scrolled: bool) -> Marks
         ensures { result ≡ marked effect self settled scrolled }
     {
@@ -130,6 +130,7 @@ fn paints(act: Act) -> bool
         Act::Change(_)
         | Act::WeightSum(_)
         | Act::Orient { .. }
+        | Act::Direction(_)
         | Act::Visible(_)
         | Act::Id(_)
         | Act::Rule { .. }

@@ -1,4 +1,4 @@
-//! Places for views that are to come.
+//! Places for views that are to be added.
 
 ghost use Rattle.std.specs.Prelude.{◌≡◌, ◌<◌, ◌+◌, ◌^◌, OnErr, OnOk};
 ghost use Rattle.touch_dispatch.specs.Kept.{Kept, gesture_of};
@@ -7,7 +7,7 @@ ghost use Rattle.view_world.specs.Places.{AreFree, AreOpened, AreUnknown, with_p
 use std::alloc::AllocError;
 use touch_dispatch::Gesture;
 
-/// Keeps places for so many views, from this number on; for all of them, or for none.
+/// Keeps places for this many views, from this number on; for all of them, or for none.
 pub fn open_all(gesture: &mut Gesture, first: u64, count: usize) -> Result<(), AllocError>
     requires numbers { first + count < 2 ^ 64 }
     requires free { AreFree first gesture.old }
@@ -29,7 +29,7 @@ pub fn open_all(gesture: &mut Gesture, first: u64, count: usize) -> Result<(), A
     Ok(())
 }
 
-/// Takes the places of so many views away again, the last one first.
+/// Removes the places of this many views again, the last one first.
 pub fn close_all(gesture: &mut Gesture, first: u64, count: usize)
     requires { first + count < 2 ^ 64 }
     ensures { (before : Kept) → gesture.old ≡ with_places first count before → AreFree first before → AreUnknown first count before → gesture.new ≡ before }

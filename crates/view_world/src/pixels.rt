@@ -37,7 +37,7 @@ fn ends_within(at: i32, length: i32, side: i32) -> bool
     at + length <= side
 }
 
-/// A part by window coordinates, if it lies wholly in a window of this size.
+/// A part by window coordinates, if it is wholly in a window of this size.
 #[tactic(auto, unfolding(crate::specs::Step::lies_in))]
 pub fn part_in(window: Size, x: i32, y: i32, w: i32, h: i32) -> Option<Part>
     requires { IsPart x y w h }
@@ -68,7 +68,7 @@ fn color_of(surface: &Surface, part: Part, column: usize, row: usize) -> Argb
     surface.color_at(part.left + column, part.top + row)
 }
 
-/// What stands before a word of this place in its line.
+/// What comes before a word of this place in its line.
 fn put_separator<K: Sink>(text: &mut TextBuffer, sink: &mut K, place: usize)
     ensures { Sends (K.state sink.old) (K.state sink.new) text.old text.new (separator place) }
 {
@@ -85,7 +85,7 @@ fn put_color<K: Sink>(text: &mut TextBuffer, sink: &mut K, color: Argb)
     text.hex(sink, color.0, 6);
 }
 
-/// A colour of a row, behind a space if it is not the first.
+/// A colour of a row, after a space if it is not the first.
 fn put_word<K: Sink>(
     text: &mut TextBuffer,
     sink: &mut K,
@@ -117,7 +117,7 @@ fn put_row<K: Sink>(text: &mut TextBuffer, sink: &mut K, surface: &Surface, part
     text.put(sink, b"\n");
 }
 
-/// The colours of a part of a picture, a line a row.
+/// The colours of a part of a picture, one line per row.
 pub fn put_pixels<K: Sink>(text: &mut TextBuffer, sink: &mut K, surface: &Surface, part: Part)
     requires { IsPartOf surface.now part }
     ensures { Sends (K.state sink.old) (K.state sink.new) text.old text.new (pixels_text (color_of surface.now part) part.width part.height) }

@@ -14,7 +14,7 @@ pub fn is_pressed(points: &[Point], id: u8) -> bool
     points.iter().any(|point| point.id == id)
 }
 
-/// The points of the pointers that are down, with this one in the place of its pointer's.
+/// The points of the pointers that are down, with this one in place of its pointer's.
 pub fn with_point(points: &[Point], point: Point) -> ArrayVec<Point, MAX_POINTERS>
     requires down { AreDown points.now }
     requires id { point.id < MAX_POINTERS }
@@ -83,7 +83,7 @@ pub fn event_of(action: Action, pointer: u8, points: &[Point]) -> Event
     }
 }
 
-/// What a pointer that goes down does, where these are down already.
+/// The event of a pointer that goes down, if these are down already.
 pub fn down_action(others: &[Point]) -> Action
     ensures { result ≡ down_action others.now }
 {
@@ -94,7 +94,7 @@ pub fn down_action(others: &[Point]) -> Action
     }
 }
 
-/// What a pointer that goes up does, where these stay down.
+/// The event of a pointer that goes up, if these stay down.
 pub fn up_action(others: &[Point]) -> Action
     ensures { result ≡ up_action others.now }
 {

@@ -20,7 +20,7 @@ fn characters_of(alloc: Global, text: &str) -> Result<Vec<char>, AllocError>
     Ok(characters)
 }
 
-/// A text whose escapes are as written, these resolved.
+/// A text with escapes as written, which are resolved here.
 fn unescaped(alloc: Global, text: &str) -> Result<Text, AllocError>
     requires { length text.now < 2 ^ 31 }
     ensures { IfOk result (λ resolved. resolved ≡ unescaped (chars text.now)) }

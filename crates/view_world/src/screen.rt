@@ -31,6 +31,7 @@ ghost use Rattle.view_world.specs.Resting.{IsFrameDone, IsIdle, IsShown, KeepsEd
 mod grow;
 mod hook;
 mod leave;
+mod readers;
 mod state;
 mod touch;
 
@@ -75,9 +76,9 @@ pub struct Screen {
     stage: Stage,
     /// The picture of the window: black before its first frame, and of no size before there is a window.
     surface: Surface,
-    /// Where the picture may be another than that of the views as they are now.
+    /// Where the picture may differ from that of the views as they are now.
     damage: Damage,
-    /// How many dots the screen has an inch.
+    /// How many dots the screen has per inch.
     dpi: u32,
     resources: Resources,
     /// A view has a place in it as long as it is in the tree.
@@ -88,7 +89,7 @@ pub struct Screen {
     log: Log,
     /// The armed hooks, of views that are in the tree.
     hooks: Hooks,
-    /// The state that was kept last.
+    /// The state that was saved last.
     states: States,
     /// Its bytes, as they were printed.
     saved: Vec<u8>,
@@ -132,8 +133,8 @@ impl Screen {
         }
     }
 
-    /// Carries out a command, and then writes its text. Where it is refused, finds no memory, or a fetch fails, nothing has
-    /// changed.
+    /// Carries out a command, and then writes its text. If it is refused, runs out of memory, or a fetch fails, nothing
+    /// has changed.
     pub fn line<K: Sink, F: Shelf>(
         &mut self,
         alloc: Global,
@@ -330,7 +331,7 @@ impl Screen {
             Command::Window { w, h } => self.open(Size { w, h }),
             Command::Dpi(dpi) => self.set_dpi(dpi),
             Command::Res { id, value } => self.define(alloc, id, value),
-            // An `inflate` line goes by `inflate_line`.
+            // An `inflate` line is handled by `inflate_line`.
             Command::Inflate { .. } => unreachable!(),
             Command::Add {
                 parent,
@@ -356,8 +357,8 @@ impl Screen {
         }
     }
 
-    /// The size of the window, where there is one.
-    fn window(&self) -> Option<Size>
+    /// The size of the window, in pixels, where there is one.
+    pub fn window(&self) -> Option<Size>
         ensures { result ≡ window_of self.now }
     {
         match self.stage {
@@ -366,7 +367,7 @@ impl Screen {
         }
     }
 
-    /// Opens a window of this size, in pixels. Its picture takes the place of the last one.
+    /// Opens a window of this size, in pixels. Its picture replaces the last one.
     fn open(&mut self, size: Size) -> Result<Response, StepFault>
         requires width { IsWithin (pos 1) MAX_WINDOW size.w }
         requires height { IsWithin (pos 1) MAX_WINDOW size.h }
@@ -418,7 +419,7 @@ impl Screen {
         }
     }
 
-    /// Makes an edit by which no view comes or goes.
+    /// Makes an edit that adds and removes no view.
     fn edit(&mut self, alloc: Global, edit: Edit<'_>) -> Result<Response, StepFault>
         requires edit { IsEdit self.old.views edit }
         requires leaves { LeavesViews edit }
@@ -456,7 +457,7 @@ impl Screen {
         self.grow(alloc, None, class, width, height)
     }
 
-    /// Makes a view, the last child of its parent, or the root where there is none.
+    /// Makes a view, the last child of its parent, or the root if there is none.
     fn add(
         &mut self,
         alloc: Global,
@@ -478,7 +479,7 @@ impl Screen {
         self.grow(alloc, Some(parent), class, width, height)
     }
 
-    /// Takes a view and all below it away.
+    /// Removes a view and all below it.
     fn remove(&mut self, alloc: Global, view: Name) -> Result<Response, StepFault>
         ensures changed { CarriesOut (step [] (world_of self.old) (Remove view)) self.new result }
         ensures unchanged { OnErr result (self.new ≡ self.old) }
@@ -490,7 +491,7 @@ impl Screen {
         self.take_away(alloc, view)
     }
 
-    /// Does to a view what an act says.
+    /// Makes an act on a view.
     fn act(&mut self, alloc: Global, view: Name, act: ViewAct) -> Result<Response, StepFault>
         requires { IsActInBounds act }
         ensures changed { CarriesOut (step [] (world_of self.old) (Act view act)) self.new result }
@@ -526,7 +527,7 @@ impl Screen {
         )
     }
 
-    /// Lays the whole tree out, and where the frame has settled, paints what may be another picture since.
+    /// Lays the whole tree out, and if the frame has settled, paints what may have changed since.
     fn frame(&mut self, work: &mut Work) -> Result<Response, StepFault>
         ensures changed { CarriesOut (step [] (world_of self.old) Frame) self.new result }
         ensures unchanged { OnErr result (self.new ≡ self.old) }

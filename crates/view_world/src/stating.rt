@@ -3,7 +3,7 @@ ghost use Rattle.std.specs.Prelude.{◌≡◌, ℕ, false, ◌∷◌, [], Err, I
 ghost use Rattle.damage_rect.specs.Within.{LiesIn};
 ghost use Rattle.geom_core.specs.declared.geometry.Rect.{Rect};
 ghost use Rattle.hex.specs.Hex.{encode_lower};
-ghost use Rattle.saved_state.specs.Restored.{on_paths, set_by};
+ghost use Rattle.saved_state.specs.Restored.{Retells, on_paths, set_by};
 ghost use Rattle.saved_state.specs.Restoring.{is_for_other_class, restored};
 ghost use Rattle.saved_state.specs.Saving.{OffsetsFit};
 ghost use Rattle.saved_state.specs.State.{decoded};
@@ -12,7 +12,7 @@ ghost use Rattle.seen_edits.specs.Shown.{KeepsShown};
 ghost use Rattle.text_lines.specs.BufferedText.{Sends};
 ghost use Rattle.view_model.specs.Forest.{rows};
 ghost use Rattle.kept_views.specs.Kept.{IsConsistent};
-ghost use Rattle.view_tree.specs.Views.{SameTree, geometry_of, held_of, plain_of};
+ghost use Rattle.view_tree.specs.Views.{IsTree, geometry_of, held_of, plain_of};
 ghost use Rattle.view_world.specs.Replies.{state_bytes, state_text};
 ghost use Rattle.view_world.specs.Stated.{ReadsState, TakesUp, fault_of_state};
 
@@ -21,7 +21,7 @@ use crate::response::Response;
 use damage_rect::Damage;
 use geom_core::Size;
 use saved_state::{StateFault, States, read};
-use seen_edits::restore_offsets;
+use seen_edits::restore_views;
 use std::alloc::Global;
 use text_lines::TextBuffer;
 use tool_io::Sink;
@@ -55,7 +55,7 @@ pub fn put_state<K: Sink>(text: &mut TextBuffer, sink: &mut K, bytes: &[u8])
     text.put(sink, b"\n");
 }
 
-/// The bytes that hexadecimal digits stand for. A line has an even number of them, so only memory can be wanting.
+/// The bytes that hexadecimal digits write. A line has an even number of them, so only memory can run out.
 pub fn bytes_of(alloc: Global, digits: &str) -> Result<Vec<u8>, StepFault>
     ensures bytes { IfOk result (λ bytes. bytes.items ≡ state_bytes digits.now) }
     ensures memory { OnErr result (result ≡ Err StepFault.NoMemory) }
@@ -66,7 +66,7 @@ pub fn bytes_of(alloc: Global, digits: &str) -> Result<Vec<u8>, StepFault>
     }
 }
 
-/// The fault of a line by which a state was not read, or not taken up.
+/// The fault of a line by which a state was not read, or not restored.
 fn fault_of(fault: StateFault) -> StepFault
     ensures { result ≡ fault_of_state fault }
 {
@@ -76,7 +76,7 @@ fn fault_of(fault: StateFault) -> StepFault
     }
 }
 
-/// The state that bytes stand for.
+/// The state that bytes represent.
 pub fn state_of(alloc: Global, bytes: &[u8]) -> Result<States, StepFault>
     ensures { ReadsState (decoded bytes.now) result }
 {
@@ -86,8 +86,9 @@ pub fn state_of(alloc: Global, bytes: &[u8]) -> Result<States, StepFault>
     }
 }
 
-/// Sets the offsets that a state has. Where they are seen in a window of this size is damage.
+/// Sets the offsets and texts that a state has. Where they are seen in a window of this size is damage.
 pub fn take_up(
+    alloc: Global,
     tree: &mut ViewTree,
     window: Size,
     states: &States,
@@ -99,14 +100,15 @@ pub fn take_up(
     ensures taken { TakesUp (is_for_other_class states.now (rows (plain_of tree.old))) result }
     ensures plain { OnOk result (plain_of tree.new ≡ restored states.now (plain_of tree.old)) }
     ensures unchanged { OnErr result (tree.new ≡ tree.old) }
-    ensures same { SameTree tree.old tree.new }
+    ensures retells { OnOk result (Retells states.now tree.old tree.new) }
+    ensures is_tree { IsTree tree.new }
     ensures counts { tree.new.counts ≡ tree.old.counts }
     ensures asked { (key : ℕ) → on_paths key (set_by states.now tree.old.tree) tree.old.tree ≡ false → held_of tree.new key ≡ held_of tree.old key }
     ensures geometry { geometry_of tree.new ≡ geometry_of tree.old }
     ensures consistent { IsConsistent tree.old → IsConsistent tree.new }
     ensures fits { OffsetsFit (plain_of tree.old) → OffsetsFit (plain_of tree.new) }
 {
-    match restore_offsets(tree, window, states, damage) {
+    match restore_views(alloc, tree, window, states, damage) {
         Ok(()) => Ok(Response::Nothing),
         Err(fault) => Err(fault_of(fault)),
     }

@@ -7,7 +7,7 @@ ghost use Rattle.script_lines.specs.Escapes.{unescaped};
 use script_lines::Unescaped;
 use std::alloc::{AllocError, Global};
 
-/// The bytes of a text whose escapes are as written, these resolved.
+/// The bytes of a text with escapes as written, which are resolved here.
 fn unescaped_text(alloc: Global, text: &str) -> Result<String, AllocError>
     ensures { IfOk result (λ resolved. string_bytes resolved ≡ encode_utf8_all (unescaped (chars text.now))) }
 {
@@ -15,7 +15,7 @@ fn unescaped_text(alloc: Global, text: &str) -> Result<String, AllocError>
     Ok(resolved)
 }
 
-/// A text whose escapes are as written, these resolved.
+/// A text with escapes as written, which are resolved here.
 pub fn resolved(alloc: Global, text: &str) -> Result<String, AllocError>
     ensures value { IfOk result (λ resolved. chars (string_bytes resolved) ≡ unescaped (chars text.now)) }
     ensures short { IfOk result (λ resolved. length (string_bytes resolved) ≤ length text.now) }

@@ -1,4 +1,4 @@
-//! What lines change of a gesture, and what decides of that.
+//! What lines change of a gesture, and what that depends on.
 
 ghost use Rattle.std.specs.Prelude.{◌≡◌, ℕ, ◌∷◌};
 ghost use Rattle.touch_dispatch.specs.Kept.{gesture_of, is_open};
@@ -48,7 +48,7 @@ fn is_scroll(kind: Kind) -> bool
     }
 }
 
-/// Tells a view and its ancestors that they may not take events away from their children, or that they may again.
+/// Sets whether a view and its ancestors may not take events away from their children.
 pub fn disallow_from(tree: &ViewTree, gesture: &mut Gesture, view: Key, on: bool)
     requires live { IsLive tree.now view }
     requires is_tree { IsTree tree.now }

@@ -91,7 +91,7 @@ pub a_pointer_goes_down : stack_line_of (codes "sdown 0 3 3") ≡ Ok (Down 0 (po
 unfolding is_utf8 chars encode words after_word natural_of integer_of within_of natural_within pointer_of touch_of sup_of scancel_of stack_line_by stack_line_of
 a_pointer_goes_down = refl
 
-pub a_pointer_moves : stack_line_of (codes "smove 9 -1 4") ≡ Ok (Move 9 (negsuc 0) (pos 4))
+pub a_pointer_moves : stack_line_of (codes "smove 31 -1 4") ≡ Ok (Move 31 (negsuc 0) (pos 4))
 unfolding is_utf8 chars encode words after_word natural_of integer_of within_of natural_within pointer_of touch_of sup_of scancel_of stack_line_by stack_line_of
 a_pointer_moves = refl
 
@@ -103,9 +103,9 @@ pub a_gesture_ends : stack_line_of (codes "scancel") ≡ Ok Cancel
 unfolding is_utf8 chars encode words after_word natural_of integer_of within_of natural_within pointer_of touch_of sup_of scancel_of stack_line_by stack_line_of
 a_gesture_ends = refl
 
-pub a_tenth_pointer_is_out_of_range : stack_line_of (codes "sup 10") ≡ Err Range
+pub pointer_32_is_out_of_range : stack_line_of (codes "sup 32") ≡ Err Range
 unfolding is_utf8 chars encode words after_word natural_of integer_of within_of natural_within pointer_of touch_of sup_of scancel_of stack_line_by stack_line_of
-a_tenth_pointer_is_out_of_range = refl
+pointer_32_is_out_of_range = refl
 
 pub a_pointer_of_no_window : stack_line_of (codes "down 0 1 1") ≡ Err Syntax
 unfolding is_utf8 chars encode words after_word natural_of integer_of within_of natural_within pointer_of touch_of sup_of scancel_of stack_line_by stack_line_of

@@ -1,4 +1,4 @@
--- What becomes of the order of windows.
+-- How the order of windows changes.
 use Rattle.std.proofs.Common.{◌≡◌, ◌≢◌, ℕ, ◌<◌, ◌≤◌, ◌+◌, ℤ, List, [], ◌∷◌, ◌++◌, length, take, drop, get_or, set, Option, None, Some, true, false, refl, sym, ◌∙◌, ap, inl, inr, arith, eqb, subst}
 use Rattle.std.proofs.lemmas.Bool.{cases_Bool, cases_eq, eq-eqb, ne_eqb}
 use Rattle.std.proofs.lemmas.List.{append-nil, drop_all, drop-set-lt, drop_more, length-set, length-map, map-append, take_all, take_more, take_more_set}
@@ -248,7 +248,7 @@ found_under x y sizes (first ∷ panes) are = elim (cases_Bool (is_under x y siz
     later None h = tt
     later (Some pane) h = (h.0, elim (cases_Bool (first.k == pane.k)) [ inl e ↦ rw e refl | inr e ↦ rw e h.1 ])
 
--- the first of the windows from an index on, where that holds the point
+-- the first of the windows from an index on, if that holds the point
 pub under_first : (x y : ℤ) (sizes : List (Option Size)) (panes : List Pane) (index : ℕ) (other : Pane) → index < length panes → is_under x y sizes (get_or panes index other) ≡ true
     → pane_under x y sizes (drop index panes) ≡ Some (get_or panes index other)
 under_first x y sizes panes index other within holds =

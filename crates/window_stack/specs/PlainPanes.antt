@@ -33,7 +33,7 @@ order_of stack = map (λ (pane : Pane). pane.k) stack.panes
 abbrev pub placed : Pane → Pane → Pane
 placed to pane = if pane.k == to.k then to else pane
 
--- a window with this corner: in its place where it is open, otherwise on top
+-- a window with this corner: in its place if it is open, otherwise on top
 abbrev pub set_at : PlainPanes → ℕ → ℤ → ℤ → PlainPanes
 set_at stack k x y =
     let to : Pane = record { k = k; x = x; y = y } in
@@ -77,7 +77,7 @@ holds_point x y pane (Some size) = lies_from pane.x size.w x && lies_from pane.y
 abbrev pub size_at : List (Option Size) → ℕ → Option Size
 size_at sizes k = slice_index_or sizes k None
 
--- whether a window holds a point, where the windows have these sizes
+-- whether a window holds a point, if the windows have these sizes
 abbrev pub is_under : ℤ → ℤ → List (Option Size) → Pane → Bool
 is_under x y sizes pane = holds_point x y pane (size_at sizes pane.k)
 

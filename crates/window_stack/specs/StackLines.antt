@@ -72,7 +72,7 @@ unfoldable pub is_touch_word : List ℕ → Bool
 is_touch_word head =
     bytes_eq head (codes "down") || bytes_eq head (codes "move") || bytes_eq head (codes "up") || bytes_eq head (codes "cancel")
 
--- the command of a line that a window carries out; one of touch is none of the grammar's
+-- the command of a line that a window carries out, which is not one of touch
 unfoldable pub given_of : List ℕ → Result PlainCommand LineFault
 given_of line = word_in (words line) >>= λ head. if is_touch_word head.0 then Err Syntax else command_of line
 
@@ -142,7 +142,7 @@ stack_line_by head rest =
     if bytes_eq head (codes "compose") then compose_of (words rest) else
     touch_line_by head (words rest)))))
 
--- what a line asks for; bytes that are not valid UTF-8 are none
+-- what a line asks for; bytes that are not valid UTF-8 ask for nothing
 unfoldable pub stack_line_of : List ℕ → Result PlainLine LineFault
 stack_line_of line = if is_utf8 line then (word_in (words line) >>= λ head. stack_line_by head.0 (after_word line)) else Err Syntax
 

@@ -1,7 +1,7 @@
 //! The lines of a script for a stack of windows, and the order of these windows. Nothing here takes memory.
 //!
-//! `lines` has what a line asks for, `reading` reads it, and `panes` keeps which windows are open, where they lie, which is
-//! above which, and which one has the gesture.
+//! `lines` has what a line asks for, `reading` reads it, and `panes` keeps which windows are open, where they are,
+//! which is above which, and which one has the gesture.
 #![tactic(auto)]
 
 mod lines;

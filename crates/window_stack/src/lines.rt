@@ -12,14 +12,14 @@ pub const MAX_CORNER: i64 = 4096;
 /// What a line of a stack asks for. A window has a name `k` from 0 to `MAX_PANE`.
 #[derive(Debug, PartialEq, Eq, Drop)]
 pub enum StackLine<'a> {
-    /// Sets the corner of a window, each coordinate from `MIN_CORNER` to `MAX_CORNER` pixels, and opens the window on top
-    /// where it is not open.
+    /// Sets the corner of a window, each coordinate from `MIN_CORNER` to `MAX_CORNER` pixels, and opens the window on
+    /// top if it is not open.
     At { k: u8, x: i32, y: i32 },
     /// Puts a window on top.
     Raise(u8),
     /// Closes a window.
     Close(u8),
-    /// Carries out a command in a window: none of `Down`, `Move`, `Up` and `Cancel`.
+    /// Carries out a command in a window, other than `Down`, `Move`, `Up` and `Cancel`.
     In { k: u8, command: Command<'a> },
     /// Prints the colours of a part of all windows together, within the bounds of `Command::Pixels`.
     Compose { x: i32, y: i32, w: i32, h: i32 },
@@ -29,6 +29,6 @@ pub enum StackLine<'a> {
     Move { p: u8, x: i32, y: i32 },
     /// A pointer goes up.
     Up(u8),
-    /// The gesture ends without an answer.
+    /// The gesture ends without a reply.
     Cancel,
 }

@@ -94,7 +94,7 @@ impl Panes {
         put_on_top(&mut self.panes, pane);
     }
 
-    /// Closes an open window. If it has the gesture, none has it afterwards.
+    /// Closes an open window. If it has the gesture, no window has it afterwards.
     pub fn close(&mut self, k: u8)
         requires open { is_open self.old k ≡ true }
         ensures { self.new ≡ closed self.old k }
@@ -114,7 +114,7 @@ impl Panes {
         order
     }
 
-    /// The topmost open window that has a size and holds a point of the stack, where the windows have these sizes.
+    /// The topmost open window that has a size and holds a point of the stack, if the windows have these sizes.
     pub fn under(&self, x: i32, y: i32, sizes: &[Option<Size>; MAX_PANES]) -> Option<u8>
         ensures value { result ≡ topmost self.now x y sizes.now }
         ensures open { IfSome result (λ k. is_open self.now k ≡ true) }
@@ -200,7 +200,7 @@ fn holder_without(holder: Option<u8>, k: u8) -> Option<u8>
     }
 }
 
-/// Whether a window holds a point, where the windows have these sizes.
+/// Whether a window holds a point, if the windows have these sizes.
 fn is_under(x: i32, y: i32, sizes: &[Option<Size>; MAX_PANES], pane: Pane) -> bool
     ensures { result ≡ is_under x y sizes.now pane }
 {

@@ -76,7 +76,7 @@ fn is_touch_word(head: &[u8]) -> bool
     is(head, b"down") || is(head, b"move") || is(head, b"up") || is(head, b"cancel")
 }
 
-/// The command of a line that a window carries out. One of touch is none of the grammar's.
+/// The command of a line that a window carries out, which is not one of touch.
 #[tactic(auto, unfolding(crate::specs::StackLines::given_of))]
 fn given(bytes: &[u8]) -> Result<Command<'_>, LineFault>
     ensures value { map_ok plain_command result ≡ given_of bytes.now }
@@ -248,8 +248,8 @@ fn read_text(bytes: &[u8]) -> Result<StackLine<'_>, LineFault>
     read_line(head, rest)
 }
 
-/// What a line of a stack asks for. A fault of the grammar counts before a number outside its bounds, wherever the two stand.
-/// A line that is passed over asks for nothing: it is none of the grammar's.
+/// What a line of a stack asks for. A fault of the grammar counts before a number outside its bounds, wherever the two
+/// are. A line that is passed over asks for nothing.
 pub fn stack_line(bytes: &[u8]) -> Result<StackLine<'_>, LineFault>
     ensures value { map_ok plain_line result ≡ stack_line_of bytes.now }
     ensures bounds { IfOk result (λ line. IsLineInBounds (plain_line line)) }

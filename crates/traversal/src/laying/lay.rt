@@ -1,4 +1,4 @@
-//! Laying a measured view and all below it, as far as they need that: the walk, which is the same for every class.
+//! Laying a measured view and all below it, where they need that: the walk, which is the same for every class.
 ghost use Rattle.std.specs.Prelude.{◌≡◌, ◌≢◌, ◌+◌, ◌-ℤ◌, ◌≤◌, ◌^◌, ℤ, ◌⊎◌, true, false, if◌then◌else◌, [], IfSome, List, Some, length};
 ghost use Rattle.damage_rect.specs.Within.{LiesIn};
 ghost use Rattle.geom_core.specs.Rects.{holds};
@@ -6,7 +6,7 @@ ghost use Rattle.geom_core.specs.declared.geometry.Rect.{Rect};
 ghost use Rattle.seen_parts.specs.Frames.{IsCanvas};
 ghost use Rattle.seen_parts.specs.Meeting.{as_seen};
 ghost use Rattle.kept_views.specs.Kept.{owed};
-ghost use Rattle.kept_views.specs.Laying.{Fit, IsPut, IsQuiet, differ, moved_to, same_place, spot_of};
+ghost use Rattle.kept_views.specs.Laying.{Fit, IsPut, IsQuiet, IsQuietAll, IsQuietBack, differ, moved_to, same_place, spot_of};
 ghost use Rattle.kept_views.specs.Passes.{settled, settled_at};
 ghost use Rattle.measure_pass.specs.Caches.{Grown};
 ghost use Rattle.measure_pass.specs.Measured.{IsFit, Keeps};
@@ -30,7 +30,7 @@ ghost use Rattle.traversal.specs.Narrow.{AreNarrow, IsNarrow, IsNarrowFor, IsStr
 ghost use Rattle.traversal.specs.Placing.{LaidKids, PlacesAs, Unmarked};
 ghost use Rattle.traversal.specs.Resting.{IsAtPlace};
 
-use super::placer::Placer;
+use super::placer::{Placer, places_backwards};
 use damage_rect::Damage;
 use geom_core::{Rect, Size};
 use measure_pass::remeasure;
@@ -39,7 +39,7 @@ use seen_parts::{Canvas, follow, part_seen};
 use view_model::Work;
 use view_tree::{Key, ViewTree};
 
-/// Lays a shown view, which was measured, in a rectangle, and all below it, as far as they need that.
+/// Lays a shown view, which was measured, in a rectangle, and all below it, where they need that.
 #[cycle(lay)]
 pub fn lay(
     tree: &mut ViewTree,
@@ -104,8 +104,8 @@ pub fn lay_open(
     bring(tree, view, rect, canvas, damage);
 }
 
-/// Brings the offset of a view that lies in this rectangle into its range. Where that changes it, what is seen of the
-/// view is damage; a view without a canvas is not looked at.
+/// Brings the offset of a view in this rectangle into its range. If that changes it, what is seen of the view is
+/// damage; a view without a canvas is not looked at.
 fn bring(tree: &mut ViewTree, view: Key, rect: Rect, canvas: Option<Canvas>, damage: &mut Damage)
     requires live { IsLive tree.old view }
     requires near { IfSome canvas (IsCanvas (2 ^ 37)) }
@@ -188,7 +188,7 @@ fn lies_at(bounds: Option<Rect>, rect: Rect) -> bool
     }
 }
 
-/// Sets the bounds of a view where they change; whether they did.
+/// Sets the bounds of a view if they change; returns whether they did.
 fn move_to(tree: &mut ViewTree, view: Key, rect: Rect) -> bool
     requires { IsLive tree.old view }
     ensures moved { same_place (state_of tree.old view).bounds rect ≡ (if result then false else true) }
@@ -206,7 +206,7 @@ fn move_to(tree: &mut ViewTree, view: Key, rect: Rect) -> bool
     true
 }
 
-/// What was asked of a view is done. Where nothing was, nothing is written.
+/// What was asked of a view is done. If nothing was, nothing is written.
 pub fn settle(tree: &mut ViewTree, view: Key)
     requires { IsLive tree.old view }
     ensures is_tree { IsTree tree.old }
@@ -225,9 +225,41 @@ pub fn settle(tree: &mut ViewTree, view: Key)
     tree.set_state(view, state);
 }
 
-/// Lays the children of a view of this size.
+/// Lays the children of a view of this size, in the order in which it places them.
 #[cycle(lay)]
 fn lay_kids(
+    tree: &mut ViewTree,
+    view: Key,
+    size: Size,
+    canvas: Option<Canvas>,
+    damage: &mut Damage,
+    work: &mut Work,
+)
+    requires live { IsLive tree.old view }
+    requires fit { Fit (held_of tree.old) (children_of_first (part_from view tree.old.tree)) }
+    requires narrow { class_of tree.old view ≡ RelativeLayout → AreNarrow (held_of tree.old) (children_of_first (part_from view tree.old.tree)) }
+    requires near { IfSome canvas (IsCanvas (2 ^ 37)) }
+    ensures grew { LiesIn damage.old.rect damage.new.rect }
+    ensures sight { KeepsSightIn canvas damage.new.rect (held_of tree.old) (held_of tree.new) (children_of_first (part_from view tree.old.tree)) }
+    ensures within { GrowsWithin canvas damage.old.rect damage.new.rect (held_of tree.old) (held_of tree.new) (children_of_first (part_from view tree.old.tree)) }
+    ensures same { SameTree tree.old tree.new }
+    ensures quiet { IsQuietAll (held_of tree.new) (spot_of (part_from view tree.old.tree) (held_of tree.old view) size) (held_of tree.old) (children_of_first (part_from view tree.old.tree)) }
+    ensures others { KeepsOutside (held_of tree.old) (held_of tree.new) (children_of_first (part_from view tree.old.tree)) }
+    ensures measured { work.new.measured ≤ work.old.measured + owed (held_of tree.old) (children_of_first (part_from view tree.old.tree)) }
+    ensures laid { tree.new.counts.laid ≤ tree.old.counts.laid + differ (held_of tree.old) (held_of tree.new) (children_of_first (part_from view tree.old.tree)) }
+    ensures counted { IsCounted tree.old tree.new work.old work.new }
+    ensures caches { Grown (LastAt (held_of tree.old) (children_of_first (part_from view tree.old.tree))) (held_of tree.old) (held_of tree.new) (children_of_first (part_from view tree.old.tree)) }
+{
+    if places_backwards(tree, view) {
+        lay_backwards(tree, view, size, canvas, damage, work);
+        return;
+    }
+    lay_forwards(tree, view, size, canvas, damage, work);
+}
+
+/// Lays the children of a view of this size, from the first to the last.
+#[cycle(lay)]
+fn lay_forwards(
     tree: &mut ViewTree,
     view: Key,
     size: Size,
@@ -256,6 +288,40 @@ fn lay_kids(
     while let Some(kid) = next {
         lay_kid(tree, &mut placer, kid, canvas, damage, work);
         next = tree.next(kid);
+    }
+}
+
+/// Lays the children of a view of this size, from the last to the first.
+#[cycle(lay)]
+fn lay_backwards(
+    tree: &mut ViewTree,
+    view: Key,
+    size: Size,
+    canvas: Option<Canvas>,
+    damage: &mut Damage,
+    work: &mut Work,
+)
+    requires live { IsLive tree.old view }
+    requires fit { Fit (held_of tree.old) (children_of_first (part_from view tree.old.tree)) }
+    requires narrow { class_of tree.old view ≡ RelativeLayout → AreNarrow (held_of tree.old) (children_of_first (part_from view tree.old.tree)) }
+    requires near { IfSome canvas (IsCanvas (2 ^ 37)) }
+    ensures grew { LiesIn damage.old.rect damage.new.rect }
+    ensures sight { KeepsSightIn canvas damage.new.rect (held_of tree.old) (held_of tree.new) (children_of_first (part_from view tree.old.tree)) }
+    ensures within { GrowsWithin canvas damage.old.rect damage.new.rect (held_of tree.old) (held_of tree.new) (children_of_first (part_from view tree.old.tree)) }
+    ensures same { SameTree tree.old tree.new }
+    ensures quiet { IsQuietBack (held_of tree.new) (spot_of (part_from view tree.old.tree) (held_of tree.old view) size) (held_of tree.old) (children_of_first (part_from view tree.old.tree)) }
+    ensures others { KeepsOutside (held_of tree.old) (held_of tree.new) (children_of_first (part_from view tree.old.tree)) }
+    ensures measured { work.new.measured ≤ work.old.measured + owed (held_of tree.old) (children_of_first (part_from view tree.old.tree)) }
+    ensures laid { tree.new.counts.laid ≤ tree.old.counts.laid + differ (held_of tree.old) (held_of tree.new) (children_of_first (part_from view tree.old.tree)) }
+    ensures counted { IsCounted tree.old tree.new work.old work.new }
+    ensures caches { Grown (LastAt (held_of tree.old) (children_of_first (part_from view tree.old.tree))) (held_of tree.old) (held_of tree.new) (children_of_first (part_from view tree.old.tree)) }
+{
+    let _in_range = work.measured;
+    let mut placer = Placer::start(tree, view, size);
+    let mut next = tree.last(view);
+    while let Some(kid) = next {
+        lay_kid(tree, &mut placer, kid, canvas, damage, work);
+        next = tree.previous(kid);
     }
 }
 

@@ -1,21 +1,21 @@
-//! Where a group puts its children, one after the other. What is here has one arm a class.
+//! Where a group places its children, one after the other. What is here has one arm per class.
 ghost use Rattle.std.specs.Prelude.{◌≡◌, ◌<◌, [], ◌∷◌, ◌++◌, List, length};
 ghost use Rattle.geom_core.specs.Limits.{IsSide};
 ghost use Rattle.view_model.specs.declared.limits.TheConstants.{MAX_VIEWS};
 ghost use Rattle.view_model.specs.Facts.{layout_facts};
-ghost use Rattle.view_model.specs.Layout.{Spot, place_in};
+ghost use Rattle.view_model.specs.Layout.{Spot, place_in, places_backwards};
 ghost use Rattle.view_model.specs.Measuring.{Measured};
 ghost use Rattle.view_model.specs.RelativeCourse.{relative_place};
 ghost use Rattle.view_model.specs.RelativeLayout.{sides_of};
 ghost use Rattle.view_tree.specs.Rows.{part_from};
-ghost use Rattle.view_tree.specs.Views.{IsLive, held_of};
+ghost use Rattle.view_tree.specs.Views.{IsLive, IsTree, class_of, facts_of, held_of};
 ghost use Rattle.kept_views.specs.Laying.{spot_of};
 ghost use Rattle.traversal.specs.Narrow.{AreSidesNarrow, IsNarrow, IsNarrowFor};
 ghost use Rattle.traversal.specs.Placing.{PlacesAs};
 
 use frame_layout::place;
 use geom_core::{Rect, Size};
-use linear_layout::Cursor;
+use linear_layout::{Cursor, is_backwards};
 use view_model::{Class, Edges, Facts};
 use view_tree::{Key, ViewTree};
 
@@ -34,7 +34,8 @@ impl Placer {
     /// Before the first child of a view of this size.
     pub fn start(tree: &ViewTree, view: Key, room: Size) -> Placer
         requires live { IsLive tree.now view }
-        ensures { PlacesAs result (spot_of (part_from view tree.now.tree) (held_of tree.now view) room) [] }
+        ensures places { PlacesAs result (spot_of (part_from view tree.now.tree) (held_of tree.now view) room) [] }
+        ensures is_tree { IsTree tree.now }
     {
         match tree.class(view) {
             Class::View | Class::TextView | Class::FrameLayout | Class::ScrollView => Placer::Over {
@@ -70,7 +71,22 @@ impl Placer {
     }
 }
 
-/// The rectangle between the sides of a child of this size; at the origin where it has none.
+/// Whether a view places its children from the last to the first.
+pub fn places_backwards(tree: &ViewTree, view: Key) -> bool
+    requires { IsLive tree.now view }
+    ensures { result ≡ places_backwards (class_of tree.now view) (facts_of tree.now view) }
+{
+    match tree.class(view) {
+        Class::LinearLayout => is_backwards(tree.facts(view)),
+        Class::View
+        | Class::TextView
+        | Class::FrameLayout
+        | Class::ScrollView
+        | Class::RelativeLayout => false,
+    }
+}
+
+/// The rectangle between the sides of a child of this size; at the origin if it has none.
 fn between(edges: Edges, size: Size) -> Rect
     requires width { IsSide size.w }
     requires height { IsSide size.h }

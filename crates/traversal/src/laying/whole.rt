@@ -29,9 +29,9 @@ use seen_parts::window_canvas;
 use view_model::{Facts, Work, rect_at};
 use view_tree::{Key, ViewTree};
 
-/// Measures the root, which is not gone, and lays it out in a window of this size, and all below it, as far as they
-/// need that; the offset of each scroll view that lies somewhere is then in its range. What is seen of the views that
-/// this moves or scrolls is damage. The root has not settled when this ends.
+/// Measures the root, which is not gone, and lays it out in a window of this size, and all below it, where they need
+/// that; the offset of each scroll view that has bounds is then in its range. What is seen of the views that this moves
+/// or scrolls is damage. The root has not settled when this ends.
 pub fn lay_root(tree: &mut ViewTree, root: Key, window: Size, damage: &mut Damage, work: &mut Work)
     requires root { first_key tree.old.tree ≡ Some root }
     requires shown { is_shown (head_view tree.old.tree).facts ≡ true }

@@ -1,4 +1,5 @@
--- What is left of the kept orders while the children of a view go, one after another, and once the view goes itself.
+-- What is left of the kept orders while the children of a view are removed, one after another, and then the view
+-- itself.
 use Rattle.std.proofs.Common.{◌≡◌, ◌≢◌, ◌⊎◌, ℕ, ◌<◌, ◌≤◌, true, List, [], ◌∷◌, Option, Some, None, refl, sym, ◌∙◌, ap, subst, arith, inl, inr}
 use Rattle.std.proofs.lemmas.Bool.{cases_Bool, cases_eq, eq-eqb, ne_eqb}
 use Rattle.std.specs.Map.{lookup}
@@ -30,7 +31,7 @@ part_less x k tree =
     let all = sum-part_from has k tree in
     omega arith
 
--- an edit of the children of a view leaves where another view is that is not below it
+-- an edit of the children of a view does not move a view that is not below it
 edit_within : (k : ℕ) (change : Forest Row → Forest Row) (row : Row) (below after : Forest Row) {tree : Forest Row} → Within (Branch row below after) tree → row.key ≢ k → count_of_key k tree ≤ 1
     → count_of_key row.key (first_tree (part_from k tree)) ≡ 0 → Within (Branch row (edit_kids k change below) (edit_kids k change after)) (edit_kids k change tree)
 edit_within k change row below after here ne once out = rw (edit_there k change row below after ne) here
@@ -171,7 +172,7 @@ number_own views key live =
     let number : number_of views key ≡ at.row.view.number = ap (λ part. (head_view part).number) at.is in
     subst (λ n. 0 < count_of_number n (first_tree (part_from key views.tree))) (sym number) (rw at.is (number_self at.row at.kids Nothing))
 
--- what is left while the children of a view go
+-- what is left while the children of a view are removed
 pub record Loosened (start now : Views) (key : ℕ) : Type 0 where
   pub path : ancestors key now.tree ≡ ancestors key start.tree
   pub own : number_of now key ≡ number_of start key
@@ -179,7 +180,7 @@ pub record Loosened (start now : Views) (key : ℕ) : Type 0 where
   pub slots : (other : ℕ) → 0 < count_of_key other start.tree → count_of_key other (first_tree (part_from key start.tree)) ≡ 0 → SameSlot other start.tree now.tree
   pub orders : (number : ℕ) → count_of_number number (first_tree (part_from key start.tree)) ≡ 0 → lookup (nat_eq number) now.orders ≡ lookup (nat_eq number) start.orders
 
--- one more child goes
+-- one more child is removed
 module _ (start now new : Views) (key kid : ℕ) (is : IsTree now) (live : IsLive now key) (there : IsLive now kid) (first : part_from kid now.tree ≡ children_of_first (part_from key now.tree))
     (tree : new.tree ≡ pruned_at_key kid now.tree) (part : (q : ℕ) → count_of_key q (first_tree (part_from key now.tree)) ≤ count_of_key q (first_tree (part_from key start.tree)))
     (cut : Detached now new kid) (before : Loosened start now key) where

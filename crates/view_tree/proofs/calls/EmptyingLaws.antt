@@ -22,7 +22,7 @@ part_from-edit k g row kids siblings e (in_after {row = row'} {kids = kids'} {si
     let z : count_of_key k kids' ≡ 0 = omega arith in
     rw (edit_there k g row' kids' siblings' ne, edit_absent k g kids' z, ne_eqb row'.key k ne, absent k kids' z, part_from-edit k g row kids siblings e w (omega arith))
 
--- what is left of the tree, and of what is kept, while the children of the view go
+-- what is left of the tree, and of what is kept, while the children of the view are removed
 pub record Emptied (start now : Forest Row) (view : ℕ) (old new : ℕ → Held) : Type 0 where
   pub live : 0 < count_of_key view now
   pub end : pruned_at_key view now ≡ pruned_at_key view start
@@ -30,7 +30,7 @@ pub record Emptied (start now : Forest Row) (view : ℕ) (old new : ℕ → Held
   pub part : (q : ℕ) → count_of_key q (first_tree (part_from view now)) ≤ count_of_key q (first_tree (part_from view start))
   pub others : (q : ℕ) → count_of_key q (first_tree (part_from view start)) ≡ 0 → new q ≡ old q
 
--- the first child of a view goes
+-- the first child of a view is removed
 pub record Step (t t' : Forest Row) (view : ℕ) : Type 0 where
   pub live : 0 < count_of_key view t'
   pub end : pruned_at_key view t' ≡ pruned_at_key view t
@@ -79,7 +79,7 @@ module _ (t : Forest Row) (once : (x : ℕ) → count_of_key x t ≤ 1) (view k 
   pub count_kid : count_of (first_tree (part_from k t)) ≤ count_of (children_of_first (part_from view t))
   count_kid = rw (g.is, f.is, kids) (omega arith)
 
--- one more child is gone
+-- one more child is removed
 pub emptied_on : (start now : Forest Row) (view k : ℕ) (old mid new : ℕ → Held) → ((x : ℕ) → count_of_key x now ≤ 1) → 0 < count_of_key k now → part_from k now ≡ children_of_first (part_from view now)
     → ((q : ℕ) → count_of_key q (first_tree (part_from k now)) ≡ 0 → new q ≡ mid q)
     → Emptied start now view old mid → Emptied start (pruned_at_key k now) view old new

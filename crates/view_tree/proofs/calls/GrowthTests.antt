@@ -1,4 +1,4 @@
--- Whether a parent takes a child, by what is asked of it.
+-- Whether a parent takes a child, as a test computes it.
 use Rattle.std.proofs.Common.{◌≡◌, ◌+◌, ◌∙◌, ℕ, suc, Bool, Option, Some, Result, length, ap, sym, subst, arith}
 use Rattle.view_model.specs.declared.kinds.Class.{Class}
 use Rattle.view_model.specs.Forest.{count_of}

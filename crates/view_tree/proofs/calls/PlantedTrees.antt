@@ -43,7 +43,7 @@ plain_here views k live =
     let f = located k views.tree live in
     rw f.is (ap (λ key. Branch (record f.row.view { facts = record f.row.view.facts { offset = (held_of views key).offset } }) (plain_rows (held_of views) f.kids) Nothing) f.key_is)
 
--- a view that is put together from its parts
+-- a view that is made from its parts
 pub view_together : (views : Views) (k number : ℕ) (class : Class) (facts : Facts) (text : List ℕ)
     → number ≡ number_of views k → class ≡ class_of views k → facts ≡ facts_of views k → text ≡ text_of views k
     → record { number = number; class = class; facts = facts; text = text } ≡ view_at views k

@@ -9,7 +9,7 @@ use Rattle.view_tree.proofs.forest.KeyLaws.{times_self}
 use Rattle.view_tree.proofs.nodes.PrunedPart.{own_more}
 use Rattle.view_tree.proofs.forest.Forests.{some_is}
 
--- the nearest, where they are listed with the nearest first
+-- the nearest, if they are listed with the nearest first
 abbrev pub head : List ℕ → Option ℕ
 head [] = None
 head (x ∷ xs) = Some x
@@ -70,7 +70,7 @@ nearest k (Branch row kids siblings) acc once h = elim (cases_eq row.key k) [
   ]
 ]
 
--- what a parent is told to be
+-- what a parent is said to be
 pub record Up (o : Option ℕ) (k : ℕ) (t : Forest Row) : Type 0 where
   pub path : MatchOption o (ancestors k t ≡ []) (λ p. ancestors k t ≡ p ∷ ancestors p t)
   pub live : MatchOption o (Unit {0}) (λ p. 0 < count_of_key p t)

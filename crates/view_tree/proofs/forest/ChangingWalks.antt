@@ -1,4 +1,4 @@
--- Walks that change what is kept of each view that they pass, where one change is as good as two.
+-- Walks that change what is kept of each view that they pass, where changing twice is the same as changing once.
 use Rattle.std.proofs.Common.{◌≡◌, ◌≢◌, ℕ, ◌+◌, ◌<◌, Option, Some, None, refl, sym, ◌∙◌, ap, arith, inl, inr}
 use Rattle.std.proofs.lemmas.Bool.{cases_eq, eq-eqb, ne_eqb}
 use Rattle.std.specs.Prelude.{◌==◌, IfSome, if◌then◌else◌}
@@ -12,7 +12,7 @@ use Rattle.view_tree.proofs.forest.Walks.{Walk, count_of_key-parts, walk_on, wal
 abbrev pub changed_times : (Held → Held) → ℕ → Held → Held
 changed_times change count held = if count == 0 then held else change held
 
--- changes of the views of keys, of which one is as good as two
+-- changes of the views of keys, where changing twice is the same as changing once
 abbrev pub IsOnce : (ℕ → Held → Held) → Type 0
 IsOnce change = (key : ℕ) (held : Held) → change key (change key held) ≡ change key held
 

@@ -1,4 +1,4 @@
--- Whether views have children, by their keys and by their numbers, and what new views do to that.
+-- Whether views have children, by their keys and by their numbers, and how new views affect that.
 use Rattle.std.proofs.Common.{◌≡◌, ◌≢◌, ℕ, ◌<◌, true, false, refl, sym, ◌∙◌, ap, arith, eqb-true, inl, inr}
 use Rattle.std.proofs.lemmas.Bool.{cases_Bool, eq-eqb}
 use Rattle.std.specs.Prelude.{◌==◌}
@@ -41,7 +41,7 @@ first-has_below Nothing = refl
 first-has_below (Branch row Nothing siblings) = refl
 first-has_below (Branch row (Branch kid below after) siblings) = refl
 
--- where another view gets children, a view has some exactly if it had
+-- if another view gets children, a view has some exactly if it had
 pub has_kids-grown : (key parent : ℕ) (new tree : Forest Row) → key ≢ parent → count_of_key key new ≡ 0 → has_kids key (grown_at_key parent new tree) ≡ has_kids key tree
 has_kids-grown key parent new tree apart none =
     read-grown has_below key new none (λ row kids siblings. refl) parent (λ row kids siblings. has_row-grown parent new kids)
@@ -64,7 +64,7 @@ has_kids-parent parent new (Branch row kids siblings) live some =
           ]
     ]
 
--- a view that comes alone has no child
+-- a view that is added alone has no child
 pub has_kids-leaf : (key : ℕ) (view : PlainView) → has_kids key (leaf key view) ≡ false
 has_kids-leaf key view = rw (eq-eqb key key refl)
 

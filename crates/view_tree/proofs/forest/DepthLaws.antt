@@ -1,4 +1,4 @@
--- How deep views are, by their keys and by their numbers, and what edits do to that.
+-- How deep views are, by their keys and by their numbers, and how edits affect that.
 use Rattle.std.proofs.Common.{◌≡◌, ℕ, suc, ◌+◌, ◌<◌, ◌≤◌, false, List, [], ◌∷◌, length, refl, ◌∙◌, ap, arith, eqb-true, inl, inr}
 use Rattle.std.proofs.lemmas.Bool.{eq-eqb, ne_eqb, cases_Bool}
 use Rattle.std.specs.Prelude.{◌==◌}
@@ -37,7 +37,7 @@ depth_keyed held key number (Branch row kids siblings) live agree =
           ]
     ]
 
--- where a key is not there, nothing more is around it
+-- if a key is not there, nothing more is around it
 pub around_absent : (outer : List ℕ) (key : ℕ) (tree : Forest Row) → count_of_key key tree ≡ 0 → around outer key tree ≡ outer
 around_absent outer key Nothing none = refl
 around_absent outer key (Branch row kids siblings) none =
@@ -46,7 +46,7 @@ around_absent outer key (Branch row kids siblings) none =
       | inr e ↦ let z : count_of_key key kids ≡ 0 = omega arith in rw (e, z) (around_absent outer key siblings (omega arith))
     ]
 
--- a depth is one more than there are ancestors, those around the list left out
+-- a depth is one more than the number of ancestors, not counting those around the list
 pub depth_around : (held : ℕ → Held) (outer : List ℕ) (key number : ℕ) (tree : Forest Row) → 0 < count_of_key key tree → Agree key number tree
     → depth_of number (plain_rows held tree) + length outer ≡ suc (length (around outer key tree))
 depth_around held outer key number Nothing live agree = absurd (omega arith)
@@ -64,7 +64,7 @@ depth_around held outer key number (Branch row kids siblings) live agree =
           ]
     ]
 
--- the depth of a live view is one more than it has ancestors
+-- the depth of a live view is one more than the number of its ancestors
 pub depth_is : (held : ℕ → Held) (key number : ℕ) (tree : Forest Row) → 0 < count_of_key key tree → Agree key number tree
     → depth_of number (plain_rows held tree) ≡ suc (length (ancestors key tree))
 depth_is held key number tree live agree = let i = depth_around held [] key number tree live agree in omega arith
@@ -108,7 +108,7 @@ pub ancestors-pruned_at_key : (other key : ℕ) (tree : Forest Row) → 0 < coun
     → ancestors other (pruned_at_key key tree) ≡ ancestors other tree
 ancestors-pruned_at_key other key tree stays once = around-pruned_at_key [] other key tree stays once
 
--- more views behind a list are around nothing in it, and have around them what it has
+-- views appended to a list have no descendant in it, and have around them what it has
 pub around-joined : (outer : List ℕ) (other : ℕ) (list more : Forest Row) → count_of_key other more ≡ 0 → around outer other (joined list more) ≡ around outer other list
 around-joined outer other Nothing more none = around_absent outer other more none
 around-joined outer other (Branch row kids siblings) more none = rw (around-joined outer other siblings more none)
@@ -121,7 +121,7 @@ around-behind outer other (Branch row kids siblings) more none =
       | inr e ↦ let z : count_of_key other kids ≡ 0 = omega arith in rw (e, z) (around-behind outer other siblings more (omega arith))
     ]
 
--- a view keeps its ancestors where another gets children that it is not among
+-- a view keeps its ancestors if another gets children that it is not among
 pub around-grown : (outer : List ℕ) (other parent : ℕ) (new tree : Forest Row) → count_of_key other new ≡ 0 → around outer other (grown_at_key parent new tree) ≡ around outer other tree
 around-grown outer other parent new Nothing none = refl
 around-grown outer other parent new (Branch row kids siblings) none =

@@ -1,4 +1,4 @@
--- What edits of trees by a test do, and what is kept of them, whatever the rows are.
+-- Edits of trees by a test, and what they keep, whatever the rows are.
 use Rattle.std.proofs.Common.{◌≡◌, Bool, ◌∷◌, map, refl, ap, inl, inr}
 use Rattle.std.proofs.lemmas.Bool.{cases_Bool}
 use Rattle.std.proofs.lemmas.List.{map-append}
@@ -64,7 +64,7 @@ map_rows-edited f passes test edit other same (Branch row below after) agree =
       )
     ]
 
--- lists one behind the other
+-- lists one after the other
 pub joined-nothing : {R : Type 0} (list : Forest R) → joined list Nothing ≡ list
 joined-nothing Nothing = refl
 joined-nothing (Branch row below after) = rw (joined-nothing after)
@@ -73,7 +73,7 @@ pub joined-assoc : {R : Type 0} (list more rest : Forest R) → joined (joined l
 joined-assoc Nothing more rest = refl
 joined-assoc (Branch row below after) more rest = rw (joined-assoc after more rest)
 
--- nothing comes below a row
+-- nothing is added below a row
 pub grown_where-nothing : {R : Type 0} (passes : R → Bool) (trees : Forest R) → grown_where passes Nothing trees ≡ trees
 grown_where-nothing passes Nothing = refl
 grown_where-nothing passes (Branch row below after) =
@@ -82,7 +82,7 @@ grown_where-nothing passes (Branch row below after) =
       | inr e ↦ rw (e, grown_where-nothing passes below, grown_where-nothing passes after)
     ]
 
--- trees come below a row, and then more
+-- trees are added below a row, and then more
 pub grown_where-again : {R : Type 0} (passes : R → Bool) (first more trees : Forest R)
     → grown_where passes more (grown_where passes first trees) ≡ grown_where passes (joined first more) trees
 grown_where-again passes first more Nothing = refl

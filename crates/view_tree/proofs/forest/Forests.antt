@@ -1,4 +1,4 @@
--- What nodes that stand for a forest say of it.
+-- What the nodes that represent a forest hold about it.
 use Rattle.std.proofs.Common.{◌≡◌, ℕ, zero, suc, ◌<◌, ◌≤◌, Option, Some, None, refl, sym, ◌∙◌, ap, arith}
 use Rattle.std.specs.Prelude.{IfSome}
 use Rattle.view_model.specs.Forest.{Forest, Nothing, Branch, count_of}
@@ -9,7 +9,7 @@ use Rattle.view_tree.proofs.forest.KeyLaws.{Within, here, in_below, in_after, Lo
 pub some_is : {A : Type 0} {x y : A} → Some x ≡ Some y → x ≡ y
 some_is e = cc
 
--- enough fuel gives the forest that the nodes stand for
+-- enough fuel gives the forest that the nodes represent
 pub forest_is : (n : ℕ) (at : ℕ → Option PlainNode) (p q : Option ℕ) (t : Forest Row) → RepresentsPart at p q t → count_of t < n → forest n at (first_key t) ≡ t
 unfolding forest
 forest_is zero at p q t s few = absurd (omega arith)
@@ -19,7 +19,7 @@ forest_is (suc n) at p q (Branch row kids siblings) s few =
     ∙ ap (λ t. Branch row t (forest n at (first_key siblings))) (forest_is n at (Some row.key) None kids s.1 (omega arith))
     ∙ ap (λ t. Branch row kids t) (forest_is n at p (Some row.key) siblings s.2 (omega arith))
 
--- a part stands too
+-- a part is represented too
 pub record Stood (at : ℕ → Option PlainNode) (u : Forest Row) : Type 0 where
   pub parent : Option ℕ
   pub before : Option ℕ
@@ -45,11 +45,11 @@ Within-later_siblings here = in_after here
 Within-later_siblings (in_below w) = in_below (Within-later_siblings w)
 Within-later_siblings (in_after w) = in_after (Within-later_siblings w)
 
--- the forest that the nodes give is the one that they stand for
+-- the forest that the nodes give is the one that they represent
 pub tree_is : (at : ℕ → Option PlainNode) (root : Option ℕ) (next : ℕ) (t : Forest Row) → RepresentsTree at root next t → forest next at root ≡ t
 tree_is at root next t s = ap (forest next at) (sym s.outer) ∙ forest_is next at None None t s.stand s.few
 
--- what a node says, at a view
+-- what the node of a view holds
 pub record Seen (at : ℕ → Option PlainNode) (k : ℕ) (t : Forest Row) : Type 0 where
   pub found : Located k t
   pub parent : Option ℕ

@@ -1,4 +1,4 @@
--- What each view is, and how often its key occurs, once others have come below one.
+-- What each view is, and how often its key occurs, once others were added below one.
 use Rattle.std.proofs.Common.{◌≡◌, ℕ, ◌<◌, ◌≤◌, true, Option, Some, None, refl, sym, ◌∙◌, ap, arith, inl, inr}
 use Rattle.std.proofs.lemmas.Bool.{cases_Bool, eq-eqb}
 use Rattle.std.specs.Prelude.{◌==◌}
@@ -9,7 +9,7 @@ use Rattle.view_tree.specs.Rows.{Row, count_of_key, grown_at_key, head_view, lea
 use Rattle.view_tree.proofs.forest.KeyLaws.{absent, or_else_live, zero_or_more}
 use Rattle.view_tree.proofs.forest.NumberLaws.{count_of_key-grown_none, count_of_key-grown_some, count_of_key-joined, grown_absent}
 
--- no key becomes rarer
+-- no key becomes less frequent
 pub count_of_key-grown_more : (other parent : ℕ) (new tree : Forest Row) → count_of_key other tree ≤ count_of_key other (grown_at_key parent new tree)
 count_of_key-grown_more other parent new Nothing = omega arith
 count_of_key-grown_more other parent new (Branch row kids siblings) =
@@ -23,7 +23,7 @@ pub count_of_key-with_child_more : (other : ℕ) (parent : Option ℕ) (new tree
 count_of_key-with_child_more other None new tree empty = rw (empty refl) (omega arith)
 count_of_key-with_child_more other (Some parent) new tree empty = count_of_key-grown_more other parent new tree
 
--- what is read of the part from a view on stays where others come behind the view, or below another one
+-- what is read of the part from a view on stays if others are added after the view, or below another one
 module _ {A : Type 0} (read : Forest Row → A) (key : ℕ) (new : Forest Row) (none : count_of_key key new ≡ 0)
     (behind : (row : Row) (kids siblings : Forest Row) → read (Branch row kids (joined siblings new)) ≡ read (Branch row kids siblings)) where
   pub read-joined : (list : Forest Row) → read (part_from key (joined list new)) ≡ read (part_from key list)
@@ -71,7 +71,7 @@ module _ {A : Type 0} (read : Forest Row → A) (key : ℕ) (new : Forest Row) (
           ]
         ]
 
--- a view stays what it is where others come behind it or below it
+-- a view stays what it is if others are added after it or below it
 pub head_view-grown : (key parent : ℕ) (new tree : Forest Row) → count_of_key key new ≡ 0
     → head_view (part_from key (grown_at_key parent new tree)) ≡ head_view (part_from key tree)
 head_view-grown key parent new tree none =
@@ -117,7 +117,7 @@ head_view-new key parent new tree live none there = ap head_view (part_from-new 
 pub head_view-leaf : (key : ℕ) (view : PlainView) → head_view (part_from key (leaf key view)) ≡ unscrolled view
 head_view-leaf key view = rw (eq-eqb key key refl)
 
--- views come below one of those that came
+-- views are added below one of the new ones
 grown_at_key-joined : (parent : ℕ) (new list more : Forest Row) → count_of_key parent list ≡ 0
     → grown_at_key parent new (joined list more) ≡ joined list (grown_at_key parent new more)
 grown_at_key-joined parent new Nothing more none = refl

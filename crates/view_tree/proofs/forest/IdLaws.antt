@@ -15,7 +15,7 @@ use Rattle.view_tree.proofs.forest.NumberLaws.{put_absent, sum-pruned_at_key, su
 use Rattle.view_tree.proofs.forest.PlainLaws.{key_where_live}
 use Rattle.view_tree.proofs.forest.SearchLaws.{search}
 
--- what the first view of a list weighs
+-- how much the first view of a list counts
 abbrev pub at_head : (Row → ℕ) → Forest Row → ℕ
 at_head f Nothing = 0
 at_head f (Branch row kids siblings) = f row
@@ -143,7 +143,7 @@ holders_of-put id key change tree live once small =
     (count_where (has_id id) (changed_at_key key change tree)) (keys_where (has_id id) (changed_at_key key change tree))
     count keys (keys_where-none (has_id id) tree) small
 
--- what a look-up tells of a search
+-- how a look-up relates to a search
 pub holders_of-few : (id : ℕ) (tree : Forest Row) → count_of tree ≤ MAX_VIEWS → IfSome (holders_of id tree) (λ held. held.count ≤ MAX_VIEWS)
 holders_of-few id tree few =
     let less = count_where-few (has_id id) tree in

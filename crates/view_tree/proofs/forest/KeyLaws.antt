@@ -1,4 +1,4 @@
--- Trees of keyed views: where a key is, and which number stands for it.
+-- Trees of keyed views: where a key is, and which number it represents.
 use Rattle.std.proofs.Common.{◌≡◌, ℕ, zero, suc, ◌+◌, ◌<◌, ◌≤◌, true, false, refl, sym, ◌∙◌, arith, eqb-true, ◌⊎◌, inl, inr}
 use Rattle.std.proofs.lemmas.Bool.{eq-eqb, cases_Bool}
 use Rattle.std.specs.Prelude.{◌==◌, if◌then◌else◌}
@@ -16,7 +16,7 @@ times_self row kids siblings = rw (eq-eqb row.key row.key refl) (omega arith)
 pub number_self : (row : Row) (kids siblings : Forest Row) → 0 < count_of_number row.view.number (Branch row kids siblings)
 number_self row kids siblings = rw (eq-eqb row.view.number row.view.number refl) (omega arith)
 
--- where no view has the key, there is no part from it on
+-- if no view has the key, there is no part from it on
 pub absent : (key : ℕ) (tree : Forest Row) → count_of_key key tree ≡ 0 → part_from key tree ≡ Nothing
 absent key Nothing none = refl
 absent key (Branch row kids siblings) none =
@@ -95,7 +95,7 @@ number_live key tree live =
     let n = number-within f.row.view.number f.within in
     rw f.is (omega (arith, number_self f.row f.kids f.siblings))
 
--- where neither occurs, they agree
+-- if neither occurs, they agree
 pub agree_absent : (key number : ℕ) (tree : Forest Row) → count_of_key key tree ≡ 0 → count_of_number number tree ≡ 0 → Agree key number tree
 agree_absent key number Nothing k n = tt
 agree_absent key number (Branch row kids siblings) k n = (
@@ -143,7 +143,7 @@ agreed_apart key number row kids siblings e live once one is in_kids in_siblings
           )
     ]
 
--- a key that occurs once and a number that occurs once agree, where the number is that of the key
+-- a key that occurs once and a number that occurs once agree, if the number is that of the key
 pub agreed : (key number : ℕ) (tree : Forest Row) → 0 < count_of_key key tree → count_of_key key tree ≤ 1 → count_of_number number tree ≤ 1
     → (head_view (part_from key tree)).number ≡ number → Agree key number tree
 agreed key number Nothing live once one is = absurd (omega arith)

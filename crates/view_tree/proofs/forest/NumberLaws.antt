@@ -33,7 +33,7 @@ grown_absent parent new tree none = edited_absent parent _ tree none
 pub put_absent : (key : ℕ) (change : PlainView → PlainView) (tree : Forest Row) → count_of_key key tree ≡ 0 → changed_at_key key change tree ≡ tree
 put_absent key change tree none = edited_absent key _ tree none
 
--- what a tree weighs is what is cut off and what stays
+-- the count of a tree is that of what is cut off and what stays
 pub sum-pruned_at_key : (f : Row → ℕ) (key : ℕ) (tree : Forest Row) → count_of_key key tree ≤ 1 → sum_of f (pruned_at_key key tree) + sum_of f (first_tree (part_from key tree)) ≡ sum_of f tree
 sum-pruned_at_key f key Nothing once = refl
 sum-pruned_at_key f key (Branch row kids siblings) once =
@@ -69,7 +69,7 @@ sum-grown f parent new (Branch row kids siblings) live once =
           ]
     ]
 
--- a change that keeps what a view weighs
+-- a change that keeps how much a view counts
 pub sum-put : (f : Row → ℕ) (key : ℕ) (change : PlainView → PlainView) (tree : Forest Row) → ((row : Row) → f (record row { view = change row.view }) ≡ f row)
     → sum_of f (changed_at_key key change tree) ≡ sum_of f tree
 sum-put f key change Nothing same = refl
@@ -113,7 +113,7 @@ pub sum-with_child : (f : Row → ℕ) (parent : Option ℕ) (new tree : Forest 
 sum-with_child f None new tree live root once = rw (root refl) (omega arith)
 sum-with_child f (Some parent) new tree live root once = sum-grown f parent new tree live (once parent)
 
--- how often a key and a number occur where a view is cut off, and how many views there are
+-- how often a key and a number occur if a view is cut off, and how many views there are
 pub count_of_key-pruned_at_key : (other key : ℕ) (tree : Forest Row) → count_of_key key tree ≤ 1 → count_of_key other (pruned_at_key key tree) + count_of_key other (first_tree (part_from key tree)) ≡ count_of_key other tree
 count_of_key-pruned_at_key other key tree once = sum-pruned_at_key (has_key other) key tree once
 
@@ -126,7 +126,7 @@ number-cut_le number key tree = sum-cut_le (has_number number) key tree
 pub count-cut_le : (key : ℕ) (tree : Forest Row) → count_of (pruned_at_key key tree) ≤ count_of tree
 count-cut_le key tree = sum-cut_le (λ _. 1) key tree
 
--- a live view is in its own part, and after a cut it is gone
+-- a live view is in its own part, and after a cut it is no longer there
 pub count_of_key-own_part : (key : ℕ) (tree : Forest Row) → 0 < count_of_key key tree → 0 < count_of_key key (first_tree (part_from key tree))
 count_of_key-own_part key tree live =
     let f = located key tree live in
@@ -147,7 +147,7 @@ live-pruned_at_key other key tree once single =
     let both = count_of_key-pruned_at_key other key tree once in
     (λ stays. (omega arith, omega arith), λ was. let there = was.0 in let apart = was.1 in omega arith)
 
--- how often a key and a number occur where a view has got more children
+-- how often a key and a number occur if a view has got more children
 pub count_of_key-grown : (other parent : ℕ) (new tree : Forest Row) → 0 < count_of_key parent tree → count_of_key parent tree ≤ 1
     → count_of_key other (grown_at_key parent new tree) ≡ count_of_key other tree + count_of_key other new
 count_of_key-grown other parent new tree live once = sum-grown (has_key other) parent new tree live once
@@ -214,7 +214,7 @@ pub agree-pruned_at_key : (other number key : ℕ) (tree : Forest Row) → Agree
 agree-pruned_at_key other number key tree agree =
     every-edited (λ row. (row.view.number == number) ≡ (row.key == other)) (λ row. row.key == key) _ (λ row kids siblings own below after. after) tree agree
 
--- a list of children with more behind it, and a tree that gets views without the key
+-- a list of children with more after it, and a tree that gets views without the key
 pub count_of_key-joined : (other : ℕ) (list more : Forest Row) → count_of_key other (joined list more) ≡ count_of_key other list + count_of_key other more
 count_of_key-joined other list more = sum-joined (has_key other) list more
 

@@ -16,7 +16,7 @@ search_first passes k t live pass =
     let own : passes f.row.view ≡ true = rw f.is at pass in
     rw (f.is, search passes f.row f.kids Nothing, own) (ap (λ k. Some k) f.key_is)
 
--- else the first is among the views below it
+-- otherwise the first is among the views below it
 pub search_below : (passes : PlainView → Bool) (k : ℕ) (t : Forest Row) → 0 < count_of_key k t → passes (head_view (part_from k t)) ≡ false
     → key_where passes (first_tree (part_from k t)) ≡ key_where passes (children_of_first (part_from k t))
 search_below passes k t live pass =

@@ -1,4 +1,4 @@
--- What edits and look-ups of keyed trees are on plain trees.
+-- Edits and look-ups of keyed trees as those of plain trees.
 use Rattle.std.proofs.Common.{◌≡◌, ◌≢◌, ℕ, ◌<◌, ◌≤◌, Bool, true, List, [], ◌∷◌, ◌++◌, Option, Some, None, map, refl, sym, ◌∙◌, ap, subst, arith, eqb-true, inl, inr}
 use Rattle.std.proofs.lemmas.Bool.{eqb-false, cases_Bool}
 use Rattle.std.specs.Prelude.{◌==◌, find, MatchOption, IfSome}
@@ -22,7 +22,7 @@ pub plain-pruned_at_key : (held : ℕ → Held) (key number : ℕ) (tree : Fores
 plain-pruned_at_key held key number tree agree =
     map_rows-edited (scrolled held) (λ row. row.key == key) (λ view. view.number == number) _ _ (λ row kids siblings. refl) tree agree
 
--- plain trees look at the offsets of the views alone
+-- plain trees only look at the offsets of the views
 pub plain_along : (old new : ℕ → Held) (tree : Forest Row) → ((key : ℕ) → 0 < count_of_key key tree → (new key).offset ≡ (old key).offset) → plain_rows new tree ≡ plain_rows old tree
 plain_along old new Nothing same = refl
 plain_along old new (Branch row kids siblings) same =
@@ -42,7 +42,7 @@ plain-leaf held key view is = rw is
 pub agree_live : (views : Views) (key : ℕ) → IsTree views → IsLive views key → Agree key (number_of views key) views.tree
 agree_live views key is live = agreed key (number_of views key) views.tree live (is.keys key) (is.numbers (number_of views key)) refl
 
--- where the plain trees of two holdings are the same but for a key that does not occur
+-- if the plain trees of two holdings are the same except at a key that does not occur
 pub plain_others : (old new : ℕ → Held) (key : ℕ) (tree : Forest Row) → count_of_key key tree ≡ 0 → ((other : ℕ) → other ≢ key → new other ≡ old other)
     → plain_rows new tree ≡ plain_rows old tree
 plain_others old new key tree none others =
@@ -156,7 +156,7 @@ find-map p f (x ∷ xs) =
       | inr e ↦ rw (e, find-map p f xs)
     ]
 
--- the row that is found first stands in the tree, and passes
+-- the row that is found first is in the tree, and passes
 pub record FoundRow (passes : Row → Bool) (tree : Forest Row) (row : Row) : Type 0 where
   pub kids : Forest Row
   pub siblings : Forest Row
@@ -203,7 +203,7 @@ pub found_head : (passes : Row → Bool) (tree : Forest Row) (row : Row) → fin
     → head_view (part_from row.key tree) ≡ row.view
 found_head passes tree row is once = ap head_view (found_from passes tree row is once)
 
--- the row behind a key that a search gives
+-- the row of a key that a search gives
 pub record KeyFound (passes : PlainView → Bool) (tree : Forest Row) (key : ℕ) : Type 0 where
   pub row : Row
   pub is : find (λ (row : Row). passes row.view) (rows tree) ≡ Some row
@@ -313,7 +313,7 @@ view_in_rows held number (Branch row kids siblings) =
       )
     ]
 
--- what a search for a number says of the plain tree
+-- how a search for a number relates to the plain tree
 pub find_found : (views : Views) (number : ℕ) → ((key : ℕ) → count_of_key key views.tree ≤ 1)
     → MatchOption (key_where (λ (view : PlainView). view.number == number) views.tree) (view_in (plain_of views) number ≡ None)
     (λ key. view_in (plain_of views) number ≡ Some (view_at views key))
@@ -354,7 +354,7 @@ by_id_rows views id once None at = refl
 by_id_rows views id once (Some row) at =
     ap (λ (view : PlainView). Some view.number) (found_head (λ (row : Row). row.view.facts.id == id) views.tree row at (once row.key))
 
--- what a search for an id says of the plain tree
+-- how a search for an id relates to the plain tree
 pub by_id_found : (views : Views) (id : ℕ) → ((key : ℕ) → count_of_key key views.tree ≤ 1)
     → option_map (number_of views) (key_where (λ (view : PlainView). view.facts.id == id) views.tree) ≡ number_by_id (plain_of views) id
 by_id_found views id once =

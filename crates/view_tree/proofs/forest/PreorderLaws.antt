@@ -55,7 +55,7 @@ from_head : (list : List Row) → from_option (first_row_key list) list ≡ list
 from_head [] = refl
 from_head (row ∷ list) = from_first row list
 
--- rows that are not there are passed over
+-- rows that are not there are skipped
 from_other : (first : Row) (list later : List Row) → ((key : ℕ) → key_count key (first ∷ list) ≤ 1) → ((key : ℕ) → key_count key later ≤ key_count key list)
     → from_option (first_row_key later) (first ∷ list) ≡ from_option (first_row_key later) list
 from_other first list [] once fewer = refl
@@ -67,7 +67,7 @@ from_other first list (row ∷ later) once fewer =
       | inr ne ↦ rw (ne_eqb first.key row.key ne) refl
     ]
 
--- the list from the key behind another on
+-- the list from the key after another on
 from_behind : (key : ℕ) (list : List Row) → ((other : ℕ) → key_count other list ≤ 1)
     → from_option (first_row_key (drop 1 (from_key key list))) list ≡ drop 1 (from_key key list)
 from_behind key [] once = refl
@@ -91,7 +91,7 @@ rows_behind_first key next tree once is =
     as_option None = refl
     as_option (Some k) = refl
 
--- a key that is not among these rows is behind them
+-- a key that is not among these rows is after them
 from_absent : (key : ℕ) (tree : Forest Row) (more : List Row) → count_of_key key tree ≡ 0 → from_key key (rows tree ++ more) ≡ from_key key more
 from_absent key tree more none = passed (rows tree) (key_count-rows key tree ∙ none)
   where
@@ -102,7 +102,7 @@ from_absent key tree more none = passed (rows tree) (key_count-rows key tree ∙
       | inr ne ↦ rw (ne_eqb row.key key ne) (passed list (omega arith))
     ]
 
--- from a view on, there come it, all below it, and what is behind these
+-- from a view on, there are it, all below it, and what is after these
 pub from_parts : (key : ℕ) (tree : Forest Row) (later : List Row) → 0 < count_of_key key tree
     → from_key key (rows tree ++ later) ≡ rows (first_tree (part_from key tree)) ++ rows_behind later key tree
 from_parts key Nothing later live = absurd (omega arith)
@@ -125,7 +125,7 @@ from_parts key (Branch row kids siblings) later live =
 pub rows_from_parts : (key : ℕ) (tree : Forest Row) → 0 < count_of_key key tree → rows_from (Some key) tree ≡ rows (first_tree (part_from key tree)) ++ rows_behind [] key tree
 rows_from_parts key tree live = ap (from_key key) (sym (append-nil (rows tree))) ∙ from_parts key tree [] live
 
--- what is behind a view and all below it: its later siblings, and what is behind its parent
+-- what is after a view and all below it: its later siblings, and what is after its parent
 pub record Outside (acc : List ℕ) (later : List Row) (key : ℕ) (tree : Forest Row) : Type 0 where
   pub parent : ℕ
   pub live : 0 < count_of_key parent tree
@@ -231,7 +231,7 @@ none_first : (list : Forest Row) → None ≡ first_key list → list ≡ Nothin
 none_first Nothing is = refl
 none_first (Branch row kids siblings) is = absurd (cc)
 
--- what is behind a view without a later sibling is behind its parent
+-- what is after a view without a later sibling is what is after its parent
 pub behind_last : (key : ℕ) (parent : Option ℕ) (tree : Forest Row) → ((other : ℕ) → count_of_key other tree ≤ 1) → 0 < count_of_key key tree
     → None ≡ first_key (later_siblings (part_from key tree))
     → MatchOption parent (ancestors key tree ≡ []) (λ parent. ancestors key tree ≡ parent ∷ ancestors parent tree)
@@ -245,7 +245,7 @@ behind_last key (Some parent) tree once live last path = elim (outside [] [] key
   | inr o ↦ o.behind ∙ rw (none_first (later_siblings (part_from key tree)) last) (ap (λ k. rows_behind [] k tree) (same_parent (sym o.path ∙ path)))
 ]
 
--- the first view behind one that has a later sibling
+-- the first view after one that has a later sibling
 pub behind_sibling : (key : ℕ) (sibling : ℕ) (tree : Forest Row) → ((other : ℕ) → count_of_key other tree ≤ 1) → 0 < count_of_key key tree
     → Some sibling ≡ first_key (later_siblings (part_from key tree)) → Some sibling ≡ first_row_key (rows_behind [] key tree)
 behind_sibling key sibling tree once live is = elim (outside [] [] key tree once live) [
@@ -257,7 +257,7 @@ behind_sibling key sibling tree once live is = elim (outside [] [] key tree once
     first_of Nothing more is = absurd (cc)
     first_of (Branch row kids siblings) more is = refl
 
--- the first view behind one that has children, and behind one that has none
+-- the first view after one that has children, and after one that has none
 pub behind_kid : (key kid : ℕ) (tree : Forest Row) → 0 < count_of_key key tree → Some kid ≡ first_key (children_of_first (part_from key tree))
     → Some kid ≡ first_row_key (drop 1 (rows_from (Some key) tree))
 behind_kid key kid tree live is =
@@ -287,7 +287,7 @@ pub rows_from_root : (tree : Forest Row) → rows_from (first_key tree) tree ≡
 rows_from_root Nothing = refl
 rows_from_root (Branch row kids siblings) = from_first row (rows kids ++ rows siblings)
 
--- the view at which a walk stands, and those that are left
+-- the view at which a walk is, and those that are left
 pub record Standing (key : ℕ) (tree : Forest Row) : Type 0 where
   pub row : Row
   pub is : rows_from (Some key) tree ≡ row ∷ drop 1 (rows_from (Some key) tree)
@@ -305,7 +305,7 @@ standing key tree live =
       view_is = ap head_view f.is;
     }
 
--- one view more has come
+-- one more view has been visited
 pub views_on : (views : Views) (key : ℕ) (next : Option ℕ) → IsLive views key → rows_from next views.tree ≡ drop 1 (rows_from (Some key) views.tree)
     → views_from views (Some key) ≡ view_at views key ∷ views_from views next
 views_on views key next live is =

@@ -42,7 +42,7 @@ module _ (passes : PlainView → Bool) where
   search-join Nothing new other = other
   search-join (Branch row kids siblings) new other = rw (search row kids (joined siblings new), search row kids siblings, search-join siblings new other)
 
-  -- more views, of which none passes
+  -- more views, none of which passes
   pub search-grown : (k : ℕ) (new t : Forest Row) → key_where passes new ≡ None → key_where passes (grown_at_key k new t) ≡ key_where passes t
   search-grown k new Nothing other = refl
   search-grown k new (Branch row kids siblings) other = elim (cases_eq row.key k) [
@@ -100,7 +100,7 @@ search_new (Some parent) key view t n live empty unused once earlier = elim (cas
   | inr ne ↦ rw (ne_eqb view.number n ne) (search-grown (λ (w : PlainView). w.number == n) parent (leaf key view) t (search_leaf key view n ∙ rw (ne_eqb view.number n ne)))
 ]
 
--- a leaf is found no more, and all others as before
+-- a leaf is no longer found, and all others are found as before
 other_number : (m n : ℕ) (row : Row) (k : ℕ) → (row.view.number == m) ≡ (row.key == k) → row.key ≡ k → m ≢ n → (row.view.number == n) ≡ false
 other_number m n row k agree e apart = ne_eqb row.view.number n (λ same. apart (sym (eqb-true _ _ (agree ∙ eq-eqb row.key k e)) ∙ same))
 

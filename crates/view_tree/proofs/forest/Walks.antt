@@ -1,4 +1,4 @@
--- Walks over the children of a view, and lists of views as their first tree and the trees behind it.
+-- Walks over the children of a view, and lists of views as their first tree and the trees after it.
 use Rattle.std.proofs.Common.{◌≡◌, ◌≢◌, ℕ, ◌+◌, ◌<◌, ◌≤◌, Option, Some, refl, sym, ◌∙◌, subst, arith}
 use Rattle.std.specs.Prelude.{IfSome}
 use Rattle.view_model.specs.Forest.{Forest, Nothing, Branch, count_of}
@@ -41,7 +41,7 @@ pub KeepsInside-below : (old new : ℕ → Held) (row : Row) (kids siblings : Fo
 KeepsInside-below old new row kids siblings once others key here = others key λ e.
     let none : count_of_key key kids ≡ 0 = subst (λ k. count_of_key k kids ≡ 0) (sym e) (not_below row kids siblings once) in absurd (omega arith)
 
--- what is the same in a list is the same of its first view, below it and behind it
+-- what is the same in a list is the same for its first view, below it and after it
 pub KeepsInside-self : (old new : ℕ → Held) (row : Row) (kids siblings : Forest Row) → KeepsInside old new (Branch row kids siblings) → new row.key ≡ old row.key
 KeepsInside-self old new row kids siblings same = same row.key (times_self row kids siblings)
 
@@ -51,12 +51,12 @@ KeepsInside-kids old new row kids siblings same = λ key here. same key (omega a
 pub KeepsInside-siblings : (old new : ℕ → Held) (row : Row) (kids siblings : Forest Row) → KeepsInside old new (Branch row kids siblings) → KeepsInside old new siblings
 KeepsInside-siblings old new row kids siblings same = λ key here. same key (omega arith)
 
--- what changes in the first tree of a list, and then behind it, changes in the list
+-- what changes in the first tree of a list, and then after it, changes in the list
 pub KeepsOutside-parts : (old mid end : ℕ → Held) (list : Forest Row) → KeepsOutside old mid (first_tree list) → KeepsOutside mid end (later_siblings list)
     → KeepsOutside old end list
 KeepsOutside-parts old mid end list first rest = λ key none. let parts = count_of_key-parts key list in rest key (omega arith) ∙ first key (omega arith)
 
--- what changes in the first tree alone is the same behind it, and the other way round
+-- what changes only in the first tree leaves what is after it, and the other way round
 pub KeepsInside-rest : (old mid : ℕ → Held) (list : Forest Row) → ((key : ℕ) → count_of_key key list ≤ 1) → KeepsOutside old mid (first_tree list)
     → KeepsInside old mid (later_siblings list)
 KeepsInside-rest old mid list once first = λ key here. let parts = count_of_key-parts key list in let one = once key in first key (omega arith)
@@ -77,7 +77,7 @@ pub record Walk (tree list : Forest Row) (next : Option ℕ) : Type 0 where
 pub walk_start : (tree list : Forest Row) (next : Option ℕ) → rest_from next tree ≡ list → IfSome next (λ key. 0 < count_of_key key tree) → Walk tree list next
 walk_start tree list next is live = record { live = live; few = rw is (omega arith) }
 
--- a walk falls with each step
+-- the rest of a walk shrinks with each step
 pub walk_falls : (tree list : Forest Row) (at next : Option ℕ) (key : ℕ) → at ≡ Some key → Walk tree list at → rest_from next tree ≡ later_siblings (part_from key tree)
     → count_of (rest_from next tree) < count_of (rest_from at tree)
 walk_falls tree list at next key is walk part = let walk = rw is at walk in rw (part, is) (live_after key tree walk.live)

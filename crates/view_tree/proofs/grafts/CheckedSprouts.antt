@@ -1,4 +1,4 @@
--- The views of a sapling of which some were looked at, and may come.
+-- The views of a sapling of which some were checked, and may be added.
 use Rattle.std.proofs.Common.{◌≡◌, ℕ, suc, ◌+◌, ◌-◌, ◌<◌, ◌≤◌, true, List, ◌∷◌, length, Option, Some, None, refl, sym, ◌∙◌, ap, arith, inl, inr}
 use Rattle.std.proofs.lemmas.Bool.{cases_eq}
 use Rattle.std.proofs.lemmas.List.{get_or-replicate, get_or-set_other, get_or-set_same, length-set}
@@ -15,8 +15,8 @@ use Rattle.view_tree.proofs.grafts.Paths.{Follows, followed, last_earlier, last_
 use Rattle.view_tree.proofs.grafts.Refusing.{at_none, refusal_along}
 use Rattle.view_tree.proofs.values.KeptLaws.{grows}
 
--- what is left to look at, where all that was looked at may come: `classes` has the class of the last view of each
--- place, and the last view of all has the depth `before`
+-- what is left to check, if all that was checked may be added: `classes` has the class of the last view of each place,
+-- and the last view of all has the depth `before`
 pub record Left (depth : ℕ) (total : Option PlainRefusal) (before : ℕ) (classes : List Class) (count element : ℕ) (rest : List Sprout) : Type 0 where
   pub path : ℕ → Class
   pub read : (place : ℕ) → place < before → slice_index_or classes place class.View ≡ path place
@@ -45,17 +45,17 @@ module _ (depth : ℕ) (total : Option PlainRefusal) (before : ℕ) (classes : L
   pub next : Follows before sprout more
   next = followed before sprout more left.follow
 
-  -- the class of the view that it comes below
+  -- the class of the view below which it is added
   pub above : slice_index_or classes (sprout.depth - 2) class.View ≡ left.path (sprout.depth - 2)
   above = left.read (sprout.depth - 2) (let n = next.next in let d = next.deep in omega arith)
 
-  -- it does not come
+  -- it is refused
   pub left_out : (told : PlainRefusal)
       → at_element element (growth_refusal (slice_index_or classes (sprout.depth - 2) class.View) (nat_le sprout.depth before) (depth + (sprout.depth - 2)) count) ≡ Some told
       → total ≡ Some told
   left_out told is = let here = rw above at is in sym left.same ∙ rw here
 
-  -- it comes
+  -- it may be added
   module _ (taken : at_element element (growth_refusal (slice_index_or classes (sprout.depth - 2) class.View) (nat_le sprout.depth before) (depth + (sprout.depth - 2)) count) ≡ None) where
     pub low : (depth + (sprout.depth - 2) < MAX_DEPTH) × (count < MAX_VIEWS)
     low = let g = grows (slice_index_or classes (sprout.depth - 2) class.View) (nat_le sprout.depth before) (depth + (sprout.depth - 2)) count (at_none element _ taken) in (g.1, g.2)

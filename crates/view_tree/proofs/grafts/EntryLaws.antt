@@ -1,4 +1,4 @@
--- What is kept of relative layouts when a sapling comes, as it is gathered.
+-- What is kept of relative layouts when a sapling is added, as it is gathered.
 use Rattle.std.proofs.Common.{◌≡◌, ℕ, zero, suc, ◌<◌, ◌≤◌, ◌+◌, Bool, true, false, List, [], ◌∷◌, ◌++◌, append_assoc, length, length-append, Option, Some, None, refl, sym, ◌∙◌, ap, subst, arith, inl, inr}
 use Rattle.std.proofs.lemmas.Bool.{cases_Bool, cases_lt}
 use Rattle.std.proofs.lemmas.List.{append-nil, get_or_append_left, get_or_push}
@@ -126,7 +126,7 @@ parent_added views parent sprout group (Ok entries) is made push = rw is (made.0
 parent_added views parent sprout group (Err (fault.Refused refusal)) is made push = absurd (let no : None ≡ Some (plain_refusal refusal) = push in cc)
 parent_added views parent sprout group (Err fault.NoMemory) is made push = tt
 
--- one more view of a sapling is seen to
+-- one more view of a sapling is handled
 pub entries_on : (number start : ℕ) (first : List (ℕ × Group)) (sprout : Sprout) (more all : List Sprout) (old new : List (ℕ × Group))
     → ((tail : List (ℕ × Group)) → AreEntries number (sprout ∷ more) tail → HasAdded first (old ++ tail) (AreEntries start all))
     → HasAdded old new (IsBehind number sprout more)

@@ -13,7 +13,7 @@ use Rattle.view_tree.proofs.forest.ForestLaws.{grown_where-again, grown_where-no
 use Rattle.view_tree.proofs.forest.GrownParts.{count_of_key-grown_more, count_of_key-with_child_more, grown_at_key-inside, with_child-inside}
 use Rattle.view_tree.proofs.forest.NumberLaws.{count_of_key-grown_none, count_of_key-grown_some, count_of_key-joined, count_of_key-leaf_other, count_of_key-leaf_own}
 
--- nothing has come yet
+-- nothing was added yet
 pub gained_nothing : (start : Views) (outermost : ℕ) → Gained start (Some outermost) Nothing start
 gained_nothing start outermost = record {
   unused = λ key there. absurd (omega arith);
@@ -23,7 +23,7 @@ gained_nothing start outermost = record {
   others = λ key none. refl;
 }
 
--- one more view has come below one
+-- one more view was added below one
 pub record GainedMore (start : Views) (outermost : ℕ) (added : Forest Row) (key : ℕ) (new : Views) : Type 0 where
   pub more : Forest Row
   pub gained : Gained start (Some outermost) more new
@@ -64,7 +64,7 @@ module _ (start now new : Views) (outermost parent key : ℕ) (view : PlainView)
     own = own;
   }
 
-  -- the parent is the outermost view, or one of those that came
+  -- the parent is the outermost view, or one of those that were added
   pub gained_more : (parent ≡ outermost) ⊎ (0 < count_of_key parent added) → GainedMore start outermost added key new
   gained_more where_is =
       let one = count_of_key-leaf_own key view in
@@ -84,7 +84,7 @@ module _ (start now new : Views) (outermost parent key : ℕ) (view : PlainView)
             (λ other there. let le = count_of_key-grown_more other parent (leaf key view) added in omega arith)
       ]
 
--- the outermost view has come, and then what is below it
+-- the outermost view was added, and then what is below it
 pub gained_whole : (old mid new : Views) (parent : Option ℕ) (key : ℕ) (view : PlainView) (added : Forest Row) → (parent ≡ None → old.tree ≡ Nothing)
     → Attached old parent view key mid → 0 < count_of_key key mid.tree → Gained mid (Some key) added new
     → Gained old parent (Branch (record { key = key; view = unscrolled view }) added Nothing) new

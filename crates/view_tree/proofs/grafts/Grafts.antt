@@ -1,4 +1,4 @@
--- What has come once a sapling has come.
+-- The tree after a sapling was added.
 use Rattle.std.proofs.Common.{◌≡◌, ℕ, suc, ◌+◌, ◌≤◌, Bool, true, false, List, [], ◌∷◌, length, Option, Some, None, refl, sym, ◌∙◌, ap, arith, length-append}
 use Rattle.std.proofs.lemmas.Bool.{eq-eqb}
 use Rattle.std.specs.Prelude.{IfSome}
@@ -6,6 +6,8 @@ use Rattle.std.specs.Option.{option_map, option_or}
 use Rattle.view_model.specs.declared.limits.TheConstants.{MAX_VIEWS}
 use Rattle.view_model.specs.declared.kinds.Class.{Class}
 use Rattle.view_model.specs.declared.sprout.Sprout.{Sprout}
+use Rattle.view_model.specs.Directed.{directed}
+use Rattle.view_model.specs.Direction.{dir}
 use Rattle.view_model.specs.Forest.{Forest, Nothing, Branch, count_of}
 use Rattle.view_model.specs.Grafts.{graft_refusal, refusal_below}
 use Rattle.view_model.specs.Growth.{growth_refusal, grown_at, refusal_at}
@@ -14,6 +16,7 @@ use Rattle.view_model.specs.PlainTree.{PlainView, grown, single}
 use Rattle.view_model.specs.Refusals.{PlainRefusal}
 use Rattle.view_model.specs.Sprouts.{IsPreorder, Seed, numbered, preorder, seed_of, seeds_of, sprout_of, view_of}
 use Rattle.view_tree.specs.Attached.{Attached}
+use Rattle.view_tree.specs.Directions.{is_rtl_at, running_below}
 use Rattle.view_tree.specs.Grafted.{Grafted}
 use Rattle.view_tree.specs.Rows.{ancestors, has_kids, head_view, leaf, part_from}
 use Rattle.view_tree.specs.Sowing.{FitsBelow, GainedBelow}
@@ -36,7 +39,7 @@ length-preorder depth (Branch seed kids siblings) =
     let after = length-preorder depth siblings in
     omega arith
 
--- trees that may come are not too many
+-- trees that may be added are not too many
 or_none : (first later : Option PlainRefusal) → option_or first later ≡ None → (first ≡ None) × (later ≡ None)
 or_none None later is = (refl, is)
 or_none (Some refusal) later is = absurd (cc)
@@ -57,7 +60,7 @@ abbrev pub outer_of : Views → Option ℕ → ℕ
 outer_of views None = 0
 outer_of views (Some parent) = suc (length (ancestors parent views.tree))
 
--- what is asked of a sapling that is taken
+-- the conditions on a sapling that is taken
 pub record Taken (views : Views) (parent : Option ℕ) (seed : Seed) (kids : Forest Seed) : Type 0 where
   pub own : refusal_at (plain_of views) (option_map (number_of views) parent) ≡ None
   pub below : refusal_below seed.class false (suc (outer_of views parent)) (suc (count_of views.tree)) 2 kids ≡ None
@@ -100,8 +103,8 @@ room_for views parent sprouts is live empty pre free =
     let all = length-preorder 2 shape.kids in
     omega arith
 
--- the outermost view, once it has come
-root_entry : (mid : Views) (key : ℕ) (view : PlainView) → mid.tree ≡ leaf key view → Entry mid key view.number view.class 0
+-- the outermost view, once it was added
+root_entry : (mid : Views) (key : ℕ) (view : PlainView) → mid.tree ≡ leaf key view → Entry mid key view.number view.class view.facts.rtl 0
 root_entry mid key view is =
     let own = count_of_key-leaf_own key view in
     let same : head_view (part_from key mid.tree) ≡ unscrolled view = ap (λ tree. head_view (part_from key tree)) is ∙ head_view-leaf key view in
@@ -110,11 +113,12 @@ root_entry mid key view is =
       live = rw is (omega arith);
       number_is = ap (λ (view : PlainView). view.number) same;
       class_is = ap (λ (view : PlainView). view.class) same;
+      way_is = ap (λ (view : PlainView). view.facts.rtl) same;
       deep = ap (λ tree. length (ancestors key tree)) is ∙ ap length alone;
     }
 
 pub outermost : (old mid : Views) (parent : Option ℕ) (key : ℕ) (view : PlainView) → IfSome parent (λ parent. IsLive old parent) → Attached old parent view key mid
-    → Entry mid key view.number view.class (outer_of old parent)
+    → Entry mid key view.number view.class view.facts.rtl (outer_of old parent)
 outermost old mid None key view live came = root_entry mid key view came.tree
 outermost old mid (Some parent) key view live came = entry_new old mid parent key view live came (length (ancestors parent old.tree)) refl
 
@@ -135,17 +139,17 @@ grown_whole old None view kids is live number = rw (eq-eqb view.number old.next 
 grown_whole old (Some parent) view kids is live number =
     grown-inside old.next (number_of old parent) view kids (plain_of old) number (live_earlier old parent is live) (earlier old is)
 
--- what is known once the outermost view has come: what comes below it may, and then the sapling has come
+-- what is known once the outermost view was added: what goes below it may be added, and then the whole sapling was
 pub record OutermostCame (old mid : Views) (parent : Option ℕ) (key : ℕ) (more sprouts : List Sprout) : Type 0 where
   pub there : IsLive mid key
   pub fits : FitsBelow mid key more
   pub few : suc (length more) ≤ MAX_VIEWS
   pub grafted : (new : Views) → GainedBelow mid key new
-      → ((kids : Forest Seed) → preorder 2 kids ≡ more → plain_of new ≡ grown (number_of mid key) (numbered mid.next kids) (plain_of mid))
+      → ((kids : Forest Seed) → preorder 2 kids ≡ more → plain_of new ≡ grown (number_of mid key) (directed (is_rtl_at (Some key) mid.tree) (numbered mid.next kids)) (plain_of mid))
       → new.next ≡ mid.next + length more → Grafted old parent (seeds_of sprouts) key new
 
 module _ (old mid : Views) (parent : Option ℕ) (key : ℕ) (sprout : Sprout) (more sprouts : List Sprout) (is : IsTree old) (live : IfSome parent (λ parent. IsLive old parent))
-    (empty : parent ≡ None → old.tree ≡ Nothing) (came : Attached old parent (view_of old.next (seed_of sprout)) key mid) (all : sprouts ≡ sprout ∷ more) (pre : IsPreorder sprouts)
+    (empty : parent ≡ None → old.tree ≡ Nothing) (came : Attached old parent (running_below parent old.tree (view_of old.next (seed_of sprout))) key mid) (all : sprouts ≡ sprout ∷ more) (pre : IsPreorder sprouts)
     (free : graft_refusal (plain_of old) (option_map (number_of old) parent) (seeds_of sprouts) ≡ None) where
   shape : Shaped sprouts
   shape = shaped sprouts pre
@@ -156,8 +160,11 @@ module _ (old mid : Views) (parent : Option ℕ) (key : ℕ) (sprout : Sprout) (
   rest : preorder 2 shape.kids ≡ more
   rest = let list = sym all ∙ shape.list in cc
 
-  own : Entry mid key old.next sprout.class (outer_of old parent)
-  own = outermost old mid parent key (view_of old.next (seed_of sprout)) live came
+  abbrev first_view : PlainView
+  first_view = running_below parent old.tree (view_of old.next (seed_of sprout))
+
+  own : Entry mid key old.next sprout.class first_view.facts.rtl (outer_of old parent)
+  own = outermost old mid parent key first_view live came
 
   may : Taken old parent shape.seed shape.kids
   may = taken old parent sprouts shape is live empty free
@@ -166,12 +173,12 @@ module _ (old mid : Views) (parent : Option ℕ) (key : ℕ) (sprout : Sprout) (
   fits =
       let count : count_of mid.tree ≡ suc (count_of old.tree) =
       ap count_of came.tree
-      ∙ (let c = count-with_child parent (leaf key (view_of old.next (seed_of sprout))) old.tree live empty is.keys in let l = count-leaf key (view_of old.next (seed_of sprout)) in omega arith) in
+      ∙ (let c = count-with_child parent (leaf key first_view) old.tree live empty is.keys in let l = count-leaf key first_view in omega arith) in
       let class : class_of mid key ≡ shape.seed.class = own.class_is ∙ ap (λ (s : Sprout). s.class) first in
       record {
         kids = shape.kids;
         preorder = rest;
-        childless = childless old mid parent key (view_of old.next (seed_of sprout)) live came;
+        childless = childless old mid parent key first_view live came;
         taken = rw (class, own.deep, count) may.below;
       }
 
@@ -182,24 +189,26 @@ module _ (old mid : Views) (parent : Option ℕ) (key : ℕ) (sprout : Sprout) (
   few = let n = few_below shape.seed.class false (suc (outer_of old parent)) (suc (count_of old.tree)) 2 shape.kids may.below may.few in let l = length_is in omega arith
 
   grafted : (new : Views) → GainedBelow mid key new
-      → ((kids : Forest Seed) → preorder 2 kids ≡ more → plain_of new ≡ grown (number_of mid key) (numbered mid.next kids) (plain_of mid))
+      → ((kids : Forest Seed) → preorder 2 kids ≡ more → plain_of new ≡ grown (number_of mid key) (directed (is_rtl_at (Some key) mid.tree) (numbered mid.next kids)) (plain_of mid))
       → new.next ≡ mid.next + length more → Grafted old parent (seeds_of sprouts) key new
   grafted new below plain next =
-      let view = view_of old.next (seed_of sprout) in
       let number : mid.next ≡ suc old.next = let n = came.next in omega arith in
-      let kids = numbered (suc old.next) shape.kids in
+      let above = is_rtl_at parent old.tree in
+      let way = first_view.facts.rtl in
+      let below_it = directed way (numbered (suc old.next) shape.kids) in
       record {
-        added = Branch (record { key = key; view = unscrolled view }) below.added Nothing;
+        added = Branch (record { key = key; view = unscrolled first_view }) below.added Nothing;
         first = refl;
         alone = refl;
-        gained = gained_whole old mid new parent key view below.added empty came own.live below.gained;
+        gained = gained_whole old mid new parent key first_view below.added empty came own.live below.gained;
         plain = plain shape.kids rest
-            ∙ ap (λ n. grown n (numbered mid.next shape.kids) (plain_of mid)) own.number_is
-            ∙ ap (λ n. grown old.next (numbered n shape.kids) (plain_of mid)) number
-            ∙ ap (grown old.next kids) came.plain
-            ∙ grown_whole old parent view kids is live refl
-            ∙ ap (λ (s : Sprout). grown_at (option_map (number_of old) parent) (Branch (view_of old.next (seed_of s)) kids Nothing) (plain_of old)) first
-            ∙ ap (λ seeds. grown_at (option_map (number_of old) parent) (numbered old.next seeds) (plain_of old)) (sym shape.tree);
+            ∙ ap (λ n. grown n (directed (is_rtl_at (Some key) mid.tree) (numbered mid.next shape.kids)) (plain_of mid)) own.number_is
+            ∙ ap (λ turn. grown old.next (directed turn (numbered mid.next shape.kids)) (plain_of mid)) own.way_is
+            ∙ ap (λ n. grown old.next (directed way (numbered n shape.kids)) (plain_of mid)) number
+            ∙ ap (grown old.next below_it) came.plain
+            ∙ grown_whole old parent first_view below_it is live refl
+            ∙ ap (λ (s : Sprout). grown_at (option_map (number_of old) parent) (directed above (Branch (view_of old.next (seed_of s)) (numbered (suc old.next) shape.kids) Nothing)) (plain_of old)) first
+            ∙ ap (λ seeds. grown_at (option_map (number_of old) parent) (directed above (numbered old.next seeds)) (plain_of old)) (sym shape.tree);
         next =
             let n = number in
             let l = length_is in

@@ -1,4 +1,4 @@
--- What is kept of relative layouts once a sapling has come, and which cycle is told of it.
+-- What is kept of relative layouts once a sapling was added, and which cycle is reported for it.
 use Rattle.std.proofs.Common.{◌≡◌, ◌≢◌, ℕ, ◌<◌, ◌≤◌, ◌+◌, Bool, true, false, List, [], ◌∷◌, ◌++◌, Option, Some, None, refl, sym, ◌∙◌, ap, subst, arith, inl, inr}
 use Rattle.std.proofs.lemmas.Bool.{cases_Bool, cases_eq, eq-eqb, ne_eqb}
 use Rattle.std.proofs.lemmas.List.{append-nil}
@@ -9,7 +9,9 @@ use Rattle.view_model.specs.declared.kinds.Class.{Class}
 use Rattle.view_model.specs.declared.refusal.Member.{Member}
 use Rattle.view_model.specs.declared.relative.Link.{Link}
 use Rattle.view_model.specs.declared.sprout.Sprout.{Sprout}
-use Rattle.view_model.specs.Cycles.{cycle_below, first_cycle, graft_cycle, is_relative, link_of, links_in, member_from, numbers_in}
+use Rattle.view_model.specs.Cycles.{cycle_below, first_cycle, graft_cycle, is_relative, link_of, each, links_in, member_from, numbers_in}
+use Rattle.view_model.specs.Directed.{directed, running}
+use Rattle.view_model.specs.Direction.{dir}
 use Rattle.view_model.specs.Forest.{Forest, Nothing, Branch, EveryBranch, EveryRow, joined}
 use Rattle.view_model.specs.Growth.{grown_at}
 use Rattle.view_model.specs.PlainTree.{PlainView, grown}
@@ -17,6 +19,7 @@ use Rattle.view_model.specs.Refusals.{PlainRefusal}
 use Rattle.view_model.specs.Sprouts.{IsPreorder, Seed, numbered, preorder, seeds_of, sprout_of}
 use Rattle.view_tree.specs.declared.groups.Group.{Group}
 use Rattle.view_tree.specs.Cycles.{HasNoCycle, IsFree}
+use Rattle.view_tree.specs.Directions.{is_rtl_at}
 use Rattle.view_tree.specs.Grafting.{AreEntries, AreGrafted, IsOwnFor, IsParentEntry, cycle_in, cycle_of, entries_cycle, links_then, noted, numbers_then, parent_cycle, sprout_link}
 use Rattle.view_tree.specs.Ordering.{IsGrouped, IsGroupedAt, IsKeptFor, PlainGroup}
 use Rattle.view_tree.specs.Rows.{Row, children_of_first, head_view, part_from, views_of}
@@ -30,7 +33,7 @@ use Rattle.view_tree.proofs.orders.CycleLaws.{no_cycle}
 use Rattle.view_tree.proofs.orders.FirstCycles.{no_first_cycle}
 use Rattle.view_tree.proofs.orders.ListLaws.{each-grown, each-joined, edited_nowhere, every_by, times_in}
 use Rattle.view_tree.proofs.orders.RowLaws.{every_within, links-plain, numbered_at, numbers-plain, times-plain}
-use Rattle.view_tree.proofs.orders.TreeLaws.{Groups, grouped-grown}
+use Rattle.view_tree.proofs.orders.TreeLaws.{Groups, grouped-grown, kept_along}
 
 or_none : (reason : Option PlainRefusal) → option_or reason None ≡ reason
 or_none None = refl
@@ -48,6 +51,27 @@ links_one number sprout more pre =
 
 numbers_one : (number : ℕ) (sprout : Sprout) (more : List Sprout) → IsPreorder (sprout ∷ more) → numbers_in (numbered number (seeds_of (sprout ∷ more))) ≡ number ∷ []
 numbers_one number sprout more pre = ap (λ seeds. numbers_in (numbered number seeds)) (shaped (sprout ∷ more) pre).tree
+
+-- how views run changes nothing of what is kept
+each_directed : {X : Type 0} (f : PlainView → X) → ((way : Bool) (view : PlainView) → f (running way view) ≡ f view) → (above : Bool) (list : Forest PlainView)
+    → each f (directed above list) ≡ each f list
+each_directed f same above Nothing = refl
+each_directed f same above (Branch view below after) = rw (same (dir above view.facts.direction) view, each_directed f same above after) refl
+
+links_directed : (above : Bool) (list : Forest PlainView) → links_in (directed above list) ≡ links_in list
+links_directed above list = each_directed link_of (λ way view. refl) above list
+
+numbers_directed : (above : Bool) (list : Forest PlainView) → numbers_in (directed above list) ≡ numbers_in list
+numbers_directed above list = each_directed (λ (view : PlainView). view.number) (λ way view. refl) above list
+
+grouped_directed : (groups : Groups) (above : Bool) (list : Forest PlainView) → IsGrouped groups list → IsGrouped groups (directed above list)
+grouped_directed groups above Nothing grouped = tt
+grouped_directed groups above (Branch view below after) grouped =
+    let way = dir above view.facts.direction in (
+      λ relative. kept_along below (directed way below) (groups view.number) (links_directed way below) (numbers_directed way below) (grouped.0 relative),
+      grouped_directed groups way below grouped.1,
+      grouped_directed groups above after grouped.2,
+    )
 
 module _ (old : Views) (parent : ℕ) (sprout : Sprout) (more : List Sprout) (pre : IsPreorder (sprout ∷ more)) (row : Row) (kids siblings : Forest Row)
     (part : part_from parent old.tree ≡ Branch row kids siblings) where
@@ -88,7 +112,7 @@ module _ (at now : Groups) (old : Views) (sprout : Sprout) (more : List Sprout) 
       (grouped-forest now 1 old.next (seeds_of (sprout ∷ more)) [] tt
       (subst (AllKept now old.next) (sym (append-nil (preorder 1 (seeds_of (sprout ∷ more))) ∙ preorder-seeds_of (sprout ∷ more) pre)) all)).0
 
-  module _ (parent : ℕ) (tree : IsTree old) (live : IsLive old parent) (mine : IsParentEntry old (Some parent) sprout own) (grouped : IsGrouped at (plain_of old)) where
+  module _ (above : Bool) (parent : ℕ) (tree : IsTree old) (live : IsLive old parent) (mine : IsParentEntry old (Some parent) sprout own) (grouped : IsGrouped at (plain_of old)) where
     early : (k : ℕ) → k < old.next → now k ≡ noted own k (at k)
     early k less = now_is k ∙ noted-early (sprout ∷ more) old.next k rest (noted own k (at k)) are less
 
@@ -99,9 +123,9 @@ module _ (at now : Groups) (old : Views) (sprout : Sprout) (more : List Sprout) 
         (earlier old tree)
 
     kept_parent : EveryBranch (λ (view : PlainView) (kids : Forest PlainView). view.number ≡ number_of old parent → IsGroupedAt at view kids
-        → IsGroupedAt now view (joined kids (numbered old.next (seeds_of (sprout ∷ more))))) (plain_of old)
+        → IsGroupedAt now view (joined kids (directed above (numbered old.next (seeds_of (sprout ∷ more)))))) (plain_of old)
     kept_parent = every_within (λ (view : PlainView) (kids : Forest PlainView). view.number ≡ number_of old parent → IsGroupedAt at view kids
-        → IsGroupedAt now view (joined kids (numbered old.next (seeds_of (sprout ∷ more))))) (held_of old) old.tree
+        → IsGroupedAt now view (joined kids (directed above (numbered old.next (seeds_of (sprout ∷ more)))))) (held_of old) old.tree
         (λ row kids siblings within same kept relative.
         let part = numbered_at old parent row kids siblings tree live within same in
         let class : is_relative (class_of old parent) ≡ true = class_same old parent sprout more pre row kids siblings part ∙ relative in
@@ -109,22 +133,29 @@ module _ (at now : Groups) (old : Views) (sprout : Sprout) (more : List Sprout) 
         subst (IsKeptFor (links_then old parent (sprout_link sprout)) (numbers_then old parent))
         (sym (ap now same ∙ early (number_of old parent) (live_earlier old parent tree live)))
         (own_kept (is_relative (class_of old parent)) (number_of old parent) (links_then old parent (sprout_link sprout)) (numbers_then old parent) own (at (number_of old parent)) mine class) in
-        subst (λ numbers. IsKeptFor (links_in (grown_kids old parent sprout more pre row kids siblings part)) numbers (now row.view.number)) (sym (numbers_grown old parent sprout more pre row kids siblings part))
-        (subst (λ links. IsKeptFor links (numbers_then old parent) (now row.view.number)) (sym (links_grown old parent sprout more pre row kids siblings part)) there))
+        let plain = plain_rows (held_of old) kids in
+        let added = numbered old.next (seeds_of (sprout ∷ more)) in
+        kept_along (joined plain added) (joined plain (directed above added)) (now row.view.number)
+        (each-joined link_of plain (directed above added) ∙ ap (λ links. links_in plain ++ links) (links_directed above added) ∙ sym (each-joined link_of plain added))
+        (each-joined (λ (view : PlainView). view.number) plain (directed above added) ∙ ap (λ numbers. numbers_in plain ++ numbers) (numbers_directed above added)
+        ∙ sym (each-joined (λ (view : PlainView). view.number) plain added))
+        (subst (λ numbers. IsKeptFor (links_in (grown_kids old parent sprout more pre row kids siblings part)) numbers (now row.view.number)) (sym (numbers_grown old parent sprout more pre row kids siblings part))
+        (subst (λ links. IsKeptFor links (numbers_then old parent) (now row.view.number)) (sym (links_grown old parent sprout more pre row kids siblings part)) there)))
 
-    grouped_parent : IsGrouped now (grown (number_of old parent) (numbered old.next (seeds_of (sprout ∷ more))) (plain_of old))
+    grouped_parent : IsGrouped now (grown (number_of old parent) (directed above (numbered old.next (seeds_of (sprout ∷ more)))) (plain_of old))
     grouped_parent =
         let once : times_in (number_of old parent) (plain_of old) ≤ 1 = (let n = tree.numbers (number_of old parent) in rw (times-plain (held_of old) (number_of old parent) old.tree) n) in
-        grouped-grown at now (number_of old parent) (numbered old.next (seeds_of (sprout ∷ more))) (plain_of old) once others kept_parent grouped_added grouped
+        grouped-grown at now (number_of old parent) (directed above (numbered old.next (seeds_of (sprout ∷ more)))) (plain_of old) once others kept_parent (grouped_directed now above (numbered old.next (seeds_of (sprout ∷ more))) grouped_added) grouped
 
 pub grouped-grafted : (at now : Groups) (old new : Views) (parent : Option ℕ) (sprouts : List Sprout) (entries : List (ℕ × Group)) → IsTree old → IfSome parent (λ parent. IsLive old parent)
     → IsPreorder sprouts → AreGrafted old parent sprouts entries → ((k : ℕ) → now k ≡ noted entries k (at k))
-    → plain_of new ≡ grown_at (option_map (number_of old) parent) (numbered old.next (seeds_of sprouts)) (plain_of old) → IsGrouped at (plain_of old) → IsGrouped now (plain_of new)
+    → plain_of new ≡ grown_at (option_map (number_of old) parent) (directed (is_rtl_at parent old.tree) (numbered old.next (seeds_of sprouts))) (plain_of old) → IsGrouped at (plain_of old) → IsGrouped now (plain_of new)
 grouped-grafted at now old new parent [] entries tree live pre made has plain grouped = absurd made
 grouped-grafted at now old new None (sprout ∷ more) entries tree live pre (own, mine, all) has plain grouped =
-    subst (IsGrouped now) (sym plain) (grouped_added at now old sprout more own all.added entries all.is all.made pre has)
+    subst (IsGrouped now) (sym plain)
+    (grouped_directed now false (numbered old.next (seeds_of (sprout ∷ more))) (grouped_added at now old sprout more own all.added entries all.is all.made pre has))
 grouped-grafted at now old new (Some parent) (sprout ∷ more) entries tree live pre (own, mine, all) has plain grouped =
-    subst (IsGrouped now) (sym plain) (grouped_parent at now old sprout more own all.added entries all.is all.made pre has parent tree live mine grouped)
+    subst (IsGrouped now) (sym plain) (grouped_parent at now old sprout more own all.added entries all.is all.made pre has (is_rtl_at (Some parent) old.tree) parent tree live mine grouped)
 
 -- what is kept under other numbers of views that were there is the same
 pub own_apart : (relative : Bool) (number k : ℕ) (links : List Link) (numbers : List ℕ) (entries : List (ℕ × Group)) (before : Option PlainGroup) → IsOwnFor relative number links numbers entries
@@ -143,14 +174,14 @@ kept-grafted at now old (Some parent) (sprout ∷ more) entries (own, mine, all)
     ∙ noted-early (sprout ∷ more) old.next k all.added (noted own k (at k)) all.made less
     ∙ own_apart (is_relative (class_of old parent)) (number_of old parent) k (links_then old parent (sprout_link sprout)) (numbers_then old parent) own (at k) mine apart
 
--- where a sapling comes, the first cycle is that of its parent, or else one of its own
+-- if a sapling is added, the first cycle is that of its parent, or else one of its own
 none_below : (name : ℕ → Member) (class : Class) (links : List Link) (numbers : List ℕ) → (is_relative class ≡ true → IsFree links) → (if is_relative class then cycle_of name links numbers else None) ≡ None
 none_below name class links numbers free = elim (cases_Bool (is_relative class)) [
   | inl relative ↦ rw relative (none_of name links numbers (free relative))
   | inr other ↦ rw other refl
 ]
 
--- a list of trees without cycles has none to tell, but for those that come behind it
+-- a list of trees without cycles reports none, except for those that are added after it
 first_joined : (name : ℕ → Member) (list new : Forest PlainView) → HasNoCycle list → first_cycle name (joined list new) ≡ first_cycle name new
 first_joined name Nothing new free = refl
 first_joined name (Branch view below after) new free =
@@ -179,7 +210,7 @@ first_grown name number new reason (Branch view below after) once there free own
       ]
 ]
 
--- what is told of the views of a sapling
+-- what is reported for the views of a sapling
 first_added : (name : ℕ → Member) (next : ℕ) (sprouts : List Sprout) → IsPreorder sprouts → first_cycle name (numbered next (seeds_of sprouts)) ≡ cycle_in name next sprouts
 first_added name next sprouts pre =
     sym (or_none (first_cycle name (numbered next (seeds_of sprouts)))) ∙ sym (cycle-forest name 1 next (seeds_of sprouts) [] tt)

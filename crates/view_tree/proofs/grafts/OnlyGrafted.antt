@@ -1,4 +1,4 @@
--- Nothing is kept under a number that no relative layout has, once a sapling has come.
+-- Nothing is kept under a number that no relative layout has, once a sapling was added.
 use Rattle.std.proofs.Common.{◌≡◌, ◌≢◌, ℕ, suc, ◌+◌, ◌<◌, ◌≤◌, Bool, true, false, List, [], ◌∷◌, ◌++◌, append_assoc, Option, Some, None, refl, sym, ◌∙◌, ap, subst, arith, inl, inr}
 use Rattle.std.proofs.lemmas.Bool.{cases_eq, eq-eqb, ne_eqb}
 use Rattle.std.proofs.lemmas.List.{append-nil}
@@ -7,11 +7,14 @@ use Rattle.std.specs.Prelude.{IfSome, if◌then◌else◌}
 use Rattle.view_model.proofs.SproutLaws.{preorder-seeds_of}
 use Rattle.view_model.specs.declared.sprout.Sprout.{Sprout}
 use Rattle.view_model.specs.Cycles.{is_relative}
+use Rattle.view_model.specs.Directed.{directed}
+use Rattle.view_model.specs.Direction.{dir}
 use Rattle.view_model.specs.Forest.{Forest, Nothing, Branch, count_of, joined, sum_of}
 use Rattle.view_model.specs.Growth.{grown_at}
 use Rattle.view_model.specs.PlainTree.{PlainView, grown}
 use Rattle.view_model.specs.Sprouts.{IsPreorder, Seed, numbered, preorder, seeds_of, view_of}
 use Rattle.view_tree.specs.declared.groups.Group.{Group}
+use Rattle.view_tree.specs.Directions.{is_rtl_at}
 use Rattle.view_tree.specs.Grafting.{AreEntries, AreGrafted, links_behind, links_then, noted, numbers_behind, numbers_then, sprout_link}
 use Rattle.view_tree.specs.Ordering.{HasNoOther, PlainGroup, is_layout}
 use Rattle.view_tree.specs.Rows.{Row, count_where, head_view}
@@ -30,7 +33,7 @@ layouts-plain : (number : ℕ) (held : ℕ → Held) (tree : Forest Row) → sum
 layouts-plain number held Nothing = refl
 layouts-plain number held (Branch row kids siblings) = rw (layouts-plain number held kids, layouts-plain number held siblings)
 
--- what was there stays where views come, and they are there then
+-- what was there stays if views are added, and they are there then
 plain_sum-joined : (f : PlainView → ℕ) (list more : Forest PlainView) → sum_of f (joined list more) ≡ sum_of f list + sum_of f more
 plain_sum-joined f Nothing more = omega arith
 plain_sum-joined f (Branch view below after) more = let rest = plain_sum-joined f after more in omega arith
@@ -102,20 +105,25 @@ layout_live views parent k live none relative same =
     let one : is_layout k f.row.view ≡ true = rw (eq-eqb f.row.view.number k (sym number)) class in
     absurd (let there = count_there (is_layout k) f.row f.kids f.siblings f.within one in omega arith)
 
+counted_directed : (k : ℕ) (above : Bool) (list : Forest PlainView) → sum_of (counted k) (directed above list) ≡ sum_of (counted k) list
+counted_directed k above Nothing = refl
+counted_directed k above (Branch view below after) = rw (counted_directed k (dir above view.facts.direction) below, counted_directed k above after) refl
+
 pub only-grafted : (at now : Groups) (old new : Views) (parent : Option ℕ) (sprouts : List Sprout) (entries : List (ℕ × Group)) → IfSome parent (λ parent. IsLive old parent)
     → (parent ≡ None → old.tree ≡ Nothing) → IsPreorder sprouts → AreGrafted old parent sprouts entries → ((k : ℕ) → now k ≡ noted entries k (at k))
-    → plain_of new ≡ grown_at (option_map (number_of old) parent) (numbered old.next (seeds_of sprouts)) (plain_of old) → HasNoOther at old.tree → HasNoOther now new.tree
+    → plain_of new ≡ grown_at (option_map (number_of old) parent) (directed (is_rtl_at parent old.tree) (numbered old.next (seeds_of sprouts))) (plain_of old) → HasNoOther at old.tree → HasNoOther now new.tree
 only-grafted at now old new parent [] entries live root pre made has plain only = absurd made
 only-grafted at now old new None (sprout ∷ more) entries live root pre (own, mine, all) has plain only = λ k none.
     let seeds = seeds_of (sprout ∷ more) in
     let empty : count_where (is_layout k) old.tree ≡ 0 = ap (count_where (is_layout k)) (root refl) in
-    let sown : sum_of (counted k) (numbered old.next seeds) ≡ 0 = ap (sum_of (counted k)) (sym plain) ∙ layouts-plain k (held_of new) new.tree ∙ none in
+    let sown : sum_of (counted k) (numbered old.next seeds) ≡ 0 = sym (counted_directed k false (numbered old.next seeds)) ∙ ap (sum_of (counted k)) (sym plain) ∙ layouts-plain k (held_of new) new.tree ∙ none in
     has k ∙ ap (λ entries. noted entries k (at k)) all.is ∙ noted-append own all.added k (at k)
     ∙ noted_unused k old.next (sprout ∷ more) all.added (noted own k (at k)) all.made (none_sown k old.next (sprout ∷ more) pre sown)
     ∙ ap (λ entries. noted entries k (at k)) mine
     ∙ only k empty
 only-grafted at now old new (Some parent) (sprout ∷ more) entries live root pre (own, mine, all) has plain only = λ k none.
-    let new_trees = numbered old.next (seeds_of (sprout ∷ more)) in
+    let seeds = numbered old.next (seeds_of (sprout ∷ more)) in
+    let new_trees = directed (is_rtl_at (Some parent) old.tree) seeds in
     let was = layouts-plain k (held_of old) old.tree in
     let both : sum_of (counted k) (plain_of new) ≡ sum_of (counted k) (grown (number_of old parent) new_trees (plain_of old)) = ap (sum_of (counted k)) plain in
     let is = layouts-plain k (held_of new) new.tree in
@@ -124,7 +132,8 @@ only-grafted at now old new (Some parent) (sprout ∷ more) entries live root pr
     let same = times-plain (held_of old) (number_of old parent) old.tree in
     let comes = sum_comes (counted k) (number_of old parent) new_trees (plain_of old) (omega arith) in
     let before : count_where (is_layout k) old.tree ≡ 0 = omega arith in
-    let sown : sum_of (counted k) new_trees ≡ 0 = omega arith in
+    let came : sum_of (counted k) new_trees ≡ 0 = omega arith in
+    let sown : sum_of (counted k) seeds ≡ 0 = sym (counted_directed k (is_rtl_at (Some parent) old.tree) seeds) ∙ came in
     has k ∙ ap (λ entries. noted entries k (at k)) all.is ∙ noted-append own all.added k (at k)
     ∙ noted_unused k old.next (sprout ∷ more) all.added (noted own k (at k)) all.made (none_sown k old.next (sprout ∷ more) pre sown)
     ∙ own_apart (is_relative (class_of old parent)) (number_of old parent) k (links_then old parent (sprout_link sprout)) (numbers_then old parent) own (at k) mine

@@ -1,12 +1,12 @@
--- What is known of the last view of each depth while the views of a sapling come in preorder. The place of a depth is one
--- less than the depth.
+-- What is known of the last view of each depth while the views of a sapling are added in preorder. The place of a depth
+-- is one less than the depth.
 use Rattle.std.proofs.Common.{◌≡◌, ℕ, ◌<◌, ◌≤◌, ◌+◌, Bool, true, false, List, ◌∷◌, refl, arith}
 use Rattle.std.proofs.lemmas.Bool.{eq-eqb, leb-true, ltb-true, ne_eqb}
 use Rattle.std.specs.Prelude.{◌==◌, ◌&&◌, if◌then◌else◌, nat_le, nat_lt}
 use Rattle.view_model.specs.declared.sprout.Sprout.{Sprout}
 use Rattle.view_model.specs.Sprouts.{follows}
 
--- the last of each place, once one of this place has come
+-- the last of each place, once one of this place was added
 abbrev pub with_last : {A : Type 0} → (ℕ → A) → ℕ → A → ℕ → A
 with_last path place new other = if other == place then new else path other
 
@@ -20,7 +20,7 @@ pub both : (a b : Bool) → (a && b) ≡ true → (a ≡ true) × (b ≡ true)
 both true b is = (refl, is)
 both false b is = absurd (cc)
 
--- where the next sprout stands, behind one of this depth
+-- where the next sprout goes, after one of this depth
 pub record Follows (before : ℕ) (sprout : Sprout) (more : List Sprout) : Type 0 where
   pub deep : 1 < sprout.depth
   pub next : sprout.depth ≤ before + 1

@@ -1,4 +1,4 @@
--- Why a sapling's views do not come, looked at one after another.
+-- Why a sapling's views are refused, checked one after another.
 use Rattle.std.proofs.Common.{◌≡◌, ℕ, suc, ◌+◌, ◌-◌, ◌<◌, ◌≤◌, Bool, true, false, List, [], ◌∷◌, ◌++◌, Option, Some, None, refl, sym, ◌∙◌, ap, arith, append_assoc}
 use Rattle.std.proofs.lemmas.List.{append-nil}
 use Rattle.std.proofs.lemmas.Bool.{le-leb, lt-leb}
@@ -23,14 +23,14 @@ first_none element None later is = (refl, is)
 first_none element (Some told) later is = absurd (cc)
 
 -- the first reason: `path` has the class of the last view of each depth, the first of which is `depth` deep; the view
--- right before has the depth `before`, and so the parent of the next one has a child where that is no deeper
+-- right before has the depth `before`, and so the parent of the next one has a child if that is no deeper
 abbrev pub refusal_along : (depth before : ℕ) (path : ℕ → Class) (count element : ℕ) → List Sprout → Option PlainRefusal
 refusal_along depth before path count element [] = None
 refusal_along depth before path count element (sprout ∷ more) =
     option_or (at_element element (growth_refusal (path (sprout.depth - 2)) (nat_le sprout.depth before) (depth + (sprout.depth - 2)) count))
     (refusal_along depth sprout.depth (with_last path (sprout.depth - 1) sprout.class) (suc count) (suc element) more)
 
--- what is left to look at behind trees whose views were looked at
+-- what is left to check after trees whose views were checked
 pub record Passed (depth place count element : ℕ) (class : Class) (occupied : Bool) (path : ℕ → Class) (list : Forest Seed) (rest : List Sprout) (whole : Option PlainRefusal) : Type 0 where
   pub last : ℕ
   pub deep : place < last
@@ -97,7 +97,7 @@ passed depth place before count element class occupied path (Branch seed kids si
           ∙ ap (λ n. option_or (option_or own (option_or below after)) (refusal_along depth two.last two.ends (count + count_of (Branch seed kids siblings)) n rest)) elements;
     }
 
--- what stands below the outermost view of a sapling, whose class and depth these are, and which has no child yet
+-- what is below the outermost view of a sapling, given the class and the depth of that view, which has no child yet
 pub refusal_is : (depth count : ℕ) (class : Class) (path : ℕ → Class) (kids : Forest Seed) (sprouts : List Sprout) → path 0 ≡ class → preorder 2 kids ≡ sprouts
     → refusal_along depth 1 path count 2 sprouts ≡ refusal_below class false depth count 2 kids
 refusal_is depth count class path kids sprouts is same =

@@ -28,7 +28,7 @@ pub record Shaped (sprouts : List Sprout) : Type 0 where
   pub list : sprouts ≡ sprout_of 1 seed ∷ preorder 2 kids
   pub follow : follows 1 (preorder 2 kids) ≡ true
 
--- none but the first has the depth 1
+-- only the first has the depth 1
 follows_not : (before : ℕ) (list : List Sprout) (sprout : Sprout) (more : List Sprout) → sprout.depth ≡ 1 → follows before (list ++ sprout ∷ more) ≡ true → ⊥
 follows_not before [] sprout more is follow = let l = ltb-true 1 sprout.depth (both _ _ follow).0 in absurd (omega arith)
 follows_not before (first ∷ list) sprout more is follow =
@@ -53,7 +53,7 @@ shaped sprouts is =
     let list = preorder-seeds_of sprouts is in
     shaped_by sprouts (seeds_of sprouts) refl list (subst (λ list. is_preorder list ≡ true) (sym list) is)
 
--- the views behind the first, as a part of the list
+-- the views after the first, as a part of the list
 pub rest_is : (sprouts : List Sprout) (first : Sprout) (more : List Sprout) → sprouts ≡ first ∷ more → more ≡ take (length sprouts - 1) (drop 1 sprouts)
 rest_is sprouts first more is =
     let one : suc (length more) - 1 ≡ length more = omega arith in

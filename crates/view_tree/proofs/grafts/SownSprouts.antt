@@ -1,16 +1,19 @@
--- A tree to which some views of a sapling have come.
-use Rattle.std.proofs.Common.{◌≡◌, ◌≢◌, ℕ, suc, ◌+◌, ◌-◌, ◌<◌, ◌≤◌, true, false, List, [], ◌∷◌, length, Some, None, refl, sym, ◌∙◌, ap, subst, arith, ◌⊎◌, inl, inr}
+-- A tree to which some views of a sapling were added.
+use Rattle.std.proofs.Common.{◌≡◌, ◌≢◌, Bool, ℕ, suc, ◌+◌, ◌-◌, ◌<◌, ◌≤◌, true, false, List, [], ◌∷◌, length, Some, None, refl, sym, ◌∙◌, ap, subst, arith, ◌⊎◌, inl, inr}
 use Rattle.std.proofs.lemmas.Bool.{cases_eq, cases_lt, le-leb, lt-leb}
 use Rattle.std.proofs.lemmas.List.{get_or-replicate, get_or-set_other, get_or-set_same, length-set}
 use Rattle.std.specs.Prelude.{nat_le, replicate, slice_index_or, slice_set}
 use Rattle.view_model.specs.declared.limits.TheConstants.{MAX_DEPTH}
 use Rattle.view_model.specs.declared.kinds.Class.{Class}
 use Rattle.view_model.specs.declared.sprout.Sprout.{Sprout}
+use Rattle.view_model.specs.Directed.{directed, running}
+use Rattle.view_model.specs.Direction.{dir}
 use Rattle.view_model.specs.Forest.{Forest, Nothing, Branch, count_of}
 use Rattle.view_model.specs.Growth.{growth_refusal, refusal_at}
 use Rattle.view_model.specs.PlainTree.{PlainView, grown, single}
 use Rattle.view_model.specs.Sprouts.{Seed, follows, numbered, preorder, seed_of, view_of}
 use Rattle.view_tree.specs.Attached.{Attached}
+use Rattle.view_tree.specs.Directions.{is_rtl_at, running_below}
 use Rattle.view_tree.specs.Grafted.{Gained}
 use Rattle.view_tree.specs.Rows.{Row, ancestors, count_of_key, count_of_number, grown_at_key, has_kids, head_view, leaf, part_from}
 use Rattle.view_tree.specs.Sowing.{FitsBelow}
@@ -49,15 +52,16 @@ live_earlier views key is live =
     number_less views.next (number_of views key) (λ le. let z = is.earlier (number_of views key) le in let s = number_live key views.tree live in absurd (omega arith))
 
 -- what the view of a key is, and how many are around it
-pub record Entry (views : Views) (key number : ℕ) (class : Class) (outer : ℕ) : Type 0 where
+pub record Entry (views : Views) (key number : ℕ) (class : Class) (way : Bool) (outer : ℕ) : Type 0 where
   pub live : IsLive views key
   pub number_is : number_of views key ≡ number
   pub class_is : class_of views key ≡ class
+  pub way_is : is_rtl_at (Some key) views.tree ≡ way
   pub deep : length (ancestors key views.tree) ≡ outer
 
 module _ (now new : Views) (parent key : ℕ) (view : PlainView) (live : IsLive now parent) (came : Attached now (Some parent) view key new) where
-  entry_kept : (other number : ℕ) (class : Class) (outer : ℕ) → Entry now other number class outer → Entry new other number class outer
-  entry_kept other number class outer entry =
+  entry_kept : (other number : ℕ) (class : Class) (way : Bool) (outer : ℕ) → Entry now other number class way outer → Entry new other number class way outer
+  entry_kept other number class way outer entry =
       let none : count_of_key other (leaf key view) ≡ 0 =
       count_of_key-leaf_other other key view (λ e. let unused = came.unused in let z : count_of_key other now.tree ≡ 0 = rw e unused in let l = entry.live in absurd (omega arith)) in
       let same : head_view (part_from other new.tree) ≡ head_view (part_from other now.tree) =
@@ -66,10 +70,11 @@ module _ (now new : Views) (parent key : ℕ) (view : PlainView) (live : IsLive 
         live = rw came.tree (let more = count_of_key-grown_more other parent (leaf key view) now.tree in let l = entry.live in omega arith);
         number_is = ap (λ (view : PlainView). view.number) same ∙ entry.number_is;
         class_is = ap (λ (view : PlainView). view.class) same ∙ entry.class_is;
+        way_is = ap (λ (view : PlainView). view.facts.rtl) same ∙ entry.way_is;
         deep = rw came.tree (ap length (ancestors-grown other parent (leaf key view) now.tree none) ∙ entry.deep);
       }
 
-  pub entry_new : (outer : ℕ) → length (ancestors parent now.tree) ≡ outer → Entry new key view.number view.class (suc outer)
+  pub entry_new : (outer : ℕ) → length (ancestors parent now.tree) ≡ outer → Entry new key view.number view.class view.facts.rtl (suc outer)
   entry_new outer deep =
       let own = count_of_key-leaf_own key view in
       let same : head_view (part_from key new.tree) ≡ head_view (part_from key (leaf key view)) =
@@ -79,20 +84,22 @@ module _ (now new : Views) (parent key : ℕ) (view : PlainView) (live : IsLive 
         live = rw came.tree (count_of_key-grown_some key parent (leaf key view) now.tree live (omega arith));
         number_is = ap (λ (view : PlainView). view.number) (same ∙ itself);
         class_is = ap (λ (view : PlainView). view.class) (same ∙ itself);
+        way_is = ap (λ (view : PlainView). view.facts.rtl) (same ∙ itself);
         deep = rw came.tree (ap length (ancestors-leaf key parent view now.tree live came.unused)) ∙ ap suc deep;
       }
 
--- how far it has come: `keys` has the key of the last view of each place, that of the outermost one first
+-- the state: `keys` has the key of the last view of each place, that of the outermost one first
 pub record Sowing (start : Views) (outermost : ℕ) (all : List Sprout) (keys : List ℕ) (rest : List Sprout) (now : Views) : Type 0 where
   pub before : ℕ
   pub numbers : ℕ → ℕ
   pub classes : ℕ → Class
-  pub entries : (place : ℕ) → place < before → Entry now (slice_index_or keys place 0) (numbers place) (classes place) (length (ancestors outermost start.tree) + place)
+  pub ways : ℕ → Bool
+  pub entries : (place : ℕ) → place < before → Entry now (slice_index_or keys place 0) (numbers place) (classes place) (ways place) (length (ancestors outermost start.tree) + place)
   pub occupied : (place : ℕ) → place < before → has_kids (slice_index_or keys place 0) now.tree ≡ nat_le (suc (suc place)) before
   pub long : length keys ≡ MAX_DEPTH
   pub shallow : before ≤ MAX_DEPTH
   pub follow : follows before rest ≡ true
-  pub sown : sown now.next numbers (plain_of now) rest ≡ sown start.next (λ _. number_of start outermost) (plain_of start) all
+  pub sown : sown now.next numbers ways (plain_of now) rest ≡ sown start.next (λ _. number_of start outermost) (λ _. is_rtl_at (Some outermost) start.tree) (plain_of start) all
   pub element : ℕ
   pub taken : refusal_along (suc (length (ancestors outermost start.tree))) before classes (count_of now.tree) element rest ≡ None
   pub next : now.next + length rest ≡ start.next + length all
@@ -105,15 +112,17 @@ pub sowing_start : (start : Views) (outermost : ℕ) (all : List Sprout) (keys :
 sowing_start start outermost all keys live every follow fits =
     let high = length (ancestors outermost start.tree) in
     let read : (place : ℕ) → place < 1 → slice_index_or keys place 0 ≡ outermost = λ place less. rw every (get_or-replicate MAX_DEPTH place outermost 0 (omega arith)) in
-    let own : Entry start outermost (number_of start outermost) (class_of start outermost) high = record { live = live; number_is = refl; class_is = refl; deep = refl } in
+    let way = is_rtl_at (Some outermost) start.tree in
+    let own : Entry start outermost (number_of start outermost) (class_of start outermost) way high = record { live = live; number_is = refl; class_is = refl; way_is = refl; deep = refl } in
     record {
       before = 1;
       numbers = λ _. number_of start outermost;
       classes = λ _. class_of start outermost;
+      ways = λ _. way;
       entries = λ place less.
           let flat : high ≡ high + place = omega arith in
-          subst (λ key. Entry start key (number_of start outermost) (class_of start outermost) (high + place)) (sym (read place less))
-          (subst (Entry start outermost (number_of start outermost) (class_of start outermost)) flat own);
+          subst (λ key. Entry start key (number_of start outermost) (class_of start outermost) way (high + place)) (sym (read place less))
+          (subst (Entry start outermost (number_of start outermost) (class_of start outermost) way) flat own);
       occupied = λ place less.
           let first : place ≡ 0 = omega arith in
           rw (read place less, first) fits.childless;
@@ -129,7 +138,7 @@ sowing_start start outermost all keys live every follow fits =
       among = λ place less. inl (read place less);
     }
 
--- what the next view asks for
+-- what the next view needs
 pub record Ready (keys : List ℕ) (sprout : Sprout) (now : Views) : Type 0 where
   pub deep : 1 < sprout.depth
   pub shallow : sprout.depth ≤ MAX_DEPTH
@@ -147,7 +156,7 @@ module _ (start : Views) (outermost : ℕ) (all : List Sprout) (keys : List ℕ)
   place_of : Follows so_far.before sprout more
   place_of = followed so_far.before sprout more so_far.follow
 
-  entry : Entry now parent (so_far.numbers (sprout.depth - 2)) (so_far.classes (sprout.depth - 2)) (high + (sprout.depth - 2))
+  entry : Entry now parent (so_far.numbers (sprout.depth - 2)) (so_far.classes (sprout.depth - 2)) (so_far.ways (sprout.depth - 2)) (high + (sprout.depth - 2))
   entry = so_far.entries (sprout.depth - 2) (let d = place_of.deep in let n = place_of.next in omega arith)
 
   parts : (growth_refusal (so_far.classes (sprout.depth - 2)) (nat_le sprout.depth so_far.before) (suc high + (sprout.depth - 2)) (count_of now.tree) ≡ None)
@@ -181,13 +190,13 @@ module _ (start : Views) (outermost : ℕ) (all : List Sprout) (keys : List ℕ)
     taken = refusal_live now parent is entry.live ∙ taken_here;
   }
 
-  -- which views have a child once it has come
-  occupied_on : (key : ℕ) (new : Views) → Attached now (Some parent) (view_of now.next (seed_of sprout)) key new
+  -- which views have a child once it was added
+  occupied_on : (key : ℕ) (new : Views) → Attached now (Some parent) (running_below (Some parent) now.tree (view_of now.next (seed_of sprout))) key new
       → (place : ℕ) → place < sprout.depth - 1 → has_kids (slice_index_or keys place 0) new.tree ≡ nat_le (suc (suc place)) sprout.depth
   occupied_on key new came place less =
       let d = place_of.deep in
       let n = place_of.next in
-      let view = view_of now.next (seed_of sprout) in
+      let view = running_below (Some parent) now.tree (view_of now.next (seed_of sprout)) in
       let other = slice_index_or keys place 0 in
       let there = so_far.entries place (omega arith) in
       let has : nat_le (suc (suc place)) sprout.depth ≡ true = le-leb (suc (suc place)) sprout.depth (omega arith) in
@@ -210,11 +219,11 @@ module _ (start : Views) (outermost : ℕ) (all : List Sprout) (keys : List ℕ)
             | inr apart ↦ omega arith
           ]
 
-  -- one more has come
-  pub sow_on : (place key : ℕ) (new : Views) → place ≡ sprout.depth - 1 → Attached now (Some parent) (view_of now.next (seed_of sprout)) key new
+  -- one more was added
+  pub sow_on : (place key : ℕ) (new : Views) → place ≡ sprout.depth - 1 → Attached now (Some parent) (running_below (Some parent) now.tree (view_of now.next (seed_of sprout))) key new
       → Sowing start outermost all (slice_set keys place key) more new
   sow_on place key new at came =
-      let view = view_of now.next (seed_of sprout) in
+      let view = running_below (Some parent) now.tree (view_of now.next (seed_of sprout)) in
       let d = place_of.deep in
       let n = place_of.next in
       let s = shallow_here in
@@ -224,24 +233,28 @@ module _ (start : Views) (outermost : ℕ) (all : List Sprout) (keys : List ℕ)
       let c = count-grown parent (leaf key view) now.tree entry.live (is.keys parent) in
       let o = count-leaf key view in
       ap count_of came.tree ∙ omega arith in
-      let plain : plain_of new ≡ grown (so_far.numbers (sprout.depth - 2)) (single view) (plain_of now) =
-      came.plain ∙ ap (λ n. grown n (single view) (plain_of now)) entry.number_is in
+      let way = dir (so_far.ways (sprout.depth - 2)) sprout.facts.direction in
+      let plain : plain_of new ≡ grown (so_far.numbers (sprout.depth - 2)) (single (running way (view_of now.next (seed_of sprout)))) (plain_of now) =
+      came.plain ∙ ap (λ n. grown n (single view) (plain_of now)) entry.number_is
+      ∙ ap (λ above. grown (so_far.numbers (sprout.depth - 2)) (single (running (dir above sprout.facts.direction) (view_of now.next (seed_of sprout)))) (plain_of now)) entry.way_is in
       let gain = gained_more start now new outermost parent key view so_far.added so_far.gained came (so_far.among (sprout.depth - 2) (omega arith)) in
       let own : slice_index_or (slice_set keys place key) place 0 ≡ key = get_or-set_same keys place key 0 (omega arith) in
       let outer : (other : ℕ) → other ≢ place → slice_index_or (slice_set keys place key) other 0 ≡ slice_index_or keys other 0 =
       λ other ne. get_or-set_other keys place other key 0 ne in
-      let newest : Entry new key now.next sprout.class (high + place) =
+      let newest : Entry new key now.next sprout.class way (high + place) =
       let step : suc (high + (sprout.depth - 2)) ≡ high + place = omega arith in
-      subst (Entry new key now.next sprout.class) step (entry_new now new parent key view entry.live came (high + (sprout.depth - 2)) entry.deep) in
+      subst (λ above. Entry new key now.next sprout.class (dir above sprout.facts.direction) (high + place)) entry.way_is
+      (subst (Entry new key now.next sprout.class view.facts.rtl) step (entry_new now new parent key view entry.live came (high + (sprout.depth - 2)) entry.deep)) in
       record {
         before = sprout.depth;
         numbers = with_last so_far.numbers place now.next;
         classes = with_last so_far.classes place sprout.class;
+        ways = with_last so_far.ways place way;
         entries = λ other less. elim (cases_eq other place) [
-          | inl e ↦ rw (e, own, last_own so_far.numbers place now.next, last_own so_far.classes place sprout.class) newest
+          | inl e ↦ rw (e, own, last_own so_far.numbers place now.next, last_own so_far.classes place sprout.class, last_own so_far.ways place way) newest
           | inr ne ↦
-              rw (outer other ne, last_earlier so_far.numbers place other now.next (omega arith), last_earlier so_far.classes place other sprout.class (omega arith))
-              (entry_kept now new parent key view entry.live came (slice_index_or keys other 0) (so_far.numbers other) (so_far.classes other) (high + other)
+              rw (outer other ne, last_earlier so_far.numbers place other now.next (omega arith), last_earlier so_far.classes place other sprout.class (omega arith), last_earlier so_far.ways place other way (omega arith))
+              (entry_kept now new parent key view entry.live came (slice_index_or keys other 0) (so_far.numbers other) (so_far.classes other) (so_far.ways other) (high + other)
               (so_far.entries other (omega arith)))
         ];
         occupied = λ other less. elim (cases_eq other place) [
@@ -269,10 +282,10 @@ module _ (start : Views) (outermost : ℕ) (all : List Sprout) (keys : List ℕ)
         ];
       }
 
--- all have come
+-- all were added
 pub sown_all : (start : Views) (outermost : ℕ) (all : List Sprout) (keys : List ℕ) (now : Views) → IsTree start → IsLive start outermost
     → Sowing start outermost all keys [] now → (kids : Forest Seed) → preorder 2 kids ≡ all
-    → plain_of now ≡ grown (number_of start outermost) (numbered start.next kids) (plain_of start)
+    → plain_of now ≡ grown (number_of start outermost) (directed (is_rtl_at (Some outermost) start.tree) (numbered start.next kids)) (plain_of start)
 sown_all start outermost all keys now is live sowing kids same =
     sowing.sown
-    ∙ sown_is start.next (number_of start outermost) (λ _. number_of start outermost) (plain_of start) kids all refl (live_earlier start outermost is live) (earlier start is) same
+    ∙ sown_is start.next (number_of start outermost) (is_rtl_at (Some outermost) start.tree) (λ _. number_of start outermost) (λ _. is_rtl_at (Some outermost) start.tree) (plain_of start) kids all refl refl (live_earlier start outermost is live) (earlier start is) same

@@ -31,7 +31,7 @@ ends_before depth Nothing rest ends = ends
 ends_before depth (Branch seed below after) rest ends = omega arith
 
 module _ {X : Type 0} (f : ℕ → Sprout → X) where
-  -- where the views are no deeper there are no more children
+  -- if the views are no deeper there are no more children
   behind-end : (depth number : ℕ) (rest : List Sprout) → Ends depth rest → behind f depth number rest ≡ []
   behind-end depth number [] ends = refl
   behind-end depth number (sprout ∷ more) ends = rw (le-ltb depth sprout.depth ends)
@@ -77,7 +77,7 @@ links-kids depth number list rest ends = behind-kids (λ number sprout. sprout_l
 numbers-kids : (depth number : ℕ) (list : Forest Seed) (rest : List Sprout) → Ends depth rest → numbers_behind depth number (preorder (suc depth) list ++ rest) ≡ numbers_in (numbered number list)
 numbers-kids depth number list rest ends = behind-kids (λ number sprout. number) (λ (view : PlainView). view.number) (λ number depth seed. refl) depth number list rest ends
 
--- the cycles that are told are those of the trees
+-- the cycles that are reported are those of the trees
 or_assoc : (a b c : Option PlainRefusal) → option_or a (option_or b c) ≡ option_or (option_or a b) c
 or_assoc None b c = refl
 or_assoc (Some refusal) b c = refl
@@ -145,7 +145,7 @@ all_kept groups before number (sprout ∷ more) entries (own, rest, is, mine, la
       all_kept groups (λ k. noted own k (before k)) (suc number) more rest later (λ k le. parts k (omega arith)),
     )
 
--- and so of the trees
+-- and so for the trees
 pub grouped-forest : (groups : Groups) (depth number : ℕ) (list : Forest Seed) (rest : List Sprout) → Ends depth rest → AllKept groups number (preorder depth list ++ rest)
     → IsGrouped groups (numbered number list) × AllKept groups (number + count_of list) rest
 grouped-forest groups depth number Nothing rest ends all = let same : number ≡ number + 0 = omega arith in (tt, subst (λ n. AllKept groups n rest) same all)

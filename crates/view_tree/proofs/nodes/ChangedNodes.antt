@@ -1,4 +1,4 @@
--- What nodes say after changes of some of them.
+-- What nodes hold after changes of some of them.
 use Rattle.std.proofs.Common.{◌≡◌, ◌≢◌, ℕ, Option, Some, None, refl, sym, ap}
 use Rattle.std.proofs.lemmas.Bool.{eq-eqb, ne_eqb}
 use Rattle.view_tree.specs.Nodes.{PlainNode, changed_at, with_node, without}

@@ -13,7 +13,7 @@ use Rattle.view_tree.proofs.forest.NumberLaws.{edited_absent}
 abbrev pub edit_kids : ℕ → (Forest Row → Forest Row) → Forest Row → Forest Row
 edit_kids k g tree = edited_where (λ (row : Row). row.key == k) (λ row kids siblings. Branch row (g kids) siblings) tree
 
--- what nodes say matters at the keys of the views alone
+-- only what nodes hold at the keys of the views matters
 pub RepresentsPart-along : (at new : ℕ → Option PlainNode) (p q : Option ℕ) (t : Forest Row) → ((x : ℕ) → 0 < count_of_key x t → new x ≡ at x) → RepresentsPart at p q t → RepresentsPart new p q t
 RepresentsPart-along at new p q Nothing same s = tt
 RepresentsPart-along at new p q (Branch row kids siblings) same s = (

@@ -1,4 +1,4 @@
--- The tree after a view has come as the last child of another.
+-- The tree after a view was added as the last child of another.
 use Rattle.std.proofs.Common.{◌≡◌, ◌≢◌, ℕ, ◌+◌, ◌<◌, ◌≤◌, true, false, Option, Some, None, refl, sym, ◌∙◌, ap, subst, arith, inl, inr}
 use Rattle.std.proofs.lemmas.Bool.{ne_eqb, cases_eq}
 use Rattle.std.specs.Prelude.{◌==◌, if◌then◌else◌}
@@ -91,7 +91,7 @@ module _ (at new : ℕ → Option PlainNode) (root : Option ℕ) (next : ℕ) (t
   becomes_hung : (x : ℕ) → new x ≡ linked at (Some above) key view (last_key kids) x
   becomes_hung x = becomes x ∙ ap (λ o. linked at (Some above) key view o x) (ap last_named there.is)
 
-  -- the new node, what comes behind the last child, and what the parent becomes
+  -- the new node, what comes after the last child, and what the parent becomes
   abbrev own_node : PlainNode
   own_node = record { view = unscrolled view; parent = Some above; first = None; last = None; previous = last_key kids; next = None }
 
@@ -176,7 +176,7 @@ module _ (at new : ℕ → Option PlainNode) (root : Option ℕ) (next : ℕ) (t
         few = let e = count-grown above (leaf key view) t live (stands.distinct above) in let f = stands.few in omega arith;
       }
 
--- the tree after its root has come
+-- the tree after its root was added
 pub root_stands : (at new : ℕ → Option PlainNode) (next key : ℕ) (view : PlainView) → 0 < next → ((x : ℕ) → new x ≡ linked at None key view None x)
     → RepresentsTree new (Some key) (next + 1) (leaf key view)
 root_stands at new next key view some becomes = record {

@@ -44,11 +44,11 @@ holders_less n sum key small =
           rw (holders_some n sum ne, more, less, back sum key small)
     ])
 
--- what a table has for an id, of so many views with this sum
+-- what a table has for an id, of n views with this sum
 abbrev pub held_for : ℕ → ℕ → ℕ → Option Holders
 held_for id n sum = if id == 0 then None else holders n sum
 
--- how many views a view adds to an id, and what to the sum of their keys
+-- how much a view adds to the number of views of an id, and to the sum of their keys
 abbrev pub own : ℕ → ℕ → ℕ → ℕ
 own new id amount = if new == id then amount else 0
 
@@ -116,7 +116,7 @@ held_few id n sum few = elim (cases_eq id 0) [
   ])
 ]
 
--- an id that has no entry has no view, and where the count is 1 the sum is that of one view
+-- an id that has no entry has no view, and if the count is 1 the sum is that of one view
 pub held_none : (id n sum : ℕ) → id ≢ 0 → held_for id n sum ≡ None → n ≡ 0
 held_none id n sum ne is = elim (cases_eq n 0) [
   | inl e ↦ e

@@ -1,4 +1,4 @@
--- What nodes say after one has come.
+-- What nodes hold after one was added.
 use Rattle.std.proofs.Common.{◌≡◌, ℕ, Option, Some, refl, ◌∙◌, ap, inl, inr}
 use Rattle.std.proofs.lemmas.Bool.{cases_eq, eq-eqb, ne_eqb}
 use mathlib.Core.Path.{fun_ext}

@@ -1,22 +1,24 @@
--- The fields of a tree after a view has come.
+-- The fields of a tree after a view was added.
 use Rattle.std.proofs.Common.{◌≡◌, ◌≢◌, ℕ, ◌+◌, ◌<◌, ◌^◌, Option, Some, None, refl, sym, ◌∙◌, ap, subst, arith, inl, inr}
 use Rattle.std.proofs.lemmas.Bool.{cases_eq}
 use Rattle.std.specs.Prelude.{◌==◌, IfSome, if◌then◌else◌, map, nat_eq}
 use Rattle.std.specs.Option.{option_map}
 use Rattle.indexmap.specs.IndexMap.{get as get_key}
 use Rattle.slab.specs.Slab.{Slab, get, slab_len, ContainsKey}
+use Rattle.view_model.specs.Direction.{dir}
 use Rattle.view_model.specs.Forest.{Forest, Nothing, count_of}
 use Rattle.view_model.specs.Growth.{refusal_at}
 use Rattle.view_model.specs.PlainTree.{PlainView}
 use Rattle.view_tree.specs.Attached.{Attached}
+use Rattle.view_tree.specs.Directions.{is_rtl_at}
 use Rattle.view_tree.specs.Holders.{noted}
 use Rattle.view_tree.specs.Ordering.{orders_in}
-use Rattle.view_tree.specs.Rows.{Row, key_where, leaf, count_of_key, with_child}
-use Rattle.view_tree.specs.Nodes.{PlainNode, links_in, links_at, held_in, linked, replaced_if_none, forest, last_child, last_named, RepresentsTree, tree_of, value_of, IsPlanted, holders_of}
+use Rattle.view_tree.specs.Rows.{Row, head_view, key_where, leaf, count_of_key, with_child}
+use Rattle.view_tree.specs.Nodes.{PlainNode, links_in, links_at, held_in, linked, replaced_if_none, forest, last_child, last_named, node_runs, runs_at, RepresentsTree, tree_of, value_of, IsPlanted, holders_of}
 use Rattle.view_tree.specs.Views.{Views, Held, IsLive, IsTree, fresh_held, held_of, held_or, number_of, plain_of, plain_rows}
 use Rattle.view_tree.specs.declared.node.Node.{Node}
 use Rattle.view_tree.specs.declared.tree.ViewTree.TheInside.{Inside}
-use Rattle.view_tree.proofs.forest.Forests.{tree_is, some_is}
+use Rattle.view_tree.proofs.forest.Forests.{seen, some_is, tree_is}
 use Rattle.view_tree.proofs.forest.SiblingLaws.{last_live}
 use Rattle.view_tree.proofs.nodes.GrownTree.{grown_stands, root_stands, vacant_unused}
 use Rattle.view_tree.proofs.forest.IdLaws.{holders_of-with_child}
@@ -46,7 +48,15 @@ pub last_child_there : (a : Inside) (v : Views) (parent : Option ℕ) → IsPlan
 last_child_there a v None sound e live l is = absurd (cc)
 last_child_there a v (Some parent) sound e live l is = contains_live a v l sound e (last_there_at a v parent l _ sound e live refl is)
 
--- the nodes stand for the tree with the view
+-- whether a parent runs from right to left
+pub runs_is : (a : Inside) (v : Views) (parent : Option ℕ) → IsPlanted a → value_of a ≡ v → IfSome parent (λ parent. IsLive v parent)
+    → runs_at (links_at a.nodes) parent ≡ is_rtl_at parent v.tree
+runs_is a v None sound e live = refl
+runs_is a v (Some k) sound e live =
+    let s = seen (links_at a.nodes) k None None v.tree (stands_for a v sound e).stand live in
+    ap node_runs s.is ∙ sym (ap (λ part. (head_view part).facts.rtl) s.found.is)
+
+-- the nodes represent the tree with the view
 pub stands-with_child : (at new : ℕ → Option PlainNode) (root : Option ℕ) (next : ℕ) (t : Forest Row) (parent : Option ℕ) (key : ℕ) (view : PlainView)
     → RepresentsTree at root next t → IfSome parent (λ parent. 0 < count_of_key parent t) → (parent ≡ None → t ≡ Nothing) → at key ≡ None
     → ((x : ℕ) → new x ≡ linked at parent key view (last_child at parent) x)
@@ -86,13 +96,14 @@ module _ (a b : Inside) (nodes : b.nodes ≡ record a.nodes { capacity = b.nodes
     small = subst (λ (t : Forest Row). (k : ℕ) → 0 < count_of_key k t → k < 2 ^ 64) (sym tree-room) sound.small;
   }
 
--- all that has become of the fields
+-- how the fields have changed
 module _ (a b : Inside) (v : Views) (parent : Option ℕ) (key : ℕ) (view : PlainView) (sound : IsPlanted a) (e : value_of a ≡ v)
     (live : IfSome parent (λ parent. IsLive v parent)) (empty : parent ≡ None → v.tree ≡ Nothing)
     (taken : refusal_at (plain_of v) (option_map (number_of v) parent) ≡ None)
     (vacant : get a.nodes key ≡ None)
     (becomes : (x : ℕ) → links_at b.nodes x ≡ linked (links_at a.nodes) parent key view (last_child (links_at a.nodes) parent) x)
     (root : b.root ≡ replaced_if_none parent (Some key) a.root) (next : b.next ≡ a.next + 1) (number : view.number ≡ a.next)
+    (runs : view.facts.rtl ≡ dir (is_rtl_at parent v.tree) view.facts.direction)
     (len : slab_len b.nodes ≡ slab_len a.nodes + 1)
     (listed : (n : ℕ) → get_key nat_eq b.keys n ≡ (if nat_eq view.number n then Some key else get_key nat_eq a.keys n))
     (ids : (id : ℕ) → get_key nat_eq b.ids id ≡ noted (get_key nat_eq a.ids id) view.facts.id key id) (fits : key < 2 ^ 64) where
@@ -114,7 +125,7 @@ module _ (a b : Inside) (v : Views) (parent : Option ℕ) (key : ℕ) (view : Pl
   number-attach = number ∙ ap (λ (v : Views). v.next) e
 
   kept-attach : IsTree (value_of b)
-  kept-attach = is_tree-with_child v (value_of b) parent key view (is_tree a v sound e) live taken unused-attach number-attach tree-attach next-attach
+  kept-attach = is_tree-with_child v (value_of b) parent key view (is_tree a v sound e) live taken unused-attach number-attach runs tree-attach next-attach
 
   pub sound-attach : IsPlanted b
   sound-attach = record {

@@ -1,4 +1,4 @@
--- What the node of a live view says.
+-- What the node of a live view holds.
 use Rattle.std.proofs.Common.{◌≡◌, ℕ, ◌<◌, ◌^◌, zero, suc, Option, Some, None, List, [], ◌∷◌, refl, sym, ◌∙◌, ap, subst, map}
 use Rattle.std.specs.Prelude.{slice_index_or, IfSome, nat_eq}
 use Rattle.indexmap.specs.IndexMap.{get as get_key}
@@ -15,13 +15,13 @@ use Rattle.view_tree.proofs.forest.Forests.{part, Part, Within-children_of_first
 use Rattle.view_tree.proofs.forest.AncestorLaws.{Up, up_is}
 use Rattle.view_tree.proofs.forest.SiblingLaws.{previous_is, previous_live, last_live}
 
--- a node that says this
+-- a node that holds this
 pub record Says (o : Option Node) (x : PlainNode) : Type 0 where
   pub node : Node
   pub at : o ≡ Some node
   pub all : links_of node ≡ x
 
-says : (o : Option Node) (x : PlainNode) → links_in o ≡ Some x → Says o x
+pub says : (o : Option Node) (x : PlainNode) → links_in o ≡ Some x → Says o x
 says None x h = absurd (cc)
 says (Some n) x h = record { node = n; at = refl; all = some_is h }
 
@@ -44,7 +44,7 @@ node_of a v k sound e live =
 pub contains_live : (a : Inside) (v : Views) (k : ℕ) → IsPlanted a → value_of a ≡ v → IsLive v k → ContainsKey a.nodes k
 contains_live a v k sound e live = rw (node_of a v k sound e live).says.at
 
--- what the node under the key of a live view says
+-- what the node under the key of a live view holds
 pub record NodeSays (n : Node) (k : ℕ) (t : Forest Row) : Type 0 where
   pub found : Located k t
   pub parent : Option ℕ

@@ -1,4 +1,4 @@
--- The fields of a tree after a view without children is gone.
+-- The fields of a tree after a view without children was removed.
 use Rattle.std.proofs.Common.{◌≡◌, ◌≢◌, ℕ, ◌+◌, Some, None, sym, ◌∙◌, ap, subst, arith}
 use Rattle.std.specs.Prelude.{◌==◌, if◌then◌else◌, nat_eq}
 use Rattle.indexmap.specs.IndexMap.{get as get_key}

@@ -19,6 +19,7 @@ use Rattle.view_tree.specs.Views.{Views, IsLive, IsTree, SameTree, KeepsOthers, 
 use Rattle.view_tree.specs.declared.counts.Counts.{Counts}
 use Rattle.view_tree.specs.declared.node.Node.{Node}
 use Rattle.view_tree.specs.declared.tree.ViewTree.TheInside.{Inside}
+use Rattle.view_tree.proofs.forest.DirectedLaws.{KeepsRun}
 use Rattle.view_tree.proofs.forest.Forests.{tree_is, some_is}
 use Rattle.view_tree.proofs.forest.IdLaws.{holders_of-put}
 use Rattle.view_tree.proofs.values.KeptLaws.{is_tree-put, is_tree-same}
@@ -53,14 +54,14 @@ kept-write a v k n m e at =
           ∙ ap (λ (v : Views). held_of v other) e;
     }
 
--- where the two nodes leave the same, so does the write
+-- if the two nodes leave the same, so does the write
 pub all_kept : (old new : Views) (k : ℕ) (n m : Node) → Kept old new k n m → held_by m ≡ held_by n → (key : ℕ) → held_of new key ≡ held_of old key
 all_kept old new k n m kept same key = elim (cases_eq key k) [
   | inl is ↦ rw is (kept.after ∙ same ∙ sym kept.before)
   | inr ne ↦ kept.others key ne
 ]
 
--- a write that leaves what the node says of the tree
+-- a write that keeps what the node holds about the tree
 module _ (a : Inside) (k : ℕ) (n m : Node) (at : get a.nodes k ≡ Some n) (same : links_of m ≡ links_of n) where
   all_same : links_at (with_value a.nodes k m) ≡ links_at a.nodes
   all_same =
@@ -113,7 +114,7 @@ sound-counts a counts sound = record {
 abbrev pub rewritten : Inside → Inside → ℕ → Node → Inside
 rewritten a other k m = record a { nodes = with_value a.nodes k m; ids = other.ids }
 
--- what a write of the node m leaves of the tree, where it changes the view
+-- what a write of the node m leaves of the tree, if it changes the view
 pub record ViewPut (a other : Inside) (v : Views) (k : ℕ) (m : Node) (f : PlainView → PlainView) : Type 0 where
   pub sound : IsPlanted (rewritten a other k m)
   pub tree : tree_of (written a k m) ≡ changed_at_key k f v.tree
@@ -124,6 +125,7 @@ module _ (a : Inside) (v : Views) (k : ℕ) (n m : Node) (f : PlainView → Plai
     (changes : links_of m ≡ record (links_of n) { view = f (links_of n).view })
     (numbers : (w : PlainView) → (f w).number ≡ w.number) (classes : (w : PlainView) → (f w).class ≡ w.class)
     (offsets : (w : PlainView) → w.facts.offset ≡ pos 0 → (f w).facts.offset ≡ pos 0)
+    (runs : KeepsRun f (head_view (part_from k v.tree)))
     (live : IsLive v k) (other : Inside) (noted : (id : ℕ) → get_key nat_eq other.ids id ≡ renamed (get_key nat_eq a.ids id) n.facts.id m.facts.id k id) where
   u : Updates a.nodes (with_value a.nodes k m) k (Some m)
   u = Updates-with_value a.nodes k m (rw at)
@@ -147,7 +149,7 @@ module _ (a : Inside) (v : Views) (k : ℕ) (n m : Node) (f : PlainView → Plai
   sound-put : IsPlanted (rewritten a other k m)
   sound-put = record {
     stands = subst (RepresentsTree (links_at (with_value a.nodes k m)) a.root a.next) (sym tree-put) stands-put;
-    kept = is_tree-put v (value_of (written a k m)) k f (subst IsTree e sound.kept) numbers classes offsets tree-put (ap (λ (v : Views). v.next) e);
+    kept = is_tree-put v (value_of (written a k m)) k f (subst IsTree e sound.kept) numbers classes offsets runs tree-put (ap (λ (v : Views). v.next) e);
     full =
         len_write a.nodes.slots k m (rw at) ∙ sound.full ∙ ap (λ (v : Views). count_of v.tree) e
         ∙ sym (count-put k f v.tree) ∙ ap count_of (sym tree-put);

@@ -10,7 +10,7 @@ use Rattle.view_tree.proofs.nodes.ChildEdits.{edit_kids, RepresentsPart-edit, la
 use Rattle.view_tree.proofs.nodes.PrunedPart.{own_more, Later, at_first, later, Home, up, count_of_key-later, Beside, RepresentsPart-later, RepresentsPart-pruned_at_key, before_out, before_there, next_there, cut_first, cut_last, cut_edit, cut_here}
 use Rattle.view_tree.proofs.forest.NumberLaws.{count_of_key-cut_le, count-cut_le}
 
--- where the parent and the siblings beside it are apart, what each node says
+-- if the parent and the siblings beside it are apart, what each node holds
 pub record Apart (k : ℕ) (n : PlainNode) : Type 0 where
   pub not_k : (x : ℕ) → IsAround n x → x ≢ k
   pub siblings : (x : ℕ) → n.previous ≡ Some x → n.next ≢ Some x

@@ -1,4 +1,4 @@
--- What nodes say after one was taken out.
+-- What nodes hold after one was taken out.
 use Rattle.std.proofs.Common.{◌≡◌, ℕ, Option, Some, None, refl, sym, ◌∙◌, ap, inl, inr, IsSome, true, false}
 use Rattle.std.proofs.lemmas.Bool.{cases_eq, eq-eqb, ne_eqb}
 use Rattle.std.specs.Prelude.{option_map, ◌==◌, if◌then◌else◌}
@@ -24,7 +24,7 @@ changed_some : (at : ℕ → Option PlainNode) (o : Option ℕ) (f : PlainNode �
 changed_some at None f x h = h
 changed_some at (Some k) f x h = elim (x == k) as (λ v. IsSome (if v then option_map f (at x) else at x)) [ true ↦ map_some (at x) f h | false ↦ h ]
 
--- a change takes no node away
+-- a change removes no node
 pub still : (s t : Slab Node) (o : Option ℕ) (f : PlainNode → PlainNode) (x : ℕ) → links_at t x ≡ changed_at (links_at s) o f x → ContainsKey s x → ContainsKey t x
 still s t o f x e h = some_said (get t x) (rw e (changed_some (links_at s) o f x (said_some (get s x) h)))
 

@@ -38,7 +38,7 @@ planted-whole a is = record {
 pub planted-groups : (a b : Inside) → b.nodes ≡ a.nodes → b.keys ≡ a.keys → b.ids ≡ a.ids → b.root ≡ a.root → b.next ≡ a.next → IsPlanted a → IsPlanted b
 planted-groups a b nodes keys ids root next is = planted-whole b (rw (nodes, keys, ids, root, next) (planted-fields a is))
 
--- orders and counts are no part of what comes
+-- orders and counts are no part of what is added
 pub attached-orders : (old new : Views) (parent : Option ℕ) (view : PlainView) (key : ℕ) (before after : List (ℕ × PlainOrders)) (count counts : Counts) → Attached old parent view key new
     → Attached (record old { orders = before; counts = count }) parent view key (record new { orders = after; counts = counts })
 attached-orders old new parent view key before after count counts came =
@@ -53,7 +53,7 @@ gained-orders old new key after counts came = record {
 pub groups_along : (at now : ℕ → Option PlainGroup) (views : Views) → ((k : ℕ) → now k ≡ at k) → IsGrouped at (plain_of views) → IsGrouped now (plain_of views)
 groups_along at now views same grouped = subst (λ (groups : ℕ → Option PlainGroup). IsGrouped groups (plain_of views)) (sym (fun_ext same)) grouped
 
--- the parent of a view, by what is told of it and by what its node says
+-- the parent of a view, by look-up and by what its node holds
 pub same_parent : (told said : Option ℕ) (path : List ℕ) (above : ℕ → List ℕ) → MatchOption told (path ≡ []) (λ parent. path ≡ parent ∷ above parent)
     → MatchOption said (path ≡ []) (λ parent. path ≡ parent ∷ above parent) → told ≡ said
 same_parent None None path above first second = refl

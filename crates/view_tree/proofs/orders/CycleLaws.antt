@@ -33,7 +33,7 @@ use Rattle.view_tree.proofs.orders.ListLaws.{IsAmong, among_or_not, among_times,
 use Rattle.view_tree.proofs.orders.RowLaws.{at_within, count_within, each-plain, every_within, few_numbers, group_number-own, numbered_at, numbers-plain, times-plain}
 use Rattle.view_tree.proofs.orders.TreeLaws.{Groups, HasParent, Owes, grouped-edited, kept_along}
 
--- where there are orders, there are no cycles
+-- if there are orders, there are no cycles
 pub free : (links : List Link) (orders : PlainOrders) → AreOrders links orders → IsFree links
 free links orders are = record { across = acyclic Horizontal links orders.across are.across; down = acyclic Vertical links orders.down are.down }
 
@@ -328,7 +328,7 @@ grouped-ruled at now views new key link change is live class same reads plain gr
     (own (number_of views parent) orders mine refl) (λ k ne. others k (λ e. ne (some_is (sym mine ∙ e))))
     (subst (λ (group : Option ℕ). EveryBranch (λ (view : PlainView) (kids : Forest PlainView). HasParent (number_of views key) group view kids) (plain_of views)) mine has)
 
--- why there are none is why the tree is refused
+-- the reason why there are none is the reason why the tree is refused
 pub refused_for : (A : Type 0) (views : Views) (key : ℕ) (link : Link) (change : PlainView → PlainView) → IsTree views
     → ((view : PlainView) → (change view).class ≡ view.class) → ((view : PlainView) → (change view).number ≡ view.number) → ((view : PlainView) → link_of (change view) ≡ link)
     → HasNoCycle (plain_of views) → (above : Option ℕ) (fault : AttachFault) → IfSome above (λ parent. IsLive views parent)

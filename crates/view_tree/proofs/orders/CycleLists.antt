@@ -20,7 +20,7 @@ use Rattle.view_tree.specs.declared.fault.AttachFault.TheVariants as fault
 use Rattle.view_tree.specs.Grafting.{IsGroupOrCycle, cycle_of}
 
 module _ (name : ℕ → Member) (links : List Link) (numbers : List ℕ) where
-  -- an axis without cycles has none to tell
+  -- an axis without cycles has none to report
   none_on : (axis : Axis) (down : Bool) → IsAcyclic (leads axis links) → cycle_with name down (map (slice_index numbers) (members_of (leads axis links) (length links))) ≡ None
   none_on axis down acyclic = ap (λ (members : List ℕ). cycle_with name down (map (slice_index numbers) members)) (no_members (leads axis links) (length links) acyclic)
 
@@ -32,7 +32,7 @@ module _ (name : ℕ → Member) (links : List Link) (numbers : List ℕ) where
   told_with down [] some = absurd (omega arith)
   told_with down (first ∷ members) some = refl
 
-  -- an axis with cycles has their members to tell
+  -- an axis with cycles has their members to report
   told_on : (axis : Axis) (down : Bool) (members : List ℕ) → IsCycle (leads axis links) (length links) members
       → cycle_with name down (map (slice_index numbers) (members_of (leads axis links) (length links)))
       ≡ Some (record { number = CYCLE; reason = Cycle down (map name (map (slice_index numbers) members)) })
@@ -54,7 +54,7 @@ module _ (name : ℕ → Member) (links : List Link) (numbers : List ℕ) where
   cyclic_of true members is = is
   cyclic_of false members is = is
 
-  -- what is told of a fault is what is computed
+  -- what is reported of a fault is what is computed
   pub told_is : (down : Bool) (members : Vec ℕ Global) (fault : AttachFault) → IsFaultOf links (order.Cycle down members)
       → IsToldOf (λ place. name (slice_index numbers place)) down members.items fault → IsGroupOrCycle name links numbers (Err fault)
   told_is down members (fault.Refused refusal) is told =

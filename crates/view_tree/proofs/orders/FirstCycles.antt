@@ -35,13 +35,13 @@ none_below name class kids free = elim (cases_Bool (is_relative class)) [
   | inr other ↦ rw other refl
 ]
 
--- a tree without cycles has none to tell
+-- a tree without cycles has none to report
 pub no_first_cycle : (name : ℕ → Member) (tree : Forest PlainView) → HasNoCycle tree → first_cycle name tree ≡ None
 no_first_cycle name Nothing none = refl
 no_first_cycle name (Branch view below after) none =
     rw (none_below name view.class below none.0, no_first_cycle name below none.1) (no_first_cycle name after none.2)
 
--- none but a view of a number has cycles among its children, and this is told of those
+-- only a view of a number has cycles among its children, and this is reported of those
 abbrev pub HasCycleAt : (ℕ → Member) → ℕ → Option PlainRefusal → PlainView → Forest PlainView → Type 0
 HasCycleAt name number reason view kids =
     (view.number ≢ number → is_relative view.class ≡ true → IsFree (links_in kids)) × (view.number ≡ number → cycle_below name view.class kids ≡ reason)
@@ -49,7 +49,7 @@ HasCycleAt name number reason view kids =
 abbrev pub HaveCyclesAt : (ℕ → Member) → ℕ → Option PlainRefusal → Forest PlainView → Type 0
 HaveCyclesAt name number reason tree = EveryBranch (λ (view : PlainView) (kids : Forest PlainView). HasCycleAt name number reason view kids) tree
 
--- where no view has that number there are no cycles
+-- if no view has that number there are no cycles
 pub none_away : (name : ℕ → Member) (number : ℕ) (reason : Option PlainRefusal) (tree : Forest PlainView) → HaveCyclesAt name number reason tree → times_in number tree ≡ 0 → HasNoCycle tree
 none_away name number reason Nothing at away = tt
 none_away name number reason (Branch view below after) at away = (
@@ -62,7 +62,7 @@ or_none : (reason : Option PlainRefusal) → option_or reason None ≡ reason
 or_none None = refl
 or_none (Some refusal) = refl
 
--- where one view has it, the first cycle is what is told of its children
+-- if one view has it, the first cycle is what is reported of its children
 pub first_at : (name : ℕ → Member) (number : ℕ) (reason : Option PlainRefusal) (tree : Forest PlainView) → HaveCyclesAt name number reason tree → times_in number tree ≡ 1
     → first_cycle name tree ≡ reason
 first_at name number reason Nothing at once = absurd (omega arith)

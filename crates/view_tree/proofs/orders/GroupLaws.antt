@@ -6,7 +6,7 @@ use Rattle.view_tree.specs.declared.groups.Group.{Group}
 use Rattle.view_tree.specs.Ordering.{orders_in, place_in, plain_orders}
 use Rattle.view_tree.proofs.forest.Forests.{some_is}
 
--- where a key stands in a list: at the first entry that is it
+-- where a key is in a list: at the first equal entry
 pub place_in-found : (keys : List ℕ) (key place : ℕ) → place < length keys → get_or keys place 0 ≡ key → ((k : ℕ) → k < place → get_or keys k 0 ≡ key → ⊥) → place_in key keys ≡ place
 place_in-found [] key place small is none = absurd (omega arith)
 place_in-found (first ∷ keys) key zero small is none = rw (eq-eqb first key is)

@@ -30,7 +30,7 @@ count_there passes row kids siblings here is = rw is (omega arith)
 count_there passes row kids siblings (in_below w) is = let more = count_there passes row kids siblings w is in omega arith
 count_there passes row kids siblings (in_after w) is = let more = count_there passes row kids siblings w is in omega arith
 
--- where one view passes, and that below or behind `r`, the sum of the keys of those that do is the one of that side
+-- if one view passes, below or after `r`, the sum of the keys of those that do is the one of that side
 one_side : (passes : PlainView → Bool) (r : Row) (some others : Forest Row) (key : ℕ) → 0 < count_where passes some
     → (if passes r.view then 1 else 0) + (count_where passes some + count_where passes others) ≡ 1 → (count_where passes some ≡ 1 → keys_where passes some ≡ key)
     → (if passes r.view then r.key else 0) + (keys_where passes some + keys_where passes others) ≡ key
@@ -43,7 +43,7 @@ one_side passes r some others key more one is = elim (cases_Bool (passes r.view)
       rw e (omega arith)
 ]
 
--- where one view passes, the sum of the keys of those that do is its key
+-- if one view passes, the sum of the keys of those that do is its key
 sum_one : (passes : PlainView → Bool) (row : Row) (kids siblings : Forest Row) {tree : Forest Row} → Within (Branch row kids siblings) tree → passes row.view ≡ true → count_where passes tree ≡ 1
     → keys_where passes tree ≡ row.key
 sum_one passes row kids siblings here is one =
@@ -58,7 +58,7 @@ sum_one passes row kids siblings (in_after {row = r} {kids = b} {siblings = a} w
     let sum = one_side passes r a b row.key (count_there passes row kids siblings w is) (omega arith) (λ one. sum_one passes row kids siblings w is one) in
     omega arith
 
--- the view that a table tells of an id with one view is the only one
+-- the view that a table gives for an id with one view is the only one
 pub only_holder : (views : Views) (id : ℕ) (held : Holders) → id ≢ 0 → holders_of id views.tree ≡ Some held → held.count ≡ 1
     → ((key : ℕ) → IsLive views key → key < 2 ^ 64) → ((key : ℕ) → count_of_key key views.tree ≤ 1) → IsOnlyHolder views held.sum id
 only_holder views id held named is one small keys =
@@ -173,7 +173,7 @@ module _ (a : Inside) (views : Views) (view only id : ℕ) (told : Option ℕ) (
         away (said a views only told planted e holder.live path ∙ above ∙ ap (λ k. Some k) f.key_is))
   ]
 
--- nobody has an id of which the table has nothing
+-- no view has an id of which the table has nothing
 pub nobodys : (views : Views) (id : ℕ) → holders_of id views.tree ≡ None → IsNobodys views id
 nobodys views id none = λ named key live same.
     let zero = held_none id (count_where (has_id id) views.tree) (keys_where (has_id id) views.tree) named none in

@@ -37,7 +37,7 @@ pub later : (number : ℕ) (view : PlainView) (below after : Forest PlainView) �
 later number view below after (inl is) isnt = absurd (isnt is)
 later number view below after (inr more) isnt = more
 
--- an edit where there is no such view
+-- an edit if there is no such view
 pub edited_nowhere : (number : ℕ) (edit : PlainView → Forest PlainView → Forest PlainView → Forest PlainView) (tree : Forest PlainView) → times_in number tree ≡ 0
     → edited_where (λ (view : PlainView). view.number == number) edit tree ≡ tree
 edited_nowhere number edit Nothing none = refl
@@ -56,7 +56,7 @@ module _ {X : Type 0} (f : PlainView → X) where
   each-joined Nothing more = refl
   each-joined (Branch view below after) more = ap (λ rest. f view ∷ rest) (each-joined after more)
 
-  -- what comes further below is no entry
+  -- what is added further below is no entry
   pub each-grown : (parent : ℕ) (new list : Forest PlainView) → each f (grown parent new list) ≡ each f list
   each-grown parent new Nothing = refl
   each-grown parent new (Branch view below after) =
@@ -65,7 +65,7 @@ module _ {X : Type 0} (f : PlainView → X) where
         | inr isnt ↦ rw (ne_eqb view.number parent isnt) (ap (λ rest. f view ∷ rest) (each-grown parent new after))
       ]
 
-  -- a view that goes takes its entry out
+  -- the removal of a view takes its entry out
   pub each-pruned : (number : ℕ) (list : Forest PlainView) → IsAmong number list → each f (pruned number list) ≡ remove (each f list) (place_in number (numbers_in list))
   each-pruned number Nothing none = absurd none
   each-pruned number (Branch view below after) among =
@@ -115,7 +115,7 @@ place_past number Nothing none = omega arith
 place_past number (Branch view below after) none =
     rw (ne_eqb view.number number (λ is. none (inl is))) (let rest = place_past number after (λ among. none (inr among)) in omega arith)
 
--- a place in a list is read alike, whatever stands for one that is not there
+-- a place in a list is read alike, whatever is used for one that is not there
 pub read_any : {X : Type 0} (list : List X) (place : ℕ) (one other : X) → place < length list → get_or list place one ≡ get_or list place other
 read_any [] place one other small = absurd (omega arith)
 read_any (first ∷ list) zero one other small = refl
@@ -134,7 +134,7 @@ pub every_both : {R : Type 0} (P Q : R → Forest R → Type 0) (tree : Forest R
 every_both P Q Nothing first second = tt
 every_both P Q (Branch row below after) first second = ((first.0, second.0), every_both P Q below first.1 second.1, every_both P Q after first.2 second.2)
 
--- what every row has, every row of what is below each one has
+-- what holds of every row holds of every row of what is below each one
 pub every_below : {R : Type 0} (P : R → Type 0) (tree : Forest R) → EveryRow P tree → EveryBranch (λ row below. P row × EveryRow P below) tree
 every_below P Nothing every = tt
 every_below P (Branch row below after) every = ((every.0, every.1), every_below P below every.1, every_below P after every.2)

@@ -17,7 +17,7 @@ use Rattle.view_tree.proofs.orders.TreeLaws.{Groups, cases_some}
 pub only-same : (at now : Groups) (old new : Forest Row) → new ≡ old → ((k : ℕ) → now k ≡ at k) → HasNoOther at old → HasNoOther now new
 only-same at now old new tree same only = λ k none. same k ∙ only k (ap (count_where (is_layout k)) (sym tree) ∙ none)
 
--- a view is changed, and stays of its number and its class
+-- a view is changed, and keeps its number and its class
 pub only-put : (at now : Groups) (old new : Forest Row) (key : ℕ) (change : PlainView → PlainView) → ((w : PlainView) → (change w).number ≡ w.number)
     → ((w : PlainView) → (change w).class ≡ w.class) → new ≡ changed_at_key key change old → ((k : ℕ) → at k ≡ None → now k ≡ None) → HasNoOther at old → HasNoOther now new
 only-put at now old new key change numbers classes tree same only = λ k none.
@@ -25,7 +25,7 @@ only-put at now old new key change numbers classes tree same only = λ k none.
     sum-put (one_of (is_layout k)) key change old (λ row. rw (numbers row.view, classes row.view)) in
     same k (only k (sym layouts ∙ ap (count_where (is_layout k)) (sym tree) ∙ none))
 
--- views come
+-- views are added
 pub only-added : (at now : Groups) (old new : Forest Row) (parent : Option ℕ) (added : Forest Row) → IfSome parent (λ parent. 0 < count_of_key parent old) → (parent ≡ None → old ≡ Nothing)
     → ((key : ℕ) → count_of_key key old ≤ 1) → new ≡ with_child parent added old → ((k : ℕ) → count_where (is_layout k) added ≡ 0 → at k ≡ None → now k ≡ None)
     → HasNoOther at old → HasNoOther now new
@@ -34,7 +34,7 @@ only-added at now old new parent added live root once tree same only = λ k none
     let zero : count_where (is_layout k) (with_child parent added old) ≡ 0 = ap (count_where (is_layout k)) (sym tree) ∙ none in
     same k (omega arith) (only k (omega arith))
 
--- a view counts as the relative layout of a number, or not
+-- whether a view counts as the relative layout of a number
 abbrev pub counted : ℕ → PlainView → ℕ
 counted number view = if is_layout number view then 1 else 0
 
@@ -52,7 +52,7 @@ layout_is number view none relative same =
     let one : counted number view ≡ 1 = rw (eq-eqb view.number number (sym same), relative) refl in
     absurd (omega arith)
 
--- a view without children goes
+-- a view without children is removed
 pub only-pruned : (at now : Groups) (old new : Forest Row) (key : ℕ) → 0 < count_of_key key old → count_of_key key old ≤ 1 → children_of_first (part_from key old) ≡ Nothing
     → new ≡ pruned_at_key key old → now (head_view (part_from key old)).number ≡ None → ((k : ℕ) → k ≢ (head_view (part_from key old)).number → at k ≡ None → now k ≡ None)
     → HasNoOther at old → HasNoOther now new
@@ -76,6 +76,6 @@ none_taken number k parent at now own others none = elim (cases_some parent k) [
   | inr ne ↦ others ne ∙ none
 ]
 
--- a leaf comes
+-- a leaf is added
 pub layouts-leaf : (k key : ℕ) (view : PlainView) → count_where (is_layout k) (leaf key view) ≡ 0 → is_relative view.class ≡ true → k ≢ view.number
 layouts-leaf k key view none relative = layout_is k (unscrolled view) (omega arith) relative

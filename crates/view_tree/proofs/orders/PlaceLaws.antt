@@ -1,4 +1,4 @@
--- Orders of places, when one goes and when one comes.
+-- Orders of places, when one is removed and when one is added.
 use Rattle.std.proofs.Common.{◌≡◌, ◌≢◌, ◌⊎◌, ℕ, ◌<◌, ◌≤◌, ◌+◌, ◌-◌, Bool, true, take, drop, ◌++◌, [], ◌∷◌, List, length-append, length, get_or, sym, ◌∙◌, ap, arith, inl, inr}
 use Rattle.std.proofs.lemmas.Grind.{common_steps}
 use Rattle.std.proofs.lemmas.Bool.{cases_lt}
@@ -26,7 +26,7 @@ passing_within i j n h l = elim (passes i j) [ inl a ↦ omega arith | inr a ↦
 passing_back : (i x n : ℕ) → i ≤ n → passing i x < n + 1 → x < n
 passing_back i x n h l = elim (passes i x) [ inl a ↦ omega arith | inr a ↦ omega arith ]
 
--- a place other than the one that goes is that of one that stays
+-- a place other than the one that is removed is that of one that stays
 staying : (i k n : ℕ) → k ≢ i → k < n + 1 → i ≤ n → (j : ℕ) × (j < n) × (passing i j ≡ k)
 staying i k n ne l h = elim (cases_lt k i) [
   | inl lt ↦ (k, omega arith, elim (passes i k) [ inl a ↦ a.1 | inr a ↦ absurd (omega arith) ])
@@ -36,12 +36,12 @@ staying i k n ne l h = elim (cases_lt k i) [
 pub passing_misses : (i j : ℕ) → passing i j ≢ i
 passing_misses i j e = elim (passes i j) [ inl a ↦ omega arith | inr a ↦ omega arith ]
 
--- an order without the entry at `at`, where `gone` stood, with each greater place lowered
+-- an order without the entry at `at`, which was `gone`, with each greater place lowered
 pub record Removes (at gone : ℕ) (old new : List ℕ) : Type 0 where
   pub size : length new + 1 ≡ length old
   pub each : (q : ℕ) → q < length new → passing gone (get_or new q 0) ≡ get_or old (passing at q) 0
 
--- where a place that stays stands now
+-- where a place that stays is now
 moved : (n p i : ℕ) (old new : List ℕ) → length old ≡ n + 1 → p ≤ n → get_or old p 0 ≡ i → Removes p i old new → (k j : ℕ) → k < length old → get_or old k 0 ≡ passing i j
     → (q : ℕ) × (q < n) × (passing p q ≡ k) × (get_or new q 0 ≡ j)
 moved n p i old new size at e m k j h f =
@@ -92,7 +92,7 @@ Removes-made p i old mid new h made size low = record {
   each = λ q l. low q (omega arith) ∙ ap (λ xs. get_or xs q 0) made ∙ place_passing old p q h;
 }
 
--- without its own entry, nothing of an order is the place that goes
+-- without its own entry, nothing of an order is the removed place
 pub mid_misses : (r : ℕ → ℕ → Bool) (n p i : ℕ) (old : List ℕ) → IsOrder r n old → p < length old → get_or old p 0 ≡ i
     → (q : ℕ) → q < length (remove old p) → get_or (remove old p) q 0 ≢ i
 mid_misses r n p i old o hp e q h same =
@@ -101,7 +101,7 @@ mid_misses r n p i old o hp e q h same =
     let within = passing_within p q (length (remove old p)) (omega arith) h in
     passing_misses p q (o.anchors.once (passing p q) p (omega arith) hp here)
 
--- an order with the place of one that nobody leads to, and that leads to nobody
+-- an order with one more place, to which no place leads, and which leads to none
 pub IsOrder-add : (r s : ℕ → ℕ → Bool) (n : ℕ) (old : List ℕ) → ((a b : ℕ) → s a b ≡ true → (a < n) × (r a b ≡ true)) → IsOrder r n old → IsOrder s (n + 1) (old ++ n ∷ [])
 IsOrder-add r s n old kept o =
     let long : length (old ++ n ∷ []) ≡ n + 1 = (let a = length-append old (n ∷ []) in let b = o.size in omega arith) in

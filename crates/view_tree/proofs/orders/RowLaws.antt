@@ -154,7 +154,7 @@ group_number-own views parent e = rw e
 number_row : (row : Row) (kids siblings : Forest Row) {tree : Forest Row} → Within (Branch row kids siblings) tree → 0 < count_of_number row.view.number tree
 number_row row kids siblings within = let own = number_self row kids siblings in let less = number-within row.view.number within in omega arith
 
--- a view has come
+-- a view was added
 no_order : (r : ℕ → ℕ → Bool) → IsOrder r 0 []
 no_order r = record {
   size = refl;
@@ -214,7 +214,7 @@ grouped-attached old new None view at now is live number id rules own told other
 grouped-attached old new (Some parent) view at now is live number id rules own told others plain grouped =
     grouped-child old new view at now is number id rules own parent live told others grouped plain
 
--- a view is gone: the node of a child names its parent
+-- a view was removed: the node of a child names its parent
 pub parent_among : (at : ℕ → Option PlainNode) (held : ℕ → Held) (key number : ℕ) (node : PlainNode) (parent before : Option ℕ) (kids : Forest Row) → at key ≡ Some node → RepresentsPart at parent before kids
     → Agree key number kids → IsAmong number (plain_rows held kids) → node.parent ≡ parent
 parent_among at held key number node parent before Nothing says stand agree none = absurd none
@@ -251,7 +251,7 @@ lookup-orders test (entry ∷ groups) = elim (cases_Bool (test entry.0)) [
   | inr e ↦ rw e (lookup-orders test groups)
 ]
 
--- what a table has under a number tells the orders there
+-- what a table has under a number gives the orders there
 pub orders_same : (old new : List (ℕ × Group)) (k : ℕ) → option_map plain_group (lookup (nat_eq k) new) ≡ option_map plain_group (lookup (nat_eq k) old)
     → lookup (nat_eq k) (orders_in new) ≡ lookup (nat_eq k) (orders_in old)
 orders_same old new k same = lookup-orders (nat_eq k) new ∙ ap (option_map (λ (g : PlainGroup). g.orders)) same ∙ sym (lookup-orders (nat_eq k) old)
@@ -269,7 +269,7 @@ orders_or group = unwrap_or (option_map (λ (g : PlainGroup). g.orders) group) n
 pub orders_under-is : (groups : List (ℕ × Group)) (k : ℕ) → unwrap_or (lookup (nat_eq k) (orders_in groups)) no_orders ≡ orders_or (option_map plain_group (lookup (nat_eq k) groups))
 orders_under-is groups k = ap (λ found. unwrap_or found no_orders) (lookup-orders (nat_eq k) groups)
 
--- the parent that is told of a view is the first of its ancestors
+-- the parent of a view by look-up is the first of its ancestors
 pub nearest_told : (told : Option ℕ) (path : List ℕ) (above : ℕ → List ℕ) → MatchOption told (path ≡ []) (λ parent. path ≡ parent ∷ above parent) → slice_get path 0 ≡ told
 nearest_told None path above is = rw is refl
 nearest_told (Some parent) path above is = rw is refl

@@ -1,4 +1,4 @@
--- The parent of a view, as it is told, and the view among its children.
+-- The parent of a view, by look-up, and the view among its children.
 use Rattle.std.proofs.Common.{◌≡◌, ℕ, Option, Some, sym, ◌∙◌, ap, subst, MatchOption}
 use Rattle.std.specs.Prelude.{[], ◌∷◌}
 use Rattle.view_model.specs.Forest.{EveryBranch}

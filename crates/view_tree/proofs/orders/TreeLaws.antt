@@ -22,7 +22,7 @@ use Rattle.view_tree.proofs.forest.ForestLaws.{every_branch-joined}
 use Rattle.view_tree.proofs.orders.ListLaws.{IsAmong, among_or_not, each-changed, each-grown, each-joined, each-pruned, each-pruned_below, edited_nowhere, every_below, every_both, every_by, length-each, place_past, place_within, times_in}
 use Rattle.view_tree.proofs.orders.PlaceLaws.{IsOrder-add, passes, passing_injective}
 
--- a group is that of other children too, where these are tied alike
+-- a group is that of other children too, if these are tied alike
 pub kept_along : (old new : Forest PlainView) (group : Option PlainGroup) → links_in new ≡ links_in old → numbers_in new ≡ numbers_in old → IsKeptOf old group → IsKeptOf new group
 kept_along old new None links numbers kept = absurd kept
 kept_along old new (Some group) links numbers kept = record {
@@ -39,7 +39,7 @@ Edit = PlainView → Forest PlainView → Forest PlainView → Forest PlainView
 abbrev pub edited : ℕ → Edit → Forest PlainView → Forest PlainView
 edited number edit tree = edited_where (λ (view : PlainView). view.number == number) edit tree
 
--- what an edit of the view of a number owes for each other view, and for this one
+-- the conditions of an edit of the view of a number, for each other view and for this one
 abbrev pub OwesOther : Groups → Groups → ℕ → Edit → PlainView → Forest PlainView → Type 0
 OwesOther at new number edit view kids = view.number ≢ number → IsGroupedAt at view kids → IsGroupedAt new view (edited number edit kids)
 
@@ -66,7 +66,7 @@ grouped-edited at new number edit (Branch view kids siblings) once owes grouped 
       | inr isnt ↦ rw (ne_eqb view.number number isnt) (owes.0.0 isnt grouped.0, below, after)
     ]
 
--- a view goes: the child is taken out of its parent's group
+-- a view is removed: the child is taken out of its parent's group
 at_passing : (kids : List Link) (i a : ℕ) → i < length kids → get_or (remove kids i) a nobody ≡ get_or kids (passing i a) nobody
 at_passing kids i a h = elim (passes i a) [
   | inl w ↦ get_or-remove_below kids i nobody a w.0 h ∙ ap (λ k. get_or kids k nobody) (sym w.1)
@@ -77,7 +77,7 @@ leads_whole : (axis : Axis) (kids : List Link) (a b : ℕ) → a ≢ b → names
 unfolding leads
 leads_whole axis kids a b ne says = grind (arith, nat_tests)
 
--- who stays leads to those to whom it led
+-- a child that stays leads to those to which it led
 pub leads-remove : (axis : Axis) (kids : List Link) (i : ℕ) → i < length kids → StaysWithin i (leads axis kids) (leads axis (remove kids i))
 leads-remove axis kids i h = λ a b e.
     let parts = leads_parts axis (remove kids i) a b e in
@@ -108,7 +108,7 @@ group-without number kids old new among taken is =
       });
     }
 
--- the group of a view of whose children one goes, or none
+-- the group of a view one of whose children is removed, or none
 kept-taken : (number : ℕ) (kids : Forest PlainView) (old new : Option PlainGroup) → IsTakenAt number old new → IsKeptOf kids old → IsKeptOf (pruned number kids) new
 kept-taken number kids None new taken is = absurd is
 kept-taken number kids (Some old) None taken is = absurd taken
@@ -152,7 +152,7 @@ grouped-pruned at new number parent tree once has own others grouped =
       λ here kept siblings below after. after,
     )) has) grouped
 
--- a view comes behind the children of another
+-- a view is added after the children of another
 pub grouped-grown : (at new : Groups) (parent : ℕ) (added tree : Forest PlainView) → times_in parent tree ≤ 1
     → EveryRow (λ (view : PlainView). view.number ≢ parent → new view.number ≡ at view.number) tree
     → EveryBranch (λ (view : PlainView) (kids : Forest PlainView). view.number ≡ parent → IsGroupedAt at view kids → IsGroupedAt new view (joined kids added)) tree
@@ -172,7 +172,7 @@ grouped-grown at new parent added tree once others own extra grouped =
     ))
     (every_both (λ (view : PlainView) (kids : Forest PlainView). view.number ≢ parent → new view.number ≡ at view.number) _ tree others own)) grouped
 
--- a new child that is tied to none: it names nobody
+-- a new child that is tied to none: it names no sibling
 names_none : (axis : Axis) (rules : Rules) (id : ℕ) → rules.values ≡ replicate 21 0 → names axis rules id ≡ false
 unfolding names
 names_none Horizontal rules id plain = elim (cases_eq id 0) [
@@ -184,7 +184,7 @@ names_none Vertical rules id plain = elim (cases_eq id 0) [
   | inr some ↦ rw (plain, ne_eqb id 0 some, ne_eqb 0 id (λ e. some (sym e)))
 ]
 
--- and nobody names it
+-- and no sibling names it
 unnamed : (axis : Axis) (rules : Rules) (id : ℕ) → id ≡ 0 → names axis rules id ≡ true → ⊥
 unnamed axis rules id none says = let some = (names-some axis rules id says).3 in some none
 

@@ -1,4 +1,4 @@
--- Where two changes of facts make the same of a tree.
+-- When two changes of facts make the same of a tree.
 use Rattle.std.proofs.Common.{◌≡◌, ℕ, ◌≤◌, refl, sym, ◌∙◌, ap, arith, inl, inr}
 use Rattle.std.proofs.lemmas.Bool.{cases_Bool}
 use Rattle.std.specs.Prelude.{◌==◌}
@@ -10,7 +10,7 @@ use Rattle.view_tree.specs.Views.{Held, IsLive, IsTree, Views, facts_of, held_of
 use Rattle.view_tree.proofs.forest.KeyLaws.{Agree, absent, located, zero_or_more}
 use Rattle.view_tree.proofs.forest.PlainLaws.{agree_live}
 
--- they do where they make the same of the view that is changed
+-- they do if they make the same of the view that is changed
 pub same_rows : (held : ℕ → Held) (key number : ℕ) (f g : Facts → Facts) (tree : Forest Row) → Agree key number tree → count_of_key key tree ≤ 1
     → ((row : Row) (kids siblings : Forest Row) → part_from key tree ≡ Branch row kids siblings → f (scrolled held row).facts ≡ g (scrolled held row).facts)
     → with_facts number f (plain_rows held tree) ≡ with_facts number g (plain_rows held tree)

@@ -1,4 +1,4 @@
--- Where views lie after edits of a tree, and where some of them are hidden.
+-- Where views are after edits of a tree, and while some of them are hidden.
 use Rattle.std.proofs.Common.{◌≡◌, ◌≢◌, ℕ, ◌+◌, ◌<◌, ◌≤◌, true, false, List, [], ◌++◌, map, Option, Some, None, refl, sym, ◌∙◌, ap, arith, eqb-true, inl, inr, append_assoc}
 use Rattle.std.proofs.lemmas.Bool.{eq-eqb, cases_Bool}
 use Rattle.std.proofs.lemmas.List.{append-nil, map-append}
@@ -22,14 +22,14 @@ use Rattle.view_tree.proofs.forest.NumberLaws.{agree_times, cut_absent, number-p
 use Rattle.view_tree.proofs.forest.ForestLaws.{rows-map}
 use Rattle.view_tree.proofs.forest.PlainLaws.{agree_live, plain-part}
 
--- a geometry looks at the bounds of the views alone
+-- a geometry only looks at the bounds of the views
 pub laid_along : (old new : ℕ → Held) (tree : Forest Row) → ((key : ℕ) → 0 < count_of_key key tree → (new key).state.bounds ≡ (old key).state.bounds) → laid_rows new tree ≡ laid_rows old tree
 laid_along old new Nothing same = refl
 laid_along old new (Branch row kids siblings) same =
     let own : (new row.key).state.bounds ≡ (old row.key).state.bounds = same row.key (times_self row kids siblings) in
     rw (own, laid_along old new kids (λ key live. same key (omega arith)), laid_along old new siblings (λ key live. same key (omega arith)))
 
--- no view of a list lies anywhere where none of its keys has bounds, and then its geometry is empty
+-- no view of a list has bounds if none of its keys has, and then its geometry is empty
 pub no_bounds : (held : ℕ → Held) (list : Forest Row) → ((key : ℕ) → 0 < count_of_key key list → (held key).state.bounds ≡ None) → NoBounds held list
 no_bounds held Nothing none = tt
 no_bounds held (Branch row kids siblings) none = (
@@ -56,7 +56,7 @@ pub geometry-put : (old new : ℕ → Held) (key : ℕ) (change : PlainView → 
     → ((other : ℕ) → (new other).state.bounds ≡ (old other).state.bounds) → laid_rows new (changed_at_key key change tree) ≡ laid_rows old tree
 geometry-put old new key change tree numbers same = laid-put new key change tree numbers ∙ laid_along old new tree (λ other live. same other)
 
--- more views behind a list
+-- more views after a list
 pub laid-joined : (held : ℕ → Held) (list more : Forest Row) → laid_rows held (joined list more) ≡ laid_rows held list ++ laid_rows held more
 laid-joined held Nothing more = refl
 laid-joined held (Branch row kids siblings) more =
@@ -81,7 +81,7 @@ geometry-with_child old new (Some parent) key view root none bounds others =
     ∙ laid_along (held_of old) new old.tree
     (λ other live. ap (λ (h : Held). h.state.bounds) (others other (λ e. let z : count_of_key other old.tree ≡ 0 = rw e none in omega arith)))
 
--- and so with views that came without bounds
+-- and so with views that were added without bounds
 pub geometry-gained : (old new : Views) (parent : Option ℕ) (added : Forest Row) → (parent ≡ None → old.tree ≡ Nothing) → Gained old parent added new → geometry_of new ≡ geometry_of old
 geometry-gained old new parent added root gained = ap (laid_rows (held_of new)) gained.tree ∙ behind parent root
   where
@@ -138,7 +138,7 @@ among number (Branch row kids siblings) some =
           )
     ]
 
--- a view stays in a geometry or goes, by its number
+-- a view stays in a geometry or leaves it, by its number
 pub without-at_not : (numbers : List ℕ) (number : ℕ) (bounds : Option Rect) → list_any (λ n. n == number) numbers ≡ false → without numbers (laid_at number bounds) ≡ laid_at number bounds
 without-at_not numbers number None not_in = refl
 without-at_not numbers number (Some rect) not_in = rw not_in
@@ -170,7 +170,7 @@ without-kept part held (Branch row kids siblings) apart =
       without-kept part held siblings (λ number there. apart number (omega arith)),
     )
 
--- views of these numbers go
+-- views of these numbers are removed
 pub without-gone : (part : Forest Row) (held : ℕ → Held) (list : Forest Row) → ((number : ℕ) → 0 < count_of_number number list → 0 < count_of_number number part)
     → without (row_numbers part) (laid_rows held list) ≡ []
 without-gone part held Nothing within = refl
@@ -183,7 +183,7 @@ without-gone part held (Branch row kids siblings) within =
       without-gone part held siblings (λ number there. within number (omega arith)),
     )
 
--- the number of a view is not below it or behind it, where it occurs once
+-- the number of a view is not below it or after it, if it occurs once
 number_apart : (row : Row) (kids siblings part : Forest Row) → count_of_number row.view.number (Branch row kids siblings) ≤ 1
     → count_of_number row.view.number part ≤ count_of_number row.view.number kids + count_of_number row.view.number siblings
     → count_of_number row.view.number part ≡ 0
@@ -238,7 +238,7 @@ laid-pruned_at_key held key (Branch row kids siblings) once numbers =
           ]
     ]
 
--- a cut of views that lie nowhere changes no geometry
+-- a cut of views that have no bounds changes no geometry
 pub laid-cut_nowhere : (held : ℕ → Held) (key : ℕ) (tree : Forest Row) → count_of_key key tree ≤ 1 → NoBounds held (first_tree (part_from key tree))
     → laid_rows held (pruned_at_key key tree) ≡ laid_rows held tree
 laid-cut_nowhere held key Nothing once none = refl
@@ -275,7 +275,7 @@ geometry-pruned_at_key views new key is live same =
     ∙ laid-pruned_at_key (held_of views) key views.tree (is.keys key) is.numbers
     ∙ ap (λ numbers. without numbers (geometry_of views)) (sym (part_numbers views key is live))
 
--- where views are once a view and all below it lie nowhere, and what is kept of the others is the same
+-- where views are once a view and all below it have no bounds, and what is kept of the others is the same
 pub geometry-hidden : (views : Views) (new : ℕ → Held) (key : ℕ) → IsTree views → IsLive views key
     → ((other : ℕ) → 0 < count_of_key other (first_tree (part_from key views.tree)) → (new other).state.bounds ≡ None)
     → ((other : ℕ) → count_of_key other (first_tree (part_from key views.tree)) ≡ 0 → new other ≡ held_of views other)

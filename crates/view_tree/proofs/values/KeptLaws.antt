@@ -5,15 +5,18 @@ use Rattle.std.specs.Prelude.{◌==◌, ◌&&◌, if◌then◌else◌, IfSome, n
 use Rattle.std.specs.Option.{option_map}
 use Rattle.view_model.specs.declared.limits.TheConstants.{MAX_DEPTH, MAX_VIEWS}
 use Rattle.view_model.specs.declared.kinds.Class.{Class}
+use Rattle.view_model.specs.Direction.{dir}
 use Rattle.view_model.specs.Forest.{Forest, Nothing, Branch, count_of, edited_where, joined, or_else}
 use Rattle.view_model.specs.Growth.{growth_refusal, growth_refusal_of, is_group, refusal_at, takes_one_child}
 use Rattle.view_model.specs.Refusals.{PlainRefusal, refusal_numbered}
 use Rattle.view_model.specs.declared.refusals.TheConstants.{NOT_GROUP, SCROLL_FULL, TOO_DEEP, TOO_MANY_VIEWS}
 use Rattle.view_model.specs.PlainTree.{PlainView, depth_of, has_child}
+use Rattle.view_tree.specs.Directions.{is_rtl_at}
 use Rattle.view_tree.specs.Rows.{Row, later_siblings, ancestors, around, children_of_first, pruned_at_key, part_from, grown_at_key, has_kids, head_view, leaf, changed_at_key, count_of_key, count_of_number, with_child}
 use Rattle.view_tree.specs.Views.{GroupsOnly, IsLive, IsTree, Unscrolled, Views, held_of, number_of, plain_of}
 use Rattle.view_tree.proofs.forest.ChildLaws.{has_child_live}
 use Rattle.view_tree.proofs.forest.DepthLaws.{ancestors-pruned_at_key, ancestors-grown, ancestors-leaf, depth_live}
+use Rattle.view_tree.proofs.forest.DirectedLaws.{KeepsRun, directed-grown, directed-pruned_at_key, directed-put}
 use Rattle.view_tree.proofs.forest.ForestLaws.{every-edited, every-joined, every_branch-edited, every_branch-joined}
 use Rattle.view_tree.proofs.forest.KeyLaws.{absent, or_else_live, zero_or_more}
 use Rattle.view_tree.proofs.forest.NumberLaws.{count-cut_le, count-put, grown_absent, number-cut_le, number-leaf_other, number-leaf_own, number-put, number-grown, count-grown, count-leaf, count_of_key-grown, count_of_key-cut_le, count_of_key-leaf_other, count_of_key-leaf_own, count_of_key-put}
@@ -102,7 +105,7 @@ groups-part_from key (Branch row kids siblings) groups =
       | inr e ↦ rw e (groups-or_else (part_from key kids) (part_from key siblings) (groups-part_from key kids groups.1) (groups-part_from key siblings groups.2))
     ]
 
--- the first view of a list has no children where it is no group
+-- the first view of a list has no children if it is no group
 pub no_children : (list : Forest Row) → GroupsOnly list → is_group (head_view list).class ≡ false → children_of_first list ≡ Nothing
 no_children Nothing groups leaf = refl
 no_children (Branch row kids siblings) groups leaf = groups.0 leaf
@@ -134,6 +137,7 @@ is_tree-same old new is tree next =
       shallow = is.shallow;
       unscrolled = is.unscrolled;
       groups = is.groups;
+      directed = is.directed;
     } in
     subst (λ (t : Forest Row). IsTree (record { tree = t; held = new.held; orders = new.orders; next = new.next; counts = new.counts })) (sym tree)
     (subst (λ (n : ℕ). IsTree (record { tree = old.tree; held = new.held; orders = new.orders; next = n; counts = new.counts })) (sym next) held)
@@ -152,13 +156,15 @@ is_tree-pruned_at_key old new key is tree next = is_tree-same (record old { tree
       rw (ancestors-pruned_at_key other key old.tree live (is.keys other)) deep;
   unscrolled = unscrolled-pruned_at_key key old.tree is.unscrolled;
   groups = groups-pruned_at_key key old.tree is.groups;
+  directed = directed-pruned_at_key false key old.tree is.directed;
 }) tree next
 
 -- a changed view
 pub is_tree-put : (old new : Views) (key : ℕ) (change : PlainView → PlainView) → IsTree old → ((view : PlainView) → (change view).number ≡ view.number)
     → ((view : PlainView) → (change view).class ≡ view.class) → ((view : PlainView) → view.facts.offset ≡ pos 0 → (change view).facts.offset ≡ pos 0)
+    → KeepsRun change (head_view (part_from key old.tree))
     → new.tree ≡ changed_at_key key change old.tree → new.next ≡ old.next → IsTree new
-is_tree-put old new key change is number class offset tree next = is_tree-same (record old { tree = changed_at_key key change old.tree }) new (record {
+is_tree-put old new key change is number class offset runs tree next = is_tree-same (record old { tree = changed_at_key key change old.tree }) new (record {
   root = later_siblings-put key change old.tree is.root;
   keys = λ other. rw (count_of_key-put other key change old.tree) (is.keys other);
   numbers = λ n. rw (number-put n key change old.tree number) (is.numbers n);
@@ -169,9 +175,10 @@ is_tree-put old new key change is number class offset tree next = is_tree-same (
       rw (ancestors-put other key change old.tree) (is.shallow other (omega arith));
   unscrolled = unscrolled-put key change old.tree offset is.unscrolled;
   groups = groups-put key change old.tree class is.groups;
+  directed = directed-put false key change old.tree is.keys runs is.directed;
 }) tree next
 
--- what a parent is that takes a child
+-- a parent that takes a child
 pub record Grows (views : Views) (parent : ℕ) : Type 0 where
   pub group : is_group (head_view (part_from parent views.tree)).class ≡ true
   pub high : suc (length (ancestors parent views.tree)) < MAX_DEPTH
@@ -208,8 +215,9 @@ grows_at views parent is live taken =
 
 -- a new view under a parent that takes it
 pub is_tree-child : (old new : Views) (parent key : ℕ) (view : PlainView) → IsTree old → IsLive old parent → Grows old parent → count_of_key key old.tree ≡ 0
-    → view.number ≡ old.next → new.tree ≡ grown_at_key parent (leaf key view) old.tree → new.next ≡ old.next + 1 → IsTree new
-is_tree-child old new parent key view is live grows unused number tree next =
+    → view.number ≡ old.next → view.facts.rtl ≡ dir (is_rtl_at (Some parent) old.tree) view.facts.direction
+    → new.tree ≡ grown_at_key parent (leaf key view) old.tree → new.next ≡ old.next + 1 → IsTree new
+is_tree-child old new parent key view is live grows unused number runs tree next =
     is_tree-same (record old { tree = grown_at_key parent (leaf key view) old.tree; next = old.next + 1 }) new (record {
       root = later_siblings-grown parent (leaf key view) old.tree is.root;
       keys = λ other.
@@ -245,11 +253,13 @@ is_tree-child old new parent key view is live grows unused number tree next =
           ];
       unscrolled = unscrolled-grown parent (leaf key view) old.tree is.unscrolled (refl, tt, tt);
       groups = groups-grown parent (leaf key view) old.tree (is.keys parent) grows.group is.groups (λ leaf. refl, tt, tt);
+      directed = directed-grown false parent key view old.tree is.keys runs is.directed;
     }) tree next
 
--- a root where there was nothing
-pub is_tree-root : (old new : Views) (key : ℕ) (view : PlainView) → view.number ≡ old.next → new.tree ≡ leaf key view → new.next ≡ old.next + 1 → IsTree new
-is_tree-root old new key view number tree next =
+-- a root if there was nothing
+pub is_tree-root : (old new : Views) (key : ℕ) (view : PlainView) → view.number ≡ old.next → view.facts.rtl ≡ dir false view.facts.direction → new.tree ≡ leaf key view
+    → new.next ≡ old.next + 1 → IsTree new
+is_tree-root old new key view number runs tree next =
     is_tree-same (record old { tree = leaf key view; next = old.next + 1 }) new (record {
       root = refl;
       keys = λ other. elim (cases_eq other key) [
@@ -268,12 +278,14 @@ is_tree-root old new key view number tree next =
       ];
       unscrolled = (refl, tt, tt);
       groups = (λ leaf. refl, tt, tt);
+      directed = (runs, tt, tt);
     }) tree next
 
 -- a view that is attached
 pub is_tree-with_child : (old new : Views) (parent : Option ℕ) (key : ℕ) (view : PlainView) → IsTree old → IfSome parent (λ parent. IsLive old parent)
     → refusal_at (plain_of old) (option_map (number_of old) parent) ≡ None → count_of_key key old.tree ≡ 0 → view.number ≡ old.next
+    → view.facts.rtl ≡ dir (is_rtl_at parent old.tree) view.facts.direction
     → new.tree ≡ with_child parent (leaf key view) old.tree → new.next ≡ old.next + 1 → IsTree new
-is_tree-with_child old new None key view is live taken unused number tree next = is_tree-root old new key view number tree next
-is_tree-with_child old new (Some parent) key view is live taken unused number tree next =
-    is_tree-child old new parent key view is live (grows_at old parent is live taken) unused number tree next
+is_tree-with_child old new None key view is live taken unused number runs tree next = is_tree-root old new key view number runs tree next
+is_tree-with_child old new (Some parent) key view is live taken unused number runs tree next =
+    is_tree-child old new parent key view is live (grows_at old parent is live taken) unused number runs tree next

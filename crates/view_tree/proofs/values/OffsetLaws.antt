@@ -1,4 +1,4 @@
--- What stays of a tree when offsets alone are set.
+-- What stays of a tree when only offsets are set.
 use Rattle.std.proofs.Common.{◌≡◌, ℕ, ◌+◌, ◌<◌, ◌≤◌, ℤ, pos, refl, sym, ◌∙◌, ap, arith, inl, inr}
 use Rattle.std.proofs.lemmas.Bool.{cases_Bool}
 use Rattle.std.specs.Prelude.{◌==◌}
@@ -42,7 +42,7 @@ flat_head key tree live flat = let f = located key tree live in rw f.is (within_
     within_flat row kids siblings tree (in_below w) flat = within_flat row kids siblings _ w flat.1
     within_flat row kids siblings tree (in_after w) flat = within_flat row kids siblings _ w flat.2
 
--- a view whose offset alone is set keeps its row
+-- a view of which only the offset is set keeps its row
 pub offset_put : (views : Views) (key : ℕ) (facts : Facts) (offset : ℤ) → IsTree views → IsLive views key → facts ≡ record (facts_of views key) { offset = offset }
     → changed_at_key key (λ (v : PlainView). record v { facts = unscrolled_facts facts }) views.tree ≡ views.tree
 offset_put views key facts offset is live set =

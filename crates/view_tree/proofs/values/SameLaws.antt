@@ -1,4 +1,4 @@
--- Trees of which a change leaves all but what is kept of views.
+-- Trees of which a change leaves everything except what is kept of views.
 use Rattle.std.proofs.Common.{◌∙◌}
 use Rattle.view_tree.specs.Views.{SameTree, Views}
 

@@ -1,4 +1,4 @@
-//! Views that come into a tree.
+//! Views that are added to a tree.
 ghost use Rattle.std.specs.Prelude.{◌≡◌, ◌≢◌, ◌+◌, ◌<◌, ℕ, length, replicate, None, Some, IfOk, IfSome, OnErr, OnOk};
 ghost use Rattle.std.specs.Option.{option_map};
 ghost use Rattle.view_model.specs.declared.limits.TheConstants.{NUMBERS_END};
@@ -6,6 +6,7 @@ ghost use Rattle.view_model.specs.Forest.{Nothing};
 ghost use Rattle.view_model.specs.Growth.{growth_refusal, refusal_at};
 ghost use Rattle.view_model.specs.PlainTree.{PlainView};
 ghost use Rattle.view_tree.specs.Attached.{Attached};
+ghost use Rattle.view_tree.specs.Directions.{running_below};
 ghost use Rattle.view_tree.specs.Faults.{IsRefusedExactlyFor, RefusesExactlyFor};
 ghost use Rattle.view_tree.specs.Rows.{ancestors};
 ghost use Rattle.view_tree.specs.Views.{IsLive, group_number, number_of, orders_under, plain_of};
@@ -21,7 +22,7 @@ use view_model::{Class, Facts, Refusal, Sprout, Text};
 
 impl ViewTree {
     /// Makes a view, the last child of its parent, or the root where there is none. It has the next number, no bounds,
-    /// and nothing below it.
+    /// and nothing below it. It runs as its direction says, or as its parent.
     pub fn attach(
         &mut self,
         parent: Option<Key>,
@@ -34,7 +35,7 @@ impl ViewTree {
         requires unnamed { (facts.id ≡ 0) × (facts.rules.values ≡ replicate 21 0) }
         requires numbers { self.old.next < NUMBERS_END }
         ensures attached { let view : PlainView = record { number = self.old.next; class = class; facts = facts; text = text } in
-            IfOk result (λ key. Attached self.old parent view key self.new) }
+            IfOk result (λ key. Attached self.old parent (running_below parent self.old.tree view) key self.new) }
         ensures orders { OnOk result ((k : ℕ) → group_number self.old parent ≢ Some k → k ≢ self.old.next → orders_under self.new k ≡ orders_under self.old k) }
         ensures refused { IsRefusedExactlyFor (refusal_at (plain_of self.old) (option_map (number_of self.old) parent)) result }
         ensures unchanged { OnErr result (self.new ≡ self.old) }
@@ -76,7 +77,7 @@ impl ViewTree {
         Some(self.number(parent))
     }
 
-    /// Whether a view may come below this one, or as the root.
+    /// Whether a view may be added below this one, or as the root.
     fn may_grow(&self, parent: Option<Key>) -> Result<(), Refusal>
         requires { IfSome parent (λ parent. IsLive self.now parent) }
         ensures { RefusesExactlyFor (refusal_at (plain_of self.now) (option_map (number_of self.now) parent)) result }
@@ -107,7 +108,7 @@ impl ViewTree {
     }
 }
 
-/// Whether a view of this class and depth, which has a child or none, may get one more in a tree of so many views.
+/// Whether a view of this class and depth, which has a child or none, may get one more in a tree of this many views.
 #[tactic(auto, unfolding(view_model::specs::Growth::growth_refusal))]
 pub fn growth(class: Class, occupied: bool, depth: usize, count: usize) -> Result<(), Refusal>
     ensures { RefusesExactlyFor (growth_refusal class occupied depth count) result }

@@ -1,4 +1,4 @@
-//! Saplings that come into a tree.
+//! Saplings that are added to a tree.
 ghost use Rattle.std.specs.Prelude.{◌≡◌, ◌≢◌, ◌≤◌, ◌+◌, ◌<◌, ◌∷◌, [], ℕ, true, false, length, None, Some, IfOk, IfSome, OnErr};
 ghost use Rattle.std.specs.Option.{option_map};
 ghost use Rattle.view_model.specs.declared.limits.TheConstants.{MAX_DEPTH, MAX_VIEWS, NUMBERS_END};
@@ -25,9 +25,9 @@ use view_model::limits::MAX_DEPTH;
 use view_model::{Class, Detail, Link, Refusal, Sapling, Sprout};
 
 impl ViewTree {
-    /// Makes the views of a sapling, its outermost one the last child of a parent, or the root where there is none, and
-    /// answers the key of that. They have the next numbers in preorder, and no bounds. It takes time for them alone,
-    /// and for the children of a parent that is a relative layout.
+    /// Makes the views of a sapling, its outermost one the last child of a parent, or the root if there is none, and
+    /// returns the key of that. They have the next numbers in preorder, and no bounds. It takes time only for them, and
+    /// for the children of a parent that is a relative layout.
     pub fn graft(&mut self, parent: Option<Key>, sapling: Sapling) -> Result<Key, AttachFault>
         requires live { IfSome parent (λ parent. IsLive self.old parent) }
         requires root { parent ≡ None → self.old.tree ≡ Nothing }
@@ -74,7 +74,7 @@ impl ViewTree {
         Ok(key)
     }
 
-    /// What is kept of the parent of a sapling and of the relative layouts of the sapling once it comes, by their
+    /// What is kept of the parent of a sapling and of the relative layouts of the sapling once it is added, by their
     /// numbers: of the parent first, if it is one, and then in preorder.
     fn entries(
         &self,
@@ -93,7 +93,7 @@ impl ViewTree {
         }
     }
 
-    /// What is kept of the parent below which a view comes, if it is a relative layout.
+    /// What is kept of the parent below which a view is added, if it is a relative layout.
     fn parent_entry(
         &self,
         parent: Option<Key>,
@@ -117,7 +117,7 @@ impl ViewTree {
         }
     }
 
-    /// What is kept of a relative layout once a view with this link comes behind its children.
+    /// What is kept of a relative layout once a view with this link is added after its children.
     fn group_then(&self, parent: Key, link: Link) -> Result<Group, AttachFault>
         requires live { IsLive self.now parent }
         requires few { count_of self.now.tree < MAX_VIEWS }
@@ -130,7 +130,7 @@ impl ViewTree {
         }
     }
 
-    /// The children of a view, and behind them one with this link that comes next.
+    /// The children of a view, followed by one with this link that is added next.
     fn kids_then(&self, parent: Key, link: Link) -> Result<Kids, AllocError>
         requires { IsLive self.now parent }
         ensures links { IfOk result (λ kids. kids.links.items ≡ links_then self.now parent link) }
@@ -146,7 +146,7 @@ impl ViewTree {
         Ok(kids)
     }
 
-    /// Whether these views may come below a parent, or as the whole tree.
+    /// Whether these views may be added below a parent, or as the whole tree.
     fn may_take(&self, parent: Option<Key>, sprouts: &[Sprout]) -> Result<(), Refusal>
         requires live { IfSome parent (λ parent. IsLive self.now parent) }
         requires preorder { IsPreorder sprouts.now }
@@ -175,9 +175,9 @@ fn one_entry(alloc: Global, number: u64, group: Group) -> Result<Vec<(u64, Group
     }
 }
 
-/// Whether these views may come below the outermost one of their sapling, which has this class and depth and no child
-/// yet, in a tree of so many views. That is the first element, and they are the second and so on. The parent of a
-/// sprout has a child where the sprout before it is as deep, or deeper.
+/// Whether these views may be added below the outermost one of their sapling, which has this class and depth and no
+/// child yet, in a tree of this many views. That is the first element, and they are the second and so on. The parent of
+/// a sprout has a child if the sprout before it is as deep, or deeper.
 fn growth_below(class: Class, depth: usize, count: usize, sprouts: &[Sprout]) -> Result<(), Refusal>
     requires follow { follows 1 sprouts.now ≡ true }
     requires depth { (1 ≤ depth) × (depth ≤ MAX_DEPTH) }
@@ -201,7 +201,7 @@ fn growth_below(class: Class, depth: usize, count: usize, sprouts: &[Sprout]) ->
 }
 
 /// Whether a view of this class and depth, which has a child or none, may get one more that is this element, in a tree
-/// of so many views.
+/// of this many views.
 fn growth_at(
     element: u32,
     class: Class,

@@ -1,15 +1,18 @@
-//! How views come into the fields of a tree whose memory was taken before.
-ghost use Rattle.std.specs.Prelude.{◌≡◌, ◌≢◌, ◌<◌, ◌≤◌, ◌^◌, ◌+◌, true, length, IfSome, None};
+//! How views are added to the fields of a tree whose memory was taken before.
+ghost use Rattle.std.specs.Prelude.{◌≡◌, ℕ, ◌≢◌, ◌<◌, ◌≤◌, ◌^◌, ◌+◌, true, length, IfSome, Some, None};
 ghost use Rattle.std.specs.Option.{option_map};
 ghost use Rattle.std.specs.Vec.Iter.{into_iter_items};
 ghost use Rattle.indexmap.specs.IndexMap.{spare};
-ghost use Rattle.slab.specs.Slab.{HasRoomFor, slab_len};
+ghost use Rattle.slab.specs.Slab.{ContainsKey, HasRoomFor, slab_len};
+ghost use Rattle.view_model.specs.Directed.{directed};
+ghost use Rattle.view_model.specs.Direction.{dir};
 ghost use Rattle.view_model.specs.Forest.{Forest, Nothing};
 ghost use Rattle.view_model.specs.Growth.{refusal_at};
 ghost use Rattle.view_model.specs.PlainTree.{grown};
 ghost use Rattle.view_model.specs.Sprouts.{Seed, follows, numbered, preorder, seed_of, view_of};
 ghost use Rattle.view_tree.specs.Attached.{Attached};
-ghost use Rattle.view_tree.specs.Nodes.{IsPlanted, fields, replaced_if_none, views_in};
+ghost use Rattle.view_tree.specs.Directions.{is_rtl_at, running_below};
+ghost use Rattle.view_tree.specs.Nodes.{IsPlanted, fields, links_at, replaced_if_none, runs_at, views_in};
 ghost use Rattle.view_tree.specs.Sowing.{FitsBelow, GainedBelow};
 ghost use Rattle.view_tree.specs.Views.{IsLive, number_of, plain_of};
 
@@ -21,10 +24,10 @@ use crate::table::note_key;
 use indexmap::IndexMap;
 use slab::Slab;
 use std::vec::IntoIter;
-use view_model::Sprout;
 use view_model::limits::MAX_DEPTH;
+use view_model::{Facts, Sprout};
 
-/// Makes a view, the last child of its parent, or the root where there is none. How deep the sprout is does not matter.
+/// Makes a view, the last child of its parent, or the root if there is none. How deep the sprout is does not matter.
 pub fn plant(
     nodes: &mut Slab<Node>,
     keys: &mut IndexMap<u64, usize>,
@@ -44,21 +47,16 @@ pub fn plant(
         refusal_at (plain_of views) (option_map (number_of views) parent) ≡ None }
     requires numbers { next.old < 2 ^ 63 }
     ensures sound { IsPlanted (fields nodes.new keys.new ids.new root.new next.new) }
-    ensures attached { Attached (views_in nodes.old root.old next.old) parent (view_of next.old (seed_of sprout)) result (views_in nodes.new root.new next.new) }
+    ensures attached { let old = views_in nodes.old root.old next.old in
+        Attached old parent (running_below parent old.tree (view_of next.old (seed_of sprout))) result (views_in nodes.new root.new next.new) }
     ensures len { slab_len nodes.new ≡ slab_len nodes.old + 1 }
     ensures capacity { nodes.new.capacity ≡ nodes.old.capacity }
     ensures spare { (spare keys.old ≤ spare keys.new + 1) × (spare ids.old ≤ spare ids.new + 1) }
 {
     let number = *next;
     let id = sprout.facts.id;
-    let key = link_last(
-        nodes,
-        parent,
-        number,
-        sprout.class,
-        sprout.facts,
-        sprout.text,
-    );
+    let facts = directed(nodes, parent, sprout.facts);
+    let key = link_last(nodes, parent, number, sprout.class, facts, sprout.text);
     note_key(keys, number, key);
     match note_id(ids, id, key) {
         Ok(()) => (),
@@ -69,7 +67,22 @@ pub fn plant(
     key
 }
 
-/// The root once a view has come.
+/// The facts of a view that comes below this parent, or as the root: it runs in its own direction, or as the parent.
+fn directed(nodes: &Slab<Node>, parent: Option<Key>, facts: Facts) -> Facts
+    requires { (k : ℕ) → parent ≡ Some k → ContainsKey nodes.now k }
+    ensures { result ≡ record facts { rtl = dir (runs_at (links_at nodes.now) parent) facts.direction } }
+{
+    let above = match parent {
+        None => false,
+        Some(parent) => nodes[parent].facts.rtl,
+    };
+    Facts {
+        rtl: facts.direction.is_rtl(above),
+        ..facts
+    }
+}
+
+/// The root once a view was added.
 fn root_with(root: Option<Key>, parent: Option<Key>, key: Key) -> Option<Key>
     ensures { result ≡ replaced_if_none parent (Some key) root }
 {
@@ -79,8 +92,8 @@ fn root_with(root: Option<Key>, parent: Option<Key>, key: Key) -> Option<Key>
     }
 }
 
-/// Makes the views of a sapling that stand below its outermost one, which has come: each the last child of the view
-/// that came last of those one less deep.
+/// Makes the views of a sapling below its outermost one, which was added: each the last child of the view that was
+/// added last of those one less deep.
 pub fn sow(
     nodes: &mut Slab<Node>,
     keys: &mut IndexMap<u64, usize>,
@@ -100,7 +113,7 @@ pub fn sow(
     ensures sound { IsPlanted (fields nodes.new keys.new ids.new root.new next.new) }
     ensures gained { GainedBelow (views_in nodes.old root.old next.old) outermost (views_in nodes.new root.new next.new) }
     ensures plain { (kids : Forest Seed) → preorder 2 kids ≡ into_iter_items sprouts → let old = views_in nodes.old root.old next.old in
-        plain_of (views_in nodes.new root.new next.new) ≡ grown (number_of old outermost) (numbered next.old kids) (plain_of old) }
+        plain_of (views_in nodes.new root.new next.new) ≡ grown (number_of old outermost) (directed (is_rtl_at (Some outermost) old.tree) (numbered next.old kids)) (plain_of old) }
     ensures next { next.new ≡ next.old + length (into_iter_items sprouts) }
 {
     let mut sprouts = sprouts;

@@ -10,7 +10,7 @@ use crate::kids::{Kids, group_of};
 use std::alloc::{AllocError, Global};
 use view_model::{Link, Sprout};
 
-/// What rules read of a view that comes.
+/// What rules read of a view that is added.
 pub fn sprout_link(sprout: &Sprout) -> Link
     ensures { result ≡ sprout_link sprout.now }
 {
@@ -20,7 +20,7 @@ pub fn sprout_link(sprout: &Sprout) -> Link
     }
 }
 
-/// The children of a view of this depth, by the views behind it in preorder, the first of which gets this number.
+/// The children of a view of this depth, by the views after it in preorder, the first of which gets this number.
 fn kids_behind(
     alloc: Global,
     depth: u32,
@@ -47,7 +47,7 @@ fn kids_behind(
     Ok(kids)
 }
 
-/// What is kept of a relative layout of this depth and number, by the views behind it in preorder; the views of the
+/// What is kept of a relative layout of this depth and number, by the views after it in preorder; the views of the
 /// sapling have the numbers from `next` on.
 fn group_behind(
     alloc: Global,
@@ -67,7 +67,7 @@ fn group_behind(
     }
 }
 
-/// Adds what is kept of a view that comes, if it is a relative layout; the others stand behind it in preorder.
+/// Adds what is kept of an added view, if it is a relative layout; the others follow it in preorder.
 fn add_entry(
     entries: &mut Vec<(u64, Group)>,
     next: u64,

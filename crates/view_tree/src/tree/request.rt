@@ -7,8 +7,8 @@ ghost use Rattle.view_tree.specs.Views.{IsLive, KeepsOthers, SameTree, held_of};
 use super::{Key, ViewTree};
 
 impl ViewTree {
-    /// Requests the layout of a view: forces it and forgets its sizes, and does the same at its parent where that is
-    /// not forced yet, and so on upwards. It takes as many steps as views are forced by it.
+    /// Requests the layout of a view: forces it and forgets its sizes, and does the same at its parent if that is not
+    /// forced yet, and so on upwards. It takes as many steps as views are forced by it.
     #[cycle(request)]
     pub fn request(&mut self, view: Key)
         requires { IsLive self.old view }
@@ -20,7 +20,7 @@ impl ViewTree {
         self.press(view);
     }
 
-    /// Requests the layout of the parent of a view, where there is one that is not forced yet.
+    /// Requests the layout of the parent of a view, if there is one that is not forced yet.
     #[cycle(request)]
     fn request_above(&mut self, view: Key)
         requires { IsLive self.old view }

@@ -1,4 +1,4 @@
-//! The ids and the rules of views, and the orders that hang on them.
+//! The ids and the rules of views, and the orders that depend on them.
 ghost use Rattle.std.specs.Prelude.{◌≡◌, ◌≢◌, ◌<◌, ℕ, true, length, map, slice_get, slice_index, None, Some, IfOk, IfSome, OnOk, OnErr};
 ghost use Rattle.view_model.specs.PlainTree.{with_facts};
 ghost use Rattle.view_tree.specs.Cycles.{AreNewOrders, IsToldOf, view_member};
@@ -19,7 +19,7 @@ use view_model::{Detail, Link, Member, Refusal, Rules};
 
 impl ViewTree {
     /// Sets the id and the rules of a view, unless its parent is a relative layout whose children then name one another
-    /// in a circle. It takes time for these children alone. It may want memory, for an id that no view had and for the
+    /// in a circle. It takes time only for these children. It may need memory, for an id that no view had and for the
     /// orders of the children.
     pub fn set_rules(&mut self, view: Key, id: u32, rules: Rules) -> Result<(), AttachFault>
         requires { IsLive self.old view }
@@ -47,7 +47,7 @@ impl ViewTree {
         Ok(())
     }
 
-    /// The orders of a relative layout, once a child of it has another id and other rules; none where its parent is no
+    /// The orders of a relative layout, once a child of it has another id and other rules; none if its parent is no
     /// relative layout.
     fn new_orders(
         &self,
@@ -89,7 +89,7 @@ impl ViewTree {
         Ok(links)
     }
 
-    /// What rules read of a view; another where it is that of a number.
+    /// What rules read of a view; another if it is that of a number.
     fn link_or(&self, view: Key, number: u64, link: Link) -> Link
         requires { IsLive self.now view }
         ensures { result ≡ link_or number link (view_at self.now view) }
@@ -112,7 +112,7 @@ impl ViewTree {
         }
     }
 
-    /// The refusal for a cycle among the children of a relative layout, of which these places are members.
+    /// The refusal for a cycle among the children of a relative layout, with members at these places.
     fn told(&self, parent: Key, down: bool, members: &[u32]) -> AttachFault
         requires live { IsLive self.now parent }
         requires relative { is_relative (class_of self.now parent) ≡ true }

@@ -31,7 +31,7 @@ use view_model::Class;
 use view_tree::{AttachFault, Key};
 
 impl Screen {
-    /// Makes a view, with room for its touches before anything changes.
+    /// Makes a view; the room for its touches is made before anything changes.
     pub(super) fn grow(
         &mut self,
         alloc: Global,

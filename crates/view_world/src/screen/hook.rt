@@ -21,7 +21,7 @@ use view_model::{NumEdit, Refusal};
 use view_tree::Key;
 
 impl Screen {
-    /// Arms the hook of a view. Where `bad`, more is asked of it than a hook may do.
+    /// Arms the hook of a view. If `bad`, more is asked of it than a hook may do.
     pub(super) fn hook(
         &mut self,
         view: Name,
@@ -47,7 +47,7 @@ impl Screen {
         self.arm(view, &edits)
     }
 
-    /// Arms the hook of a view, in the place of one that it has.
+    /// Arms the hook of a view, in place of one that it has.
     fn arm(
         &mut self,
         view: Key,

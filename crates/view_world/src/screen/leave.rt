@@ -25,7 +25,7 @@ use view_model::Act;
 use view_tree::Key;
 
 impl Screen {
-    /// Takes a view and all below it away. Where it has to, its gesture is cancelled first.
+    /// Removes a view and all below it. If needed, its gesture is cancelled first.
     pub(super) fn take_away(&mut self, alloc: Global, view: Key) -> Result<Response, StepFault>
         requires live { IsLive self.old.views view }
         ensures changed { CarriesOut (removed (world_of self.old) (number_of self.old.views view)) self.new result }
@@ -43,7 +43,7 @@ impl Screen {
         }
     }
 
-    /// Hides a view by an act. Where it has to, its gesture is cancelled first.
+    /// Hides a view by an act. If needed, its gesture is cancelled first.
     pub(super) fn hide(&mut self, alloc: Global, view: Key, act: Act) -> Result<Response, StepFault>
         requires live { IsLive self.old.views view }
         requires verb { IsVerb act }
@@ -71,7 +71,7 @@ impl Screen {
         }
     }
 
-    /// Cancels the gesture of a view that goes away, where that has to be.
+    /// Cancels the gesture of a view that goes away, if needed.
     fn tell_leaving(&mut self, view: Key)
         requires { IsLive self.old.views view }
         ensures world { world_of self.new ≡ after_progress (world_of self.old) (leaving (world_of self.old) (number_of self.old.views view)) }
@@ -95,8 +95,8 @@ impl Screen {
         }
     }
 
-    /// Whether the gesture of a view that goes away is cancelled: that of a root is where it is not gone and a pointer is
-    /// down, and of another view its parent decides.
+    /// Whether the gesture of a view that goes away is cancelled: that of a root is if it is not gone and a pointer is
+    /// down, and for another view its parent decides.
     fn is_told(&self, view: Key) -> bool
         requires { IsLive self.now.views view }
         ensures told { result ≡ is_told (parent_of (number_of self.now.views view) (world_of self.now).tree) (facts_of self.now.views view) self.now.pointers }

@@ -1,5 +1,5 @@
-//! Lines that keep the state of a tree, or take one up.
-ghost use Rattle.std.specs.Prelude.{◌≡◌, ◌≢◌, [], Err, None, OnErr, OnOk};
+//! Lines that save the state of a tree, or restore one.
+ghost use Rattle.std.specs.Prelude.{◌≡◌, [], OnErr, OnOk};
 ghost use Rattle.std.specs.Option.{option_map};
 ghost use Rattle.script_lines.specs.PlainCommands.{Restore, Save};
 ghost use Rattle.view_world.specs.Changed.{CarriesOut};
@@ -18,7 +18,7 @@ use view_model::Refusal;
 use view_model::refusals::NO_ROOT;
 
 impl Screen {
-    /// Keeps the state of the tree.
+    /// Saves the state of the tree.
     pub(super) fn save(&mut self, alloc: Global) -> Result<Response, StepFault>
         ensures changed { CarriesOut (step [] (world_of self.old) Save) self.new result }
         ensures unchanged { OnErr result (self.new ≡ self.old) }
@@ -35,7 +35,7 @@ impl Screen {
         Ok(Response::State)
     }
 
-    /// Takes up the state of a text, or the one that is kept.
+    /// Restores the state of a text, or the saved one.
     pub(super) fn restore(
         &mut self,
         alloc: Global,
@@ -43,7 +43,6 @@ impl Screen {
     ) -> Result<Response, StepFault>
         ensures changed { CarriesOut (step [] (world_of self.old) (Restore (option_map (λ text. text.now) text.entry))) self.new result }
         ensures unchanged { OnErr result (self.new ≡ self.old) }
-        ensures memory { result ≡ Err StepFault.NoMemory → text.entry ≢ None }
         ensures numbers { self.new.views.next ≡ self.old.views.next }
         ensures keeps { OnOk result (KeepsLine (Restore (option_map (λ text. text.now) text.entry)) self.old self.new) }
     {
@@ -53,10 +52,16 @@ impl Screen {
         tell_tree(&self.tree);
         let window = self.surface.size();
         let Some(digits) = text else {
-            return take_up(&mut self.tree, window, &self.states, &mut self.damage);
+            return take_up(
+                alloc,
+                &mut self.tree,
+                window,
+                &self.states,
+                &mut self.damage,
+            );
         };
         let bytes = bytes_of(alloc, digits)?;
         let states = state_of(alloc, bytes.as_slice())?;
-        take_up(&mut self.tree, window, &states, &mut self.damage)
+        take_up(alloc, &mut self.tree, window, &states, &mut self.damage)
     }
 }

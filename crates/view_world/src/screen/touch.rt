@@ -119,7 +119,7 @@ impl Screen {
         }
     }
 
-    /// Hands an event to the root. These pointers are down then.
+    /// Sends an event to the root. These pointers are down then.
     fn hand(&mut self, event: &Event, pointers: ArrayVec<Point, MAX_POINTERS>) -> Response
         requires settled { self.old.stage ≡ Settled }
         requires pointer { event.now.pointer < MAX_POINTERS }
@@ -141,7 +141,7 @@ impl Screen {
         Response::Deliveries(Some(yes))
     }
 
-    /// Tells a group and its ancestors that they may not take events away from their children, or that they may again.
+    /// Sets whether a group and its ancestors may not take events away from their children.
     pub(super) fn disallow(&mut self, view: Name, on: bool) -> Result<Response, StepFault>
         ensures changed { CarriesOut (step [] (world_of self.old) (Disallow view on)) self.new result }
         ensures unchanged { OnErr result (self.new ≡ self.old) }

@@ -9,16 +9,16 @@ use Rattle.measure_pass.proofs.anchors.anchor_of.Goals as goal
 pub returns-then-id-eq0 : goal.returns-then-id-eq0
 returns-then-id-eq0 c = λ place part.
     let tree = c.args.tree.now.tree in
-    unnamed tree (children_of_first (part_from c.args.view tree)) c.args.kid place c.args.axis (held_of c.args.tree.now) c.args.tie c.anchor_id-id.result c.requires.kid part
-    (c.anchor_id-id.ensures ∙ ap (λ (facts : Facts). anchor_id c.args.axis c.args.tie facts.rules) c.facts.ensures.value) c.if-id-eq0.true
+    unnamed tree (children_of_first (part_from c.args.view tree)) c.args.kid place c.args.rtl c.args.axis (held_of c.args.tree.now) c.args.tie c.anchor_id-id.result c.requires.kid part
+    (c.anchor_id-id.ensures ∙ ap (λ (facts : Facts). anchor_id c.args.rtl c.args.axis c.args.tie facts.rules) c.facts.ensures.value) c.if-id-eq0.true
 
 pub returns-in-None : goal.returns-in-None
 returns-in-None c = λ place part.
     let tree = c.args.tree.now.tree in
-    anchor_none tree (children_of_first (part_from c.args.view tree)) c.args.axis (held_of c.args.tree.now) c.args.tie place (rw c.in-None.is at (c.anchor_key.ensures.key place part))
+    anchor_none tree (children_of_first (part_from c.args.view tree)) c.args.rtl c.args.axis (held_of c.args.tree.now) c.args.tie place (rw c.in-None.is at (c.anchor_key.ensures.key place part))
 
 pub returns-in-Some : goal.returns-in-Some
 returns-in-Some c = λ place part.
     let tree = c.args.tree.now.tree in
-    anchor_some tree (children_of_first (part_from c.args.view tree)) c.args.axis (held_of c.args.tree.now) c.args.tie place c.in-Some.anchor c.anchor_with.result
+    anchor_some tree (children_of_first (part_from c.args.view tree)) c.args.rtl c.args.axis (held_of c.args.tree.now) c.args.tie place c.in-Some.anchor c.anchor_with.result
     (rw c.in-Some.is at (c.anchor_key.ensures.key place part)) c.anchor_with.ensures

@@ -3,7 +3,7 @@ use Rattle.std.specs.Prelude.{IfSome}
 use Rattle.view_model.specs.Forest.{rows}
 use Rattle.view_tree.specs.Preorder.{rows_from, views_from}
 use Rattle.view_tree.specs.Views.{IsLive, plain_of}
-use Rattle.saved_state.specs.Restoring.{entry_at, scroll_has}
+use Rattle.saved_state.specs.Restoring.{entry_at, is_met}
 use Rattle.saved_state.proofs.marking.mark_all.Given as goal
 
 abbrev pub invariant-loop-next : goal.invariant-loop-next
@@ -11,7 +11,7 @@ invariant-loop-next l = record {
   live : IfSome l.next (λ view. IsLive l.tree view);
   sized : length l.states ≤ length l.marks;
   left : (place : ℕ) → place < length l.states
-      → (slice_index_or l.marks place false || scroll_has (entry_at l.states place).0 (views_from l.tree l.next)) ≡ scroll_has (entry_at l.states place).0 (rows (plain_of l.tree));
+      → (slice_index_or l.marks place false || is_met (entry_at l.states place) (views_from l.tree l.next)) ≡ is_met (entry_at l.states place) (rows (plain_of l.tree));
 }
 
 abbrev pub decreases-loop-next : goal.decreases-loop-next

@@ -8,7 +8,7 @@ use Rattle.touch_dispatch.proofs.FitLaws.{kid_moved, kids_grow, out_fits_at}
 use Rattle.touch_dispatch.proofs.GrowLaws.{answer_fits, ask_fits, asked_many, later_fits, offer_fits, try_fits}
 use Rattle.touch_dispatch.proofs.KeepLaws.{group_asked, kept_ended, kept_on, kept_settled, kept_still, may_still}
 use Rattle.touch_dispatch.proofs.ParentLaws.{may_target}
-use Rattle.touch_dispatch.proofs.ReachSteps.{WalkTo, answered_own, answered_same, asked_begun, from_kid, group_chain, none_by, not_taken, out_same, out_step, put_named, taken_no, taken_up, taken_yes, try_child_same, try_earlier, try_handed, try_no, walk_begin, walk_on}
+use Rattle.touch_dispatch.proofs.ReachSteps.{WalkTo, answered_own, answered_same, asked_begun, from_kid, group_chain, none_by, not_taken, out_same, out_step, put_named, taken_no, taken_up, taken_yes, try_child_same, try_earlier, try_handed, try_no, walk_begin, walk_on, answered_targets, some_by}
 use Rattle.touch_dispatch.proofs.SceneLaws.{fewer_kid, kid_found, reach_at, reach_group, reach_own, same_own}
 use Rattle.touch_dispatch.proofs.TargetLaws.{TargetStep, target_step, walk_there}
 use Rattle.touch_dispatch.proofs.TryLaws.{gets_part, hands_to, kept_put, may_put, names_child, names_still, reads_child, target_read, tried_read}
@@ -275,6 +275,15 @@ answer-returns-then-is_none-clause-answered t c =
     (none_by c.newest.result c.is_none.result (targets (own_of c.args.tree.now c.args.view).number) c.is_none.ensures c.if-is_none.true
     (c.newest.ensures.child ∙ ap (λ n. first_child (targets n)) c.number.ensures.value))
     c.handle_at.ensures.reached
+
+pub answer-returns-clause-answered : goal.answer-returns-clause-answered
+answer-returns-clause-answered t c =
+    let targets = (gesture_of c.args.gesture.now).targets in
+    answered_targets (scene_of c.args.tree.now c.args.limits.now.slop) (own_of c.args.tree.now c.args.view) (kids_of c.args.tree.now c.args.limits.now.slop c.args.view)
+    c.args.event.now c.args.intercepted c.args.taker (progress_of c.args.tree.now c.args.gesture.now c.args.log.now) _
+    (some_by c.newest.result c.is_none.result (targets (own_of c.args.tree.now c.args.view).number) c.is_none.ensures c.if-is_none.false
+    (c.newest.ensures.child ∙ ap (λ n. first_child (targets n)) c.number.ensures.value))
+    c.hand_out.ensures.handed
 
 pub hand_out-hand_to-said-requires : goal.hand_out-hand_to-said-requires
 hand_out-hand_to-said-requires t c =

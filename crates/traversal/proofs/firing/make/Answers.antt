@@ -17,12 +17,18 @@ use Rattle.traversal.proofs.EditLaws.{Edited, change_leaves, edit_made, shape_th
 use Rattle.traversal.proofs.Unedited.{made_cache}
 use Rattle.traversal.proofs.firing.make.Goals as goal
 
--- a change is none of the names of the view
+-- a change does not set a name of the view
 pub set_facts-requires-clause-names : goal.set_facts-requires-clause-names
 set_facts-requires-clause-names c =
     let leaves = change_leaves c.args.edit.change (facts_of c.args.tree.now c.in-Some.view) in
     let made = c.on-facts.ensures ∙ ap (facts_after_change c.args.edit.change) c.facts.ensures.value in
     (ap (λ (facts : Facts). facts.id) made ∙ leaves.id, ap (λ (facts : Facts). facts.rules) made ∙ leaves.rules)
+
+pub set_facts-requires-clause-runs : goal.set_facts-requires-clause-runs
+set_facts-requires-clause-runs c =
+    let leaves = change_leaves c.args.edit.change (facts_of c.args.tree.now c.in-Some.view) in
+    let made = c.on-facts.ensures ∙ ap (facts_after_change c.args.edit.change) c.facts.ensures.value in
+    (ap (λ (facts : Facts). facts.direction) made ∙ leaves.direction, ap (λ (facts : Facts). facts.rtl) made ∙ leaves.rtl)
 
 pub returns-in_default-clause-plain : goal.returns-in_default-clause-plain
 returns-in_default-clause-plain c = sym (change_absent c.args.edit.view _ _ c.in_default.ensures.found)

@@ -28,13 +28,13 @@ pub returns-clause-scene : goal.returns-clause-scene
 returns-clause-scene c =
     requested_scene c.set_facts.new.self c.request_by.new.tree (asked_by_act c.args.view c.args.act) c.request_by.ensures.same c.request_by.ensures.held
     ∙ facts_scene c.args.tree.now c.hide_by.new.tree c.set_facts.new.self c.args.view c.args.act c.facts_after_act-facts.result
-    c.facts.ensures.is_tree c.requires.live (facts_are c) c.hide_by.ensures.same c.hide_by.ensures.held
+    c.facts.ensures.is_tree c.requires.live c.requires.turns (facts_are c) c.hide_by.ensures.same c.hide_by.ensures.held
     c.set_facts.ensures.tree c.set_facts.ensures.plain c.set_facts.ensures.next c.set_facts.ensures.held c.set_facts.ensures.others
 
 pub returns-clause-kept : goal.returns-clause-kept
 returns-clause-kept c =
     facts_keep c.args.tree.now c.hide_by.new.tree c.set_facts.new.self c.request_by.new.tree c.args.view c.args.act c.facts_after_act-facts.result
-    c.facts.ensures.is_tree (facts_are c) c.hide_by.ensures.same c.hide_by.ensures.held
+    c.facts.ensures.is_tree c.requires.turns (facts_are c) c.hide_by.ensures.same c.hide_by.ensures.held
     c.set_facts.ensures.tree c.set_facts.ensures.next c.set_facts.ensures.held c.set_facts.ensures.others c.request_by.ensures.same c.request_by.ensures.held
 
 pub returns-clause-consistent : goal.returns-clause-consistent

@@ -1,12 +1,12 @@
 use Rattle.std.proofs.Common.{◌≡◌, Err, None, Ok, ap, false, rules, sym, true, ◌∙◌}
-use Rattle.tree_edits.specs.Editing.{cycle_of_act, names_views, outcome_of_act, outcome_unless}
+use Rattle.tree_edits.specs.Editing.{after_act, cycle_of_act, names_views, outcome_of_act, outcome_unless}
 use Rattle.tree_edits.specs.Scene.{Scene, scene_of}
 use Rattle.view_model.specs.PlainTree.{view_in}
 use Rattle.view_tree.specs.Views.{number_of, plain_of}
 use Rattle.tree_edits.proofs.CycleLaws.{cycle_named, unnamed}
 use Rattle.tree_edits.proofs.EditLaws.{done_by, not_named}
 use Rattle.tree_edits.proofs.applying.act_on.Goals as goal
-use Rattle.tree_edits.proofs.applying.act_on.Goals.{else-names_views, then-names_views+in_ok-set_names}
+use Rattle.tree_edits.proofs.applying.act_on.Goals.{else-names_views+in-Direction, else-names_views+in_default, then-names_views+in_ok-set_names}
 
 pub returns-then-not-takes-clause-applied : goal.returns-then-not-takes-clause-applied
 returns-then-not-takes-clause-applied c =
@@ -36,8 +36,19 @@ returns-clause-applied c =
           ap (outcome_unless (scene_of c.args.tree.now) (number_of c.args.tree.now c.args.view) c.args.act)
           (cycle_named (scene_of c.args.tree.now) (number_of c.args.tree.now c.args.view) c.args.act names ∙ w.in_ok-set_names.ensures.refused)
           ∙ rw w.tree-is (ap (λ (scene : Scene). Ok (scene, None)) (sym w.in_ok-set_names.ensures.scene))
-      | else-names_views w ↦
+      | else-names_views+in-Direction w ↦
+          let names : names_views c.args.act ≡ false = search rules in
+          unnamed (scene_of c.args.tree.now) (number_of c.args.tree.now c.args.view) c.args.act names
+          ∙ rw w.tree-is (ap (λ (scene : Scene). Ok (scene, None)) (ap (after_act (scene_of c.args.tree.now) (number_of c.args.tree.now c.args.view)) w.in-Direction.is ∙ sym w.set_direction.ensures.scene))
+      | else-names_views+in_default w ↦
           let names : names_views c.args.act ≡ false = search rules in
           unnamed (scene_of c.args.tree.now) (number_of c.args.tree.now c.args.view) c.args.act names
           ∙ rw w.tree-is (ap (λ (scene : Scene). Ok (scene, None)) (sym w.set_facts.ensures.scene))
     ])
+
+pub returns-clause-asked : goal.returns-clause-asked
+returns-clause-asked c = elim c.if-names_views.branch [
+  | then-names_views+in_ok-set_names w ↦ rw w.tree-is w.set_names.ensures.asked
+  | else-names_views+in-Direction w ↦ rw (w.tree-is, w.in-Direction.is) w.set_direction.ensures.asked
+  | else-names_views+in_default w ↦ rw w.tree-is w.set_facts.ensures.asked
+]

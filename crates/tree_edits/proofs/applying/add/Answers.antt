@@ -2,6 +2,7 @@ use Rattle.std.proofs.Common.{◌≡◌, Ok, Some, ap, sym, ◌∙◌}
 use Rattle.std.proofs.lemmas.Int.{to_z-of_z}
 use Rattle.view_model.specs.Facts.{new_facts}
 use Rattle.view_tree.specs.Attached.{Attached}
+use Rattle.view_tree.specs.Directions.{running_below}
 use Rattle.tree_edits.specs.Asking.{listed}
 use Rattle.tree_edits.specs.Editing.{new_view}
 use Rattle.tree_edits.specs.Scene.{Scene, scene_of}
@@ -20,7 +21,8 @@ returns-in_err-attach-clause-applied c =
     not_attached c.args.tree.now (scene_of c.attach.new.self) c.args.parent c.args.class c.args.width c.args.height c.in_err-attach.field-0.0 c.from_residual.result
     c.in_err-attach.ensures.refused c.from_residual.ensures.1
 
-attached : (c : After-request_at) → Attached c.args.tree.now c.args.parent (new_view c.args.tree.now.next c.args.class c.args.width c.args.height) c.in_ok-attach.field-0 c.attach.new.self
+attached : (c : After-request_at)
+    → Attached c.args.tree.now c.args.parent (running_below c.args.parent c.args.tree.now.tree (new_view c.args.tree.now.next c.args.class c.args.width c.args.height)) c.in_ok-attach.field-0 c.attach.new.self
 attached c =
     let facts : c.new-facts.result ≡ new_facts c.args.width c.args.height = simp (to_z-of_z, c.ranges.width, c.ranges.height) at c.new-facts.ensures in
     attached_new c.args.tree.now c.attach.new.self c.args.parent c.args.class c.args.width c.args.height c.new-facts.result c.empty.result c.in_ok-attach.field-0
@@ -32,7 +34,7 @@ request_at-requires c = parent_after c.args.tree.now c.attach.new.self c.args.pa
 pub returns-clause-applied : goal.returns-clause-applied
 returns-clause-applied c =
     attached_scene c.args.tree.now c.attach.new.self c.args.parent c.args.class c.args.width c.args.height c.in_ok-attach.field-0
-    c.next_number-number.result c.requires.addable c.in_ok-attach.ensures.refused (attached c) c.next_number-number.ensures
+    c.next_number-number.result c.note_tree.ensures c.requires.addable c.in_ok-attach.ensures.refused (attached c) c.next_number-number.ensures
     ∙ ap (λ (scene : Scene). Ok (scene, Some c.next_number-number.result))
     (sym (requested_scene c.attach.new.self c.request_at.new.tree (listed c.args.parent) c.request_at.ensures.same c.request_at.ensures.held))
 

@@ -5,7 +5,7 @@ use Rattle.view_tool.specs.Transcript.{max_script}
 use Rattle.view_tool.proofs.ScriptLaws.{HasTaken}
 use Rattle.view_tool.proofs.script.run_to_end.Given as goal
 
--- the run stands behind the bytes that were taken, and no call has failed
+-- the run is after the bytes that were taken, and no call has failed
 abbrev pub invariant-loop-n : goal.invariant-loop-n
 invariant-loop-n g l = record {
   bound : l.left ≤ max_script;

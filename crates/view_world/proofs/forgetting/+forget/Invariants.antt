@@ -12,7 +12,7 @@ use Rattle.view_world.proofs.forgetting.+forget.Given as goal
 abbrev pub decreases-forget : goal.decreases-forget
 decreases-forget l = count_of (first_tree (part_from l.view l.tree.now.tree))
 
--- with what is left to be forgotten, all will have been
+-- with what is left to be forgotten, everything will have been
 abbrev pub invariant-loop-next : goal.invariant-loop-next
 invariant-loop-next l =
     let part = part_from l.view l.tree.tree in

@@ -33,7 +33,7 @@ returns-then-is_full-clause-unchanged c =
 abbrev new_hook : goal.After-push → Hook
 new_hook c = record { view = c.args.view; reported = c.args.reported; edits = c.args.edits.now.items }
 
--- with one entry more the entries stand for the hooks with this one
+-- with one entry more the entries represent the hooks with this one
 with_it : (c : goal.After-push) → hooks_of c.push.new.self.items ≡ armed (new_hook c) c.args.self.now
 with_it c =
     let entry : Entry = record { view = c.args.view; reported = c.args.reported; edits = c.copied.result } in

@@ -9,7 +9,7 @@ use Rattle.size_hooks.proofs.EntryLaws.{entries_disarmed}
 use Rattle.size_hooks.proofs.MapLaws.{disarmed_map, hook_of-disarmed}
 use Rattle.size_hooks.proofs.hooks.Hooks.disarm.Goals as goal
 
--- the entries that are left stand for the hooks that are
+-- the entries that are left represent the hooks that are
 left : (c : goal.After-retain) → hooks_of c.retain.new.self.items ≡ disarmed c.args.view (hooks_of c.self.inside.entries.items)
 left c =
     let kept = filter-from_retain _ (λ (entry : Entry). not (entry.view == c.args.view)) _ (λ x b f' y called. search rules) _ _ c.retain.ensures.filtered in

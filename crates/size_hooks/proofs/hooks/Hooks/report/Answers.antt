@@ -8,7 +8,7 @@ use Rattle.size_hooks.proofs.EntryLaws.{refilled}
 use Rattle.size_hooks.proofs.MapLaws.{hook_of-reported, reported_map}
 use Rattle.size_hooks.proofs.hooks.Hooks.report.Goals as goal
 
--- the entries that were written back stand for the hooks to which the size is reported
+-- the entries that were written back represent the hooks to which the size is reported
 told : (c : goal.After-self-1) → hooks_of (refill (length c.self.inside.entries.items) c.self.inside.entries.items c.report_in.new.entries)
     ≡ reported_as c.args.view c.args.size (hooks_of c.self.inside.entries.items)
 told c =

@@ -69,7 +69,7 @@ returns-in_default-clause-targets c = λ group.
     closed_targets c.self.inside b c.remove.new.self c.args.view c.self.view_is c.forget_place.ensures.forgot (λ x. refl) (none at.After-remove) group
     ∙ left at.After-remove group
 
--- nothing goes before the seat does
+-- nothing is removed before the seat is
 kept : (c : After-remove) (before : List Seat) → c.args.self.now ≡ with_seat c.args.view before → is_open before c.args.view ≡ false
     → ((group : ℕ) → is_target c.args.view (targets_of before group) ≡ false) → c.remove.new.self ≡ with_seat c.args.view before
 kept c before is closed free =

@@ -20,7 +20,7 @@ returns-in_err-place-clause-part c = λ group target.
 pub index-requires : goal.index-requires
 index-requires c = rw (node_of c.self.inside c.self.invariant c.args.child c.in_ok-place.place (sym c.place_of.ensures ∙ c.in_ok-place.was)).is refl
 
--- the oldest target has none behind it
+-- the oldest target has none after it
 last : (c : After-from_residual-in_err-next) → (group : ℕ) → is_target c.args.child (targets_of c.args.self.now group) ≡ true → older (from_child c.args.child (targets_of c.args.self.now group)) ≡ []
 last c group target =
     let s = c.self.inside.nodes in

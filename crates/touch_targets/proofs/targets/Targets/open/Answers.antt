@@ -23,7 +23,7 @@ pub put_in-place-requires-clause-linked : goal.put_in-place-requires-clause-link
 put_in-place-requires-clause-linked c =
     linked_room c.self.inside (record { nodes = c.reserve.new.self; places = c.reserve-2.new.self }) c.reserve.ensures.rest_kept c.reserve-2.ensures.entries c.self.invariant.linked
 
--- the pool once there is a node and its place is noted
+-- the pool once there is a node and its place is recorded
 opened : (c : After-note_place) → Grown c.args.self.now c.args.view (record { nodes = c.put_in-place.new.nodes; places = c.note_place.new.places })
 opened c =
     let a : Inside = record { nodes = c.reserve.new.self; places = c.reserve-2.new.self } in

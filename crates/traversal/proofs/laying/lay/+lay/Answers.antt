@@ -4,19 +4,19 @@ use Rattle.std.proofs.lemmas.Bool.{cases_eq}
 use Rattle.std.proofs.Common.{inl, inr}
 use Rattle.geom_core.specs.declared.geometry.Size.{Size}
 use Rattle.kept_views.specs.Kept.{owed}
-use Rattle.kept_views.specs.Laying.{differ, moved_to, same_place, spot_of}
+use Rattle.kept_views.specs.Laying.{differ, moved_to, same_place, sizes_back, spot_of}
 use Rattle.kept_views.specs.Passes.{settled_at}
 use Rattle.kept_views.proofs.LaidFrames.{Fit-along, Fit-first, differ-along}
 use Rattle.kept_views.proofs.LaidRows.{moved_is}
 use Rattle.view_model.specs.declared.limits.TheConstants.{MAX_VIEWS}
 use Rattle.view_model.specs.Facts.{is_shown, layout_facts}
 use Rattle.view_model.specs.Forest.{count_of}
-use Rattle.view_model.specs.Layout.{place_in}
+use Rattle.view_model.specs.Layout.{place_in, places_backwards}
 use Rattle.view_model.specs.Measuring.{Measured, Specs}
 use Rattle.view_model.specs.RelativeLayout.{sides_of}
 use Rattle.view_tree.specs.declared.state.State.{State}
-use Rattle.view_tree.specs.Rows.{first_tree, children_of_first, part_from, head_view}
-use Rattle.view_tree.specs.Views.{Held, Views, held_of, specs_of, state_of}
+use Rattle.view_tree.specs.Rows.{first_tree, children_of_first, later_siblings, part_from, head_view}
+use Rattle.view_tree.specs.Views.{Held, Views, class_of, facts_of, held_of, specs_of, state_of}
 use Rattle.view_tree.specs.declared.counts.Counts.{Counts}
 use Rattle.view_tree.proofs.forest.Walks.{count_few, count_one, fewer_below}
 use Rattle.view_tree.proofs.forest.Forests.{count_alone, live_after}
@@ -30,6 +30,8 @@ use Rattle.traversal.proofs.LastAsked.{kids_asked}
 use Rattle.traversal.proofs.LaidAt.{alone_outside, below_at, calm_at, differ_at, kid_at, kid_gone, outside_at, put_at, put_same, settled_bounds, settled_cache, settled_is, sides_at}
 use Rattle.traversal.proofs.CoverLaws.{SamePlaces}
 use Rattle.traversal.proofs.FollowedViews.{covers_along, covers_at, covers_end, covers_on, covers_start, settled_places, sight_along, sight_at, sight_same, steps_by, walks_end, walks_on, walks_start}
+use Rattle.traversal.proofs.BackWalk.{WalkTo, back_few, back_fit, back_narrow, back_on, back_start, backwards_is, fewer_back}
+use Rattle.traversal.proofs.LaidStages.{IsDone, stage_of}
 use Rattle.traversal.proofs.LaidWalk.{laid_on, laid_start, next_narrow}
 use Rattle.traversal.proofs.RestLaws.{calm_is, calm_of, unmoved}
 use Rattle.traversal.proofs.laying.lay.+lay.Goals as goal
@@ -83,10 +85,10 @@ lay_kid-returns-clause-caches t c =
     let shown = sym (ap is_shown c.facts-facts.ensures.value) ∙ sym c.is_shown.ensures ∙ c.if-not-is_shown.false in
     grown_kid c.args.tree.now.tree c.args.kid (held_of c.args.tree.now) (held_of c.lay.new.tree) c.requires.live shown c.lay.ensures.caches
 
--- lay_kids
+-- lay_forwards
 
-pub lay_kids-lay_kid-requires : goal.lay_kids-lay_kid-requires
-lay_kids-lay_kid-requires t c =
+pub lay_forwards-lay_kid-requires : goal.lay_forwards-lay_kid-requires
+lay_forwards-lay_kid-requires t c =
     let tree = c.args.tree.now.tree in
     let walk = rw c.in-Some.is at c.loop-next.invariant.walked in
     let fewer = fewer_below tree c.args.view c.in-Some.kid c.requires.live walk.walked.walk in
@@ -107,13 +109,13 @@ lay_kids-lay_kid-requires t c =
       ),
     )
 
-pub lay_kids-loop-next-smaller : goal.lay_kids-loop-next-smaller
-lay_kids-loop-next-smaller t c =
+pub lay_forwards-loop-next-smaller : goal.lay_forwards-loop-next-smaller
+lay_forwards-loop-next-smaller t c =
     let walk = rw c.in-Some.is at c.loop-next.invariant.walked in
     rw (c.next-next.ensures.part, c.lay_kid.ensures.same.tree, c.loop-next.invariant.same.tree, c.in-Some.is) (live_after c.in-Some.kid c.args.tree.now.tree walk.walked.walk.live)
 
-pub lay_kids-loop-next-init : goal.lay_kids-loop-next-init
-lay_kids-loop-next-init t c =
+pub lay_forwards-loop-next-init : goal.lay_forwards-loop-next-init
+lay_forwards-loop-next-init t c =
     let tree = c.args.tree.now.tree in
     let first = c.first-next.ensures in
     let spot = spot_of (part_from c.args.view tree) (held_of c.args.tree.now c.args.view) c.args.size in
@@ -124,12 +126,12 @@ lay_kids-loop-next-init t c =
       sight = walks_start c.args.canvas c.args.damage.now.rect tree (children_of_first (part_from c.args.view tree)) (held_of c.args.tree.now) c.first-next.result first.part;
       cover = covers_start c.args.canvas c.args.damage.now.rect tree (children_of_first (part_from c.args.view tree)) (held_of c.args.tree.now) c.first-next.result first.part;
       walked =
-          laid_start tree (children_of_first (part_from c.args.view tree)) c.start-placer.result spot (held_of c.args.tree.now) c.args.work.now.measured c.args.tree.now.counts.laid c.first-next.result c.start-placer.ensures
+          laid_start tree (children_of_first (part_from c.args.view tree)) c.start-placer.result spot (held_of c.args.tree.now) c.args.work.now.measured c.args.tree.now.counts.laid c.first-next.result c.start-placer.ensures.places
           (count_few c.args.view tree c.requires.live first.is_tree.few) first.is_tree.keys first.part first.live c.requires.fit c.requires.narrow;
     }
 
-pub lay_kids-loop-next-preserved : goal.lay_kids-loop-next-preserved
-lay_kids-loop-next-preserved t c =
+pub lay_forwards-loop-next-preserved : goal.lay_forwards-loop-next-preserved
+lay_forwards-loop-next-preserved t c =
     let tree = c.args.tree.now.tree in
     let before = c.loop-next.invariant in
     let kid = c.lay_kid.ensures in
@@ -159,37 +161,173 @@ lay_kids-loop-next-preserved t c =
           (rw (kid.same.tree, before.same.tree) at c.next-next.ensures.part) (rw (kid.same.tree, before.same.tree) at c.next-next.ensures.live);
     }
 
-pub lay_kids-returns-clause-quiet : goal.lay_kids-returns-clause-quiet
-lay_kids-returns-clause-quiet t c =
+pub lay_forwards-returns-clause-quiet : goal.lay_forwards-returns-clause-quiet
+lay_forwards-returns-clause-quiet t c =
     let walk = rw c.in_default.is at c.loop-next.invariant.walked in
     walk.quiet (held_of c.loop-next.tree) (λ key none. refl) (record { kept = tt; reached = tt; specs = refl; edges = refl; lies = refl; places = refl; offsets = tt })
 
-pub lay_kids-returns-clause-measured : goal.lay_kids-returns-clause-measured
-lay_kids-returns-clause-measured t c =
+pub lay_forwards-returns-clause-measured : goal.lay_forwards-returns-clause-measured
+lay_forwards-returns-clause-measured t c =
     let walk = rw c.in_default.is at c.loop-next.invariant.walked in
     let m = walk.measures in
     omega arith
 
-pub lay_kids-returns-clause-laid : goal.lay_kids-returns-clause-laid
-lay_kids-returns-clause-laid t c =
+pub lay_forwards-returns-clause-laid : goal.lay_forwards-returns-clause-laid
+lay_forwards-returns-clause-laid t c =
     let walk = rw c.in_default.is at c.loop-next.invariant.walked in
     let m = walk.moves (held_of c.loop-next.tree) (λ key none. refl) in
     omega arith
 
-pub lay_kids-returns-clause-caches : goal.lay_kids-returns-clause-caches
-lay_kids-returns-clause-caches t c =
+pub lay_forwards-returns-clause-caches : goal.lay_forwards-returns-clause-caches
+lay_forwards-returns-clause-caches t c =
     let walk = rw c.in_default.is at c.loop-next.invariant.walked in
     walk.caches (held_of c.loop-next.tree) (λ key none. refl) tt
 
-pub lay_kids-returns-clause-sight : goal.lay_kids-returns-clause-sight
-lay_kids-returns-clause-sight t c =
+pub lay_forwards-returns-clause-sight : goal.lay_forwards-returns-clause-sight
+lay_forwards-returns-clause-sight t c =
     walks_end c.args.canvas c.loop-next.damage.rect c.args.tree.now.tree (children_of_first (part_from c.args.view c.args.tree.now.tree)) (held_of c.args.tree.now) (held_of c.loop-next.tree)
     (rw c.in_default.is at c.loop-next.invariant.sight)
 
-pub lay_kids-returns-clause-within : goal.lay_kids-returns-clause-within
-lay_kids-returns-clause-within t c =
+pub lay_forwards-returns-clause-within : goal.lay_forwards-returns-clause-within
+lay_forwards-returns-clause-within t c =
     covers_end c.args.canvas c.args.damage.now.rect c.loop-next.damage.rect c.args.tree.now.tree (children_of_first (part_from c.args.view c.args.tree.now.tree)) (held_of c.args.tree.now) (held_of c.loop-next.tree)
     (rw c.in_default.is at c.loop-next.invariant.cover)
+
+-- lay_backwards
+
+pub lay_backwards-lay_kid-requires : goal.lay_backwards-lay_kid-requires
+lay_backwards-lay_kid-requires t c =
+    let tree = c.args.tree.now.tree in
+    let list = children_of_first (part_from c.args.view tree) in
+    let spot = spot_of (part_from c.args.view tree) (held_of c.args.tree.now c.args.view) c.args.size in
+    let start = stage_of c.args.tree.now c.args.damage.now.rect c.args.work.now in
+    let now = stage_of c.loop-next.tree c.loop-next.damage.rect c.loop-next.work in
+    let walk = rw c.in-Some.is at c.loop-next.invariant.walked in
+    let keys = c.start-placer.ensures.is_tree.keys in
+    let fewer = fewer_back tree c.args.view c.in-Some.kid c.requires.live walk.kid in
+    rw c.loop-next.invariant.same.tree (
+      omega arith,
+      (
+        walk.kid.live,
+        (
+          back_fit tree list c.loop-next.placer spot c.args.canvas start c.in-Some.kid now keys walk c.requires.fit,
+          (back_narrow tree list c.loop-next.placer spot c.args.canvas start c.in-Some.kid now keys walk c.requires.narrow, c.requires.near),
+        ),
+      ),
+    )
+
+stepped : (t : ℕ) (c : goal.lay_backwards-After-previous-next t)
+    → (let spot = spot_of (part_from c.args.view c.args.tree.now.tree) (held_of c.args.tree.now c.args.view) c.args.size in
+    WalkTo c.args.tree.now.tree c.args.view c.lay_kid.new.placer spot c.args.canvas (stage_of c.args.tree.now c.args.damage.now.rect c.args.work.now)
+    (stage_of c.lay_kid.new.tree c.lay_kid.new.damage.rect c.lay_kid.new.work) c.in-Some.kid c.previous-next.result)
+stepped t c =
+    let tree = c.args.tree.now.tree in
+    let list = children_of_first (part_from c.args.view tree) in
+    let before = c.loop-next.invariant in
+    let kid = c.lay_kid.ensures in
+    let is_tree = c.start-placer.ensures.is_tree in
+    let spot = spot_of (part_from c.args.view tree) (held_of c.args.tree.now c.args.view) c.args.size in
+    let start = stage_of c.args.tree.now c.args.damage.now.rect c.args.work.now in
+    let old = stage_of c.loop-next.tree c.loop-next.damage.rect c.loop-next.work in
+    let mid = stage_of c.lay_kid.new.tree c.lay_kid.new.damage.rect c.lay_kid.new.work in
+    let walk = rw c.in-Some.is at before.walked in
+    let few = back_few tree list c.loop-next.placer spot c.args.canvas start c.in-Some.kid old is_tree.keys walk (count_few c.args.view tree c.requires.live is_tree.few) in
+    let sizes = sizes_back (held_of c.args.tree.now) (later_siblings (part_from c.in-Some.kid tree)) in
+    let laid : LaidKids c.lay_kid.new.placer spot sizes (held_of c.loop-next.tree) (held_of c.lay_kid.new.tree) (first_tree (part_from c.in-Some.kid tree)) =
+    (rw before.same.tree at (kid.quiet spot sizes walk.places)) few in
+    let done : IsDone c.args.canvas old mid (first_tree (part_from c.in-Some.kid c.loop-next.tree.tree)) = record {
+      others = kid.others;
+      measures = kid.measured;
+      moves = kid.laid;
+      caches = kid.caches;
+      grew = kid.grew;
+      sight = kid.sight;
+      within = kid.within;
+    } in
+    back_on tree c.args.view c.loop-next.placer c.lay_kid.new.placer spot c.args.canvas start c.in-Some.kid old mid c.previous-next.result
+    is_tree.keys c.requires.live walk laid (rw before.same.tree at done) (rw (kid.same.tree, before.same.tree) at c.previous-next.ensures.key)
+
+pub lay_backwards-loop-next-smaller : goal.lay_backwards-loop-next-smaller
+lay_backwards-loop-next-smaller t c =
+    rw (c.lay_kid.ensures.same.tree, c.loop-next.invariant.same.tree, c.in-Some.is) (stepped t c).fewer
+
+pub lay_backwards-loop-next-init : goal.lay_backwards-loop-next-init
+lay_backwards-loop-next-init t c =
+    let tree = c.args.tree.now.tree in
+    let spot = spot_of (part_from c.args.view tree) (held_of c.args.tree.now c.args.view) c.args.size in
+    record {
+      same = record { tree = refl; orders = refl; next = refl };
+      counted = record { by = 0; work = omega arith; tree = omega arith; painted = refl };
+      walked =
+          back_start tree c.args.view c.start-placer.result spot c.args.canvas (stage_of c.args.tree.now c.args.damage.now.rect c.args.work.now) c.last-next.result
+          c.start-placer.ensures.is_tree.keys c.requires.live c.last-next.ensures.key c.start-placer.ensures.places;
+    }
+
+pub lay_backwards-loop-next-preserved : goal.lay_backwards-loop-next-preserved
+lay_backwards-loop-next-preserved t c =
+    let before = c.loop-next.invariant in
+    let kid = c.lay_kid.ensures in
+    record {
+      same = record { tree = kid.same.tree ∙ before.same.tree; orders = kid.same.orders ∙ before.same.orders; next = kid.same.next ∙ before.same.next };
+      counted = counted_then before.counted kid.counted;
+      walked = (stepped t c).walk;
+    }
+
+pub lay_backwards-returns-clause-quiet : goal.lay_backwards-returns-clause-quiet
+lay_backwards-returns-clause-quiet t c =
+    let walk = rw c.in_default.is at c.loop-next.invariant.walked in
+    walk.quiet
+
+pub lay_backwards-returns-clause-others : goal.lay_backwards-returns-clause-others
+lay_backwards-returns-clause-others t c =
+    let walk = rw c.in_default.is at c.loop-next.invariant.walked in
+    walk.done.others
+
+pub lay_backwards-returns-clause-measured : goal.lay_backwards-returns-clause-measured
+lay_backwards-returns-clause-measured t c =
+    let walk = rw c.in_default.is at c.loop-next.invariant.walked in
+    walk.done.measures
+
+pub lay_backwards-returns-clause-laid : goal.lay_backwards-returns-clause-laid
+lay_backwards-returns-clause-laid t c =
+    let walk = rw c.in_default.is at c.loop-next.invariant.walked in
+    walk.done.moves
+
+pub lay_backwards-returns-clause-caches : goal.lay_backwards-returns-clause-caches
+lay_backwards-returns-clause-caches t c =
+    let walk = rw c.in_default.is at c.loop-next.invariant.walked in
+    walk.done.caches
+
+pub lay_backwards-returns-clause-grew : goal.lay_backwards-returns-clause-grew
+lay_backwards-returns-clause-grew t c =
+    let walk = rw c.in_default.is at c.loop-next.invariant.walked in
+    walk.done.grew
+
+pub lay_backwards-returns-clause-sight : goal.lay_backwards-returns-clause-sight
+lay_backwards-returns-clause-sight t c =
+    let walk = rw c.in_default.is at c.loop-next.invariant.walked in
+    walk.done.sight
+
+pub lay_backwards-returns-clause-within : goal.lay_backwards-returns-clause-within
+lay_backwards-returns-clause-within t c =
+    let walk = rw c.in_default.is at c.loop-next.invariant.walked in
+    walk.done.within
+
+-- lay_kids
+
+pub lay_kids-returns-then-places_backwards-clause-quiet : goal.lay_kids-returns-then-places_backwards-clause-quiet
+lay_kids-returns-then-places_backwards-clause-quiet t c =
+    let class = class_of c.args.tree.now c.args.view in
+    let facts = facts_of c.args.tree.now c.args.view in
+    let back : places_backwards class (layout_facts facts) ≡ true = sym (backwards_is class facts) ∙ sym c.places_backwards.ensures ∙ c.if-places_backwards.true in
+    rw back c.lay_backwards.ensures.quiet
+
+pub lay_kids-returns-clause-quiet : goal.lay_kids-returns-clause-quiet
+lay_kids-returns-clause-quiet t c =
+    let class = class_of c.args.tree.now c.args.view in
+    let facts = facts_of c.args.tree.now c.args.view in
+    let on : places_backwards class (layout_facts facts) ≡ false = sym (backwards_is class facts) ∙ sym c.places_backwards.ensures ∙ c.if-places_backwards.false in
+    rw on c.lay_forwards.ensures.quiet
 
 -- lay_open
 

@@ -5,24 +5,32 @@ use Rattle.view_model.specs.Forest.{count_of}
 use Rattle.view_tree.specs.Rows.{first_tree, children_of_first, part_from, rest_from}
 use Rattle.view_tree.specs.Views.{SameTree, held_of}
 use Rattle.traversal.specs.Counting.{IsCounted}
+use Rattle.traversal.proofs.BackWalk.{BackWalk, before}
 use Rattle.traversal.proofs.FollowedViews.{CoverWalks, Walks}
+use Rattle.traversal.proofs.LaidStages.{stage_of}
 use Rattle.traversal.proofs.LaidWalk.{LaidWalk}
 use Rattle.traversal.proofs.laying.lay.+lay.Given as goal
 
 abbrev pub decreases-lay : goal.decreases-lay
-decreases-lay l = 4 * count_of (first_tree (part_from l.view l.tree.now.tree)) + 2
+decreases-lay l = 5 * count_of (first_tree (part_from l.view l.tree.now.tree)) + 3
 
 abbrev pub decreases-lay_open : goal.decreases-lay_open
-decreases-lay_open l = 4 * count_of (first_tree (part_from l.view l.tree.now.tree)) + 1
+decreases-lay_open l = 5 * count_of (first_tree (part_from l.view l.tree.now.tree)) + 2
 
 abbrev pub decreases-lay_kid : goal.decreases-lay_kid
-decreases-lay_kid l = 4 * count_of (first_tree (part_from l.kid l.tree.now.tree)) + 3
+decreases-lay_kid l = 5 * count_of (first_tree (part_from l.kid l.tree.now.tree)) + 4
 
 abbrev pub decreases-lay_kids : goal.decreases-lay_kids
-decreases-lay_kids l = 4 * count_of (first_tree (part_from l.view l.tree.now.tree))
+decreases-lay_kids l = 5 * count_of (first_tree (part_from l.view l.tree.now.tree)) + 1
 
-abbrev pub invariant-lay_kids-loop-next : goal.invariant-lay_kids-loop-next
-invariant-lay_kids-loop-next l = let tree = l.fn.tree.tree in record {
+abbrev pub decreases-lay_forwards : goal.decreases-lay_forwards
+decreases-lay_forwards l = 5 * count_of (first_tree (part_from l.view l.tree.now.tree))
+
+abbrev pub decreases-lay_backwards : goal.decreases-lay_backwards
+decreases-lay_backwards l = 5 * count_of (first_tree (part_from l.view l.tree.now.tree))
+
+abbrev pub invariant-lay_forwards-loop-next : goal.invariant-lay_forwards-loop-next
+invariant-lay_forwards-loop-next l = let tree = l.fn.tree.tree in record {
   same : SameTree l.fn.tree l.tree;
   counted : IsCounted l.fn.tree l.tree l.fn.work l.work;
   grew : LiesIn l.fn.damage.rect l.damage.rect;
@@ -32,5 +40,16 @@ invariant-lay_kids-loop-next l = let tree = l.fn.tree.tree in record {
       l.fn.work.measured l.fn.tree.counts.laid l.next (held_of l.tree) l.work.measured l.tree.counts.laid;
 }
 
-abbrev pub decreases-lay_kids-loop-next : goal.decreases-lay_kids-loop-next
-decreases-lay_kids-loop-next l = count_of (rest_from l.next l.tree.tree)
+abbrev pub decreases-lay_forwards-loop-next : goal.decreases-lay_forwards-loop-next
+decreases-lay_forwards-loop-next l = count_of (rest_from l.next l.tree.tree)
+
+abbrev pub invariant-lay_backwards-loop-next : goal.invariant-lay_backwards-loop-next
+invariant-lay_backwards-loop-next l = let tree = l.fn.tree.tree in record {
+  same : SameTree l.fn.tree l.tree;
+  counted : IsCounted l.fn.tree l.tree l.fn.work l.work;
+  walked : BackWalk tree (children_of_first (part_from l.view tree)) l.placer (spot_of (part_from l.view tree) (held_of l.fn.tree l.view) l.fn.size) l.canvas
+      (stage_of l.fn.tree l.fn.damage.rect l.fn.work) l.next (stage_of l.tree l.damage.rect l.work);
+}
+
+abbrev pub decreases-lay_backwards-loop-next : goal.decreases-lay_backwards-loop-next
+decreases-lay_backwards-loop-next l = before l.next (children_of_first (part_from l.view l.tree.tree)) l.tree.tree

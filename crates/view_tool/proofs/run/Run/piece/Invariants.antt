@@ -4,7 +4,7 @@ use Rattle.view_tool.specs.Run.{HasReadUpTo}
 use Rattle.view_tool.specs.Works.{Trace, trace}
 use Rattle.view_tool.proofs.run.Run.piece.Given as goal
 
--- from where the run stood, it stands behind the part of the piece that was taken
+-- from where the run was, it is now after the part of the piece that was taken
 abbrev pub invariant-loop-at : goal.invariant-loop-at
 invariant-loop-at g l = record {
   within : l.at ≤ length l.piece;

@@ -1,6 +1,7 @@
 use Rattle.std.proofs.Common.{◌≡◌, ◌∙◌, ap, refl, subst, sym}
 use Rattle.view_model.specs.PlainTree.{PlainView}
 use Rattle.view_tree.specs.Attached.{Attached}
+use Rattle.view_tree.specs.Directions.{running_below}
 use Rattle.view_tree.specs.Nodes.{value_of, views_in}
 use Rattle.view_tree.specs.Ordering.{HasNoOther, IsGrouped, group_at, orders_in}
 use Rattle.view_tree.specs.Rows.{leaf}
@@ -50,12 +51,12 @@ join_group-requires-clause-few c = λ k told.
 
 came : (c : After-plant-key) → value_of (record c.self.inside { nodes = c.make_room.new.nodes; keys = c.make_room.new.keys; ids = c.make_room.new.ids; groups = c.make_group_room.new.groups }) ≡ c.args.self.now
     → (new : Views) → new ≡ record (views_in c.plant-key.new.nodes c.plant-key.new.root c.plant-key.new.next) { orders = new.orders; counts = new.counts }
-    → Attached c.args.self.now c.args.parent (record { number = c.args.self.now.next; class = c.args.class; facts = c.args.facts; text = c.args.text }) c.plant-key.result new
+    → Attached c.args.self.now c.args.parent (running_below c.args.parent c.args.self.now.tree (record { number = c.args.self.now.next; class = c.args.class; facts = c.args.facts; text = c.args.text })) c.plant-key.result new
 came c same new is =
-    subst (λ (v : Views). Attached v c.args.parent (record { number = v.next; class = c.args.class; facts = c.args.facts; text = c.args.text }) c.plant-key.result new) same
+    subst (λ (v : Views). Attached v c.args.parent (running_below c.args.parent v.tree (record { number = v.next; class = c.args.class; facts = c.args.facts; text = c.args.text })) c.plant-key.result new) same
     (subst (Attached _ _ _ _) (sym is)
     (attached-orders (views_in c.make_room.new.nodes c.self.inside.root c.self.inside.next) (views_in c.plant-key.new.nodes c.plant-key.new.root c.plant-key.new.next) c.args.parent
-    (record { number = c.self.inside.next; class = c.args.class; facts = c.args.facts; text = c.args.text }) c.plant-key.result
+    (running_below c.args.parent (views_in c.make_room.new.nodes c.self.inside.root c.self.inside.next).tree (record { number = c.self.inside.next; class = c.args.class; facts = c.args.facts; text = c.args.text })) c.plant-key.result
     (orders_in c.make_group_room.new.groups.entries) new.orders c.self.inside.counts new.counts c.plant-key.ensures.attached))
 
 pub invariant_of-self-2 : goal.invariant_of-self-2
@@ -74,7 +75,7 @@ invariant_of-self-2 c =
     record {
       planted = planted-whole b c.plant-key.ensures.sound;
       grouped =
-          grouped-attached c.args.self.now (value_of b) c.args.parent (record { number = c.self.inside.next; class = c.args.class; facts = c.args.facts; text = c.args.text })
+          grouped-attached c.args.self.now (value_of b) c.args.parent (running_below c.args.parent c.args.self.now.tree (record { number = c.self.inside.next; class = c.args.class; facts = c.args.facts; text = c.args.text }))
           (group_at c.make_group_room.new.groups) (group_at c.join_group.new.groups) (is_tree c.self.inside c.args.self.now c.self.invariant.planted c.self.view_is) c.requires.live number
           c.requires.unnamed.0 c.requires.unnamed.1 c.join_group.ensures.own
           (λ k told other. c.join_group.ensures.parent k (c.group_number-group.ensures ∙ told) other)
@@ -82,7 +83,7 @@ invariant_of-self-2 c =
           (rw number (came at.After-plant-key (same room) (value_of b) refl).plain)
           (grouped room);
       only =
-          let view : PlainView = record { number = c.args.self.now.next; class = c.args.class; facts = c.args.facts; text = c.args.text } in
+          let view : PlainView = running_below c.args.parent c.args.self.now.tree (record { number = c.args.self.now.next; class = c.args.class; facts = c.args.facts; text = c.args.text }) in
           only-added (group_at c.self.inside.groups) (group_at c.join_group.new.groups) c.args.self.now.tree (value_of b).tree c.args.parent (leaf c.plant-key.result view) c.requires.live c.requires.root
           (is_tree c.self.inside c.args.self.now c.self.invariant.planted c.self.view_is).keys (came at.After-plant-key (same room) (value_of b) refl).tree
           (λ k none before. c.join_group.ensures.unused k (λ relative equal. layouts-leaf k c.plant-key.result view none relative (equal ∙ number)) (c.make_group_room.ensures.groups k ∙ before))

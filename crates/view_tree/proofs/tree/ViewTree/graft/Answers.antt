@@ -11,6 +11,7 @@ use Rattle.view_model.specs.Grafts.{graft_refusal}
 use Rattle.view_model.specs.Growth.{refusal_at}
 use Rattle.view_model.specs.Sprouts.{seed_of, seeds_of, view_of}
 use Rattle.view_tree.specs.Attached.{Attached}
+use Rattle.view_tree.specs.Directions.{running_below}
 use Rattle.view_tree.specs.Grafted.{Grafted}
 use Rattle.view_tree.specs.Grafting.{AreGrafted, IsMadeUnless, entries_cycle}
 use Rattle.view_tree.specs.Nodes.{value_of, views_in}
@@ -61,10 +62,10 @@ came c same free =
     outermost_came c.args.self.now _ c.args.parent c.plant-key.result c.in-Some.outermost (into_iter_items c.next.new.self) c.args.sapling.sprouts.items
     (is_tree c.self.inside c.args.self.now c.self.invariant.planted c.self.view_is) c.requires.live c.requires.root
     (subst
-    (λ (v : Views). Attached v c.args.parent (view_of v.next (seed_of c.in-Some.outermost)) c.plant-key.result (views_in c.plant-key.new.nodes c.plant-key.new.root c.plant-key.new.next))
+    (λ (v : Views). Attached v c.args.parent (running_below c.args.parent v.tree (view_of v.next (seed_of c.in-Some.outermost))) c.plant-key.result (views_in c.plant-key.new.nodes c.plant-key.new.root c.plant-key.new.next))
     same
     (attached-orders (views_in c.make_room.new.nodes c.self.inside.root c.self.inside.next) (views_in c.plant-key.new.nodes c.plant-key.new.root c.plant-key.new.next) c.args.parent
-    (view_of c.self.inside.next (seed_of c.in-Some.outermost)) c.plant-key.result (orders_in c.make_group_room.new.groups.entries) [] c.self.inside.counts no_counts c.plant-key.ensures.attached))
+    (running_below c.args.parent (views_in c.make_room.new.nodes c.self.inside.root c.self.inside.next).tree (view_of c.self.inside.next (seed_of c.in-Some.outermost))) c.plant-key.result (orders_in c.make_group_room.new.groups.entries) [] c.self.inside.counts no_counts c.plant-key.ensures.attached))
     (sym c.into_iter-sprouts.ensures.rest ∙ c.in-Some.ensures.items) c.args.sapling.preorder free
 
 abbrev end : After-note_groups → Inside

@@ -9,7 +9,8 @@ use Rattle.tree_edits.specs.Applied.{IsAddable}
 use Rattle.tree_edits.specs.Editing.{Add, new_view}
 use Rattle.tree_edits.specs.Keeping.{KeepsViews}
 use Rattle.tree_edits.specs.declared.edits.Edit.TheVariants as edit
-use Rattle.view_tree.specs.Views.{number_of}
+use Rattle.view_model.specs.Directed.{rtl_at, running}
+use Rattle.view_tree.specs.Views.{number_of, plain_of}
 use Rattle.view_world.proofs.FitLaws.{fits_applied}
 use Rattle.view_world.proofs.GrownShown.{nowhere_next, shown_come}
 use Rattle.pixel_raster.specs.Raster.{size_of}
@@ -64,7 +65,8 @@ invariant_of-self-else-is_err c =
     c.open.ensures.gesture opened (omega (arith, room, len))
     (fits_applied a.tree c.apply-made.new.tree (Add (option_map (number_of a.tree) c.args.parent) c.args.class width height) c.apply-made.result c.apply-made.ensures.applied c.apply-made.ensures.unchanged sound.narrow)
     (offsets_edited a.tree c.apply-made.new.tree (edit.Add c.args.parent c.args.class width height) c.apply-made.result tt c.apply-made.ensures.applied c.apply-made.ensures.unchanged sound.offsets)
-    (shown_come (size_of a.surface) a.damage.rect a.tree c.apply-made.new.tree (option_map (number_of a.tree) c.args.parent) (single (new_view a.tree.next c.args.class width height))
+    (shown_come (size_of a.surface) a.damage.rect a.tree c.apply-made.new.tree (option_map (number_of a.tree) c.args.parent)
+    (single (running (rtl_at (option_map (number_of a.tree) c.args.parent) (plain_of a.tree)) (new_view a.tree.next c.args.class width height)))
     (nowhere_next a.tree a.tree.next c.tell_tree.ensures (omega arith), tt, tt) (plain_root a.tree c.args.parent (addable_root a.tree c.args.parent addable))
     (grown_as a.tree c.apply-made.new.tree c.args.parent c.args.class width height c.apply-made.result ok c.apply-made.ensures.applied)
     (grown_nowhere a.tree c.apply-made.new.tree c.args.parent c.args.class width height c.apply-made.result ok c.apply-made.ensures.applied))

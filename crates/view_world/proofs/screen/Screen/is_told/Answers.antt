@@ -10,7 +10,7 @@ use Rattle.view_world.specs.Touching.{is_told, parent_of}
 use Rattle.view_world.proofs.LeaveLaws.{nil-length, told_child, told_root}
 use Rattle.view_world.proofs.screen.Screen.is_told.Goals as goal
 
--- whether a view of a world is told is what was found
+-- whether a view of a world gets a cancel is what was found
 Told : Bool → ℕ → KeyedScreen → Type 0
 Told found view world = found ≡ is_told (parent_of (number_of world.views view) (world_of world).tree) (facts_of world.views view) world.pointers
 

@@ -1,15 +1,15 @@
 use Rattle.std.proofs.Common.{ap, sym, subst, ◌∙◌, ℕ, List, Bor, Option}
 use Rattle.std.specs.Option.{option_map}
+use Rattle.saved_state.specs.Restored.{Retells}
 use Rattle.saved_state.specs.State.{decoded}
 use Rattle.view_tree.specs.Views.{plain_of}
 use Rattle.view_world.proofs.SoundLaws.{sound_restored}
-use Rattle.view_world.proofs.StateLaws.{kept_taken, offsets_taken, rooted, text_taken}
+use Rattle.view_world.proofs.StateLaws.{kept_taken, values_taken, rooted, text_taken}
 use Rattle.view_world.specs.Changed.{CarriesOut}
 use Rattle.view_world.specs.KeyedScreen.{KeyedScreen, world_of}
 use Rattle.view_world.specs.Sound.{keyed}
 use Rattle.view_world.specs.Step.{taken_up}
-use Rattle.view_world.proofs.RestLaws.{ok_any}
-use Rattle.view_world.proofs.RestoredAsked.{kept_keeps, text_keeps}
+use Rattle.view_world.proofs.RestoredAsked.{kept_keeps, ok_follows, text_keeps}
 use Rattle.script_lines.specs.PlainCommands.{Restore}
 use Rattle.std.specs.Prelude.{OnOk}
 use Rattle.view_world.specs.Resting.{KeepsLine}
@@ -21,7 +21,7 @@ returns-in_default-clause-changed c =
     let new : KeyedScreen = record old { views = c.take_up.new.tree } in
     let ens = c.take_up.ensures in
     let some = rooted c.self.inside.tree.tree c.root.result c.root.ensures.key c.if-is_none.ensures in
-    let told = kept_taken old new c.take_up.result some (offsets_taken old c.take_up.new.tree old.kept c.take_up.result ens.taken ens.plain ens.unchanged ens.same ens.geometry) in
+    let told = kept_taken old new c.take_up.result some (values_taken old c.take_up.new.tree old.kept c.take_up.result ens.taken ens.plain ens.unchanged ens.retells ens.geometry) in
     subst (λ (w : KeyedScreen). CarriesOut (taken_up (world_of w) (plain_of w.views) (option_map (λ (text : Bor (List ℕ)). text.now) c.args.text)) new c.take_up.result) c.self.view_is
     (subst (λ (text : Option (Bor (List ℕ))). CarriesOut (taken_up (world_of old) (plain_of old.views) (option_map (λ (text : Bor (List ℕ)). text.now) text)) new c.take_up.result) (sym c.in_default.is) told)
 
@@ -34,7 +34,7 @@ returns-clause-changed c =
     let told =
     text_taken old new c.in-Some.digits.now c.in_ok-bytes.bytes.items c.in_ok-states.states c.take_up-2.result some c.in_ok-bytes.ensures.bytes
     (ap decoded (sym c.as_slice.ensures.value) ∙ c.in_ok-states.ensures)
-    (offsets_taken old c.take_up-2.new.tree c.in_ok-states.states c.take_up-2.result ens.taken ens.plain ens.unchanged ens.same ens.geometry) in
+    (values_taken old c.take_up-2.new.tree c.in_ok-states.states c.take_up-2.result ens.taken ens.plain ens.unchanged ens.retells ens.geometry) in
     subst (λ (w : KeyedScreen). CarriesOut (taken_up (world_of w) (plain_of w.views) (option_map (λ (text : Bor (List ℕ)). text.now) c.args.text)) new c.take_up-2.result) c.self.view_is
     (subst (λ (text : Option (Bor (List ℕ))). CarriesOut (taken_up (world_of old) (plain_of old.views) (option_map (λ (text : Bor (List ℕ)). text.now) text)) new c.take_up-2.result) (sym c.in-Some.is) told)
 
@@ -43,7 +43,10 @@ returns-in_default-clause-keeps c =
     let old = keyed c.self.inside in
     let new : KeyedScreen = record old { views = c.take_up.new.tree; damage = c.take_up.new.damage.rect } in
     let told =
-    ok_any c.take_up.result (kept_keeps old c.take_up.new.tree c.take_up.new.damage.rect c.tell_tree.ensures c.take_up.ensures.counts c.take_up.ensures.asked c.take_up.ensures.same (rw c.size-window.ensures.value at c.take_up.ensures.within)) in
+    ok_follows c.take_up.result
+    (λ (told : Retells old.kept old.views c.take_up.new.tree).
+    kept_keeps old c.take_up.new.tree c.take_up.new.damage.rect c.tell_tree.ensures c.take_up.ensures.counts c.take_up.ensures.asked c.take_up.ensures.is_tree told (rw c.size-window.ensures.value at c.take_up.ensures.within))
+    c.take_up.ensures.retells in
     subst (λ (w : KeyedScreen). OnOk c.take_up.result (KeepsLine (Restore (option_map (λ (text : Bor (List ℕ)). text.now) c.args.text)) w new)) c.self.view_is
     (subst (λ (text : Option (Bor (List ℕ))). OnOk c.take_up.result (KeepsLine (Restore (option_map (λ (text : Bor (List ℕ)). text.now) text)) old new)) (sym c.in_default.is) told)
 
@@ -54,19 +57,22 @@ returns-clause-keeps c =
     let entries = c.in_ok-states.states in
     let read = ap decoded (sym c.in_ok-bytes.ensures.bytes ∙ sym c.as_slice.ensures.value) ∙ c.in_ok-states.ensures in
     let told =
-    ok_any c.take_up-2.result (text_keeps old c.take_up-2.new.tree c.take_up-2.new.damage.rect entries c.in-Some.digits.now read c.tell_tree.ensures c.take_up-2.ensures.counts c.take_up-2.ensures.asked c.take_up-2.ensures.same
-    (rw c.size-window.ensures.value at c.take_up-2.ensures.within)) in
+    ok_follows c.take_up-2.result
+    (λ (told : Retells entries old.views c.take_up-2.new.tree).
+    text_keeps old c.take_up-2.new.tree c.take_up-2.new.damage.rect entries c.in-Some.digits.now read c.tell_tree.ensures c.take_up-2.ensures.counts c.take_up-2.ensures.asked c.take_up-2.ensures.is_tree told
+    (rw c.size-window.ensures.value at c.take_up-2.ensures.within))
+    c.take_up-2.ensures.retells in
     subst (λ (w : KeyedScreen). OnOk c.take_up-2.result (KeepsLine (Restore (option_map (λ (text : Bor (List ℕ)). text.now) c.args.text)) w new)) c.self.view_is
     (subst (λ (text : Option (Bor (List ℕ))). OnOk c.take_up-2.result (KeepsLine (Restore (option_map (λ (text : Bor (List ℕ)). text.now) text)) old new)) (sym c.in-Some.is) told)
 
 pub invariant_of-self : goal.invariant_of-self
 invariant_of-self c =
     let ens = c.take_up.ensures in
-    sound_restored c.self.inside c.take_up.new.tree c.take_up.new.damage (rw c.size-window.ensures.value at ens.shown) c.self.invariant ens.same ens.geometry (ens.consistent c.self.invariant.consistent)
-    (ens.fits c.self.invariant.offsets)
+    sound_restored c.self.inside c.take_up.new.tree c.take_up.new.damage (keyed c.self.inside).kept c.take_up.result (rw c.size-window.ensures.value at ens.shown) ens.retells ens.unchanged ens.geometry
+    (ens.consistent c.self.invariant.consistent) (ens.fits c.self.invariant.offsets) c.self.invariant
 
 pub invariant_of-self-2 : goal.invariant_of-self-2
 invariant_of-self-2 c =
     let ens = c.take_up-2.ensures in
-    sound_restored c.self.inside c.take_up-2.new.tree c.take_up-2.new.damage (rw c.size-window.ensures.value at ens.shown) c.self.invariant ens.same ens.geometry (ens.consistent c.self.invariant.consistent)
-    (ens.fits c.self.invariant.offsets)
+    sound_restored c.self.inside c.take_up-2.new.tree c.take_up-2.new.damage c.in_ok-states.states c.take_up-2.result (rw c.size-window.ensures.value at ens.shown) ens.retells ens.unchanged ens.geometry
+    (ens.consistent c.self.invariant.consistent) (ens.fits c.self.invariant.offsets) c.self.invariant

@@ -1,0 +1,46 @@
+-- The numbers of the code are those of the definitions.
+use Rattle.std.specs.Prelude.{◌≡◌, [], ◌∷◌, refl}
+use Rattle.view_model.specs.declared.font.TheConstants.{FIRST_GLYPH, FONT, OTHER_GLYPH}
+use Rattle.view_model.specs.declared.limits.TheConstants.{CELL_HEIGHT, CELL_WIDTH, MAX_DEPTH, MAX_EDITS, MAX_FILE, MAX_HOOKS, MAX_INSET, MAX_RESOURCES, MAX_SIZE, MAX_VIEWS, MAX_WEIGHT, MIN_MARGIN, NORMAL_DPI, NUMBERS_END}
+use Rattle.view_model.specs.declared.refusals.TheConstants.{BAD_STATE, BAD_VALUE, CYCLE, DUPLICATE, HAS_ROOT, HOOK_EDIT, LATE_DPI, LONG_FILE, LONG_LINE, MISSING_FILE, NOT_GROUP, NO_FRAME, NO_ROOT, NO_SIZE, NO_VIEW, NO_WINDOW, OUT_OF_RANGE, SCROLL_FULL, STATE_CLASS, SYNTAX, THEME_REF, TOO_DEEP, TOO_MANY_HOOKS, TOO_MANY_RESOURCES, TOO_MANY_VIEWS, UNKNOWN_CLASS, UNRESOLVED, UNSETTLED, WRONG_CLASS, WRONG_POINTER}
+use Rattle.view_model.specs.declared.verbs.TheConstants.{ABOVE, ALIGN_BOTTOM, ALIGN_END, ALIGN_LEFT, ALIGN_RIGHT, ALIGN_START, ALIGN_TOP, BELOW, CENTER, CENTER_H, CENTER_V, END_OF, LEFT_OF, PARENT_BOTTOM, PARENT_END, PARENT_LEFT, PARENT_RIGHT, PARENT_START, PARENT_TOP, RIGHT_OF, START_OF}
+use Rattle.view_model.specs.Font.{font}
+use Rattle.view_model.specs.Glyphs.{no_glyph}
+use Rattle.view_model.specs.Numbers.{cell_sides, count_limits, length_limits, other_limits, refusal_numbers, verb_places}
+
+refusals :
+    UNRESOLVED ∷ THEME_REF ∷ BAD_VALUE ∷ TOO_MANY_RESOURCES ∷ DUPLICATE ∷ NO_SIZE ∷ CYCLE ∷ TOO_MANY_VIEWS
+    ∷ TOO_DEEP ∷ NOT_GROUP ∷ SCROLL_FULL ∷ UNKNOWN_CLASS ∷ TOO_MANY_HOOKS ∷ HOOK_EDIT ∷ BAD_STATE ∷ STATE_CLASS
+    ∷ NO_VIEW ∷ WRONG_CLASS ∷ OUT_OF_RANGE ∷ SYNTAX ∷ LONG_LINE ∷ NO_WINDOW ∷ NO_ROOT ∷ HAS_ROOT ∷ UNSETTLED
+    ∷ NO_FRAME ∷ WRONG_POINTER ∷ MISSING_FILE ∷ LONG_FILE ∷ LATE_DPI ∷ []
+    ≡ refusal_numbers
+refusals = refl
+
+counts : MAX_VIEWS ∷ MAX_RESOURCES ∷ MAX_HOOKS ∷ MAX_EDITS ∷ MAX_DEPTH ∷ NUMBERS_END ∷ [] ≡ count_limits
+counts = refl
+
+lengths : MAX_SIZE ∷ MAX_INSET ∷ MIN_MARGIN ∷ [] ≡ length_limits
+lengths = refl
+
+others : MAX_WEIGHT ∷ NORMAL_DPI ∷ MAX_FILE ∷ [] ≡ other_limits
+others = refl
+
+cells : CELL_WIDTH ∷ CELL_HEIGHT ∷ [] ≡ cell_sides
+cells = refl
+
+verbs :
+    LEFT_OF ∷ RIGHT_OF ∷ ABOVE ∷ BELOW ∷ ALIGN_LEFT ∷ ALIGN_TOP ∷ ALIGN_RIGHT ∷ ALIGN_BOTTOM ∷ START_OF ∷ END_OF
+    ∷ ALIGN_START ∷ ALIGN_END ∷ PARENT_LEFT ∷ PARENT_TOP ∷ PARENT_RIGHT ∷ PARENT_BOTTOM ∷ PARENT_START
+    ∷ PARENT_END ∷ CENTER ∷ CENTER_H ∷ CENTER_V ∷ []
+    ≡ verb_places
+verbs = refl
+
+pub font_of_code : FONT ≡ font
+unfolding font
+font_of_code = refl
+
+other_glyph : OTHER_GLYPH ≡ no_glyph
+other_glyph = refl
+
+first_glyph : FIRST_GLYPH ≡ 32
+first_glyph = refl
