@@ -5,7 +5,7 @@ NONE = 2**32 - 1
 
 
 def chunk(kind, header, body):
-    """A chunk of a layout file; `header` is what stands in its header behind the first eight bytes."""
+    """A chunk of a layout file; `header` is what its header has after the first eight bytes."""
     return struct.pack("<HHI", kind, 8 + len(header), 8 + len(header) + len(body)) + header + body
 
 
@@ -23,7 +23,7 @@ def pool(strings):
 
 
 def equal_strings(count, length):
-    """A pool in UTF-16 of so many strings, which have one text that stands there once: three bytes in UTF-8 a unit."""
+    """A pool in UTF-16 of `count` strings, which share one text: three bytes in UTF-8 a unit."""
     offsets = b"\0" * (4 * count)
     units = "\u4e00".encode("utf-16-le") * length
     text = struct.pack("<2H", 0x8000 + (length >> 16), length & 0xffff) + units + b"\0\0"
@@ -52,7 +52,7 @@ def end(name=0):
 
 
 def layout_file(kib, strings, inner, first=begin(0)):
-    """A layout file of so many KiB: a pool, and one element around `inner`, with an unknown chunk that fills it up."""
+    """A layout file of `kib` KiB: a pool, and one element around `inner`, with an unknown chunk that fills it up."""
     parts = strings + first + inner
     rest = kib * 1024 - 16 - len(parts) - len(end())
     return chunk(0x0003, b"", parts + chunk(0x0200, b"", b"\0" * rest) + end())
@@ -75,7 +75,7 @@ def nested_elements(kib):
 
 
 def equal_names(kib, count, length):
-    """Nested elements whose names are one text of so many units, each end with another string number than its start."""
+    """Nested elements named by one text of this many units, each end with another string number than its start."""
     pairs = [(k % count, (k + 1 + k // count % (count - 1)) % count) for k in range(4 * kib - 1)]
     begins = b"".join(begin(0, first) for first, _ in pairs)
     ends = b"".join(end(last) for _, last in reversed(pairs))
@@ -90,7 +90,7 @@ def many_equal_names(kib):
     return equal_names(kib, 12, 112 * kib)
 
 
-# what views_file names: two classes, the namespace, and attributes that a length may stand for
+# what views_file names: two classes, the namespace, and attributes whose value may be a length
 LENGTHS = [b"layout_width", b"layout_height", b"minWidth", b"minHeight"]
 LENGTHS += [b"padding" + side for side in (b"Left", b"Top", b"Right", b"Bottom")]
 LENGTHS += [b"layout_margin" + side for side in (b"Left", b"Top", b"Right", b"Bottom")]
@@ -98,7 +98,7 @@ VIEW_NAMES = [b"FrameLayout", b"View", b"http://schemas.android.com/apk/res/andr
 
 
 def lengths(count, kind, words):
-    """The first attributes that a length may stand for."""
+    """The first attributes whose value may be a length."""
     return [attribute(2, 3 + k, kind, word) for k, word in zip(range(count), words)]
 
 
@@ -108,7 +108,7 @@ TIED_NAMES += [b"layout_width", b"layout_height", b"id", b"layout_toRightOf"]
 
 
 def tied_views_file(kib, views, is_chain):
-    """A layout file of so many KiB: a relative layout, and in it views with the ids 1, 2, .., each right of the one before in a
+    """A layout file of `kib` KiB: a relative layout of views with the ids 1, 2, .., each right of the one before in a
     chain."""
     inner = []
     for number in range(1, views + 1):
@@ -120,7 +120,7 @@ def tied_views_file(kib, views, is_chain):
 
 
 def views_file(kib, views, words_of, kind=0x05):
-    """A layout file of so many KiB: a frame layout, and in it views with as many attributes as there are words for each."""
+    """A layout file of `kib` KiB: a frame layout, and in it views with as many attributes as there are words."""
     inner = []
     for number in range(views - 1):
         words = words_of(number)
@@ -130,7 +130,7 @@ def views_file(kib, views, words_of, kind=0x05):
 
 
 def entries_type(number, count, kind):
-    """A type of this number with so many entries, each a value of a kind whose word is the entry's number."""
+    """A type of this number with `count` entries, each a value of a kind whose word is the entry's number."""
     header = struct.pack("<BBHII", number, 0, 0, count, 76 - 20 + 4 * count) + struct.pack("<I", 36) + bytes(32)
     offsets = struct.pack("<%dI" % count, *range(0, 16 * count, 16))
     entries = b"".join(struct.pack("<HHIHBBI", 8, 0, k, 8, 0, kind, k) for k in range(count))
@@ -144,13 +144,13 @@ def resource_table(strings, types):
 
 
 def falling_table(thousands):
-    """A resource table of so many times 1024 numbers, whose types come by falling numbers."""
+    """A resource table of `thousands` times 1024 numbers, whose types come by falling numbers."""
     numbers = range(thousands // 32, 0, -1)
     return resource_table(b"", [entries_type(number, 32 * 1024, 0x10) for number in numbers])
 
 
 def string_table(thousands):
-    """A resource table of so many times 1024 strings."""
+    """A resource table of `thousands` times 1024 strings."""
     count = 1024 * thousands
     strings = pool([b"string number %06d" % k for k in range(count)])
     return resource_table(strings, [entries_type(1, count, 0x03)])

@@ -11,7 +11,7 @@ Inflating = collections.namedtuple("Inflating", "script layout views")
 
 
 def tree(views):
-    """A window and one frame layout; with the root there are so many views."""
+    """A window and one frame layout; with the root there are this many views."""
     return b"window 1000 1000\nadd root FrameLayout wrap wrap\n" + b"".join(
         b"add v1 %s %d %d\n" % ((b"View", 1 + k % 900, 1 + k % 700) if k % 4 else (b"FrameLayout", 7, 9))
         for k in range(views - 1)
@@ -19,19 +19,19 @@ def tree(views):
 
 
 def frames(n):
-    """So many frames, of which all but the first come after no edit."""
+    """This many frames, of which all but the first come after no edit."""
     return tree(4096) + b"frame\n" * n
 
 
 def windows(n):
-    """A frame in each of so many small windows, of 4096 views that match: each is measured twice for each window, since there are
-    more windows than it remembers sizes."""
+    """A frame in each of this many small windows, of 4096 views that match: each is measured twice for each window,
+    since there are more windows than it remembers sizes."""
     views = b"window 64 48\nadd root FrameLayout wrap wrap\n" + b"add v1 View match match\n" * 4095
     return views + b"".join(b"window %d 48\nframe\n" % (64 + k % 16) for k in range(n))
 
 
 def edited_frames(n):
-    """A frame after each of so many edits, of one view or another of 4096, each of which has up to 31 views around it."""
+    """A frame after each of this many edits, of one view or another of 4096, each with up to 31 views around it."""
     lines = [nested(4096)]
     for k in range(n):
         lines.append(b"min v%d %d %d\nframe\n" % (1 + k * 7919 % 4096, k % 90, k % 70))
@@ -173,7 +173,7 @@ def frames_of(views):
 
 
 def nested(views):
-    """A window and so many views in frame layouts of up to 32 views each, which lie 31 deep one in another."""
+    """A window and this many views in frame layouts of up to 32 views each, which are nested 31 deep."""
     names = [1]
     lines = [b"window 1000 1000\nadd root FrameLayout wrap wrap\n"]
     while len(names) < views:
@@ -185,7 +185,7 @@ def nested(views):
 
 
 def edits(n):
-    """So many edits of 4096 views by their numbers, with a frame after each thousand."""
+    """This many edits of 4096 views by their numbers, with a frame after each thousand."""
     lines = [nested(4096)]
     for k in range(n):
         lines.append(b"min v%d %d %d\n" % (1 + k * 7919 % 4096, k % 90, k % 70))
@@ -205,7 +205,7 @@ def edits_by_id(n):
 
 
 def edits_by_own_id(views):
-    """So many views, each with an id of its own, and 100000 edits by these ids, in an order that jumps about."""
+    """This many views, each with an id of its own, and 100000 edits by these ids, in an order that jumps about."""
     lines = [nested(views)] + [b"id v%d @%x\n" % (1 + k, 0x7f000000 + k) for k in range(views)]
     lines += [b"min @%x %d %d\n" % (0x7f000000 + k * 7919 % views, k % 90, k % 70) for k in range(100000)]
     return b"".join(lines)
@@ -221,8 +221,16 @@ def frames_of_nested_groups(n):
     return b"".join(lines) + b"".join(b"min v94 %d %d\nframe\n" % (k % 90, k % 70) for k in range(n))
 
 
+def turned_frames(views):
+    """Views in two lines, which run another way before each of 300 frames."""
+    lines = [b"window 1000 1000\nadd root LinearLayout match match\nadd v1 LinearLayout match match\n"]
+    lines += [b"add v%d View %d %d\n" % (2 - k % 2, 1 + k % 9, 1 + k % 7) for k in range(views - 2)]
+    return b"".join(lines) + b"".join(b"direction v1 %s\nframe\n" % (b"ltr", b"rtl")[k % 2] for k in range(300))
+
+
 def group(children, is_chain, lines):
-    """A relative layout of so many children with the ids 1, 2, .., each right of the one before in a chain, and these lines."""
+    """A relative layout of this many children with the ids 1, 2, .., each right of the one before in a chain, and these
+    lines."""
     begun = b"window 4096 1000\ninflate layout.xml\n"
     return Inflating(begun + lines, files.tied_views_file(2 + children // 7, children, is_chain), 1 + children)
 
@@ -239,7 +247,7 @@ def rules_in_a_chain(children):
 
 
 def ids_in_a_chain(children):
-    """A child in the middle gets another id, so that the one behind it is tied to nobody, or its own again."""
+    """A child in the middle gets another id, so that the one after it is tied to no other, or its own again."""
     middle = children // 2
     lines = [b"id v%d @%x\n" % (1 + middle, middle if k % 2 else 0x7f000000) for k in range(200)]
     return group(children, True, b"".join(lines) + b"frame\n")
@@ -260,13 +268,13 @@ def rules_in_a_group(children):
 
 
 def short_edits(mib):
-    """So many MiB of short edits."""
+    """This many MiB of short edits."""
     line = b"min v1 1 1\n"
     return b"window 9 9\nadd root View 1 1\n" + line * ((mib * 2**20 - 100) // len(line))
 
 
 def removed_and_made(n):
-    """Subtrees of 31 views that are made and removed again, so many times."""
+    """Subtrees of 31 views that are made and removed again, this many times."""
     made = b"".join(b"add @%x FrameLayout 1 1\nid v%%d @%x\n" % (k, k + 1) for k in range(1, 31))
     lines = [b"window 9 9\nadd root FrameLayout match match\nid v1 @1\n"]
     number = 2
@@ -295,7 +303,7 @@ def refused(n):
 
 
 def inflated(times, views):
-    """The lines that make the views of the layout file so many times, and take them away before the next time."""
+    """The lines that make the views of the layout file this many times, and take them away before the next time."""
     lines = [b"inflate layout.xml\n"]
     for number in range(1, times):
         lines.append(b"remove v%d\ninflate layout.xml\n" % (1 + (number - 1) * views))
@@ -303,19 +311,19 @@ def inflated(times, views):
 
 
 def files_of_500(times):
-    """A layout file of 500 elements with 12 attributes each, so many times."""
+    """A layout file of 500 elements with 12 attributes each, this many times."""
     layout = files.views_file(256, 500, lambda number: [PIXEL * (k + number % 7) for k in range(12)])
     return Inflating(inflated(times, 500), layout, 500 * times)
 
 
 def one_file(kib, views, attributes):
-    """One layout file of so many views with as many attributes each, 20 times."""
+    """One layout file of this many views with as many attributes each, 20 times."""
     layout = files.views_file(kib, views, lambda number: [PIXEL * (k + number % 7) for k in range(attributes)])
     return Inflating(inflated(20, views), layout, 20 * views)
 
 
 def file_of_4096(kib):
-    """A layout file of 4096 elements, which have so many attributes that it has this size."""
+    """A layout file of 4096 elements, which have as many attributes as give it this size."""
     return one_file(kib, 4096, 3 if kib <= 512 else 9)
 
 
@@ -325,7 +333,7 @@ def file_of_elements(kib):
 
 
 def resources(count):
-    """So many resources, and 20 times a layout file that names them all, twelve in an element."""
+    """This many resources, and 20 times a layout file that names them all, twelve in an element."""
     defined = b"".join(b"res @%x dimen %d dp\n" % (0x7f050000 + k, k % 90) for k in range(count))
     views = 1 + -(-count // 12)
     layout = files.views_file(256, views, lambda number: [0x7f050000 + (12 * number + k) % count for k in range(12)], 0x01)
@@ -345,7 +353,8 @@ def moves(n):
 
 
 def taps(n):
-    """A pointer goes down and up, each time past 3999 children that do not lie under it, to the first one, which takes it."""
+    """A pointer goes down and up, each time past 3999 children that are not under it, to the first one, which takes
+    it."""
     children = b"add v1 View match match\n" + b"add v1 View 1 1\n" * 3999
     touch = b"answer v2 yes\nframe\n" + b"down 0 5 5\nup 0\n" * n
     return b"window 100 100\nadd root FrameLayout match match\n" + children + touch

@@ -39,7 +39,7 @@ def runs_where_it_is_copied():
             (["vindaesk", "run"], SCRIPT, ANSWER), (["vindaesk-tree", "a.script"], b"", b"v1 View 0 0 1 1\n"),
             (["vindaesk-lint", "a.script"], b"", b""), (["vindaesk-runall", "--version"], b"", version),
             (["vindaesk", "explain", "NoView"], b"", b"28 NoView: no view has the number or the id.\n"
-             b"It comes at any line that names a view.\n"),
+             b"It comes at any line that names a view, and at focus SIDE V.\n"),
         ]
         for words, given, wanted in calls:
             if called(os.path.join(it.folder, "moved"), words, given) != (wanted, 0):

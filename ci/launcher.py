@@ -1,4 +1,5 @@
-"""Tries ./vindaesk itself, in a small repository with a stand-in for the toolchain, whose program does what it is told.
+"""Tries ./vindaesk itself, in a small repository with a stand-in for the toolchain, whose program does what a
+variable says.
 """
 import contextlib
 import os
@@ -12,7 +13,7 @@ import time
 
 from running import SECONDS, TOP, run
 
-# the toolchain's stand-in: it notes each call, and "builds" a program that does what the variable ACT says
+# the toolchain's stand-in: it records each call, and "builds" a program that does what the variable ACT says
 TOOLCHAIN = r"""#!/usr/bin/env bash
 echo "${PWD##*/} $*" >> "$CALLS"
 case $1 in
@@ -26,12 +27,14 @@ WRONG = [[], ["gen"], ["gen", "0"], ["gen", "101"], ["gen", "01"], ["gen", "1", 
          ["run", "x"], ["dump"], ["dump", "../README.md"], ["dump", ".a"], ["dump", "a" * 65], ["dump", "a", "b"],
          ["dump", "é"], ["dump", ""], ["lookup"], ["lookup", "a"], ["lookup", "a", "7f05000"], ["lookup", "a", "7f05000g"],
          ["lookup", "a", "7f0500000"], ["lookup", ".a", "7f050000"], ["lookup", "a", *["7f050000"] * 65],
-         ["lookup", "a", "7f050000", ""], ["--help", "x"], ["explain", "x"], ["explain", "31", "x"], ["explain", ""]]
+         ["lookup", "a", "7f050000", ""], ["focus"], ["focus", "left"], ["focus", "left", "v1", "x"], ["focus", "Left", "v1"],
+         ["focus", "left", "v01"], ["focus", "left", "v12345678901"], ["focus", "up", "@"], ["focus", "up", "@123456789"],
+         ["focus", "up", "root"], ["--help", "x"], ["explain", "x"], ["explain", "31", "x"], ["explain", ""]]
 # words that are explained, and what is said of them
 EXPLAINED = {
-    "NoView": "28 NoView: no view has the number or the id.\nIt comes at any line that names a view.\n",
-    "frame": "The line frame lays the whole tree out in the window",
-    "gravity": "The line gravity V self G sets where V lies in its parent: none, or words joined by |, at most",
+    "NoView": "28 NoView: no view has the number or the id.\nIt comes at any line that names a view, and at focus SIDE V.\n",
+    "frame": "The line frame lays out the whole tree in the window",
+    "gravity": "The line gravity V self G sets where V is placed in its parent: none, or words joined by |, at most",
     "layout_alignTop": "The attribute layout_alignTop of a layout file takes: reference (id).\nIt sets: the rule",
     "layout_marginEnd": "The attribute layout_marginEnd of a layout file takes: length -1048575..1048575.\n",
 }
@@ -169,7 +172,7 @@ def explains():
         return "it builds" if it.builds() else ""
 
 
-def tells_version():
+def prints_version():
     with repository(is_built=False) as it:
         ended = it.call(["--version"])
         if not re.fullmatch(rb"vindaesk 1[.]2[.]3\ncommit .+\nkit of the checks\n", ended.out):
@@ -275,8 +278,8 @@ def passes_statuses():
         for status in range(8):
             ended = it.call(["run"], act="exit %d" % status)
             sentence = SENTENCES.get(status)
-            is_told = sentence in ended.said and ended.said.count("\n") == 1 if sentence else ended.said == ""
-            if (ended.status, ended.out) != (status, b"") or not is_told:
+            is_printed = sentence in ended.said and ended.said.count("\n") == 1 if sentence else ended.said == ""
+            if (ended.status, ended.out) != (status, b"") or not is_printed:
                 return "%d: status %d, '%s'" % (status, ended.status, ended.said)
         return ""
 
@@ -350,14 +353,14 @@ def talks_to_a_terminal():
         out, shown = on_terminal(it, ["run"], b"frame\n\x04", "cat")
         if out != "frame\n":
             return "the program has '%s'" % out
-        for part in ("\r\x1b[Kvindaesk: proving low, 0 of 2 crates done, 1 of 2 functions, 0:0", "lines are awaited"):
+        for part in ("\r\x1b[Kvindaesk: proving low, 0 of 2 crates done, 1 of 2 functions, 0:0", "reading the script"):
             if part not in shown:
                 return "%r is not in %r" % (part, shown)
         return "a dump awaits lines" if "awaited" in on_terminal(it, ["dump", "a"], b"", "")[1] else ""
 
 
 def checks():
-    for check in (asks_for_help, hints, example_of_help, explains, tells_version, lacks_toolchain, builds,
+    for check in (asks_for_help, hints, example_of_help, explains, prints_version, lacks_toolchain, builds,
                   builds_side_by_side, build_can_be_ended, lost_build_fails, circle_fails, proof_fails,
                   passes_statuses, passes_signals, passes_streams, talks_to_a_terminal):
         yield "the launcher: " + check.__name__.replace("_", " "), check

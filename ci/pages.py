@@ -1,16 +1,17 @@
 """The blocks of README.md and docs/, each of which is run, so that no page says what the program does not do.
 
-A block stands between two lines of three backticks, the first of which names its form:
+A block is between two lines of three backticks, the first of which names its form:
 
     script, then answer      a script, and what `./vindaesk run` writes over it
     command, then answer     shell commands at the top of the repository, and what they write
     hex, then answer         the bytes of a layout file, and what `dump` writes of it; what follows a # is a remark
     table ID .., then answer the same of a resource table, and what `lookup` writes of these ids
     dialogue                 the lines of a script, each with its replies after an arrow, further replies on lines of
-                             their own: what the script writes up to each line is what stands up to there
+                             their own: what the script writes up to each line is what comes before it here
     file PATH                the text of this file of the repository
     source NAME              the source of the layout file NAME of examples/: compiled by tools/axml it has the elements
                              and attributes of that file
+    drawing                  a drawing in characters of what the block before it lays out; nothing is run
     gate                     the call of the gate, which is what runs all this
 
 `answer N` says that the status is N, and of a dialogue `dialogue N`; without a number it is 0. Any other block, also
@@ -59,7 +60,7 @@ def command(lines, answer, status):
 
 
 def bytes_of(lines):
-    """The bytes of lines with remarks; `00*9` stands for nine bytes 00."""
+    """The bytes of lines with remarks; `00*9` means nine bytes 00."""
     words = " ".join(line.partition("#")[0] for line in lines).split()
     return b"".join(bytes.fromhex(digits) * int(count or 1) for digits, _, count in (it.partition("*") for it in words))
 
@@ -151,8 +152,8 @@ def checks_of(page):
         elif form in FORMS and next_words[:1] == ["answer"]:
             is_answered = True
             yield page, number, partial(FORMS[form], lines, text(next_lines), status_of(next_words))
-        elif (form, lines) != ("gate", [".ci/run"]):
-            yield page, number, partial("a block '{}', as it stands here, has no form that can be run".format, form)
+        elif form != "drawing" and (form, lines) != ("gate", [".ci/run"]):
+            yield page, number, partial("a block '{}', as it is here, has no form that can be run".format, form)
 
 
 def checks():

@@ -7,6 +7,7 @@ from .documents import ANDROID
 SIZES = {"match_parent": -1, "wrap_content": -2, "fill_parent": -1}
 ORIENTATIONS = {"horizontal": 0, "vertical": 1}
 VISIBILITIES = {"visible": 0, "invisible": 1, "gone": 2}
+DIRECTIONS = {"ltr": 0, "rtl": 1, "inherit": 2, "locale": 3}
 # the greater parts come first, so that a word is taken apart into the fewest names
 GRAVITIES = {
     "fill": 0x77, "center": 0x11, "fill_vertical": 0x70, "bottom": 0x50, "top": 0x30, "center_vertical": 0x10,
@@ -88,6 +89,7 @@ KNOWN = {
         (0x190, "layout_centerHorizontal", BOOLEAN),
         (0x191, "layout_centerVertical", BOOLEAN),
         (0x2EF, "splitMotionEvents", BOOLEAN),
+        (0x3B2, "layoutDirection", Form(words=DIRECTIONS)),
         (0x3B3, "paddingStart", DIMENSION),
         (0x3B4, "paddingEnd", DIMENSION),
         (0x3B5, "layout_marginStart", DIMENSION),

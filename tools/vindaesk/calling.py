@@ -80,7 +80,7 @@ def counts(least: int, most: int) -> Callable[[str], List[int]]:
 
 
 def end_quietly() -> None:
-    """Nobody reads standard output any more: what is still to be written there goes nowhere."""
+    """Standard output is closed: what is still to be written there is dropped."""
     os.dup2(os.open(os.devnull, os.O_WRONLY), sys.stdout.fileno())
 
 

@@ -132,7 +132,7 @@ def problem(case: Case, seconds: float) -> str:
 
 
 def accept(case: Case, seconds: float) -> str:
-    """Writes what a case comes to today into its files; why that cannot be done, or nothing."""
+    """Writes what a case results in today into its files; why that cannot be done, or nothing."""
     written, status = run(case, seconds)
     if status not in ENDED and not (case.has(".status") and written_status(case) == status):
         return str(program.failed(status))

@@ -13,7 +13,7 @@ NONE = 0xFFFFFFFF
 # after the strings that are names of known attributes come all others
 LAST = 0xFFFFFFFF
 MAX_STRING = 0x7FFF
-# an element is named by its own fields, then by numbers that nobody looks at: which attributes are its id, class, style
+# an element is named by its own fields, then by numbers that nothing reads: which attributes are its id, class, style
 SPECIAL = ((ANDROID, "id"), ("", "class"), ("", "style"))
 
 Key = Tuple[int, str]

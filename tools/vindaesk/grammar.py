@@ -118,7 +118,7 @@ place = number(-1048576, 1048576, "a number of pixels")
 window_side = number(1, 4096, "a number of pixels")
 whole = Kind("a number, 0 or more, and with K at most 65535", is_number, is_within=lambda word: 0 <= int(word) <= 65535)
 part = number(0, 255)
-pointer = number(0, 9)
+pointer = number(0, 31)
 touches = Kind("none, or one or more of down, up, move, cancel, pdown and pup", TOUCHES.__contains__, TOUCHES,
                is_many=True)
 edits = Kind("an edit: a line size, min, margins, padding, weight, gravity or bg", lambda word: True, is_rest=True)
@@ -160,6 +160,7 @@ FORMS = [
     Form("gravity V self G", V=view, G=gravity),
     Form("gravity V kids G", V=view, G=gravity),
     Form("orient V W", V=view, W=choice("horizontal vertical")),
+    Form("direction V D", V=view, D=choice("ltr rtl inherit")),
     Form("weight V N", V=view, N=whole),
     Form("weight V N K", V=view, N=whole, K=part),
     Form("weightsum V N", V=view, N=whole),
@@ -213,7 +214,7 @@ class Misfit(NamedTuple):
 
 
 class Reading(NamedTuple):
-    """The words of a line as far as they fit a form, and where they do not; nothing there where they do."""
+    """The words of a line up to where they stop to fit a form, and where that is; nothing there if all fit."""
 
     words: List[Word]
     misfit: Optional[Misfit]

@@ -1,4 +1,4 @@
-"""The lines of a script, as far as tools have to know them. docs/SCRIPT.md has them all."""
+"""The lines of a script that tools have to know. docs/SCRIPT.md has them all."""
 import os
 import re
 from typing import List, Optional, Sequence, Tuple

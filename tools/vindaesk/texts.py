@@ -1,4 +1,4 @@
-"""How much room texts need, by what the program answers when each of them has as much as it wants."""
+"""How much room texts need, by what the program answers when each of them has as much as it asks for."""
 import itertools
 from typing import Dict, Iterator, List, NamedTuple, Set, Tuple
 

@@ -1,0 +1,181 @@
+"""The program where each of its requests for memory is refused in turn, over a script with a line of each form.
+
+A library that is loaded before that of C counts the requests of a run and refuses some (out_of_memory.c); the C
+compiler `cc` has to be on PATH. Lines that begin with one of nine words may take memory. Where a request of such a line
+and all later ones are refused, the status is 5, and what is written is the answer of the lines before. So it is where
+that request alone is refused, unless the line makes do with less: then all is as if nothing was refused. Any other line
+makes no request, nor does one that is passed over or fits no form. Where a request before the first line is refused,
+nothing is written; nor is it under `dump`, `lookup` and `gen`, which begin to write when they need no more memory.
+"""
+import functools
+import os
+import shutil
+import subprocess
+import tempfile
+from functools import partial
+
+from running import PROGRAM, SECONDS, TOP, difference
+from vindaesk import grammar
+
+TAKING = ("inflate", "add", "window", "res", "text", "id", "rule", "save", "restore")
+OUT_OF_MEMORY = 5
+NEVER, ALWAYS = 0, 1 << 40
+TABLE = os.path.join("app", "resources.arsc")
+CALLS = (("dump", "a.xml"), ("lookup", "resources.arsc", "7f010000", "7f020000"), ("gen", "1"))
+LINES = """dpi 160
+res @7f010001 color #ff112233
+res @7f010002 dimen 12 dp
+res @7f010003 text one text
+window 200 100
+add root LinearLayout match match
+orient v1 vertical
+weightsum v1 3
+weightsum v1 3 128
+gravity v1 kids left
+add v1 RelativeLayout match wrap
+add v2 View 10 10
+add v2 TextView wrap wrap
+id v3 @1
+id v4 @2
+rule v4 right_of @1
+rule v3 parent_top yes
+text v4 a text
+ink v4 #ff000000
+bg v3 #ff336699
+min v3 5 5
+size v3 12 12
+margins v3 1 1 1 1
+padding v2 2 2 2 2
+add v1 ScrollView match 30
+id v5 @7f080001
+weight v5 1
+weight v5 1 64
+gravity v5 self top
+flag v5 fill yes
+flag v2 clip no
+flag v2 split no
+direction v2 rtl
+add v5 View match 90
+inflate a.xml into v1
+hook v3 size v6 match 91
+frame
+hook v7 size v3 13 13 ; bg v3 #ff445566
+size v7 match 17
+frame
+frame
+bounds
+bounds v5
+pixels 0 0 4 4
+digest
+scroll v5 30
+answer v6 click
+intercept v1 down move
+intercept v1 none
+disallow v5 yes
+frame
+down 0 5 30
+move 0 5 20
+up 0
+down 1 5 30
+save
+visible v6 gone
+cancel
+restore
+restore 56530101000100087f011e000000
+visible v6 invisible
+frame
+bogus
+# one
+
+bounds v99
+add v99 View 1 1
+remove v1
+inflate a.xml
+frame
+bounds""".split("\n")
+
+
+@functools.lru_cache(None)
+def place():
+    """A folder with the library, a layout file and a table of resources, as long as what is returned lasts."""
+    folder = tempfile.TemporaryDirectory()
+    source, library = (os.path.join(it, "out_of_memory") for it in (os.path.join(TOP, "ci"), folder.name))
+    subprocess.run(["cc", "-shared", "-fPIC", "-o", library + ".so", source + ".c"], check=True)
+    for name in ("a.xml", TABLE):
+        shutil.copy(os.path.join(TOP, "examples", name), folder.name)
+    return folder
+
+
+def refusing(first, last, words=("run",), lines=()):
+    """What a call writes, its status, and the count of its requests, of which those with these numbers are refused."""
+    folder = place().name
+    variables = {"LD_PRELOAD": os.path.join(folder, "out_of_memory.so"), "FIRST": str(first), "LAST": str(last)}
+    ended = subprocess.run(
+        [PROGRAM, *words], input="".join(line + "\n" for line in lines).encode(), stdout=subprocess.PIPE,
+        stderr=subprocess.PIPE, cwd=folder, env={**os.environ, **variables}, timeout=SECONDS
+    )
+    # a run that a signal ends does not report its requests
+    return ended.stdout, ended.returncode, int(ended.stderr or -1)
+
+
+@functools.lru_cache(None)
+def after(count):
+    """What the first lines write, the status, and the count of requests, if none is refused."""
+    return refusing(NEVER, NEVER, lines=LINES[:count])
+
+
+def refused(numbers, before, words=("run",), lines=LINES):
+    """Why a call is wrong in which one of some requests is refused, and this is what is written before; or nothing."""
+    whole = refusing(NEVER, NEVER, words, lines)[:2]
+    for number in numbers:
+        why = difference(before, OUT_OF_MEMORY, *refusing(number, ALWAYS, words, lines)[:2])
+        once = refusing(number, number, words, lines)[:2]
+        if once != whole:
+            why = why or difference(before, OUT_OF_MEMORY, *once)
+        if why:
+            return "request %d: %s" % (number, why)
+    return ""
+
+
+def call(words):
+    """Why a call is wrong in which any request is refused, or nothing."""
+    written, status, requests = refusing(NEVER, NEVER, words)
+    if status or not written:
+        return "without a refused request the status is %d" % status
+    return refused(range(1, requests + 1), b"", words, ())
+
+
+def before_the_lines():
+    """Why a run is wrong in which a request before the first line is refused, or nothing."""
+    return refused(range(1, after(0)[2] + 1), b"")
+
+
+def line(count):
+    """Why the line after these is wrong, or nothing."""
+    before, status, least = after(count)
+    most = after(count + 1)[2]
+    if status not in (0, 1):
+        return "without a refused request the status is %d" % status
+    if LINES[count].split(" ")[0] in TAKING:
+        return refused(range(least + 1, most + 1), before)
+    return "" if least == most else "it makes %d requests" % (most - least)
+
+
+def each_form():
+    """Why the script is short of a form of lines, or of a line that makes a request for one of the nine words; or
+    nothing."""
+    given = [it for it in LINES if it and not it.startswith("#")]
+    for form in grammar.FORMS:
+        if not any(grammar.tried(it, list(grammar.words_from(it)), form).is_whole for it in given):
+            return "no line is '%s'" % form.words
+    makes = {it.split(" ")[0] for count, it in enumerate(LINES) if after(count)[2] < after(count + 1)[2]}
+    return "" if makes == set(TAKING) else "requests are made by %s" % sorted(makes)
+
+
+def checks():
+    yield "memory/requests/each form", each_form
+    yield "memory/requests/before the lines", before_the_lines
+    for words in CALLS:
+        yield "memory/requests/" + " ".join(words), partial(call, words)
+    for count, it in enumerate(LINES):
+        yield "memory/requests/line %d: %s" % (count + 1, it), partial(line, count)

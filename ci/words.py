@@ -1,0 +1,144 @@
+"""Finds the words that docs/STYLE.md replaces, in comments, in pages and in the messages of the launcher and the tools.
+
+What is in backquotes or in a block of a page is a name or an example, and is not looked at; nor is code.
+"""
+import io
+import os
+import re
+import tokenize
+from functools import partial
+
+from running import TOP
+
+# each with the words that take its place; what follows in `(?!..)` or comes before in `(?<!..)` is a true meaning
+WORDS = [
+    (r"tells?|telling|told", "print, report, return or set"),
+    (r"(?<!seen )(?<!shows )(?<!shown )behind", "after"),
+    (r"stands?(?!-in)|stood|standing", "is, means, represents or replaces"),
+    (r"handed|handing|hands|hand (?:it|them|the|a|an)", "passes, gives or gets"),
+    (r"(?:has|have|had) gone(?! (?:up|down|from|over|through|to))", "was written or was removed"),
+    (r"want(?:s|ed)? (?:of |for )?memory|want of|wanting", "out of memory"),
+    (r"(?:comes?|came|coming) to(?! rest)", "results in or reaches"),
+    (r"so (?:many|much)(?![^.;:]* that )", "n or this many"),
+    (r"(?:lies?|lay|lying) (?:\w+ )?(?:nowhere|anywhere|somewhere)", "has no bounds or has bounds"),
+    (r"nobody|somebody", "no view, no child or none"),
+    (r"hang(?:s|ing)? on|hung on", "depends on"),
+    (r"as far as", "up to, if or where"),
+    (r"but for", "except"),
+    (r"cites?|cited|citing", "uses"),
+]
+PATTERNS = [(re.compile(r"\b(?:%s)(?!\w)" % words, re.I), better) for words, better in WORDS]
+
+# a comment, where it is the end of a line or all of it
+MARKS = {".rt": re.compile(r"(?:^|\s)//[/!]?(.*)"), ".antt": re.compile(r"(?:^|\s)--(?: |$)(.*)")}
+SPAN = re.compile(r"`[^`]*`")
+
+
+def passages(lines):
+    """The texts of lines that follow one another, each with the number of its first line and the ends of its lines.
+    `lines` are pairs of a number and a text."""
+    found, last = [], None
+    for number, text in lines:
+        if last is None or number != last + 1:
+            found.append((number, []))
+        found[-1][1].append(text.strip())
+        last = number
+    return found
+
+
+def comments(text, mark):
+    for number, line in enumerate(text.split("\n"), 1):
+        comment = mark.search(line)
+        if comment:
+            yield number, comment.group(1)
+
+
+def prose(text):
+    """The lines of a page without its blocks."""
+    in_block = False
+    for number, line in enumerate(text.split("\n"), 1):
+        if line.startswith("```"):
+            in_block = not in_block
+        elif not in_block and line:
+            yield number, line
+
+
+def said(text):
+    """The comments and the texts of a Python file."""
+    for token in tokenize.generate_tokens(io.StringIO(text).readline):
+        if token.type in (tokenize.COMMENT, tokenize.STRING):
+            for number, line in enumerate(token.string.split("\n"), token.start[0]):
+                yield number, line
+
+
+def lines_of(name, text):
+    """The lines of a file in which words are looked for, each with its number."""
+    ending = os.path.splitext(name)[1]
+    if ending in MARKS:
+        return comments(text, MARKS[ending])
+    if ending == ".md":
+        return prose(text)
+    if ending == ".py" or text.startswith("#!/usr/bin/env python3"):
+        return said(text)
+    return enumerate(text.split("\n"), 1)
+
+
+def in_text(name, text):
+    """The words of a file that have better ones: the line, the word, and the better ones."""
+    for number, lines in passages(lines_of(name, text)):
+        joined = SPAN.sub(lambda span: "x" * len(span.group()), " ".join(lines))
+        for pattern, better in PATTERNS:
+            for match in pattern.finditer(joined):
+                end, line = 0, number
+                for part in lines:
+                    end += len(part) + 1
+                    if match.start() < end:
+                        break
+                    line += 1
+                yield line, match.group(), better
+
+
+def problem(names):
+    """Which words of some files have better ones, or nothing."""
+    found = []
+    for name in names:
+        with open(os.path.join(TOP, name), encoding="utf-8") as file:
+            text = file.read()
+        if name != "ci/words.py":
+            found += ["%s:%d has '%s', better: %s" % (name, *it) for it in in_text(name, text)]
+    more = "; and %d more" % (len(found) - 9) if len(found) > 9 else ""
+    return "; ".join(found[:9]) + more
+
+
+def below(folder, endings):
+    for place, folders, names in sorted(os.walk(os.path.join(TOP, folder))):
+        folders[:] = [name for name in folders if name not in ("out", "__pycache__")]
+        yield from (os.path.relpath(os.path.join(place, name), TOP) for name in sorted(names) if name.endswith(endings))
+
+
+def scripts(folder):
+    """The Python files right below a folder, and the executables there."""
+    for name in sorted(os.listdir(os.path.join(TOP, folder))):
+        path = os.path.join(folder, name)
+        if name.endswith(".py") or os.path.isfile(os.path.join(TOP, path)) and "." not in name:
+            yield path
+
+
+def example():
+    """Why the patterns miss a word, or find one where it is right."""
+    wrong = ["It is told by the view behind.", "A view lies\n// nowhere.",
+             "So many bytes have gone, as far\n// as it is."]
+    right = ["A view that is gone, seen behind a colour, as `told` says.", "So much text that a pointer has gone up."]
+    missed = [text for text in wrong if not list(in_text("a.rt", "// " + text))]
+    found = [text for text in right if list(in_text("a.rt", "// " + text))]
+    return "".join("; '%s' is taken" % text for text in missed) + "".join("; '%s' is not" % text for text in found)
+
+
+def checks():
+    yield "words: the patterns themselves", example
+    for name in sorted(os.listdir(os.path.join(TOP, "crates"))):
+        yield "words of crates/" + name, partial(problem, list(below("crates/" + name, (".rt", ".antt"))))
+    yield "words of the pages", partial(problem, ["README.md", "CHANGELOG.md", *below("docs", ".md")])
+    yield "words of the launcher and the gate", partial(problem, ["vindaesk", ".ci/run"])
+    for folder in ("tools", "tools/vindaesk", "ci", "bench"):
+        yield "words of %s/" % folder, partial(problem, list(scripts(folder)))
