@@ -26,7 +26,9 @@ WRONG = [[], ["gen"], ["gen", "0"], ["gen", "101"], ["gen", "01"], ["gen", "1", 
          ["run", "x"], ["dump"], ["dump", "../README.md"], ["dump", ".a"], ["dump", "a" * 65], ["dump", "a", "b"],
          ["dump", "é"], ["dump", ""], ["lookup"], ["lookup", "a"], ["lookup", "a", "7f05000"], ["lookup", "a", "7f05000g"],
          ["lookup", "a", "7f0500000"], ["lookup", ".a", "7f050000"], ["lookup", "a", *["7f050000"] * 65],
-         ["lookup", "a", "7f050000", ""], ["--help", "x"], ["explain", "x"], ["explain", "31", "x"], ["explain", ""]]
+         ["lookup", "a", "7f050000", ""], ["focus"], ["focus", "left"], ["focus", "left", "v1", "x"], ["focus", "Left", "v1"],
+         ["focus", "left", "v01"], ["focus", "left", "v12345678901"], ["focus", "up", "@"], ["focus", "up", "@123456789"],
+         ["focus", "up", "root"], ["--help", "x"], ["explain", "x"], ["explain", "31", "x"], ["explain", ""]]
 # words that are explained, and what is said of them
 EXPLAINED = {
     "NoView": "28 NoView: no view has the number or the id.\nIt comes at any line that names a view.\n",

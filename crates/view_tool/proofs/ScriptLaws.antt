@@ -45,6 +45,9 @@ pub taken_whole : (new : Option (List ℕ)) (script taken : List ℕ) → Consum
 taken_whole None script taken lost end = elim lost [ ]
 taken_whole (Some rest) script taken lost end = sym (lost ∙ ap (λ l. taken ++ l) end ∙ append-nil taken)
 
+pub taken_by_end : (old new : Option (List ℕ)) (script taken : List ℕ) → old ≡ Some script → Consumes old new taken → IsAtEnd new → taken ≡ script
+taken_by_end old new script taken told lost end = taken_whole new script taken (subst (λ l. Consumes l new taken) told lost) end
+
 -- the first bytes of a script that is too long, by what was taken
 take_front : (script taken bytes rest : List ℕ) (left : ℕ) → script ≡ (taken ++ bytes) ++ rest → length taken + left ≡ max_script → left ≤ length bytes
     → take max_script script ≡ taken ++ take left bytes
@@ -118,7 +121,7 @@ ends_early files shelf first last old mid new run script taken left (end.Stopped
 pub ends_last : (files : Files) (first last : Trace) (old new : Option (List ℕ)) (script taken : List ℕ) (stop : Stop) → old ≡ Some script → Consumes old new taken → IsAtEnd new → length taken ≤ max_script
     → StopsIn files first last (lines_of taken) stop → StopsIn files first last (carried_lines script) stop
 ends_last files first last old new script taken stop told lost end short stops =
-    let all = taken_whole new script taken (subst (λ l. Consumes l new taken) told lost) end in
+    let all = taken_by_end old new script taken told lost end in
     let fits : length script ≤ max_script = subst (λ (l : List ℕ). length l ≤ max_script) all short in
     subst (λ (l : List Line). StopsIn files first last l stop) (ap lines_of all ∙ sym (carried_short script fits)) stops
 
@@ -126,7 +129,7 @@ ends_last files first last old new script taken stop told lost end short stops =
 pub ends_well : (files : Files) (first last : Trace) (old new : Option (List ℕ)) (script taken : List ℕ) (runner : LineRunner) → old ≡ Some script → Consumes old new taken → IsAtEnd new → length taken ≤ max_script
     → HasCarriedOut first last runner (after_lines files (lines_of taken)) (tally_of files (lines_of taken)) → RunsTo files script new first last (Ok (nat_lt 0 runner.refused))
 ends_well files first last old new script taken runner told lost end short at =
-    let all = taken_whole new script taken (subst (λ l. Consumes l new taken) told lost) end in (
+    let all = taken_by_end old new script taken told lost end in (
       subst (λ (l : List ℕ). length l ≤ max_script) all short,
       subst (λ (l : List ℕ). Works files first last (lines_of l)) all (record { gone = at.gone; worth = at.tallied.worth }),
       ap (nat_lt 0) (at.refused ∙ ap (λ (l : List ℕ). (after_lines files (lines_of l)).refused) all),

@@ -1,10 +1,17 @@
+pub mod Composed
 pub mod Dump
+pub mod Focus
 pub mod Gen
+pub mod Isolation
+pub mod KeptStack
 pub mod Lookup
 pub mod Names
+pub mod PlainStack
 pub mod Refusals
 pub mod Run
 pub mod Script
+pub mod StackCarried
+pub mod StackPage
 pub mod Tally
 pub mod Tool
 pub mod Transcript

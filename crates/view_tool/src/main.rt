@@ -3,17 +3,20 @@
 //!
 //! `tool` is the whole program over handed-in objects; `main` hands it the real ones, and `usage` tells what the words
 //! ask for. `script` reads a source in pieces, `run` carries out each line of them as soon as it has ended, by a world, and
-//! `refusals` tells of refused lines. `dump` prints a file, or has `file_replies` tell why it is refused.
+//! `refusals` tells of refused lines. `dump` prints a file, or has `file_replies` tell why it is refused, and `focusing`
+//! answers which view gets the focus next after a script.
 #![tactic(auto)]
 
 mod dump;
 mod file_replies;
+mod focusing;
 mod loading;
 mod lookup;
 mod names;
 mod refusals;
 mod run;
 mod script;
+mod stack;
 mod status;
 #[cfg(test)]
 mod tests;

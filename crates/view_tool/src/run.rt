@@ -200,6 +200,13 @@ impl Run {
         (self.runner.lines, self.runner.refused)
     }
 
+    /// The world that the lines so far have made.
+    pub fn world(&self) -> &World
+        ensures { result.now ≡ self.now.runner.world }
+    {
+        &self.runner.world
+    }
+
     /// Takes the bytes of a piece up to its first line feed, or all of them, and carries out the line that they end.
     fn take<K: Sink, F: Shelf>(
         &mut self,

@@ -1,12 +1,15 @@
 //! A source that is read in pieces while the script on it is carried out.
 
-ghost use Rattle.std.specs.Prelude.{◌≡◌, ℕ, ◌+◌, ◌-◌, ◌*◌, ◌<◌, ◌≤◌, ◌^◌, List, [], Option, Ok, IfOk, length, min};
+ghost use Rattle.std.specs.Prelude.{◌≡◌, ℕ, ◌+◌, ◌-◌, ◌*◌, ◌<◌, ◌≤◌, ◌^◌, List, [], Option, Some, Ok, IfOk, OnOk, length, min};
 ghost use Rattle.std.specs.Io.KnownBytes.{IsAtEnd};
+ghost use Rattle.script_lines.specs.Lines.{lines_of};
 ghost use Rattle.tool_io.specs.Fetched.{Files};
 ghost use Rattle.view_model.specs.declared.limits.TheConstants.{MAX_VIEWS, NUMBERS_END};
 ghost use Rattle.view_tool.specs.Run.{HasReadUpTo};
 ghost use Rattle.view_tool.specs.Script.{Comes, CountsEnd, ReadsPiece, RunsFrom, ends_counted, reads_counted};
+ghost use Rattle.view_tool.specs.Transcript.{after_lines};
 ghost use Rattle.view_tool.specs.Works.{Trace, trace};
+ghost use Rattle.view_world.specs.KeyedWorld.{world_of};
 
 use crate::run::{Run, Stop};
 use std::alloc::Global;
@@ -110,8 +113,8 @@ fn read_piece<S: Source, K: Sink, F: Shelf>(
     }
 }
 
-/// Carries out the script on a source by a run that has not begun.
-fn run_to_end<S: Source, K: Sink, F: Shelf>(
+/// Carries out the script on a source by a run that has not begun. Answers whether a line was refused.
+pub fn run_to_end<S: Source, K: Sink, F: Shelf>(
     run: &mut Run,
     alloc: Global,
     source: &mut S,
@@ -122,6 +125,10 @@ fn run_to_end<S: Source, K: Sink, F: Shelf>(
     requires behind { (files : Option Files) (first : Trace) → HasReadUpTo files first first run.old [] }
     requires numbers { run.old.runner.world.screen.views.next ≡ 1 }
     ensures runs { RunsFrom (F.files shelf.old) (S.left source.old) (S.left source.new) (trace (K.state sink.old) work.old) (trace (K.state sink.new) work.new) result }
+    ensures world { (files : Files) (script : List ℕ)
+        → F.files shelf.old ≡ Some files
+        → S.left source.old ≡ Some script
+        → OnOk result (world_of run.new.runner.world ≡ (after_lines files (lines_of script)).world) }
     ensures files_stay { F.files shelf.new ≡ F.files shelf.old }
     ensures shelf_failed { CountsEnd (F.faults shelf.old) (F.faults shelf.new) result }
     ensures painted { work.old.painted ≤ work.new.painted }

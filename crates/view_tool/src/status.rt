@@ -1,9 +1,9 @@
 //! The statuses that the tool ends with.
 
-/// Every line was carried out, and none was refused; or the file was printed.
+/// Every line was carried out and the question was answered, and none was refused; or the file was printed.
 pub const ACCEPTED: u8 = 0;
 
-/// Every line was carried out, and one was refused; or the file was.
+/// Every line was carried out, and one was refused, or the question; or the file was.
 pub const REFUSED: u8 = 1;
 
 /// The words have no form.

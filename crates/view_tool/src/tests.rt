@@ -277,6 +277,63 @@ const LOOKUPS: [Print; 6] = [
     Print { words: &["lookup", "a.xml", "7f05000"], file: b"", fetches: &[], writes: &[], status: 2, text: b"" },
 ];
 
+/// A line of three views that share its length, and take clicks.
+const CLICKING: &[u8] =
+    b"window 100 20\nadd root LinearLayout match match\nadd v1 View 0 match\nadd v1 View 0 match\n\
+    add v1 View 0 match\nweight v2 1\nweight v3 1\nweight v4 1\nanswer v2 click\nanswer v3 click\nanswer v4 click\nframe\n";
+
+/// A view that has the last one in its beam, below, and a nearer one beside that: the beam comes first.
+const BEAMING: &[u8] =
+    b"window 100 100\nadd root FrameLayout match match\nadd v1 View 20 20\nadd v1 View 20 20\nadd v1 View 20 20\n\
+    margins v3 21 30 0 0\nmargins v4 0 80 0 0\nanswer v3 click\nanswer v4 click\nframe\n";
+
+/// The same, where an ancestor hides a candidate.
+const HIDING_ONE: &[u8] =
+    b"window 100 20\nadd root FrameLayout match match\nadd v1 View 10 20\nadd v1 FrameLayout 10 20\nadd v3 View 10 20\n\
+    margins v3 30 0 0 0\nanswer v4 click\nframe\nvisible v3 invisible\n";
+
+/// A hook fires in the first pass of a frame, and another one in the second.
+const UNSETTLING: &[u8] =
+    b"window 100 20\nadd root LinearLayout match match\nadd v1 View 10 match\nadd v1 View 20 match\nframe\n\
+    hook v2 size v3 30 match\nhook v3 size v2 50 match\nsize v2 45 match\nframe\n";
+
+/// A question after a script, the numbers of the reads and of the writes that fail, and how its run ends.
+struct Asked {
+    script: &'static [u8],
+    side: &'static str,
+    view: &'static str,
+    reads: &'static [u64],
+    writes: &'static [u64],
+    status: u8,
+    text: &'static [u8],
+}
+
+#[rattlefmt::skip]
+const QUESTIONS: [Asked; 18] = [
+    Asked { script: CLICKING, side: "right", view: "v2", reads: &[], writes: &[], status: 0, text: b"v1\nv2\nv3\nv4\nsettled 0\nfocus v3\n" },
+    Asked { script: CLICKING, side: "left", view: "v2", reads: &[], writes: &[], status: 0, text: b"v1\nv2\nv3\nv4\nsettled 0\nfocus none\n" },
+    Asked { script: CLICKING, side: "right", view: "v9", reads: &[], writes: &[], status: 1, text: b"v1\nv2\nv3\nv4\nsettled 0\nfocus: refused 28 NoView\n" },
+    Asked { script: CLICKING, side: "right", view: "@0", reads: &[], writes: &[], status: 1, text: b"v1\nv2\nv3\nv4\nsettled 0\nfocus: refused 28 NoView\n" },
+    Asked { script: BEAMING, side: "down", view: "v2", reads: &[], writes: &[], status: 0, text: b"v1\nv2\nv3\nv4\nsettled 0\nfocus v4\n" },
+    Asked { script: HIDING_ONE, side: "right", view: "v2", reads: &[], writes: &[], status: 0, text: b"v1\nv2\nv3\nv4\nsettled 0\nfocus none\n" },
+    // Why a question has no answer: the first reason in order is told.
+    Asked { script: b"", side: "up", view: "v1", reads: &[], writes: &[], status: 1, text: b"focus: refused 33 NoWindow\n" },
+    Asked { script: b"window 9 9\n", side: "up", view: "v1", reads: &[], writes: &[], status: 1, text: b"focus: refused 34 NoRoot\n" },
+    Asked { script: b"window 9 9\nadd root View 1 1\n", side: "up", view: "v9", reads: &[], writes: &[], status: 1, text: b"v1\nfocus: refused 37 NoFrame\n" },
+    Asked { script: UNSETTLING, side: "up", view: "v9", reads: &[], writes: &[], status: 1, text: b"v1\nv2\nv3\nsettled 0\nagain 2\nfocus: refused 36 Unsettled\n" },
+    // A line was refused, and the question is answered all the same.
+    Asked { script: b"window 9 9\nadd root View 1 1\nbogus\nframe\n", side: "up", view: "v1", reads: &[], writes: &[], status: 1, text: b"v1\nline 3: refused 31 Syntax\nsettled 0\nfocus none\n" },
+    // Where a call fails before, no question is answered.
+    Asked { script: CLICKING, side: "right", view: "v2", reads: &[4], writes: &[], status: 3, text: b"v1\n" },
+    Asked { script: CLICKING, side: "right", view: "v2", reads: &[], writes: &[5], status: 4, text: b"v1\nv2\nv3\nv4\n" },
+    Asked { script: CLICKING, side: "right", view: "v2", reads: &[], writes: &[6], status: 4, text: b"v1\nv2\nv3\nv4\nsettled 0\n" },
+    // Words that have no form.
+    Asked { script: CLICKING, side: "north", view: "v2", reads: &[], writes: &[], status: 2, text: b"" },
+    Asked { script: CLICKING, side: "right", view: "v02", reads: &[], writes: &[], status: 2, text: b"" },
+    Asked { script: CLICKING, side: "right", view: "v2 ", reads: &[], writes: &[], status: 2, text: b"" },
+    Asked { script: CLICKING, side: "right", view: "@123456789", reads: &[], writes: &[], status: 2, text: b"" },
+];
+
 /// A line of four children that share its length.
 const SHARING: &[u8] = b"window 100 20\nadd root LinearLayout match match\nadd v1 View 0 match\n\
     add v1 View 0 match\nadd v1 View 0 match\nweight v2 1\nweight v3 1\nweight v4 1\n\
@@ -720,6 +777,20 @@ fn resources_are_looked_up(rt: HostRuntime) -> Result<(), Fail> {
     for asked in &LOOKUPS {
         let file = table_or(alloc, asked.file)?;
         let (status, gone) = print_ended(alloc, asked.words, file, asked.fetches, asked.writes)?;
+        assert_eq!(rt; (status, gone.as_slice()), (asked.status, asked.text));
+    }
+    Ok(())
+}
+
+#[test]
+fn questions_are_answered(rt: HostRuntime) -> Result<(), Fail> {
+    let alloc = rt.alloc();
+    for asked in &QUESTIONS {
+        let script = Vec::from_slice(alloc, asked.script)?;
+        let mut source = MemorySource::new(script, 16, Vec::from_slice(alloc, asked.reads)?);
+        let mut shelf = MemoryShelf::new(Vec::new(alloc), Vec::new(alloc));
+        let words = ["focus", asked.side, asked.view];
+        let (status, gone) = ended(alloc, &words, &mut source, &mut shelf, asked.writes)?;
         assert_eq!(rt; (status, gone.as_slice()), (asked.status, asked.text));
     }
     Ok(())

@@ -7,6 +7,7 @@ ghost use Rattle.script_lines.specs.Lines.{lines_of};
 ghost use Rattle.tool_io.specs.Counts.{Rose, raised};
 ghost use Rattle.tool_io.specs.Fetched.{Files};
 ghost use Rattle.view_tool.specs.Dump.{dump_page, refuses_file};
+ghost use Rattle.view_tool.specs.Focus.{AsksWith, IsFocusOf, focus_page, refuses_focus};
 ghost use Rattle.view_tool.specs.Gen.{gen_page};
 ghost use Rattle.view_tool.specs.Lookup.{lookup_page, refuses_table};
 ghost use Rattle.view_tool.specs.Run.{StopsAtFetch, StopsBefore};
@@ -17,9 +18,11 @@ ghost use Rattle.view_world.specs.Watched.{IsWorth};
 ghost use Rattle.view_tool.specs.Script.{WritesTaken};
 ghost use Rattle.view_tool.specs.Tool.{IsComplete, IsDumpOf, IsLookupOf, IsOneOf, IsRunOf, RunsWith, Writes, status_of};
 ghost use Rattle.view_tool.specs.Transcript.{carried_lines, cut_transcript, has_refusal, max_script, transcript};
-ghost use Rattle.view_tool.specs.Usage.{Run, Dump, Gen, Lookup, Unknown, usage};
+ghost use Rattle.view_tool.specs.Usage.{Run, Dump, Gen, Lookup, Focus, Unknown, usage};
+ghost use Rattle.view_tool.specs.declared.focusing.Question.{Question};
 
 use crate::dump::dump;
+use crate::focusing::{Question, focus_source};
 use crate::loading::run_load;
 use crate::lookup::lookup;
 use crate::run::Stop;
@@ -150,7 +153,7 @@ pub fn tool<S: Source, K: Sink, F: Shelf>(
     // The work of a run, in whatever way it ends: of the frames that were carried out it measures at most as many views, and
     // paints at least and at most as many pixels, as they cost in the plain world. All lines of the script were carried out
     // where the run ended by itself, and else the first ones: the very lines whose texts were written. The work of a load
-    // is that of its script. Nothing else is counted.
+    // is that of its script. Of a script with a question after it `focus_ends` says the same, and nothing else is counted.
     ensures worth { (script : List ℕ) (files : Files)
         → IsRunOf (usage words.now) (S.left source.old) (F.files shelf.old) script files
         → IsComplete result
@@ -160,7 +163,10 @@ pub fn tool<S: Source, K: Sink, F: Shelf>(
         → WorksWith files script (S.left source.new) (trace (K.state sink.old) work.old) (trace (K.state sink.new) work.new) result }
     ensures gen_worth { (n : ℕ) → usage words.now ≡ Gen n → result ≢ 5 → IsWorth (costs_of_script (load n) []) work.old work.new }
     ensures gen_works { (n : ℕ) → usage words.now ≡ Gen n → WorksPart [] work.old work.new (lines_of (load n)) }
-    ensures uncounted { usage words.now ≢ Run → ((n : ℕ) → usage words.now ≢ Gen n) → work.new ≡ work.old }
+    ensures uncounted { usage words.now ≢ Run
+        → ((n : ℕ) → usage words.now ≢ Gen n)
+        → ((question : Question) → usage words.now ≢ Focus question)
+        → work.new ≡ work.old }
 
     // The load of a size, in a world of its own: what came of it. Neither the source nor the shelf is asked.
     ensures load { (n : ℕ) → usage words.now ≡ Gen n → Writes result (K.state sink.old).gone (K.state sink.new).gone (gen_page n) }
@@ -197,12 +203,44 @@ pub fn tool<S: Source, K: Sink, F: Shelf>(
         → (Rose (K.state sink.old).faults (K.state sink.new).faults → ⊥)
         → (Rose (F.faults shelf.old) (F.faults shelf.new) → ⊥)
         → IsComplete result ⊎ (result ≡ 5) }
+
+    // Which view gets the focus next after a script: its transcript and then the answer, which is that of the plain world
+    // after its lines, or the refusal of a `bounds` line of the same view. Where the run ends by another status than 0 or 1,
+    // no question is answered, and what was written, counted, read and fetched is as of the run alone; but a write may fail
+    // at the answer too.
+    ensures focus { (script : List ℕ) (files : Files) (question : Question)
+        → IsFocusOf (usage words.now) (S.left source.old) (F.files shelf.old) script files question
+        → length script ≤ max_script
+        → Writes result (K.state sink.old).gone (K.state sink.new).gone (focus_page script files question) }
+    ensures focus_refused { (script : List ℕ) (files : Files) (question : Question)
+        → IsFocusOf (usage words.now) (S.left source.old) (F.files shelf.old) script files question
+        → IsComplete result
+        → result ≡ (if refuses_focus script files question then 1 else 0) }
+    ensures focus_read_to_end { (question : Question) → usage words.now ≡ Focus question → IsComplete result → IsAtEnd (S.left source.new) }
+    ensures focus_ends { (script : List ℕ) (files : Files) (question : Question)
+        → IsFocusOf (usage words.now) (S.left source.old) (F.files shelf.old) script files question
+        → AsksWith files script question (S.left source.new) (trace (K.state sink.old) work.old) (trace (K.state sink.new) work.new) result }
+    ensures focus_worth { (script : List ℕ) (files : Files) (question : Question)
+        → IsFocusOf (usage words.now) (S.left source.old) (F.files shelf.old) script files question
+        → IsComplete result
+        → IsWorth (costs_of_script script files) work.old work.new }
+    ensures focus_statuses { (question : Question)
+        → usage words.now ≡ Focus question
+        → IsOneOf result (0 ∷ 1 ∷ 3 ∷ 4 ∷ 5 ∷ 6 ∷ 7 ∷ []) }
+    ensures focus_complete { (script : List ℕ) (files : Files) (question : Question)
+        → IsFocusOf (usage words.now) (S.left source.old) (F.files shelf.old) script files question
+        → length script ≤ max_script
+        → (Rose (S.faults source.old) (S.faults source.new) → ⊥)
+        → (Rose (K.state sink.old).faults (K.state sink.new).faults → ⊥)
+        → (Rose (F.faults shelf.old) (F.faults shelf.new) → ⊥)
+        → IsComplete result ⊎ (result ≡ 5) }
 {
     match form_of(words) {
         Some(Form::Run) => run(alloc, shelf, source, sink, work),
         Some(Form::Dump(name)) => dump(alloc, name, shelf, sink),
         Some(Form::Gen(n)) => run_load(alloc, n, sink, work),
         Some(Form::Lookup { name, ids }) => lookup(alloc, name, ids, shelf, sink),
+        Some(Form::Focus(question)) => focus(alloc, question, shelf, source, sink, work),
         None => USAGE,
     }
 }
@@ -240,6 +278,38 @@ fn run<S: Source, K: Sink, F: Shelf>(
     ensures measured { min work.old.measured (2 ^ 64 - 1) ≤ work.new.measured }
 {
     status(run_source(alloc, source, shelf, sink, work))
+}
+
+/// Carries out the script on a source, and then answers a question.
+fn focus<S: Source, K: Sink, F: Shelf>(
+    alloc: Global,
+    question: Question,
+    shelf: &mut F,
+    source: &mut S,
+    sink: &mut K,
+    work: &mut Work,
+) -> u8
+    ensures asks { (files : Files) (script : List ℕ)
+        → F.files shelf.old ≡ Some files
+        → S.left source.old ≡ Some script
+        → AsksWith files script question (S.left source.new) (trace (K.state sink.old) work.old) (trace (K.state sink.new) work.new) result }
+    ensures known { IsOneOf result (0 ∷ 1 ∷ 3 ∷ 4 ∷ 5 ∷ 6 ∷ 7 ∷ []) }
+    ensures whole { result ≢ 3 → result ≢ 4 → result ≢ 6 → result ≢ 7 → IsComplete result ⊎ (result ≡ 5) }
+    ensures read_to_end { IsComplete result → IsAtEnd (S.left source.new) }
+    ensures taken { (taken : List ℕ)
+        × Consumes (S.left source.old) (S.left source.new) taken
+        × (length taken ≤ max_script + 1) }
+    ensures source_failed { S.faults source.new ≡ (if result == 3 then raised (S.faults source.old) else S.faults source.old) }
+    ensures sink_failed { (K.state sink.new).faults
+        ≡ (if result == 4 then raised (K.state sink.old).faults else (K.state sink.old).faults) }
+    ensures shelf_failed { result ≢ 5
+        → F.faults shelf.new ≡ (if result == 6 then raised (F.faults shelf.old) else F.faults shelf.old) }
+    ensures shelf_later { F.faults shelf.old ≤ F.faults shelf.new }
+    ensures files_stay { F.files shelf.new ≡ F.files shelf.old }
+    ensures painted { work.old.painted ≤ work.new.painted }
+    ensures measured { min work.old.measured (2 ^ 64 - 1) ≤ work.new.measured }
+{
+    status(focus_source(alloc, question, source, shelf, sink, work))
 }
 
 /// The status of a run.

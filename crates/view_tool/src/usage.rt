@@ -2,9 +2,11 @@
 
 ghost use Rattle.std.specs.Prelude.{◌≡◌, ◌≤◌, Some, IfSome, string_bytes};
 ghost use Rattle.std.specs.Str.{bytes_eq};
-ghost use Rattle.view_tool.specs.Usage.{HasSize, are_ids, dump_usage, form_now, gen_of, gen_usage, is_resource_id, lookup_usage, pair_usage, resource_id, run_usage, usage};
+ghost use Rattle.view_tool.specs.Usage.{HasSize, are_ids, dump_usage, focus_usage, form_now, gen_of, gen_usage, is_resource_id, long_usage, lookup_usage, name_from, pair_usage, resource_id, run_usage, side_of, usage};
 
-use script_lines::{hex, is_file_name, natural};
+use crate::focusing::Question;
+use focus_finder::Side;
+use script_lines::{Name, hex, is_file_name, natural};
 
 /// The most resources that are looked up at a time.
 const MAX_IDS: usize = 64;
@@ -20,6 +22,8 @@ pub enum Form<'a> {
     Gen(u32),
     /// To print what the resources of these ids hold in the table of this name.
     Lookup { name: &'a str, ids: &'a [String] },
+    /// To carry out the script on the source, and then answer this question.
+    Focus(Question),
 }
 
 /// The form of the words behind the program's name, where they have one.
@@ -30,7 +34,7 @@ pub fn form_of(words: &[String]) -> Option<Form<'_>>
     match words {
         [word] => run_form(word),
         [word, more] => pair_form(word, more),
-        [word, name, ids @ ..] => lookup_form(word, name, ids),
+        [word, name, more @ ..] => long_form(word, name, more),
         _ => None,
     }
 }
@@ -90,6 +94,72 @@ fn dump_form<'a>(word: &String, name: &'a String) -> Option<Form<'a>>
         Some(Form::Dump(name.as_str()))
     } else {
         None
+    }
+}
+
+/// `focus SIDE V`, or `lookup NAME ID ..`
+fn long_form<'a>(word: &String, name: &'a String, more: &'a [String]) -> Option<Form<'a>>
+    ensures form { form_now result ≡ long_usage (string_bytes word.now) (string_bytes name.now) more.now }
+    ensures size { IfSome result HasSize }
+{
+    if is(word, "focus") {
+        focus_form(name, more)
+    } else {
+        lookup_form(word, name, more)
+    }
+}
+
+/// The question of `focus SIDE V`
+fn focus_form<'a>(side: &String, more: &[String]) -> Option<Form<'a>>
+    ensures form { form_now result ≡ focus_usage (string_bytes side.now) more.now }
+    ensures size { IfSome result HasSize }
+{
+    let [view] = more else {
+        return None;
+    };
+    match (side_of(side), name_from(view.as_bytes())) {
+        (Some(side), Some(view)) => Some(Form::Focus(Question { side, view })),
+        (None, _) | (Some(_), None) => None,
+    }
+}
+
+/// The side that a word names.
+fn side_of(word: &String) -> Option<Side>
+    ensures { result ≡ side_of (string_bytes word.now) }
+{
+    if is(word, "left") {
+        Some(Side::Left)
+    } else if is(word, "right") {
+        Some(Side::Right)
+    } else if is(word, "up") {
+        Some(Side::Up)
+    } else if is(word, "down") {
+        Some(Side::Down)
+    } else {
+        None
+    }
+}
+
+/// The view that a word names, as in a line of a script.
+#[tactic(auto, unfolding(script_lines::specs::Names::name_of, script_lines::specs::Names::id_of))]
+fn name_from(word: &[u8]) -> Option<Name>
+    ensures { result ≡ name_from word.now }
+{
+    if word.is_empty() {
+        return None;
+    }
+    if word[0] == b'v' {
+        return match natural(&word[1..]) {
+            None => None,
+            Some(number) => Some(Name::Number(number)),
+        };
+    }
+    if word[0] != b'@' {
+        return None;
+    }
+    match hex(&word[1..]) {
+        None => None,
+        Some(id) => Some(Name::Id(id)),
     }
 }
 

@@ -31,6 +31,7 @@ ghost use Rattle.view_world.specs.Resting.{IsFrameDone, IsIdle, IsShown, KeepsEd
 mod grow;
 mod hook;
 mod leave;
+mod readers;
 mod state;
 mod touch;
 
@@ -356,8 +357,8 @@ impl Screen {
         }
     }
 
-    /// The size of the window, where there is one.
-    fn window(&self) -> Option<Size>
+    /// The size of the window, in pixels, where there is one.
+    pub fn window(&self) -> Option<Size>
         ensures { result ≡ window_of self.now }
     {
         match self.stage {

@@ -1,11 +1,12 @@
-use Rattle.std.proofs.Common.{◌≡◌, ◌≤◌, ◌++◌, ◌∙◌, [], length, refl, ap, arith, length-append}
+use Rattle.std.proofs.Common.{◌≡◌, ◌≤◌, ◌++◌, ◌∙◌, ℕ, List, [], length, refl, ap, arith, length-append}
 use Rattle.std.specs.Prelude.{Ok, Err}
 use Rattle.std.proofs.lemmas.Result.{err_from_is_err_and}
+use Rattle.script_lines.specs.Lines.{lines_of}
 use Rattle.view_tool.specs.declared.script.End.TheVariants as end
 use Rattle.view_tool.specs.Works.{trace}
 use Rattle.view_tool.specs.Script.{end_reads, end_writes}
-use Rattle.view_tool.specs.Transcript.{max_script}
-use Rattle.view_tool.proofs.ScriptLaws.{Consumes-nil, Consumes-Consumes, ends_early, ends_last, ends_well, taken_on}
+use Rattle.view_tool.specs.Transcript.{after_lines, max_script}
+use Rattle.view_tool.proofs.ScriptLaws.{Consumes-nil, Consumes-Consumes, ends_early, ends_last, ends_well, taken_by_end, taken_on}
 use Rattle.view_tool.proofs.script.run_to_end.Goals as goal
 
 pub loop-n-init : goal.loop-n-init
@@ -50,6 +51,12 @@ returns-in_err-n-clause-runs g c =
       most = omega (arith, length-append t.bytes q.bytes, t.count, q.within);
     })
 
+pub returns-in_err-n-clause-world : goal.returns-in_err-n-clause-world
+returns-in_err-n-clause-world g c =
+    let p = err_from_is_err_and c.from_residual.result c.from_residual.ensures.1 in
+    let e : c.from_residual.result ≡ Err c.in_err-n.field-0.0 = cc (p.1, p.2) in
+    rw e (λ files script at_hand told. tt)
+
 pub returns-in_err-n-clause-source_failed : goal.returns-in_err-n-clause-source_failed
 returns-in_err-n-clause-source_failed g c =
     let p = err_from_is_err_and c.from_residual.result c.from_residual.ensures.1 in
@@ -80,6 +87,12 @@ returns-in_err-finish-clause-runs g c =
       most = omega (arith, fits);
     })
 
+pub returns-in_err-finish-clause-world : goal.returns-in_err-finish-clause-world
+returns-in_err-finish-clause-world g c =
+    let p = err_from_is_err_and c.from_residual-in_err-finish.result c.from_residual-in_err-finish.ensures.1 in
+    let e : c.from_residual-in_err-finish.result ≡ Err (end.Stopped c.in_err-finish.field-0.0) = cc (p.1, p.2) in
+    rw e (λ files script at_hand told. tt)
+
 pub returns-in_err-finish-clause-source_failed : goal.returns-in_err-finish-clause-source_failed
 returns-in_err-finish-clause-source_failed g c =
     let p = err_from_is_err_and c.from_residual-in_err-finish.result c.from_residual-in_err-finish.ensures.1 in
@@ -109,6 +122,17 @@ returns-clause-runs g c =
       consumed = lost;
       most = omega (arith, fits);
     })
+
+pub returns-clause-world : goal.returns-clause-world
+returns-clause-world g c files script at_hand told =
+    let t = c.loop-n.invariant.taken in
+    let q = c.in_ok-n.ensures.reads _ t.bytes t.count t.behind in
+    let none : c.in_ok-n.n ≡ 0 = omega (arith, c.if-n-eq0.true) in
+    let fits : length (t.bytes ++ q.bytes) ≤ max_script = omega (arith, length-append t.bytes q.bytes, t.count, q.count, none) in
+    let lost = Consumes-Consumes _ _ _ t.bytes q.bytes t.consumed q.consumed in
+    let all = taken_by_end _ _ script (t.bytes ++ q.bytes) told lost (c.in_ok-n.ensures.end (ap Ok none)) in
+    (c.in_ok-finish.ensures.done files (trace (g.K.Sink.state c.args.sink.now) c.args.work.now) (t.bytes ++ q.bytes) (c.read_piece.ensures.files_stay ∙ c.loop-n.invariant.files ∙ at_hand) (omega (arith, fits)) (rw c.read_piece.ensures.files_stay q.comes)).world
+    ∙ ap (λ (bytes : List ℕ). (after_lines files (lines_of bytes)).world) all
 
 pub returns-clause-source_failed : goal.returns-clause-source_failed
 returns-clause-source_failed g c = c.in_ok-n.ensures.source_failed ∙ c.loop-n.invariant.reads

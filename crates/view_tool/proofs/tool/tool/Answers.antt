@@ -4,6 +4,7 @@ use Rattle.script_lines.specs.Lines.{Line}
 use Rattle.view_tool.specs.Tool.{Writes}
 use Rattle.view_tool.specs.Usage.{Run, Unknown}
 use Rattle.view_tool.specs.Transcript.{after_lines}
+use Rattle.view_tool.proofs.FocusLaws.{same_question}
 use Rattle.view_tool.proofs.LongScriptLaws.{carried_long, carried_short}
 use Rattle.view_tool.proofs.tool.tool.Goals as goal
 
@@ -46,3 +47,30 @@ returns-in-Some-Run-clause-worth g c = λ script files run ended. ((c.run.ensure
 
 pub returns-in-Some-Run-clause-works : goal.returns-in-Some-Run-clause-works
 returns-in-Some-Run-clause-works g c = λ script files run. c.run.ensures.works files script run.shelf run.source
+
+pub returns-in-Some-Focus-clause-focus : goal.returns-in-Some-Focus-clause-focus
+returns-in-Some-Focus-clause-focus g c = λ script files question run short.
+    let same = same_question _ c.in-Some-Focus.question question (rw c.in-Some-Focus.is at c.form_of.ensures.form) run.words in
+    (rw same at (c.focus.ensures.asks files script run.shelf run.source)).writes short
+
+pub returns-in-Some-Focus-clause-focus_refused : goal.returns-in-Some-Focus-clause-focus_refused
+returns-in-Some-Focus-clause-focus_refused g c = λ script files question run ended.
+    let same = same_question _ c.in-Some-Focus.question question (rw c.in-Some-Focus.is at c.form_of.ensures.form) run.words in
+    ((rw same at (c.focus.ensures.asks files script run.shelf run.source)).ended ended).1
+
+pub returns-in-Some-Focus-clause-focus_ends : goal.returns-in-Some-Focus-clause-focus_ends
+returns-in-Some-Focus-clause-focus_ends g c = λ script files question run.
+    let same = same_question _ c.in-Some-Focus.question question (rw c.in-Some-Focus.is at c.form_of.ensures.form) run.words in
+    rw same at (c.focus.ensures.asks files script run.shelf run.source)
+
+pub returns-in-Some-Focus-clause-focus_worth : goal.returns-in-Some-Focus-clause-focus_worth
+returns-in-Some-Focus-clause-focus_worth g c = λ script files question run ended. ((c.focus.ensures.asks files script run.shelf run.source).ended ended).0.worth
+
+pub returns-in-Some-Focus-clause-focus_complete : goal.returns-in-Some-Focus-clause-focus_complete
+returns-in-Some-Focus-clause-focus_complete g c = λ script files question run short no_read no_write no_fetch.
+    let asks = c.focus.ensures.asks files script run.shelf run.source in
+    c.focus.ensures.whole
+    (λ e. no_read (let failed = rw e at c.focus.ensures.source_failed in omega (arith, failed)))
+    (λ e. no_write (let failed = rw e at c.focus.ensures.sink_failed in omega (arith, failed)))
+    (λ e. no_fetch (let failed = rw e at c.focus.ensures.shelf_failed (λ five. omega (arith, five)) in omega (arith, failed)))
+    (λ e. (let long = (asks.long e).0 in omega (arith, short, long)))
