@@ -11,6 +11,7 @@ ghost use Rattle.view_tree.specs.Views.{IsLive, number_of};
 ghost use Rattle.view_world.specs.KeyedWorld.{world_of};
 
 use crate::refusals::{put_counted, put_refused};
+use crate::carrier::Carrier;
 use crate::run::{Run, Stop};
 use crate::script::{End, run_to_end};
 use focus_finder::{Side, next};
@@ -49,9 +50,12 @@ pub fn focus_source<S: Source, K: Sink, F: Shelf>(
     ensures source_failed { S.faults source.new ≡ reads_counted result (S.faults source.old) }
     ensures sink_failed { (K.state sink.new).faults ≡ ends_counted result (K.state sink.old).faults }
 {
-    let mut run = Run::new(alloc);
+    let mut run = Run::new(Carrier::Alone(World::new(alloc)));
     let refused = run_to_end(&mut run, alloc, source, shelf, sink, work)?;
-    let answer = answer(run.world(), question);
+    let Carrier::Alone(world) = run.carrier() else {
+        return Ok(refused);
+    };
+    let answer = answer(world, question);
     let unanswered = answer.is_err();
     match write_answer(sink, answer) {
         Ok(()) => Ok(refused || unanswered),

@@ -18,6 +18,7 @@ ghost use Rattle.view_tool.specs.Works.{WorksPart};
 ghost use Rattle.view_world.specs.Watched.{IsWorth};
 
 use crate::dump::status_of;
+use crate::carrier::Carrier;
 use crate::run::{Run, Stop};
 use crate::status::{ACCEPTED, NO_MEMORY};
 use load_maker::script;
@@ -26,6 +27,7 @@ use std::alloc::Global;
 use text_lines::TextBuffer;
 use tool_io::{Failed, MemorySink, Sink, SteadyShelf};
 use view_model::Work;
+use view_world::World;
 
 /// How many bytes of a page are kept at a time.
 const PIECE: usize = 4096;
@@ -93,7 +95,7 @@ fn carried_out(
     ensures measured { min work.old.measured (2 ^ 64 - 1) ≤ work.new.measured }
 {
     let mut shelf = SteadyShelf::new(Vec::new(alloc));
-    let mut run = Run::new(alloc);
+    let mut run = Run::new(Carrier::Alone(World::new(alloc)));
     run.piece(alloc, script, &mut shelf, page, work)?;
     run.finish(alloc, &mut shelf, page, work)?;
     Ok(run)

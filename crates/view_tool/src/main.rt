@@ -7,6 +7,7 @@
 //! answers which view gets the focus next after a script.
 #![tactic(auto)]
 
+mod carrier;
 mod dump;
 mod file_replies;
 mod focusing;

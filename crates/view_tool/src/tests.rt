@@ -502,6 +502,45 @@ const INFLATIONS: [Inflation; 8] = [
     Inflation { script: b"inflate a.xml into v1\nadd root View 1 1\ninflate a.xml\ninflate a.xml into v7\ndpi 200\ninflate b.xml into v1\ninflate a.xml into v1\n", sample: Sample::Whole, fetches: &[3], status: 1, text: b"line 1: refused 34 NoRoot\nv1\nline 3: refused 35 HasRoot\nline 4: refused 28 NoView\nline 5: refused 41 DpiLate\nline 6: refused 39 Missing\nline 7: refused 21 NotGroup element 1\n" },
 ];
 
+// Two windows, of which the second lies over the first, and then the first over the second.
+const STACKING: &[u8] =
+    b"at 0 0 0\nin 0 window 4 4\nin 0 add root View match match\nin 0 bg v1 #ffff0000\n\
+    in 0 frame\nat 1 2 2\nin 1 window 4 4\nin 1 add root View match match\n\
+    in 1 bg v1 #ff0000ff\nin 1 answer v1 yes\nin 1 frame\ncompose 1 1 3 2\nsdown 0 3 3\n\
+    sup 0\nraise 0\nsdown 0 3 3\nsup 0\nsdown 0 9 9\nin 5 frame\n";
+
+const STACKED: &[u8] =
+    b"v1\nsettled 0\nv1\nsettled 0\nff0000 ff0000 ff0000\nff0000 0000ff 0000ff\n\
+    v1 touch DOWN 0:1,1 yes\ndone yes\nv1 touch UP 0:1,1 yes\ndone yes\n\
+    v1 touch DOWN 0:3,3 no\ndone no\nv1 touch UP 0:3,3 no\ndone no\nnobody\n\
+    line 19: refused 43 NoPane\n";
+
+// A window that is not open, lines that no window gets, and a closed holder.
+const UNSTACKED: &[u8] =
+    b"in 0 frame\nat 0 0 0\nin 0 frame\nin 0 down 0 1 1\nsup 0\nat 8 0 0\n";
+
+const UNSTACKED_LINES: &[u8] =
+    b"line 1: refused 43 NoPane\nline 3: refused 33 NoWindow\nline 4: refused 31 Syntax\n\
+    line 5: refused 38 Pointer\nline 6: refused 30 Range\n";
+
+const CLOSING: &[u8] =
+    b"at 0 0 0\nin 0 window 9 9\nin 0 add root View match match\nin 0 frame\nsdown 0 1 1\nclose 0\nsup 0\n\
+    compose 0 0 2 1\nat 0 0 0\nin 0 bounds\n";
+
+const CLOSED: &[u8] =
+    b"v1\nsettled 0\nv1 touch DOWN 0:1,1 no\ndone no\nline 7: refused 38 Pointer\n000000 000000\n\
+    line 10: refused 33 NoWindow\n";
+
+/// A script of a stack, the numbers of the reads and of the writes that fail, and how its run ends.
+#[rattlefmt::skip]
+const STACKS: [Run; 5] = [
+    Run { script: STACKING, reads: &[], writes: &[], status: 1, text: STACKED },
+    Run { script: UNSTACKED, reads: &[], writes: &[], status: 1, text: UNSTACKED_LINES },
+    Run { script: CLOSING, reads: &[], writes: &[], status: 1, text: CLOSED },
+    Run { script: b"sdown 0 0 0\n", reads: &[2], writes: &[], status: 3, text: b"nobody\n" },
+    Run { script: b"sdown 0 0 0\n", reads: &[], writes: &[1], status: 4, text: b"" },
+];
+
 /// The status of these words, and what was written.
 fn ended(
     alloc: Global,
@@ -809,5 +848,18 @@ fn longer_scripts_and_files_are_refused(rt: HostRuntime) -> Result<(), Fail> {
         (status, gone.as_slice()),
         (1, b"file: refused 40 LongFile\n".as_slice())
     );
+    Ok(())
+}
+
+#[test]
+fn stacks_are_carried_out(rt: HostRuntime) -> Result<(), Fail> {
+    let alloc = rt.alloc();
+    for run in &STACKS {
+        let script = Vec::from_slice(alloc, run.script)?;
+        let mut source = MemorySource::new(script, 16, Vec::from_slice(alloc, run.reads)?);
+        let mut shelf = MemoryShelf::new(Vec::new(alloc), Vec::new(alloc));
+        let (status, gone) = ended(alloc, &["stack"], &mut source, &mut shelf, run.writes)?;
+        assert_eq!(rt; (status, gone.as_slice()), (run.status, run.text));
+    }
     Ok(())
 }

@@ -21,12 +21,14 @@ ghost use Rattle.view_tool.specs.Transcript.{carried_lines, cut_transcript, has_
 ghost use Rattle.view_tool.specs.Usage.{Run, Dump, Gen, Lookup, Focus, Unknown, usage};
 ghost use Rattle.view_tool.specs.declared.focusing.Question.{Question};
 
+use crate::carrier::Carrier;
 use crate::dump::dump;
 use crate::focusing::{Question, focus_source};
 use crate::loading::run_load;
 use crate::lookup::lookup;
 use crate::run::Stop;
 use crate::script::{End, run_source};
+use crate::stack::Stack;
 use crate::status::{
     ACCEPTED, LONG_SCRIPT, NO_MEMORY, REFUSED, SHELF_FAILED, SINK_FAILED, SOURCE_FAILED, USAGE,
 };
@@ -34,6 +36,7 @@ use crate::usage::{Form, form_of};
 use std::alloc::Global;
 use tool_io::{Shelf, Sink, Source};
 use view_model::Work;
+use view_world::World;
 
 /// The whole tool. The words are those behind the program's name.
 pub fn tool<S: Source, K: Sink, F: Shelf>(
@@ -236,11 +239,18 @@ pub fn tool<S: Source, K: Sink, F: Shelf>(
         → IsComplete result ⊎ (result ≡ 5) }
 {
     match form_of(words) {
-        Some(Form::Run) => run(alloc, shelf, source, sink, work),
+        Some(Form::Run) => {
+            let carrier = Carrier::Alone(World::new(alloc));
+            run(alloc, carrier, shelf, source, sink, work)
+        }
         Some(Form::Dump(name)) => dump(alloc, name, shelf, sink),
         Some(Form::Gen(n)) => run_load(alloc, n, sink, work),
         Some(Form::Lookup { name, ids }) => lookup(alloc, name, ids, shelf, sink),
         Some(Form::Focus(question)) => focus(alloc, question, shelf, source, sink, work),
+        Some(Form::Stack) => {
+            let carrier = Carrier::Stacked(Stack::new());
+            run(alloc, carrier, shelf, source, sink, work)
+        }
         None => USAGE,
     }
 }
@@ -248,6 +258,7 @@ pub fn tool<S: Source, K: Sink, F: Shelf>(
 /// Carries out the script on a source.
 fn run<S: Source, K: Sink, F: Shelf>(
     alloc: Global,
+    carrier: Carrier,
     shelf: &mut F,
     source: &mut S,
     sink: &mut K,
@@ -277,7 +288,7 @@ fn run<S: Source, K: Sink, F: Shelf>(
     ensures painted { work.old.painted ≤ work.new.painted }
     ensures measured { min work.old.measured (2 ^ 64 - 1) ≤ work.new.measured }
 {
-    status(run_source(alloc, source, shelf, sink, work))
+    status(run_source(alloc, carrier, source, shelf, sink, work))
 }
 
 /// Carries out the script on a source, and then answers a question.
