@@ -48,6 +48,7 @@ impl Room {
     }
 
     /// The rectangle of a child of this size, in the group's coordinates.
+    #[inline(always)]
     pub fn place(&self, kid: &Facts, size: Size) -> Rect
         requires width { IsSide size.w }
         requires height { IsSide size.h }

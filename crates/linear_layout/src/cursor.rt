@@ -69,6 +69,7 @@ impl Cursor {
     }
 
     /// The rectangle of the next child, which has this size, in the group's coordinates.
+    #[inline(always)]
     pub fn place(&mut self, kid: &Facts, size: Size) -> Rect
         requires width { IsSide size.w }
         requires height { IsSide size.h }
