@@ -1,6 +1,6 @@
 -- The part of an event, made in the coordinates of a child at once.
 use Rattle.std.proofs.Common.{◌≡◌, ℕ, ℤ, List, Option, Some, None, [], ◌∷◌, false, refl, length, map, arith}
-use Rattle.std.specs.Prelude.{◌==◌, ◌||◌, not, if◌then◌else◌}
+use Rattle.std.specs.Prelude.{◌==◌, not, if◌then◌else◌}
 use Rattle.std.specs.Option.{option_map}
 use Rattle.geom_core.specs.declared.geometry.Rect.{Rect}
 use Rattle.touch_dispatch.specs.Points.{local_event, local_point}
