@@ -29,13 +29,10 @@ WRONG = [[], ["gen"], ["gen", "0"], ["gen", "101"], ["gen", "01"], ["gen", "1", 
          ["lookup", "a", "7f0500000"], ["lookup", ".a", "7f050000"], ["lookup", "a", *["7f050000"] * 65],
          ["lookup", "a", "7f050000", ""], ["focus"], ["focus", "left"], ["focus", "left", "v1", "x"], ["focus", "Left", "v1"],
          ["focus", "left", "v01"], ["focus", "left", "v12345678901"], ["focus", "up", "@"], ["focus", "up", "@123456789"],
-         ["focus", "up", "root"], ["stack", "x"], ["stack", ""], ["Stack"], ["--help", "x"], ["explain", "x"], ["explain", "31", "x"], ["explain", ""]]
+         ["focus", "up", "root"], ["--help", "x"], ["explain", "x"], ["explain", "31", "x"], ["explain", ""]]
 # words that are explained, and what is said of them
 EXPLAINED = {
     "NoView": "28 NoView: no view has the number or the id.\nIt comes at any line that names a view, and at focus SIDE V.\n",
-    "NoPane": "43 NoPane: the window of the stack is not open.\nIt comes at raise, close and in of a stack.\n",
-    "raise": "The line raise K of a stack puts the window K on top of the others.\nIt replies: none.\n",
-    "sdown": "The line sdown P X Y of a stack has the pointer P go down at a point of the stack.\n",
     "frame": "The line frame lays out the whole tree in the window",
     "gravity": "The line gravity V self G sets where V is placed in its parent: none, or words joined by |, at most",
     "layout_alignTop": "The attribute layout_alignTop of a layout file takes: reference (id).\nIt sets: the rule",
@@ -318,8 +315,6 @@ def passes_streams():
         given = bytes(range(256)) * 1000
         if it.call(["run"], given, act="cat").out != given:
             return "what comes in is not what the program reads"
-        if it.call(["stack"], given, act="cat").out != given:
-            return "what comes in is not what the program reads of a stack"
         wanted = "%s dump a.xml\n" % os.path.realpath(it.folder)
         if it.call(["dump", "a.xml"], act='echo "$PWD $*"').out.decode() != wanted:
             return "folder and words are not the caller's"

@@ -1,5 +1,4 @@
-"""The pictures of examples/: each has the digest that the program writes of the last frame of its script. A stack of
-windows has no digest; its picture is compared as that of a stored script is."""
+"""The pictures of examples/: each has the digest that the program writes of the last frame of its script."""
 import glob
 import hashlib
 import os
@@ -20,5 +19,4 @@ def picture(path):
 
 def checks():
     for path in sorted(glob.glob(os.path.join(TOP, "examples", "*.png"))):
-        if os.path.exists(path[: -len("png")] + "script"):
-            yield os.path.relpath(path, TOP), partial(picture, path)
+        yield os.path.relpath(path, TOP), partial(picture, path)

@@ -6,7 +6,6 @@ views and pictures comes from what the program writes.
     replies.py     which reply belongs to which line, and which lines were refused
     png.py         PNG files
     pictures.py    the picture of a frame
-    stacks.py      the windows of a stack, and what is seen of them
     differing.py   where two pictures differ
     documents.py   the nodes of compiled XML, from what `dump` writes
     layouts.py     the elements of a layout file

@@ -1,8 +1,8 @@
 """Stored scripts with their answers, and what the program writes today.
 
-A case is a script NAME.script with NAME.answer; or NAME.stack, a script for a stack of windows; or a layout file NAME.xml
-with NAME.answer and no script of its name, which is printed by `dump`. NAME.status has the status, where it is not 0,
-and NAME.png the picture of a script's last frame, or of a stack at the end.
+A case is a script NAME.script with NAME.answer, or a layout file NAME.xml with NAME.answer and no script of its name,
+which is printed by `dump`. NAME.status has the status, where it is not 0, and NAME.png the picture of a script's last
+frame.
 """
 import difflib
 import os
@@ -10,7 +10,7 @@ import subprocess
 import time
 from typing import Callable, Iterator, List, NamedTuple, Optional, Tuple
 
-from . import differing, files, pictures, png, program, script, stacks
+from . import differing, files, pictures, png, program, script
 from .calling import NOT_RUN, Failure
 from .replies import Refused
 
@@ -18,19 +18,13 @@ from .replies import Refused
 MAX_DIFF = 20000
 # the statuses of runs that reached their end
 ENDED = (0, 1)
-# what is seen of a script, by its ending; the program takes it in the form of that
-SCREENS = {".script": pictures.Screen, ".stack": stacks.Stack}
 
 
 class Case(NamedTuple):
-    """A case: its path without the ending, and the ending of what is run."""
+    """A case: its path without the ending, and whether it is a script."""
 
     stem: str
-    ending: str
-
-    def is_script(self) -> bool:
-        """Whether it is a script."""
-        return self.ending in SCREENS
+    is_script: bool
 
     def file(self, ending: str) -> str:
         """One of its files."""
@@ -42,7 +36,7 @@ class Case(NamedTuple):
 
     def name(self) -> str:
         """What is run."""
-        return self.file(self.ending)
+        return self.file(".script" if self.is_script else ".xml")
 
 
 class Result(NamedTuple):
@@ -56,9 +50,11 @@ class Result(NamedTuple):
 
 def case_of(path: str) -> Optional[Case]:
     """The case of a file, where it is one."""
-    case = Case(*os.path.splitext(path))
-    is_named = case.ending == ".xml" and case.has(".answer") and not any(case.has(ending) for ending in SCREENS)
-    return case if case.is_script() or is_named else None
+    stem, ending = os.path.splitext(path)
+    if ending == ".script":
+        return Case(stem, True)
+    case = Case(stem, False)
+    return case if ending == ".xml" and case.has(".answer") and not case.has(".script") else None
 
 
 def cases_in(path: str) -> Iterator[Case]:
@@ -83,8 +79,8 @@ def written_status(case: Case) -> int:
 def run(case: Case, seconds: float) -> Tuple[bytes, int]:
     """What the program writes, and its status."""
     folder = os.path.dirname(os.path.abspath(case.stem))
-    if case.is_script():
-        return program.ran([SCREENS[case.ending].form], files.read(case.name()), folder, seconds)
+    if case.is_script:
+        return program.ran(["run"], files.read(case.name()), folder, seconds)
     return program.ran(["dump", os.path.basename(case.name())], b"", folder, seconds)
 
 
@@ -108,8 +104,7 @@ def diff(wanted: bytes, found: bytes, name: str) -> str:
 
 def picture(case: Case) -> png.Picture:
     """The picture of a script's last frame."""
-    screen = SCREENS[case.ending]()
-    *_, last = pictures.frames(script.read(case.name()), Refused(is_silent=True), screen=screen)
+    *_, last = pictures.frames(script.read(case.name()), Refused(is_silent=True))
     return pictures.picture_of(last)
 
 
@@ -133,7 +128,7 @@ def problem(case: Case, seconds: float) -> str:
         return diff(wanted, written, case.file(".answer"))
     if status != wanted_status:
         return "status %d in place of %d" % (status, wanted_status)
-    return picture_problem(case) if case.is_script() and case.has(".png") else ""
+    return picture_problem(case) if case.is_script and case.has(".png") else ""
 
 
 def accept(case: Case, seconds: float) -> str:
@@ -141,7 +136,7 @@ def accept(case: Case, seconds: float) -> str:
     written, status = run(case, seconds)
     if status not in ENDED and not (case.has(".status") and written_status(case) == status):
         return str(program.failed(status))
-    if case.is_script() and case.has(".png"):
+    if case.is_script and case.has(".png"):
         files.replace(case.file(".png"), png.written(picture(case)))
     files.replace(case.file(".answer"), written)
     if status or case.has(".status"):

@@ -45,13 +45,13 @@ def ran(words: List[str], given: bytes, folder: str, seconds: Optional[float] = 
     return ended.stdout, ended.returncode
 
 
-def lines_of(script: bytes, folder: str, form: str = "run") -> Iterator[bytes]:
-    """Each line that the program writes over a script of a form, as it comes; a run that does not reach its end is a failure."""
+def lines_of(script: bytes, folder: str) -> Iterator[bytes]:
+    """Each line that the program writes over a script, as it comes; a run that does not reach its end is a failure."""
     with tempfile.TemporaryFile() as given:
         given.write(script)
         given.seek(0)
         started = subprocess.Popen(
-            [path(), form], stdin=given, stdout=subprocess.PIPE, stderr=subprocess.DEVNULL, cwd=folder
+            [path(), "run"], stdin=given, stdout=subprocess.PIPE, stderr=subprocess.DEVNULL, cwd=folder
         )
     try:
         for line in started.stdout:

@@ -55,7 +55,6 @@ REFUSALS: Dict[int, Refusal] = {
     39: Refusal("Missing", FILE, "there is no file of this name"),
     40: Refusal("LongFile", FILE, "the file has more than 1048576 bytes"),
     41: Refusal("DpiLate", (), "the tree has a root already"),
-    43: Refusal("NoPane", ("K",), "no window of the stack has this name"),
 }
 
 # what a refusal means at lines that have these words, the first of which begins the line
