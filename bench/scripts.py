@@ -30,25 +30,6 @@ def windows(n):
     return views + b"".join(b"window %d 48\nframe\n" % (64 + k % 16) for k in range(n))
 
 
-def window_of_a_stack(n):
-    """A window of 100 views by 10 rows, with this many frames, before each of which a view changes."""
-    lines = [b"window 320 240\n", b"add root LinearLayout match match\n", b"orient v1 vertical\n"]
-    for row in range(10):
-        lines.append(b"add v1 LinearLayout match 24\n")
-        lines += [b"add v%d TextView 32 match\n" % (2 + 11 * row)] * 10
-    for k in range(n):
-        lines.append(b"text v%d %d\nframe\n" % (3 + 11 * (k % 10) + k // 10 % 10, k))
-    return b"".join(lines)
-
-
-def stack_of_windows(n):
-    """Eight such windows, each line of one followed by the same line of the next one."""
-    lines = [b"at %d %d 0\n" % (window, 32 * window) for window in range(8)]
-    for line in window_of_a_stack(n).splitlines(True):
-        lines += [b"in %d %s" % (window, line) for window in range(8)]
-    return b"".join(lines)
-
-
 def edited_frames(n):
     """A frame after each of this many edits, of one view or another of 4096, each with up to 31 views around it."""
     lines = [nested(4096)]
