@@ -132,7 +132,7 @@ sides_at tree kid held live shown narrow =
 
 pub narrow_for : (placer : Placer) (spot : Spot) (before : List Measured) (sides : Option Rect) → PlacesAs placer spot before
     → (spot.view.class ≡ RelativeLayout → AreSidesNarrow sides) → IsNarrowFor placer sides
-narrow_for (Over own room) spot before sides places narrow = tt
+narrow_for (Over room) spot before sides places narrow = tt
 narrow_for (InLine cursor) spot before sides places narrow = tt
 narrow_for Between spot before sides places narrow = narrow places
 
