@@ -4,6 +4,7 @@ ghost use Rattle.geom_core.specs.Limits.{IsSide, IsCoordinate, clamp_coordinate}
 ghost use Rattle.view_model.specs.declared.facts.Facts.{Facts as FactsValue};
 ghost use Rattle.view_model.specs.Facts.{margin_left, margin_right};
 ghost use Rattle.view_model.specs.FrameLayout.{frame_place};
+ghost use Rattle.view_model.specs.Geometry.{size_of_rect};
 ghost use Rattle.view_model.specs.Placing.{alignment_across, alignment_down, low_edge};
 ghost use Rattle.geom_core.specs.declared.geometry.Size.{Size as SizeValue};
 
@@ -52,7 +53,8 @@ impl Room {
     pub fn place(&self, kid: &Facts, size: Size) -> Rect
         requires width { IsSide size.w }
         requires height { IsSide size.h }
-        ensures { (own : FactsValue) (room : SizeValue) → IsRoom self.now own room → result ≡ frame_place own room kid.now size }
+        ensures extent { size_of_rect result ≡ size }
+        ensures place { (own : FactsValue) (room : SizeValue) → IsRoom self.now own room → result ≡ frame_place own room kid.now size }
     {
         let gravity = NO_GRAVITY.for_child(kid.layout_gravity);
         rect_at(
