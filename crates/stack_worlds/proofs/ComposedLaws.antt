@@ -1,23 +1,39 @@
 -- The texts of a part of a stack, and the colour of a point of a window.
-use Rattle.std.proofs.Common.{◌≡◌, ℕ, zero, suc, ◌+◌, ◌≤◌, List, [], ◌∷◌, ap, arith, refl}
+use Rattle.std.proofs.Common.{◌≡◌, ◌∙◌, ℕ, zero, suc, ◌+◌, ◌≤◌, List, [], ◌∷◌, ap, arith, refl, sym}
+use Rattle.std.specs.Option.{option_map}
+use Rattle.std.specs.Prelude.{ℤ, Option, Some, None}
 use Rattle.geom_core.specs.declared.color.Argb.{Argb}
-use Rattle.std.specs.Prelude.{◌-ℤ◌, ℤ, unsigned_abs, Option, Some}
-use Rattle.text_lines.specs.Joined.{◌⧺◌}
+use Rattle.geom_core.specs.declared.color.TheConstants.{BLACK}
+use Rattle.stack_worlds.proofs.StackLaws.{plain_at, plain_there}
+use Rattle.stack_worlds.specs.KeptStack.{KeyedStack, keyed_at, stack_of}
+use Rattle.stack_worlds.specs.PlainStack.{color_from, color_in}
 use Rattle.text_lines.proofs.Sending.{sends_as, sends_both}
 use Rattle.text_lines.specs.BufferedText.{BufferedText, Sends}
+use Rattle.text_lines.specs.Joined.{◌⧺◌}
 use Rattle.tool_io.specs.SinkState.{SinkState}
-use Rattle.stack_worlds.specs.PlainStack.{color_from, color_of_world}
+use Rattle.view_world.specs.KeyedWorld.{KeyedWorld, world_of}
 use Rattle.view_world.specs.Replies.{pixel_text, pixels_text, separator, texts_below}
-use Rattle.view_world.specs.World.{World}
+use Rattle.window_stack.specs.PlainPanes.{corner_of}
 
 -- one text more of those by number
 pub sends_next : {old mid new : SinkState} {before held after : BufferedText} (text : ℕ → List ℕ) (n : ℕ)
     → Sends old mid before held (texts_below text n) → Sends mid new held after (text n) → Sends old new before after (texts_below text (n + 1))
 sends_next text n first next = let e : suc n ≡ n + 1 = omega arith in sends_as (ap (texts_below text) e) (sends_both first next)
 
-pub color_known : (corner : Option (ℤ × ℤ)) (left top x y : ℤ) (column row : ℕ) (there : Option World) (world : World) → corner ≡ Some (left, top) → there ≡ Some world
-    → column ≡ unsigned_abs (x -ℤ left) → row ≡ unsigned_abs (y -ℤ top) → color_of_world (Some world) column row ≡ color_from corner x y there
-color_known corner left top x y column row there world c w i j = rw (c, w, i, j) refl
+-- the colour of a point of a window that has a world
+pub color_there : (stack : KeyedStack) (k : ℕ) (world : KeyedWorld) (x y : ℤ) → keyed_at stack k ≡ Some world
+    → color_from (corner_of stack.panes k) x y (Some (world_of world)) ≡ color_in (stack_of stack) x y (Some k)
+color_there stack k world x y e = ap (color_from (corner_of stack.panes k) x y) (sym (plain_there stack k world e))
+
+color_none : (corner : Option (ℤ × ℤ)) (x y : ℤ) → BLACK ≡ color_from corner x y None
+color_none None x y = refl
+color_none (Some corner) x y = refl
+
+-- and of one that has none
+pub black_there : (stack : KeyedStack) (k : ℕ) (x y : ℤ) → keyed_at stack k ≡ None → BLACK ≡ color_in (stack_of stack) x y (Some k)
+black_there stack k x y e =
+    color_none (corner_of stack.panes k) x y
+    ∙ ap (color_from (corner_of stack.panes k) x y) (sym (plain_at stack.worlds k ∙ ap (option_map world_of) e))
 
 not_empty : (xs ys : List ℕ) (z : ℕ) → xs ⧺ (ys ⧺ (z ∷ [])) ≡ [] → ⊥
 unfolding ◌⧺◌

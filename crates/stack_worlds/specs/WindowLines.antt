@@ -1,5 +1,5 @@
 -- What a line leaves of the worlds of a stack, and what it has counted: in the world of one window, and in all others.
-use Rattle.std.specs.Prelude.{◌≡◌, ◌≢◌, ◌⊎◌, ◌+◌, ◌≤◌, ℕ, true, if◌then◌else◌, Option, Some, None, IfSome, Result, List, slice_set}
+use Rattle.std.specs.Prelude.{◌≡◌, ◌≢◌, ◌⊎◌, ◌+◌, ◌≤◌, ℕ, true, if◌then◌else◌, Option, Some, None, Result, List, slice_set}
 use Rattle.geom_core.specs.declared.geometry.Rect.{Rect}
 use Rattle.geom_core.specs.declared.geometry.Size.{Size}
 use Rattle.script_lines.specs.PlainCommands.{PlainCommand, Frame}
@@ -48,12 +48,16 @@ worlds_after stack (own.Compose x y w h) = stack.worlds
 -- line counts anything.
 abbrev pub WorksBy : PlainWay → KeyedStack → KeyedStack → Result (Unit {0}) StepFault → Work → Work → Type 0
 WorksBy (Given holder k said) before after result old new =
-    (world : KeyedWorld) → keyed_at before k ≡ Some world
-    → (now : KeyedWorld) × (after.worlds ≡ slice_set before.worlds k (Some now)) × WorksIn world now said result old new
+    (world : KeyedWorld) × (keyed_at before k ≡ Some world)
+    × (now : KeyedWorld) × (after.worlds ≡ slice_set before.worlds k (Some now)) × WorksIn world now said result old new
 WorksBy Missed before after result old new = (after.worlds ≡ before.worlds) × (new ≡ old)
 WorksBy (RefusedBy number) before after result old new = (after.worlds ≡ before.worlds) × (new ≡ old)
 WorksBy (ToStack change) before after result old new = (IsDone result → after.worlds ≡ worlds_after before change) × (new ≡ old)
 
--- the numbers of the views that the windows make next are at most this
-abbrev pub AreNumbersWithin : ℕ → KeyedStack → Type 0
-AreNumbersWithin n stack = (k : ℕ) → IfSome (keyed_at stack k) (λ world. world.screen.views.next ≤ n)
+-- the number of the view that a world makes next; a world that is not there yet begins with 1
+abbrev pub next_in : Option KeyedWorld → ℕ
+next_in None = 1
+next_in (Some world) = world.screen.views.next
+
+abbrev pub next_at : KeyedStack → ℕ → ℕ
+next_at stack k = next_in (keyed_at stack k)

@@ -1,13 +1,13 @@
 //! A stack of windows, each with a world of its own.
 
-ghost use Rattle.std.specs.Prelude.{◌≡◌, ◌≢◌, ◌⊎◌, ◌+◌, ◌<◌, ◌≤◌, ◌^◌, ℕ, [], true, false, Err, IfErr, IfSome, None, OnOk, Option, Some};
+ghost use Rattle.std.specs.Prelude.{◌≡◌, ◌≢◌, ◌⊎◌, ◌+◌, ◌-◌, ◌<◌, ◌≤◌, ◌^◌, ℕ, min, [], true, false, Err, IfErr, IfSome, None, OnOk, Option, Some};
 ghost use Rattle.script_lines.specs.PlainCommands.{plain_command};
 ghost use Rattle.tool_io.specs.Fetched.{Files};
 ghost use Rattle.stack_worlds.specs.Isolation.{IsAfter, IsAlone, Shared};
 ghost use Rattle.stack_worlds.specs.KeptStack.{HaveNumbers, keyed_at, no_windows, stack_of};
 ghost use Rattle.stack_worlds.specs.PlainStack.{Done, PlainStack, asked_by, asked_on, by_way, holder_after, own_step, placed_at, stack_step, way_of, world_at};
-ghost use Rattle.stack_worlds.specs.StackCarried.{IsGivenSound, IsOwnSound, IsReplied, IsWaySound, LineWants, OwnWants, WayWants, WritesStack, plain_given, written};
-ghost use Rattle.stack_worlds.specs.WindowLines.{AreNumbersWithin, WorksBy, worlds_after};
+ghost use Rattle.stack_worlds.specs.StackCarried.{IsGivenSound, IsOwnSound, IsReplied, LineWants, OwnWants, WayWants, WritesStack, plain_given, written};
+ghost use Rattle.stack_worlds.specs.WindowLines.{WorksBy, next_at, worlds_after};
 ghost use Rattle.script_lines.specs.PlainCommands.{Frame};
 ghost use Rattle.view_model.specs.declared.limits.TheConstants.{MAX_VIEWS};
 ghost use Rattle.view_world.specs.Carried.{AreAtHand, CountsShelf, IsDone, faults_after_line};
@@ -100,7 +100,9 @@ impl Stack {
         // Only a frame counts anything.
         ensures work { ((k : ℕ) → plain_line line.entry ≢ In k Frame) → work.new ≡ work.old }
         ensures idle { IsDone result ⊎ (work.new ≡ work.old) }
-        ensures numbers { (n : ℕ) → 1 ≤ n → AreNumbersWithin n self.old → AreNumbersWithin (n + MAX_VIEWS) self.new }
+        ensures numbers { (k : ℕ) → next_at self.new k ≤ next_at self.old k + MAX_VIEWS }
+        ensures painted { work.old.painted ≤ work.new.painted }
+        ensures measured { min work.old.measured (2 ^ 64 - 1) ≤ work.new.measured }
         ensures works { WorksBy (way_of (stack_of self.old) (plain_line line.entry)) self.old self.new result work.old work.new }
         ensures sink_failed { (K.state sink.new).faults ≡ faults_after_line result (K.state sink.old).faults }
     {
@@ -132,7 +134,6 @@ impl Stack {
         ensures shelf_failed { CountsShelf (F.faults shelf.old) (F.faults shelf.new) result }
         ensures asked { result ≡ Err StepFault.Shelf → asked_by (stack_of self.old) (plain_line line.entry) ≢ None }
         ensures memory { result ≡ Err StepFault.NoMemory → LineWants (stack_of self.old) (plain_line line.entry) }
-        ensures sound { IsWaySound (stack_of self.old) (way_of (stack_of self.old) (plain_line line.entry)) }
         ensures works { WorksBy (way_of (stack_of self.old) (plain_line line.entry)) self.old self.new result work.old work.new }
         ensures sink_failed { (K.state sink.new).faults ≡ faults_after_line result (K.state sink.old).faults }
     {

@@ -11,7 +11,7 @@ ghost use Rattle.text_lines.specs.Delivered.{Delivered};
 ghost use Rattle.text_lines.specs.Joined.{◌⧺◌};
 ghost use Rattle.stack_worlds.specs.Composed.{IsComposed, composed_in, part_of};
 ghost use Rattle.stack_worlds.specs.KeptStack.{kept_world, stack_of};
-ghost use Rattle.stack_worlds.specs.PlainStack.{color_in, color_of_picture, color_of_world, composed_text, settled_size, settled_sizes};
+ghost use Rattle.stack_worlds.specs.PlainStack.{color_from, color_in, color_of_picture, color_of_world, composed_text, settled_size, settled_sizes};
 ghost use Rattle.view_world.specs.KeyedWorld.{world_of};
 ghost use Rattle.view_world.specs.Replies.{pixel_text, pixels_text, row_text, separator};
 ghost use Rattle.window_stack.specs.PlainPanes.{topmost};
@@ -87,13 +87,20 @@ impl Stack {
         requires { k ≤ MAX_PANE }
         ensures { result ≡ color_in (stack_of self.now) x y (Some k) }
     {
-        let Some((left, top)) = self.panes.corner(k) else {
-            return BLACK;
-        };
         match self.world(k) {
             None => BLACK,
-            Some(world) => color_of_world(world, distance(left, x), distance(top, y)),
+            Some(world) => color_from(self.panes.corner(k), x, y, world),
         }
+    }
+}
+
+/// The colour of a point of a window with this corner, by the coordinates of the stack; black without a corner.
+fn color_from(corner: Option<(i32, i32)>, x: i32, y: i32, world: &World) -> Argb
+    ensures { result ≡ color_from corner x y (Some (world_of world.now)) }
+{
+    match corner {
+        None => BLACK,
+        Some((left, top)) => color_of_world(world, distance(left, x), distance(top, y)),
     }
 }
 

@@ -1,6 +1,6 @@
 use Rattle.std.proofs.Common.{◌≡◌, ◌∙◌, ap, inl, inr, subst, sym}
-use Rattle.stack_worlds.proofs.CountLaws.{idle_failed, idle_line, numbers_way}
-use Rattle.stack_worlds.specs.KeptStack.{HasWorlds, stack_of}
+use Rattle.stack_worlds.proofs.CountLaws.{idle_failed, idle_line, measured_later, numbers_way, painted_later}
+use Rattle.stack_worlds.specs.KeptStack.{stack_of}
 use Rattle.stack_worlds.specs.PlainStack.{PlainStack, stack_step, way_of}
 use Rattle.stack_worlds.specs.StackCarried.{WritesStack}
 use Rattle.stack_worlds.proofs.StackLaws.{isolated_line}
@@ -17,14 +17,21 @@ returns-clause-isolated g c files k shared hand same is replied =
     replied is
 
 pub returns-clause-work : goal.returns-clause-work
-returns-clause-work g c none =
-    idle_line (plain_line c.args.line) c.args.self.now c.carry_out.new.self c.carry_out.result c.args.work.now c.carry_out.new.work (subst HasWorlds c.self.view_is c.self.invariant) c.carry_out.ensures.sound c.carry_out.ensures.works none
+returns-clause-work g c none = idle_line (plain_line c.args.line) c.args.self.now c.carry_out.new.self c.carry_out.result c.args.work.now c.carry_out.new.work c.carry_out.ensures.works none
 
 pub returns-clause-idle : goal.returns-clause-idle
 returns-clause-idle g c =
-    idle_failed (way_of (stack_of c.args.self.now) (plain_line c.args.line)) c.args.self.now c.carry_out.new.self c.carry_out.result c.args.work.now c.carry_out.new.work (subst HasWorlds c.self.view_is c.self.invariant) c.carry_out.ensures.sound c.carry_out.ensures.works
+    idle_failed (way_of (stack_of c.args.self.now) (plain_line c.args.line)) c.args.self.now c.carry_out.new.self c.carry_out.result c.args.work.now c.carry_out.new.work c.carry_out.ensures.works
 
 pub returns-clause-numbers : goal.returns-clause-numbers
-returns-clause-numbers g c n one few =
-    numbers_way n (way_of (stack_of c.args.self.now) (plain_line c.args.line)) c.args.self.now c.carry_out.new.self c.carry_out.result c.args.work.now c.carry_out.new.work (subst HasWorlds c.self.view_is c.self.invariant) c.carry_out.ensures.sound c.carry_out.ensures.works
-    (elim c.carry_out.ensures.unchanged [ inl done ↦ inl done | inr kept ↦ inr kept.0 ]) one few
+returns-clause-numbers g c =
+    numbers_way (way_of (stack_of c.args.self.now) (plain_line c.args.line)) c.args.self.now c.carry_out.new.self c.carry_out.result c.args.work.now c.carry_out.new.work c.carry_out.ensures.works
+    (elim c.carry_out.ensures.unchanged [ inl done ↦ inl done | inr kept ↦ inr kept.0 ])
+
+pub returns-clause-painted : goal.returns-clause-painted
+returns-clause-painted g c =
+    painted_later (way_of (stack_of c.args.self.now) (plain_line c.args.line)) c.args.self.now c.carry_out.new.self c.carry_out.result c.args.work.now c.carry_out.new.work c.carry_out.ensures.works
+
+pub returns-clause-measured : goal.returns-clause-measured
+returns-clause-measured g c =
+    measured_later (way_of (stack_of c.args.self.now) (plain_line c.args.line)) c.args.self.now c.carry_out.new.self c.carry_out.result c.args.work.now c.carry_out.new.work c.carry_out.ensures.works
