@@ -1,6 +1,7 @@
 use Rattle.std.proofs.Common.{◌∙◌, ap, sym, Bor, w32, FitsSigned}
 use Rattle.std.proofs.lemmas.Int.{to_z-of_z}
 use Rattle.std.specs.Option.{option_map}
+use Rattle.std.specs.Prelude.{Some}
 use Rattle.stack_worlds.proofs.ComposedLaws.{black_there, color_there}
 use Rattle.stack_worlds.proofs.stack.Stack.color_in.Goals as goal
 use Rattle.stack_worlds.specs.KeptStack.{KeyedStack}

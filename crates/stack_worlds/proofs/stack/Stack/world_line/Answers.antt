@@ -1,5 +1,7 @@
-use Rattle.std.proofs.Common.{◌∙◌, ap, subst, inl, inr}
-use Rattle.std.specs.Prelude.{Some, slice_set}
+use Rattle.std.proofs.Common.{◌∙◌, ◌<◌, ap, subst, sym, inl, inr}
+use Rattle.std.specs.Prelude.{Option, IfSome, Some, slice_set}
+use Rattle.view_model.specs.declared.limits.TheConstants.{NUMBERS_END}
+use Rattle.view_world.specs.KeyedWorld.{KeyedWorld}
 use Rattle.stack_worlds.specs.KeptStack.{HasWorlds, KeyedStack, keyed_at}
 use Rattle.stack_worlds.proofs.PlaceLaws.{place_is, place_kept, place_same, place_set}
 use Rattle.stack_worlds.proofs.StackLaws.{there}
@@ -41,3 +43,8 @@ returns g c =
       memory = c.line_at.ensures.memory;
       sink_failed = c.line_at.ensures.sink_failed;
     }
+
+pub line_at-requires-clause-numbers : goal.line_at-requires-clause-numbers
+line_at-requires-clause-numbers g c =
+    let old = place_is c.self.inside.panes c.self.inside.worlds c.args.k c.from.result c.index-self-from.result c.from.ensures c.requires.name c.self.invariant ∙ ap (λ (s : KeyedStack). keyed_at s c.args.k) c.self.view_is in
+    subst (λ (w : Option KeyedWorld). IfSome w (λ world. world.screen.views.next < NUMBERS_END)) (sym old) (c.requires.numbers c.args.k)
