@@ -1,5 +1,4 @@
-use Rattle.std.proofs.Common.{◌∙◌, ap, sym, Bor, w32, FitsSigned}
-use Rattle.std.proofs.lemmas.Int.{to_z-of_z}
+use Rattle.std.proofs.Common.{◌∙◌, ap, sym, Bor}
 use Rattle.std.specs.Option.{option_map}
 use Rattle.std.specs.Prelude.{Some}
 use Rattle.stack_worlds.proofs.ComposedLaws.{black_there, color_there}
@@ -11,10 +10,8 @@ use Rattle.window_stack.specs.PlainPanes.{corner_of}
 
 pub returns-in-Some : goal.returns-in-Some
 returns-in-Some c =
-    let x : FitsSigned w32 c.args.x = c.ranges.x in
-    let y : FitsSigned w32 c.args.y = c.ranges.y in
     let there = sym c.world.ensures ∙ ap (option_map (λ (w : Bor KeyedWorld). w.now)) c.in-Some.is in
-    simp to_z-of_z c.color_from.ensures
+    c.color_from.ensures
     ∙ ap (λ corner. color_from corner c.args.x c.args.y (Some (world_of c.in-Some.world.now))) (c.corner.ensures ∙ ap (λ (s : KeyedStack). corner_of s.panes c.args.k) c.self.view_is)
     ∙ color_there c.args.self.now c.args.k c.in-Some.world.now c.args.x c.args.y there
 
