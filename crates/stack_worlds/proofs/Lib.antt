@@ -4,4 +4,5 @@ mod GivenLaws
 pub mod IsolationLaws
 mod OpenLaws
 mod PlaceLaws
+mod SizeLaws
 pub mod StackLaws
