@@ -1,3 +1,4 @@
+mod ChangeLaws
 mod ComposedLaws
 mod CountLaws
 mod GivenLaws
