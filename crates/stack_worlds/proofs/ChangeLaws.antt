@@ -1,7 +1,7 @@
 -- What a change of a stack leaves of its windows and their worlds, and what it writes.
-use Rattle.std.proofs.Common.{◌≡◌, ◌∙◌, ℕ, ◌+◌, ◌≤◌, true, false, Bool, List, [], refl, ap, sym, arith, set}
+use Rattle.std.proofs.Common.{◌≡◌, ◌∙◌, ℕ, ◌+◌, ◌≤◌, true, false, Bool, List, [], refl, ap, sym, arith, set, FitsSigned, of_z, to_z, w32}
 use Rattle.std.proofs.KnownBytes.{Appends-nil}
-use Rattle.std.proofs.lemmas.Int.{ints}
+use Rattle.std.proofs.lemmas.Int.{ints, to_z-of_z}
 use Rattle.std.proofs.lemmas.List.{map-set}
 use Rattle.std.specs.Io.KnownBytes.{Appends}
 use Rattle.std.specs.Option.{option_map}
@@ -11,7 +11,7 @@ use Rattle.script_lines.specs.Pixels.{IsPart}
 use Rattle.stack_worlds.proofs.ComposedLaws.{some_text}
 use Rattle.stack_worlds.proofs.PlaceLaws.{place_set}
 use Rattle.stack_worlds.specs.KeptStack.{KeyedStack, kept_world, stack_of}
-use Rattle.stack_worlds.specs.PlainStack.{PlainStack, StackReply, Done, Refused, composed, own_step, placed_at}
+use Rattle.stack_worlds.specs.PlainStack.{PlainStack, StackReply, Done, Refused, composed, composed_text, own_step, placed_at}
 use Rattle.stack_worlds.specs.StackCarried.{WritesStack, written}
 use Rattle.stack_worlds.specs.declared.stack.way.Own.TheVariants as own
 use Rattle.text_lines.specs.Delivered.{Delivered}
@@ -63,6 +63,22 @@ delivered_writes stack text before after (Err failed) d = (text, refl, d.prefix,
 at_least_one : (h : ℤ) → pos 1 ≤ℤ h → 1 ≤ unsigned_abs h
 at_least_one (pos n) e = omega (arith, ints)
 at_least_one (negsuc n) e = absurd (omega (arith, ints))
+
+abbrev back : ℤ → ℤ
+back z = to_z w32 (of_z w32 z)
+
+same_back : (z : ℤ) → pos 0 ≤ℤ z → z ≤ℤ pos 4096 → back z ≡ z
+same_back z low high = let fits : FitsSigned w32 z = grind (arith, ints) in to_z-of_z w32 z fits
+
+-- the numbers of a part are not changed on their way to a call
+pub part_back : (stack : PlainStack) (x y w h : ℤ) → IsPart x y w h
+    → composed_text stack (unsigned_abs (to_z w32 (of_z w32 x))) (unsigned_abs (to_z w32 (of_z w32 y))) (unsigned_abs (to_z w32 (of_z w32 w))) (unsigned_abs (to_z w32 (of_z w32 h)))
+    ≡ composed_text stack (unsigned_abs x) (unsigned_abs y) (unsigned_abs w) (unsigned_abs h)
+part_back stack x y w h part =
+    ap (λ (n : ℤ). composed_text stack (unsigned_abs n) (unsigned_abs (back y)) (unsigned_abs (back w)) (unsigned_abs (back h))) (same_back x part.0.0 (omega (arith, ints, part.0.1)))
+    ∙ ap (λ (n : ℤ). composed_text stack (unsigned_abs x) (unsigned_abs n) (unsigned_abs (back w)) (unsigned_abs (back h))) (same_back y part.1.0 (omega (arith, ints, part.1.1)))
+    ∙ ap (λ (n : ℤ). composed_text stack (unsigned_abs x) (unsigned_abs y) (unsigned_abs n) (unsigned_abs (back h))) (same_back w (omega (arith, ints, part.2.0)) part.2.1)
+    ∙ ap (λ (n : ℤ). composed_text stack (unsigned_abs x) (unsigned_abs y) (unsigned_abs w) (unsigned_abs n)) (same_back h (omega (arith, ints, part.3.0)) part.3.1)
 
 abbrev text_in : StackReply → List ℕ
 text_in (Done stack text) = text

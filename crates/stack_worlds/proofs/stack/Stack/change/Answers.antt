@@ -1,13 +1,15 @@
 use Rattle.std.proofs.Common.{◌≡◌, ◌∙◌, ap, sym, subst, refl, [], set}
 use Rattle.std.proofs.KnownBytes.{Appends-nil}
 use Rattle.std.specs.Prelude.{None, Result, map, unsigned_abs}
-use Rattle.stack_worlds.proofs.ChangeLaws.{closed_place, closed_plain, delivered_writes, part_text, stacked}
+use Rattle.stack_worlds.proofs.ChangeLaws.{closed_place, closed_plain, delivered_writes, part_back, part_text, stacked}
 use Rattle.stack_worlds.proofs.OpenLaws.{has_closed, has_same, raise_keeps}
 use Rattle.stack_worlds.proofs.stack.Stack.change.Goals as goal
 use Rattle.stack_worlds.specs.KeptStack.{HasWorlds, KeyedStack, kept_world, stack_of}
 use Rattle.stack_worlds.specs.PlainStack.{Done, StackReply, composed_text, own_step}
 use Rattle.stack_worlds.specs.StackCarried.{IsOwnSound, WritesStack, written}
 use Rattle.stack_worlds.specs.WindowLines.{worlds_after}
+use Rattle.stack_worlds.specs.declared.stack.way.Own.{Own}
+use Rattle.text_lines.specs.Delivered.{Delivered}
 use Rattle.view_world.specs.declared.fault.StepFault.{StepFault}
 use Rattle.window_stack.specs.PlainPanes.{PlainPanes, closed, is_open}
 
@@ -52,9 +54,11 @@ returns-in-Compose-clause-carried g c =
     let stack = stack_of c.args.self.now in
     let before = g.K.Sink.state c.args.sink.now in
     let after = g.K.Sink.state c.compose.new.sink in
+    let part = subst (IsOwnSound stack) c.in-Compose.is c.requires in
+    let text = composed_text stack (unsigned_abs c.in-Compose.x) (unsigned_abs c.in-Compose.y) (unsigned_abs c.in-Compose.w) (unsigned_abs c.in-Compose.h) in
+    let delivered = subst (Delivered before after c.compose.result) (part_back stack c.in-Compose.x c.in-Compose.y c.in-Compose.w c.in-Compose.h part) c.compose.ensures in
     subst (λ (r : Result (Unit {0}) StepFault). WritesStack (own_step stack c.args.own) stack before after r) (sym c.written.ensures)
-    (subst (λ own. WritesStack (own_step stack own) stack before after (written c.compose.result)) (sym c.in-Compose.is)
-      (delivered_writes stack (composed_text stack (unsigned_abs c.in-Compose.x) (unsigned_abs c.in-Compose.y) (unsigned_abs c.in-Compose.w) (unsigned_abs c.in-Compose.h)) before after c.compose.result c.compose.ensures))
+    (subst (λ (own : Own). WritesStack (own_step stack own) stack before after (written c.compose.result)) (sym c.in-Compose.is) (delivered_writes stack text before after c.compose.result delivered))
 
 pub returns-in-Compose-clause-silent : goal.returns-in-Compose-clause-silent
 returns-in-Compose-clause-silent g c after e =

@@ -42,8 +42,8 @@ returns-clause-done c =
       (c.set-2.ensures ∙ ap (λ (s : KeyedStack). set_at s.panes k x y) c.self.view_is)
       (opened_place worlds c.open_in.new.worlds k at.0 at.1 at.2 ∙ ap (λ (s : KeyedStack). set s.worlds k (Some new_world)) c.self.view_is))
     ∙ placed_opened c.args.self.now k x y (sym c.is_open.ensures ∙ c.if-is_open.false)
-    ∙ ap (λ (x : ℤ). placed_at (stack_of c.args.self.now) k x y) (to_z-of_z c.ranges.x)
-    ∙ ap (λ (y : ℤ). placed_at (stack_of c.args.self.now) k c.args.x y) (to_z-of_z c.ranges.y)
+    ∙ ap (λ (x : ℤ). placed_at (stack_of c.args.self.now) k x y) (to_z-of_z w32 c.args.x c.ranges.x)
+    ∙ ap (λ (y : ℤ). placed_at (stack_of c.args.self.now) k c.args.x y) (to_z-of_z w32 c.args.y c.ranges.y)
 
 pub returns-clause-worlds : goal.returns-clause-worlds
 returns-clause-worlds c =
