@@ -39,8 +39,8 @@ pub placed_opened : (stack : KeyedStack) (k : ℕ) (x y : ℤ) → is_open stack
 placed_opened stack k x y off =
     let plain = map (option_map world_of) stack.worlds in
     ap (λ (worlds : List (Option World)). record { panes = set_at stack.panes k x y; worlds = worlds }) (
-      map-set (option_map world_of) stack.worlds k (Some new_world)
-      ∙ sym (ap (λ (b : Bool). if b then plain else set plain k (Some empty_world)) off)
+    map-set (option_map world_of) stack.worlds k (Some new_world)
+    ∙ sym (ap (λ (b : Bool). if b then plain else set plain k (Some empty_world)) off)
     )
 
 -- a place of the code from which a world was taken, and its window closed

@@ -33,13 +33,13 @@ returns-in-Close-clause-carried g c =
     let inside = c.self-in-Close.inside in
     let before = g.K.Sink.state c.args.sink.now in
     let left =
-        closed_place inside.panes c.close.new.self inside.worlds k c.from.result c.from.ensures c.close.ensures
-        ∙ ap (λ (s : KeyedStack). stacked (closed s.panes k) (set s.worlds k None)) c.self-in-Close.view_is in (
-          [],
-          ap (own_step (stack_of c.args.self.now)) c.in-Close.is ∙ closed_plain c.args.self.now k ∙ ap (λ (s : KeyedStack). Done (stack_of s) []) (sym left),
-          Appends-nil before.gone,
-          refl,
-        )
+    closed_place inside.panes c.close.new.self inside.worlds k c.from.result c.from.ensures c.close.ensures
+    ∙ ap (λ (s : KeyedStack). stacked (closed s.panes k) (set s.worlds k None)) c.self-in-Close.view_is in (
+      [],
+      ap (own_step (stack_of c.args.self.now)) c.in-Close.is ∙ closed_plain c.args.self.now k ∙ ap (λ (s : KeyedStack). Done (stack_of s) []) (sym left),
+      Appends-nil before.gone,
+      refl,
+    )
 
 pub returns-in-Close-clause-worlds : goal.returns-in-Close-clause-worlds
 returns-in-Close-clause-worlds g c done =

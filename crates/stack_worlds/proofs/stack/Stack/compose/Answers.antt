@@ -13,14 +13,14 @@ use Rattle.view_world.specs.Replies.{pixels_text}
 pub put_rows-requires : goal.put_rows-requires
 put_rows-requires g c =
     let part : c.part_of.result ≡ part_of c.args.x c.args.y c.args.w c.args.h =
-        c.part_of.ensures
-        ∙ part_same _ _ _ _ c.args.x c.args.y c.args.w c.args.h (to_z-of_z w32 c.args.x c.ranges.x) (to_z-of_z w32 c.args.y c.ranges.y) (to_z-of_z w32 c.args.w c.ranges.w) (to_z-of_z w32 c.args.h c.ranges.h) in
+    c.part_of.ensures
+    ∙ part_same _ _ _ _ c.args.x c.args.y c.args.w c.args.h (to_z-of_z w32 c.args.x c.ranges.x) (to_z-of_z w32 c.args.y c.ranges.y) (to_z-of_z w32 c.args.w c.ranges.w) (to_z-of_z w32 c.args.h c.ranges.h) in
     is_composed _ c.args.x c.args.y c.args.w c.args.h c.requires c.settled_sizes.ensures part
 
 pub returns : goal.returns
 returns g c =
     let part : c.part_of.result ≡ part_of c.args.x c.args.y c.args.w c.args.h =
-        c.part_of.ensures
-        ∙ part_same _ _ _ _ c.args.x c.args.y c.args.w c.args.h (to_z-of_z w32 c.args.x c.ranges.x) (to_z-of_z w32 c.args.y c.ranges.y) (to_z-of_z w32 c.args.w c.ranges.w) (to_z-of_z w32 c.args.h c.ranges.h) in
+    c.part_of.ensures
+    ∙ part_same _ _ _ _ c.args.x c.args.y c.args.w c.args.h (to_z-of_z w32 c.args.x c.ranges.x) (to_z-of_z w32 c.args.y c.ranges.y) (to_z-of_z w32 c.args.w c.ranges.w) (to_z-of_z w32 c.args.h c.ranges.h) in
     let text = ap (λ (p : Part). pixels_text (λ column row. composed (stack_of c.args.self.now) (pos (p.left + column)) (pos (p.top + row))) p.width p.height) part in
     delivered c.finish.result c.new-text.ensures (sends_as text c.put_rows.ensures) c.finish.ensures.sends c.finish.ensures.empty c.finish.ensures.whole c.finish.ensures.failed

@@ -39,8 +39,8 @@ returns-clause-done c =
     let at = c.open_in.ensures.opened c.in_ok-open_in.was in
     ap stack_of
     (both_are c.set-2.new.self (set_at c.args.self.now.panes k x y) (map kept_world c.open_in.new.worlds) (set c.args.self.now.worlds k (Some new_world))
-      (c.set-2.ensures ∙ ap (λ (s : KeyedStack). set_at s.panes k x y) c.self.view_is)
-      (opened_place worlds c.open_in.new.worlds k at.0 at.1 at.2 ∙ ap (λ (s : KeyedStack). set s.worlds k (Some new_world)) c.self.view_is))
+    (c.set-2.ensures ∙ ap (λ (s : KeyedStack). set_at s.panes k x y) c.self.view_is)
+    (opened_place worlds c.open_in.new.worlds k at.0 at.1 at.2 ∙ ap (λ (s : KeyedStack). set s.worlds k (Some new_world)) c.self.view_is))
     ∙ placed_opened c.args.self.now k x y (sym c.is_open.ensures ∙ c.if-is_open.false)
     ∙ ap (λ (x : ℤ). placed_at (stack_of c.args.self.now) k x y) (to_z-of_z w32 c.args.x c.ranges.x)
     ∙ ap (λ (y : ℤ). placed_at (stack_of c.args.self.now) k c.args.x y) (to_z-of_z w32 c.args.y c.ranges.y)

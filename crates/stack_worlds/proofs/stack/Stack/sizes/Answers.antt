@@ -14,6 +14,6 @@ returns c =
     let refs : length c.each_ref.result ≡ 8 = sym (length-map c.each_ref.result _) ∙ ap length c.each_ref.ensures.items ∙ sym (length-map c.self.inside.worlds kept_world) ∙ c.self.invariant.all in
     read_each size_in c.each_ref.result c.self.inside.worlds c.map.result c.each_ref.ensures.items (eight ∙ sym refs)
     (λ i d e within.
-        let called = items.at i d e (omega (arith, within, eight)) in
-        let read : get_or c.map.result i e ≡ size_in (option_map world_of (kept_world (get_or c.each_ref.result i d).now)) = search rules in read)
+    let called = items.at i d e (omega (arith, within, eight)) in
+    let read : get_or c.map.result i e ≡ size_in (option_map world_of (kept_world (get_or c.each_ref.result i d).now)) = search rules in read)
     ∙ ap (λ (s : KeyedStack). sizes_of (stack_of s)) c.self.view_is
