@@ -1,9 +1,7 @@
 -- What a change of a stack leaves of its windows and their worlds, and what it writes.
-use Rattle.std.proofs.Common.{◌≡◌, ◌∙◌, ℕ, ◌+◌, ◌≤◌, true, false, Bool, List, [], refl, ap, sym, arith, set, FitsSigned, of_z, to_z, w32}
-use Rattle.std.proofs.KnownBytes.{Appends-nil}
+use Rattle.std.proofs.Common.{◌≡◌, ◌∙◌, ℕ, ◌+◌, ◌≤◌, false, Bool, List, [], refl, ap, sym, arith, set, FitsSigned, of_z, to_z, w32}
 use Rattle.std.proofs.lemmas.Int.{ints, to_z-of_z}
 use Rattle.std.proofs.lemmas.List.{map-set}
-use Rattle.std.specs.Io.KnownBytes.{Appends}
 use Rattle.std.specs.Option.{option_map}
 use Rattle.std.specs.Prelude.{Option, Some, None, Box, Result, Ok, Err, ℤ, pos, negsuc, ◌≤ℤ◌, unsigned_abs, if◌then◌else◌, map}
 use Rattle.std.specs.declared.alloc.Global.{Global}
@@ -39,8 +37,8 @@ pub placed_opened : (stack : KeyedStack) (k : ℕ) (x y : ℤ) → is_open stack
 placed_opened stack k x y off =
     let plain = map (option_map world_of) stack.worlds in
     ap (λ (worlds : List (Option World)). record { panes = set_at stack.panes k x y; worlds = worlds }) (
-      map-set (option_map world_of) stack.worlds k (Some new_world)
-      ∙ sym (ap (λ (b : Bool). if b then plain else set plain k (Some empty_world)) off)
+    map-set (option_map world_of) stack.worlds k (Some new_world)
+    ∙ sym (ap (λ (b : Bool). if b then plain else set plain k (Some empty_world)) off)
     )
 
 -- a place of the code from which a world was taken, and its window closed

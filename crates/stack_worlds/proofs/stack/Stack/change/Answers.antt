@@ -1,11 +1,11 @@
-use Rattle.std.proofs.Common.{◌≡◌, ◌∙◌, ap, sym, subst, refl, [], set}
+use Rattle.std.proofs.Common.{◌∙◌, ap, sym, subst, refl, [], set}
 use Rattle.std.proofs.KnownBytes.{Appends-nil}
 use Rattle.std.specs.Prelude.{None, Result, map, unsigned_abs}
 use Rattle.stack_worlds.proofs.ChangeLaws.{closed_place, closed_plain, delivered_writes, part_back, part_text, stacked}
 use Rattle.stack_worlds.proofs.OpenLaws.{has_closed, has_same, raise_keeps}
 use Rattle.stack_worlds.proofs.stack.Stack.change.Goals as goal
 use Rattle.stack_worlds.specs.KeptStack.{HasWorlds, KeyedStack, kept_world, stack_of}
-use Rattle.stack_worlds.specs.PlainStack.{Done, StackReply, composed_text, own_step}
+use Rattle.stack_worlds.specs.PlainStack.{Done, composed_text, own_step}
 use Rattle.stack_worlds.specs.StackCarried.{IsOwnSound, WritesStack, written}
 use Rattle.stack_worlds.specs.WindowLines.{worlds_after}
 use Rattle.stack_worlds.specs.declared.stack.way.Own.{Own}
@@ -33,13 +33,13 @@ returns-in-Close-clause-carried g c =
     let inside = c.self-in-Close.inside in
     let before = g.K.Sink.state c.args.sink.now in
     let left =
-        closed_place inside.panes c.close.new.self inside.worlds k c.from.result c.from.ensures c.close.ensures
-        ∙ ap (λ (s : KeyedStack). stacked (closed s.panes k) (set s.worlds k None)) c.self-in-Close.view_is in (
-          [],
-          ap (own_step (stack_of c.args.self.now)) c.in-Close.is ∙ closed_plain c.args.self.now k ∙ ap (λ (s : KeyedStack). Done (stack_of s) []) (sym left),
-          Appends-nil before.gone,
-          refl,
-        )
+    closed_place inside.panes c.close.new.self inside.worlds k c.from.result c.from.ensures c.close.ensures
+    ∙ ap (λ (s : KeyedStack). stacked (closed s.panes k) (set s.worlds k None)) c.self-in-Close.view_is in (
+      [],
+      ap (own_step (stack_of c.args.self.now)) c.in-Close.is ∙ closed_plain c.args.self.now k ∙ ap (λ (s : KeyedStack). Done (stack_of s) []) (sym left),
+      Appends-nil before.gone,
+      refl,
+    )
 
 pub returns-in-Close-clause-worlds : goal.returns-in-Close-clause-worlds
 returns-in-Close-clause-worlds g c done =

@@ -1,12 +1,12 @@
-use Rattle.std.proofs.Common.{◌≡◌, ◌∙◌, ℤ, Bool, List, Some, ap, sym, subst, set, to_z, of_z, w32, slice_set}
+use Rattle.std.proofs.Common.{◌∙◌, ℤ, Bool, Some, ap, sym, subst, set, to_z, of_z, w32}
 use Rattle.std.proofs.lemmas.Int.{to_z-of_z}
-use Rattle.std.specs.Prelude.{Option, if◌then◌else◌, map}
+use Rattle.std.specs.Prelude.{if◌then◌else◌, map}
 use Rattle.stack_worlds.proofs.ChangeLaws.{both_are, opened_place, placed_opened}
 use Rattle.stack_worlds.proofs.OpenLaws.{has_opened, has_same, set_keeps}
 use Rattle.stack_worlds.proofs.stack.Stack.set.Goals as goal
 use Rattle.stack_worlds.specs.KeptStack.{HasWorlds, KeyedStack, kept_world, stack_of}
 use Rattle.stack_worlds.specs.PlainStack.{placed_at}
-use Rattle.view_world.specs.KeyedWorld.{KeyedWorld, new_world}
+use Rattle.view_world.specs.KeyedWorld.{new_world}
 use Rattle.window_stack.specs.PlainPanes.{PlainPanes, is_open, set_at}
 
 pub invariant_of-self : goal.invariant_of-self
@@ -39,8 +39,8 @@ returns-clause-done c =
     let at = c.open_in.ensures.opened c.in_ok-open_in.was in
     ap stack_of
     (both_are c.set-2.new.self (set_at c.args.self.now.panes k x y) (map kept_world c.open_in.new.worlds) (set c.args.self.now.worlds k (Some new_world))
-      (c.set-2.ensures ∙ ap (λ (s : KeyedStack). set_at s.panes k x y) c.self.view_is)
-      (opened_place worlds c.open_in.new.worlds k at.0 at.1 at.2 ∙ ap (λ (s : KeyedStack). set s.worlds k (Some new_world)) c.self.view_is))
+    (c.set-2.ensures ∙ ap (λ (s : KeyedStack). set_at s.panes k x y) c.self.view_is)
+    (opened_place worlds c.open_in.new.worlds k at.0 at.1 at.2 ∙ ap (λ (s : KeyedStack). set s.worlds k (Some new_world)) c.self.view_is))
     ∙ placed_opened c.args.self.now k x y (sym c.is_open.ensures ∙ c.if-is_open.false)
     ∙ ap (λ (x : ℤ). placed_at (stack_of c.args.self.now) k x y) (to_z-of_z w32 c.args.x c.ranges.x)
     ∙ ap (λ (y : ℤ). placed_at (stack_of c.args.self.now) k c.args.x y) (to_z-of_z w32 c.args.y c.ranges.y)
