@@ -1,9 +1,7 @@
 -- What a change of a stack leaves of its windows and their worlds, and what it writes.
-use Rattle.std.proofs.Common.{◌≡◌, ◌∙◌, ℕ, ◌+◌, ◌≤◌, true, false, Bool, List, [], refl, ap, sym, arith, set, FitsSigned, of_z, to_z, w32}
-use Rattle.std.proofs.KnownBytes.{Appends-nil}
+use Rattle.std.proofs.Common.{◌≡◌, ◌∙◌, ℕ, ◌+◌, ◌≤◌, false, Bool, List, [], refl, ap, sym, arith, set, FitsSigned, of_z, to_z, w32}
 use Rattle.std.proofs.lemmas.Int.{ints, to_z-of_z}
 use Rattle.std.proofs.lemmas.List.{map-set}
-use Rattle.std.specs.Io.KnownBytes.{Appends}
 use Rattle.std.specs.Option.{option_map}
 use Rattle.std.specs.Prelude.{Option, Some, None, Box, Result, Ok, Err, ℤ, pos, negsuc, ◌≤ℤ◌, unsigned_abs, if◌then◌else◌, map}
 use Rattle.std.specs.declared.alloc.Global.{Global}

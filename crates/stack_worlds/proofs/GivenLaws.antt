@@ -1,6 +1,6 @@
 -- A stack in which a command was carried out in the world of one window.
 use Rattle.std.proofs.Common.{◌≡◌, ◌∙◌, ℕ, List, [], ap, sym, subst, get_or, set}
-use Rattle.std.specs.Prelude.{Option, Some, None, Result, map}
+use Rattle.std.specs.Prelude.{Option, Some, None, Result}
 use Rattle.std.specs.Option.{option_map}
 use Rattle.std.proofs.lemmas.List.{get_or-set_same, map-set}
 use Rattle.script_lines.specs.PlainCommands.{PlainCommand}

@@ -1,11 +1,11 @@
-use Rattle.std.proofs.Common.{◌≡◌, ◌∙◌, ap, sym, subst, refl, [], set}
+use Rattle.std.proofs.Common.{◌∙◌, ap, sym, subst, refl, [], set}
 use Rattle.std.proofs.KnownBytes.{Appends-nil}
 use Rattle.std.specs.Prelude.{None, Result, map, unsigned_abs}
 use Rattle.stack_worlds.proofs.ChangeLaws.{closed_place, closed_plain, delivered_writes, part_back, part_text, stacked}
 use Rattle.stack_worlds.proofs.OpenLaws.{has_closed, has_same, raise_keeps}
 use Rattle.stack_worlds.proofs.stack.Stack.change.Goals as goal
 use Rattle.stack_worlds.specs.KeptStack.{HasWorlds, KeyedStack, kept_world, stack_of}
-use Rattle.stack_worlds.specs.PlainStack.{Done, StackReply, composed_text, own_step}
+use Rattle.stack_worlds.specs.PlainStack.{Done, composed_text, own_step}
 use Rattle.stack_worlds.specs.StackCarried.{IsOwnSound, WritesStack, written}
 use Rattle.stack_worlds.specs.WindowLines.{worlds_after}
 use Rattle.stack_worlds.specs.declared.stack.way.Own.{Own}

@@ -1,12 +1,12 @@
-use Rattle.std.proofs.Common.{◌≡◌, ◌∙◌, ℤ, Bool, List, Some, ap, sym, subst, set, to_z, of_z, w32, slice_set}
+use Rattle.std.proofs.Common.{◌∙◌, ℤ, Bool, Some, ap, sym, subst, set, to_z, of_z, w32}
 use Rattle.std.proofs.lemmas.Int.{to_z-of_z}
-use Rattle.std.specs.Prelude.{Option, if◌then◌else◌, map}
+use Rattle.std.specs.Prelude.{if◌then◌else◌, map}
 use Rattle.stack_worlds.proofs.ChangeLaws.{both_are, opened_place, placed_opened}
 use Rattle.stack_worlds.proofs.OpenLaws.{has_opened, has_same, set_keeps}
 use Rattle.stack_worlds.proofs.stack.Stack.set.Goals as goal
 use Rattle.stack_worlds.specs.KeptStack.{HasWorlds, KeyedStack, kept_world, stack_of}
 use Rattle.stack_worlds.specs.PlainStack.{placed_at}
-use Rattle.view_world.specs.KeyedWorld.{KeyedWorld, new_world}
+use Rattle.view_world.specs.KeyedWorld.{new_world}
 use Rattle.window_stack.specs.PlainPanes.{PlainPanes, is_open, set_at}
 
 pub invariant_of-self : goal.invariant_of-self
