@@ -1,8 +1,7 @@
 use Rattle.std.proofs.Common.{◌≡◌, ◌∙◌, sym, subst, true}
-use Rattle.std.specs.Prelude.{Option, IfSome}
+use Rattle.std.specs.Prelude.{IfSome}
 use Rattle.script_lines.specs.PlainCommands.{plain_command}
 use Rattle.stack_worlds.proofs.GivenLaws.{asked_there, given_done, held_after, silent_there}
-use Rattle.stack_worlds.proofs.StackLaws.{there}
 use Rattle.stack_worlds.proofs.stack.Stack.give.Goals as goal
 use Rattle.view_world.specs.Carried.{AreAtHand}
 use Rattle.window_stack.specs.PlainPanes.{PlainPanes, is_open}
