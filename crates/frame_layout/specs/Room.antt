@@ -5,7 +5,7 @@ use Rattle.geom_core.specs.declared.geometry.Size.{Size}
 use Rattle.view_model.specs.declared.facts.Facts.{Facts}
 use Rattle.view_model.specs.Facts.{padding_left, padding_right}
 
--- the group has these facts, as far as placing reads them, and this size
+-- the group has this size, and these facts in all that placing reads
 pub record IsRoom (room : Room) (own : Facts) (size : Size) : Type 0 where
   pub left : room.padding.left ≡ padding_left own
   pub right : room.padding.right ≡ padding_right own
