@@ -1,3 +1,4 @@
+pub mod CarrierLaws
 pub mod CostLaws
 mod FocusLaws
 mod LoadLaws

@@ -3,6 +3,7 @@ use Rattle.std.proofs.Common.{◌≡◌, ℕ, ◌∷◌, ◌++◌, List, [], ref
 use Rattle.std.specs.Prelude.{true, false, Result, Ok, Err}
 use Rattle.std.proofs.lemmas.Bool.{cases_Bool}
 use Rattle.std.proofs.lemmas.Grind.{fold-append}
+use Rattle.geom_core.specs.declared.geometry.Rect.{Rect}
 use Rattle.script_lines.specs.Commands.{command_of}
 use Rattle.script_lines.specs.Lines.{Line, Text, LongLine, is_passed_over}
 use Rattle.script_lines.specs.PlainCommands.{PlainCommand}
@@ -11,13 +12,17 @@ use Rattle.tool_io.specs.Fetched.{Files}
 use Rattle.tool_io.specs.SinkState.{SinkState}
 use Rattle.view_model.specs.Refusals.{PlainRefusal}
 use Rattle.view_model.specs.declared.work.Work.{Work}
+use Rattle.view_tool.specs.Carried.{Carried, LineReply, Refused, of_world, reply_to_bytes, reply_to_command}
+use Rattle.view_tool.specs.Carrier.{IsWatching}
 use Rattle.view_tool.specs.Run.{HasTallied}
-use Rattle.view_tool.specs.Tally.{Tally, after_command, after_done, at_first, tally_of, with_cost, with_costs}
-use Rattle.view_tool.specs.Transcript.{is_idle, reply_to_command, reply_to_line}
+use Rattle.view_tool.specs.Tally.{Tally, Watching, WatchedWorld, after_bytes, after_command, after_done, at_first, carried_in, tally_from, with_cost, with_costs}
+use Rattle.view_tool.specs.Transcript.{is_idle, reply_to_line}
+use Rattle.view_tool.specs.declared.carrier.Carrier.TheVariants as carrier
 use Rattle.view_world.specs.Carried.{IsDone, WritesReply}
 use Rattle.view_world.specs.KeyedWorld.{KeyedWorld, world_of}
-use Rattle.view_world.specs.Step.{Reply, Done, Refused, step}
-use Rattle.view_world.specs.Watched.{Costs, IsWatched, IsWorth, Watched, costs_of, no_costs, watched_after, watched_in}
+use Rattle.view_world.specs.Step.{Reply, step}
+use Rattle.view_world.specs.Step as world
+use Rattle.view_world.specs.Watched.{Costs, HasBox, IsWatched, IsWorth, Watched, costs_of, no_costs, watched_after, watched_in}
 use Rattle.view_world.specs.World.{World}
 use Rattle.view_world.specs.declared.fault.StepFault.{StepFault}
 use Rattle.view_world.specs.declared.fault.StepFault.TheVariants as fault
@@ -40,50 +45,62 @@ worth_same costs first mid now e worth = subst (IsWorth costs first) (sym e) wor
 
 -- one line more
 
-pub tally_of-push : (files : Files) (lines : List Line) (line : Line) → tally_of files (lines ++ line ∷ []) ≡ with_cost files (tally_of files lines) line
-unfolding tally_of
-tally_of-push files lines line = fold-append (with_cost files) at_first lines (line ∷ [])
+pub tally_from-push : (start : Carried) (files : Files) (lines : List Line) (line : Line) → tally_from start files (lines ++ line ∷ []) ≡ with_cost files (tally_from start files lines) line
+unfolding tally_from
+tally_from-push start files lines line = fold-append (with_cost files) (at_first start) lines (line ∷ [])
 
 pub passed_cost : (files : Files) (tally : Tally) (line : Line) → is_idle line ≡ true → with_cost files tally line ≡ tally
 unfolding with_cost
 passed_cost files tally LongLine e = refl
 passed_cost files tally (Text bytes) e = rw e refl
 
-refused_command : (files : Files) (tally : Tally) (refusal : PlainRefusal) (command : Result PlainCommand LineFault) → reply_to_command files tally.watched.world command ≡ Refused refusal
-    → after_command files tally command ≡ tally
-refused_command files tally refusal (Ok command) e = ap (after_done tally command) e
-refused_command files tally refusal (Err fault) e = refl
+refused_in_world : (reply : Reply) (refusal : PlainRefusal) → of_world reply ≡ Refused refusal → reply ≡ world.Refused refusal
+refused_in_world (world.Done after text) refusal e = absurd (cc)
+refused_in_world (world.Refused other) refusal e = cc
+
+refused_command : (files : Files) (costs : Costs) (watched : Watched) (refusal : PlainRefusal) (command : Result PlainCommand LineFault) → reply_to_command files watched.world command ≡ world.Refused refusal
+    → after_command files costs watched command ≡ record { watched = WatchedWorld watched; costs = costs }
+refused_command files costs watched refusal (Ok command) e = ap (after_done costs watched command) e
+refused_command files costs watched refusal (Err fault) e = refl
+
+refused_bytes : (files : Files) (costs : Costs) (watching : Watching) (refusal : PlainRefusal) (bytes : List ℕ) → reply_to_bytes files (carried_in watching) bytes ≡ Refused refusal
+    → after_bytes files costs watching bytes ≡ record { watched = watching; costs = costs }
+refused_bytes files costs (WatchedWorld watched) refusal bytes e = refused_command files costs watched refusal (command_of bytes) (refused_in_world _ refusal e)
 
 -- a refused line costs nothing
-pub refused_cost : (files : Files) (tally : Tally) (refusal : PlainRefusal) (line : Line) → reply_to_line files tally.watched.world line ≡ Refused refusal → with_cost files tally line ≡ tally
+pub refused_cost : (files : Files) (tally : Tally) (refusal : PlainRefusal) (line : Line) → reply_to_line files (carried_in tally.watched) line ≡ Refused refusal → with_cost files tally line ≡ tally
 unfolding with_cost reply_to_line
 refused_cost files tally refusal LongLine e = refl
 refused_cost files tally refusal (Text bytes) e = elim (cases_Bool (is_passed_over bytes)) [
   | inl passed ↦ rw passed refl
-  | inr read ↦ (let f = rw read at e in rw read (refused_command files tally refusal (command_of bytes) f))
+  | inr read ↦ (let f = rw read at e in rw read (refused_bytes files tally.costs tally.watched refusal bytes f))
 ]
 
+-- the bytes of a line that is not passed over cost what the line does
+pub bytes_cost : (files : Files) (tally : Tally) (bytes : List ℕ) → is_passed_over bytes ≡ false → with_cost files tally (Text bytes) ≡ after_bytes files tally.costs tally.watched bytes
+unfolding with_cost
+bytes_cost files tally bytes read = rw read refl
+
 -- a command that was carried out has left what its reply says
-pub done_reply : (reply : Reply) (new : World) (before after : SinkState) (outcome : Result (Unit {0}) StepFault) → WritesReply reply new before after outcome → IsDone outcome → (text : List ℕ) × (reply ≡ Done new text)
+pub done_reply : (reply : Reply) (new : World) (before after : SinkState) (outcome : Result (Unit {0}) StepFault) → WritesReply reply new before after outcome → IsDone outcome → (text : List ℕ) × (reply ≡ world.Done new text)
 done_reply reply new before after (Ok _) w done = (w.0, w.1)
 done_reply reply new before after (Err (fault.Refused refusal)) w done = absurd done
 done_reply reply new before after (Err fault.NoMemory) w done = absurd done
 done_reply reply new before after (Err fault.Sink) w done = (w.0, w.1)
 done_reply reply new before after (Err fault.Shelf) w done = absurd done
 
--- a line that was carried out costs what its command does
-pub tallied_line : (files : Files) (first old new : Work) (before after : KeyedWorld) (tally : Tally) (bytes text : List ℕ) (command : PlainCommand) (result : Result PlainCommand LineFault)
-    → is_passed_over bytes ≡ false → result ≡ command_of bytes → result ≡ Ok command → HasTallied first old before tally → step files (world_of before) command ≡ Done (world_of after) text
-    → IsWatched after (watched_after (watched_in before tally.watched.box) command (world_of after)) → IsWorth (costs_of (watched_in before tally.watched.box) command) old new
-    → HasTallied first new after (with_cost files tally (Text bytes))
-unfolding with_cost
-tallied_line files first old new before after tally bytes text command result passed read taken stands done seen worth =
-    let cost : with_cost files tally (Text bytes) ≡ after_done tally command (step files tally.watched.world command) = rw (passed, sym read ∙ taken) refl in
-    let stepped : step files tally.watched.world command ≡ Done (world_of after) text = ap (λ (w : Watched). step files w.world command) (sym stands.watched.same) ∙ done in
-    let told = cost ∙ ap (after_done tally command) stepped in
-    subst (HasTallied first new after) (sym told) (record {
-      watched = subst (λ (w : Watched). IsWatched after (watched_after w command (world_of after))) stands.watched.same seen;
-      worth = worth_both tally.costs (costs_of tally.watched command) first old new stands.worth (subst (λ (w : Watched). IsWorth (costs_of w command) old new) stands.watched.same worth);
+-- a line that a world carried out costs what its command does
+pub tallied_world : (files : Files) (first old new : Work) (before after : KeyedWorld) (costs : Costs) (watching : Watching) (bytes text : List ℕ) (command : PlainCommand)
+    → command_of bytes ≡ Ok command → IsWatching (carrier.Alone before) watching → IsWorth costs first old → step files (world_of before) command ≡ world.Done (world_of after) text
+    → ((box : Rect) → HasBox before box → IsWatched after (watched_after (watched_in before box) command (world_of after)))
+    → ((box : Rect) → HasBox before box → IsWorth (costs_of (watched_in before box) command) old new)
+    → HasTallied first new (carrier.Alone after) (after_bytes files costs watching bytes)
+tallied_world files first old new before after costs (WatchedWorld watched) bytes text command read stands so_far done seen worth =
+    let cost : after_bytes files costs (WatchedWorld watched) bytes ≡ after_done costs watched command (step files watched.world command) = ap (after_command files costs watched) read in
+    let stepped : step files watched.world command ≡ world.Done (world_of after) text = ap (λ (w : Watched). step files w.world command) (sym stands.same) ∙ done in
+    subst (HasTallied first new (carrier.Alone after)) (sym (cost ∙ ap (after_done costs watched command) stepped)) (record {
+      watched = subst (λ (w : Watched). IsWatched after (watched_after w command (world_of after))) stands.same (seen watched.box stands.box);
+      worth = worth_both costs (costs_of watched command) first old new so_far (subst (λ (w : Watched). IsWorth (costs_of w command) old new) stands.same (worth watched.box stands.box));
     })
 
 -- a command whose text could not be written was carried out

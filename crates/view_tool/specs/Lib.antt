@@ -1,3 +1,5 @@
+pub mod Carried
+pub mod Carrier
 pub mod Dump
 pub mod Focus
 pub mod Gen

@@ -1,4 +1,4 @@
--- What the lines of a script cost, one after another, from the empty world.
+-- What the lines of a script cost, one after another, from its start.
 use Rattle.std.specs.Prelude.{ℕ, ◌+◌, if◌then◌else◌, List, [], Result, Ok, Err, fold}
 use Rattle.script_lines.specs.Commands.{command_of}
 use Rattle.script_lines.specs.Lines.{Line, Text, LongLine, is_passed_over, lines_of}
@@ -6,6 +6,7 @@ use Rattle.script_lines.specs.PlainCommands.{PlainCommand}
 use Rattle.script_lines.specs.declared.fault.LineFault.{LineFault}
 use Rattle.tool_io.specs.Fetched.{Files}
 use Rattle.view_model.specs.Visible.{no_rect}
+use Rattle.view_tool.specs.Carried.{Carried, Alone}
 use Rattle.view_world.specs.Marks.{no_marks}
 use Rattle.view_world.specs.Step.{Reply, Done, Refused, step}
 use Rattle.view_world.specs.Watched.{Costs, Watched, costs_of, no_costs, watched_after}
@@ -15,38 +16,52 @@ use Rattle.view_world.specs.World.{empty_world}
 abbrev pub with_costs : Costs → Costs → Costs
 with_costs some more = record { measured = some.measured + more.measured; least = some.least + more.least; most = some.most + more.most }
 
--- the lines so far: the world that they made, with what is known of its next frame, and what the carried out ones cost
+-- what lines made, with what is known of its next frame
+pub data Watching : Type 0 where
+  WatchedWorld : Watched → Watching
+
+abbrev pub carried_in : Watching → Carried
+carried_in (WatchedWorld watched) = Alone watched.world
+
+abbrev pub watching_first : Carried → Watching
+watching_first (Alone world) = WatchedWorld (record { world = world; marks = no_marks; box = no_rect; shown = [] })
+
+-- the lines so far: what they made, with what is known of its next frame, and what the carried out ones cost
 pub record Tally : Type 0 where
-  pub watched : Watched
+  pub watched : Watching
   pub costs : Costs
 
-abbrev pub at_first : Tally
-at_first = record { watched = record { world = empty_world; marks = no_marks; box = no_rect; shown = [] }; costs = no_costs }
+abbrev pub at_first : Carried → Tally
+at_first start = record { watched = watching_first start; costs = no_costs }
 
 -- a refused line costs nothing
-abbrev pub after_done : Tally → PlainCommand → Reply → Tally
-after_done tally command (Done world text) =
-    record { watched = watched_after tally.watched command world; costs = with_costs tally.costs (costs_of tally.watched command) }
-after_done tally command (Refused refusal) = tally
+abbrev pub after_done : Costs → Watched → PlainCommand → Reply → Tally
+after_done costs watched command (Done world text) =
+    record { watched = WatchedWorld (watched_after watched command world); costs = with_costs costs (costs_of watched command) }
+after_done costs watched command (Refused refusal) = record { watched = WatchedWorld watched; costs = costs }
 
-abbrev pub after_command : Files → Tally → Result PlainCommand LineFault → Tally
-after_command files tally (Ok command) = after_done tally command (step files tally.watched.world command)
-after_command files tally (Err fault) = tally
+abbrev pub after_command : Files → Costs → Watched → Result PlainCommand LineFault → Tally
+after_command files costs watched (Ok command) = after_done costs watched command (step files watched.world command)
+after_command files costs watched (Err fault) = record { watched = WatchedWorld watched; costs = costs }
+
+-- after the bytes of a line that is not passed over
+abbrev pub after_bytes : Files → Costs → Watching → List ℕ → Tally
+after_bytes files costs (WatchedWorld watched) bytes = after_command files costs watched (command_of bytes)
 
 -- and neither does one that is too long or passed over
 unfoldable pub with_cost : Files → Tally → Line → Tally
 with_cost files tally LongLine = tally
-with_cost files tally (Text bytes) = if is_passed_over bytes then tally else after_command files tally (command_of bytes)
+with_cost files tally (Text bytes) = if is_passed_over bytes then tally else after_bytes files tally.costs tally.watched bytes
 
--- after these lines, from the start
-unfoldable pub tally_of : Files → List Line → Tally
-tally_of files lines = fold (with_cost files) at_first lines
+-- after these lines, from this start
+unfoldable pub tally_from : Carried → Files → List Line → Tally
+tally_from start files lines = fold (with_cost files) (at_first start) lines
 
 -- What lines cost, with these files at hand: the sums over the frames among them that are accepted, of how many views each
 -- measures at most, and of how many pixels it paints at least and at most.
-abbrev pub costs_of_lines : Files → List Line → Costs
-costs_of_lines files lines = (tally_of files lines).costs
+abbrev pub costs_from : Carried → Files → List Line → Costs
+costs_from start files lines = (tally_from start files lines).costs
 
 -- what the lines of a script cost
 abbrev pub costs_of_script : List ℕ → Files → Costs
-costs_of_script script files = costs_of_lines files (lines_of script)
+costs_of_script script files = costs_from (Alone empty_world) files (lines_of script)

@@ -6,6 +6,7 @@ ghost use Rattle.load_maker.specs.Load.{load};
 ghost use Rattle.script_lines.specs.Lines.{lines_of};
 ghost use Rattle.tool_io.specs.Counts.{Rose, raised};
 ghost use Rattle.tool_io.specs.Fetched.{Files};
+ghost use Rattle.view_tool.specs.Carried.{Alone};
 ghost use Rattle.view_tool.specs.Dump.{dump_page, refuses_file};
 ghost use Rattle.view_tool.specs.Focus.{AsksWith, IsFocusOf, focus_page, refuses_focus};
 ghost use Rattle.view_tool.specs.Gen.{gen_page};
@@ -15,12 +16,14 @@ ghost use Rattle.view_tool.specs.Tally.{costs_of_script};
 ghost use Rattle.view_tool.specs.Works.{WorksPart, trace};
 ghost use Rattle.view_tool.specs.WorksWith.{WorksWith};
 ghost use Rattle.view_world.specs.Watched.{IsWorth};
+ghost use Rattle.view_world.specs.World.{empty_world};
 ghost use Rattle.view_tool.specs.Script.{WritesTaken};
 ghost use Rattle.view_tool.specs.Tool.{IsComplete, IsDumpOf, IsLookupOf, IsOneOf, IsRunOf, RunsWith, Writes, status_of};
 ghost use Rattle.view_tool.specs.Transcript.{carried_lines, cut_transcript, has_refusal, max_script, transcript};
 ghost use Rattle.view_tool.specs.Usage.{Run, Dump, Gen, Lookup, Focus, Unknown, usage};
 ghost use Rattle.view_tool.specs.declared.focusing.Question.{Question};
 
+use crate::carrier::Carrier;
 use crate::dump::dump;
 use crate::focusing::{Question, focus_source};
 use crate::loading::run_load;
@@ -86,11 +89,11 @@ pub fn tool<S: Source, K: Sink, F: Shelf>(
     ensures lines_taken { (script : List ℕ) (files : Files)
         → IsRunOf (usage words.now) (S.left source.old) (F.files shelf.old) script files
         → result ≡ 3
-        → WritesTaken files script (S.left source.new) (K.state sink.old).gone (K.state sink.new).gone }
+        → WritesTaken (Alone empty_world) files script (S.left source.new) (K.state sink.old).gone (K.state sink.new).gone }
     ensures failed_fetch { (script : List ℕ) (files : Files)
         → IsRunOf (usage words.now) (S.left source.old) (F.files shelf.old) script files
         → result ≡ 6
-        → StopsAtFetch files (K.state sink.old).gone (K.state sink.new).gone (carried_lines script) }
+        → StopsAtFetch (Alone empty_world) files (K.state sink.old).gone (K.state sink.new).gone (carried_lines script) }
     ensures dump_failed_fetch { (name : List ℕ) → usage words.now ≡ Dump name → result ≡ 6 → sink.new ≡ sink.old }
 
     // The call that failed is the one that the status reports, and after it nothing more is asked of that object: its
@@ -107,7 +110,7 @@ pub fn tool<S: Source, K: Sink, F: Shelf>(
     ensures no_memory { (script : List ℕ) (files : Files)
         → IsRunOf (usage words.now) (S.left source.old) (F.files shelf.old) script files
         → result ≡ 5
-        → StopsBefore files (K.state sink.old).gone (K.state sink.new).gone (carried_lines script) }
+        → StopsBefore (Alone empty_world) files (K.state sink.old).gone (K.state sink.new).gone (carried_lines script) }
     ensures dump_no_memory { (name : List ℕ)
         → usage words.now ≡ Dump name
         → result ≡ 5
@@ -162,9 +165,9 @@ pub fn tool<S: Source, K: Sink, F: Shelf>(
         → IsWorth (costs_of_script script files) work.old work.new }
     ensures works { (script : List ℕ) (files : Files)
         → IsRunOf (usage words.now) (S.left source.old) (F.files shelf.old) script files
-        → WorksWith files script (S.left source.new) (trace (K.state sink.old) work.old) (trace (K.state sink.new) work.new) result }
+        → WorksWith (Alone empty_world) files script (S.left source.new) (trace (K.state sink.old) work.old) (trace (K.state sink.new) work.new) result }
     ensures gen_worth { (n : ℕ) → usage words.now ≡ Gen n → result ≢ 5 → IsWorth (costs_of_script (load n) []) work.old work.new }
-    ensures gen_works { (n : ℕ) → usage words.now ≡ Gen n → WorksPart [] work.old work.new (lines_of (load n)) }
+    ensures gen_works { (n : ℕ) → usage words.now ≡ Gen n → WorksPart (Alone empty_world) [] work.old work.new (lines_of (load n)) }
     ensures uncounted { usage words.now ≢ Run
         → ((n : ℕ) → usage words.now ≢ Gen n)
         → ((question : Question) → usage words.now ≢ Focus question)
@@ -258,11 +261,11 @@ fn run<S: Source, K: Sink, F: Shelf>(
     ensures runs { (files : Files) (script : List ℕ)
         → F.files shelf.old ≡ Some files
         → S.left source.old ≡ Some script
-        → RunsWith files script (S.left source.new) (K.state sink.old).gone (K.state sink.new).gone result }
+        → RunsWith (Alone empty_world) files script (S.left source.new) (K.state sink.old).gone (K.state sink.new).gone result }
     ensures works { (files : Files) (script : List ℕ)
         → F.files shelf.old ≡ Some files
         → S.left source.old ≡ Some script
-        → WorksWith files script (S.left source.new) (trace (K.state sink.old) work.old) (trace (K.state sink.new) work.new) result }
+        → WorksWith (Alone empty_world) files script (S.left source.new) (trace (K.state sink.old) work.old) (trace (K.state sink.new) work.new) result }
     ensures known { IsOneOf result (0 ∷ 1 ∷ 3 ∷ 4 ∷ 5 ∷ 6 ∷ 7 ∷ []) }
     ensures whole { result ≢ 3 → result ≢ 4 → result ≢ 6 → result ≢ 7 → IsComplete result ⊎ (result ≡ 5) }
     ensures read_to_end { IsComplete result → IsAtEnd (S.left source.new) }
@@ -279,7 +282,8 @@ fn run<S: Source, K: Sink, F: Shelf>(
     ensures painted { work.old.painted ≤ work.new.painted }
     ensures measured { min work.old.measured (2 ^ 64 - 1) ≤ work.new.measured }
 {
-    status(run_source(alloc, source, shelf, sink, work))
+    let carrier = Carrier::alone(alloc);
+    status(run_source(alloc, carrier, source, shelf, sink, work))
 }
 
 /// Carries out the script on a source, and then answers a question.
