@@ -1,7 +1,8 @@
 //! The pointers that are down, and the events that lines make of them.
 
-ghost use Rattle.std.specs.Prelude.{◌≡◌, ◌<◌, ◌≤◌, ◌+◌, ◌++◌, false, length};
+ghost use Rattle.std.specs.Prelude.{◌≡◌, ◌↔◌, ◌<◌, ◌≤◌, ◌+◌, ◌++◌, ℕ, [], false, length};
 ghost use Rattle.touch_event.specs.declared.event.TheConstants.{MAX_POINTERS};
+ghost use Rattle.touch_event.specs.PointerSets.{has_id};
 ghost use Rattle.view_world.specs.Pointers.{AreDown, down_action, event_of, is_pressed, points_above, points_below, up_action, with_point, without_point};
 
 use arrayvec::ArrayVec;
@@ -103,4 +104,17 @@ pub fn up_action(others: &[Point]) -> Action
     } else {
         Action::PointerUp
     }
+}
+
+/// The ids of these points as a set. Bit `k` represents the id `k`.
+pub fn ids_of(points: &[Point]) -> u32
+    requires { AreDown points.now }
+    ensures ids { (id : ℕ) → has_id result id ≡ is_pressed id points.now }
+    ensures none { (result ≡ 0) ↔ (points.now ≡ []) }
+{
+    let mut ids = 0;
+    for point in points {
+        ids |= 1 << point.id;
+    }
+    ids
 }

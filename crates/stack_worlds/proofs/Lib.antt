@@ -1,0 +1,7 @@
+mod ComposedLaws
+mod CountLaws
+mod GivenLaws
+pub mod IsolationLaws
+mod OpenLaws
+mod PlaceLaws
+pub mod StackLaws

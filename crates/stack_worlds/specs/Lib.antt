@@ -1,0 +1,6 @@
+pub mod Composed
+pub mod Isolation
+pub mod KeptStack
+pub mod PlainStack
+pub mod StackCarried
+pub mod WindowLines

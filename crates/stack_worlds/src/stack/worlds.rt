@@ -1,0 +1,188 @@
+//! The worlds of the windows of a stack, each in the place of its window.
+
+ghost use Rattle.std.specs.Prelude.{◌≡◌, ◌≢◌, ◌⊎◌, ◌+◌, ◌<◌, ◌≤◌, ◌^◌, ℕ, [], true, Err, IfSome, None, Ok, OnErr, Option, Some, slice_set};
+ghost use Rattle.std.specs.Option.{is_some, option_map};
+ghost use Rattle.script_lines.specs.Commands.{IsInBounds};
+ghost use Rattle.script_lines.specs.PlainCommands.{plain_command, text_length};
+ghost use Rattle.tool_io.specs.Fetched.{Files};
+ghost use Rattle.view_model.specs.declared.limits.TheConstants.{NUMBERS_END};
+ghost use Rattle.stack_worlds.specs.KeptStack.{HaveNumbers, kept_world, keyed_at, stack_of};
+ghost use Rattle.stack_worlds.specs.PlainStack.{is_none_down, size_in, sizes_of};
+ghost use Rattle.view_world.specs.Carried.{AreAtHand, CountsShelf, IsDone, MayWantMemory, WritesReply, faults_after_line};
+ghost use Rattle.view_world.specs.Inflating.{asked_file};
+ghost use Rattle.view_world.specs.KeyedWorld.{KeyedWorld, new_world, world_of};
+ghost use Rattle.stack_worlds.specs.WindowLines.{WorksIn};
+ghost use Rattle.view_world.specs.Step.{Done, step};
+ghost use Rattle.view_world.specs.World.{World as PlainWorld};
+ghost use Rattle.window_stack.specs.PlainPanes.{is_open};
+ghost use Rattle.window_stack.specs.declared.lines.TheConstants.{MAX_PANE};
+
+use crate::stack::Stack;
+use geom_core::Size;
+use script_lines::Command;
+use std::alloc::{AllocError, Global};
+use tool_io::{Shelf, Sink};
+use view_model::Work;
+use view_world::{StepFault, World};
+use window_stack::MAX_PANES;
+
+/// Opens a world in an empty place.
+pub fn open_in(
+    worlds: &mut [Option<Box<World>>; MAX_PANES],
+    alloc: Global,
+    k: u8,
+) -> Result<(), AllocError>
+    requires { k ≤ MAX_PANE }
+    ensures opened { result ≡ Ok tt → (b : _) × (b.value ≡ new_world) × (worlds.new ≡ slice_set worlds.old k (Some b)) }
+    ensures unchanged { OnErr result (worlds.new ≡ worlds.old) }
+{
+    let world = Box::new(alloc, World::new(alloc))?;
+    worlds[usize::from(k)] = Some(world);
+    Ok(())
+}
+
+/// Carries out a command in the world of a place, if there is one.
+pub fn line_at<K: Sink, F: Shelf>(
+    place: &mut Option<Box<World>>,
+    alloc: Global,
+    command: Command<'_>,
+    shelf: &mut F,
+    sink: &mut K,
+    work: &mut Work,
+) -> Result<(), StepFault>
+    requires numbers { IfSome (kept_world place.old) (λ world. world.screen.views.next < NUMBERS_END) }
+    requires bounds { IsInBounds (plain_command command) }
+    requires short { text_length (plain_command command) < 2 ^ 31 }
+    ensures carried { (files : Files) (world : KeyedWorld)
+        → kept_world place.old ≡ Some world
+        → AreAtHand files (F.files shelf.old) (asked_file (world_of world) (plain_command command.entry))
+        → (after : KeyedWorld)
+        × (kept_world place.new ≡ Some after)
+        × WritesReply (step files (world_of world) (plain_command command.entry)) (world_of after) (K.state sink.old) (K.state sink.new) result }
+    ensures works { (world : KeyedWorld)
+        → kept_world place.old ≡ Some world
+        → (after : KeyedWorld)
+        × (kept_world place.new ≡ Some after)
+        × WorksIn world after (plain_command command.entry) result work.old work.new }
+    ensures silent { (files : Files) (world : KeyedWorld) (plain : PlainWorld)
+        → kept_world place.old ≡ Some world
+        → AreAtHand files (F.files shelf.old) (asked_file (world_of world) (plain_command command.entry))
+        → step files (world_of world) (plain_command command.entry) ≡ Done plain []
+        → sink.new ≡ sink.old }
+    ensures there { is_some (kept_world place.new) ≡ is_some (kept_world place.old) }
+    ensures unchanged { IsDone result ⊎ ((kept_world place.new ≡ kept_world place.old) × (sink.new ≡ sink.old)) }
+    ensures files_stay { F.files shelf.new ≡ F.files shelf.old }
+    ensures unasked { (world : KeyedWorld)
+        → kept_world place.old ≡ Some world
+        → asked_file (world_of world) (plain_command command.entry) ≡ None
+        → shelf.new ≡ shelf.old }
+    ensures shelf_failed { CountsShelf (F.faults shelf.old) (F.faults shelf.new) result }
+    ensures asked { (world : KeyedWorld)
+        → kept_world place.old ≡ Some world
+        → result ≡ Err StepFault.Shelf
+        → asked_file (world_of world) (plain_command command.entry) ≢ None }
+    ensures memory { result ≡ Err StepFault.NoMemory → MayWantMemory (plain_command command.entry) }
+    ensures sink_failed { (K.state sink.new).faults ≡ faults_after_line result (K.state sink.old).faults }
+{
+    match place {
+        None => Ok(()),
+        Some(world) => world.line(alloc, command, shelf, sink, work),
+    }
+}
+
+impl Stack {
+    /// Carries out a command in the world of an open window.
+    pub fn world_line<K: Sink, F: Shelf>(
+        &mut self,
+        alloc: Global,
+        k: u8,
+        command: Command<'_>,
+        shelf: &mut F,
+        sink: &mut K,
+        work: &mut Work,
+    ) -> Result<(), StepFault>
+        requires name { k ≤ MAX_PANE }
+        requires numbers { HaveNumbers self.old }
+        requires bounds { IsInBounds (plain_command command) }
+        requires short { text_length (plain_command command) < 2 ^ 31 }
+        ensures carried { (files : Files) (world : KeyedWorld)
+            → keyed_at self.old k ≡ Some world
+            → AreAtHand files (F.files shelf.old) (asked_file (world_of world) (plain_command command.entry))
+            → (after : KeyedWorld)
+            × (self.new ≡ record self.old { worlds = slice_set self.old.worlds k (Some after) })
+            × WritesReply (step files (world_of world) (plain_command command.entry)) (world_of after) (K.state sink.old) (K.state sink.new) result }
+        ensures works { (world : KeyedWorld)
+            → keyed_at self.old k ≡ Some world
+            → (after : KeyedWorld)
+            × (self.new.worlds ≡ slice_set self.old.worlds k (Some after))
+            × WorksIn world after (plain_command command.entry) result work.old work.new }
+        ensures silent { (files : Files) (world : KeyedWorld) (plain : PlainWorld)
+            → keyed_at self.old k ≡ Some world
+            → AreAtHand files (F.files shelf.old) (asked_file (world_of world) (plain_command command.entry))
+            → step files (world_of world) (plain_command command.entry) ≡ Done plain []
+            → sink.new ≡ sink.old }
+        ensures panes { self.new.panes ≡ self.old.panes }
+        ensures there { is_open self.old.panes k ≡ true → (world : KeyedWorld) × (keyed_at self.old k ≡ Some world) }
+        ensures unchanged { IsDone result ⊎ ((self.new ≡ self.old) × (sink.new ≡ sink.old)) }
+        ensures files_stay { F.files shelf.new ≡ F.files shelf.old }
+        ensures unasked { (world : KeyedWorld)
+            → keyed_at self.old k ≡ Some world
+            → asked_file (world_of world) (plain_command command.entry) ≡ None
+            → shelf.new ≡ shelf.old }
+        ensures shelf_failed { CountsShelf (F.faults shelf.old) (F.faults shelf.new) result }
+        ensures asked { (world : KeyedWorld)
+            → keyed_at self.old k ≡ Some world
+            → result ≡ Err StepFault.Shelf
+            → asked_file (world_of world) (plain_command command.entry) ≢ None }
+        ensures memory { result ≡ Err StepFault.NoMemory → MayWantMemory (plain_command command.entry) }
+        ensures sink_failed { (K.state sink.new).faults ≡ faults_after_line result (K.state sink.old).faults }
+    {
+        line_at(
+            &mut self.worlds[usize::from(k)],
+            alloc,
+            command,
+            shelf,
+            sink,
+            work,
+        )
+    }
+
+    /// The world of a window, if it is open.
+    pub fn world(&self, k: u8) -> Option<&World>
+        requires { k ≤ MAX_PANE }
+        ensures { option_map (λ world. world.now) result ≡ keyed_at self.now k }
+    {
+        match &self.worlds[usize::from(k)] {
+            None => None,
+            Some(world) => Some(world),
+        }
+    }
+
+    /// Whether no pointer is down in a window.
+    pub fn is_untouched(&self, k: u8) -> bool
+        requires { k ≤ MAX_PANE }
+        ensures { (world : KeyedWorld) → keyed_at self.now k ≡ Some world → result ≡ is_none_down (world_of world).pointers }
+    {
+        match self.world(k) {
+            None => true,
+            Some(world) => world.pointers() == 0,
+        }
+    }
+
+    /// The sizes of the windows that have one.
+    pub fn sizes(&self) -> [Option<Size>; MAX_PANES]
+        ensures { result ≡ sizes_of (stack_of self.now) }
+    {
+        self.worlds.each_ref().map(|place| size_in(place))
+    }
+}
+
+/// The size of the window of a place, if it has one.
+fn size_in(place: &Option<Box<World>>) -> Option<Size>
+    ensures { result ≡ size_in (option_map world_of (kept_world place.now)) }
+{
+    match place {
+        None => None,
+        Some(world) => world.window(),
+    }
+}
