@@ -19,7 +19,7 @@ use Rattle.view_tool.specs.Transcript.{carried_lines, max_script}
 use Rattle.view_tool.specs.Works.{Trace, Works, WorksPart}
 use Rattle.view_tool.specs.WorksWith.{WorksWith}
 use Rattle.view_tool.proofs.LongScriptLaws.{carried_front, carried_short}
-use Rattle.view_tool.proofs.TallyLaws.{worth_none}
+use Rattle.view_tool.proofs.SumLaws.{worth_none}
 use Rattle.view_tool.proofs.ToolLaws.{not_ended}
 use Rattle.view_world.specs.Watched.{IsWorth}
 use Rattle.view_world.specs.World.{empty_world}

@@ -30,7 +30,8 @@ use Rattle.view_world.specs.declared.fault.StepFault.TheVariants as step
 use Rattle.view_world.specs.Carried.{IsDone}
 use Rattle.view_world.specs.Watched.{IsWorth}
 use Rattle.view_tool.proofs.CarrierLaws.{watching_same}
-use Rattle.view_tool.proofs.TallyLaws.{passed_cost, refused_cost, tally_from-push, worth_same}
+use Rattle.view_tool.proofs.SumLaws.{worth_same}
+use Rattle.view_tool.proofs.TallyLaws.{passed_cost, refused_cost, tally_from-push}
 use Rattle.script_lines.proofs.LineLaws.{cut_lines-append, cut_lines-length}
 
 pub after_from-push : (start : Carried) (files : Files) (lines : List Line) (line : Line) → after_from start files (lines ++ line ∷ []) ≡ after_line files (after_from start files lines) line

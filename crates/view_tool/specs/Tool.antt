@@ -12,12 +12,18 @@ use Rattle.tool_io.specs.Fetched.{Files}
 use Rattle.view_tool.specs.Run.{StopsAtFetch, StopsBefore}
 use Rattle.view_tool.specs.Script.{WritesTaken}
 use Rattle.view_tool.specs.Transcript.{after_from, carried_lines, max_script}
-use Rattle.view_tool.specs.Usage.{Usage, Run, Dump, Lookup}
+use Rattle.view_tool.specs.Usage.{Usage, Run, Stack, Dump, Lookup}
 
 -- a run of this script with these files: the words are those of a run, the source has these bytes left, and the shelf
 -- holds these files
 pub record IsRunOf (usage : Usage) (left : Option (List ℕ)) (held : Option Files) (script : List ℕ) (files : Files) : Type 0 where
   pub words : usage ≡ Run
+  pub source : left ≡ Some script
+  pub shelf : held ≡ Some files
+
+-- a run of this script for a stack of windows with these files
+pub record IsStackOf (usage : Usage) (left : Option (List ℕ)) (held : Option Files) (script : List ℕ) (files : Files) : Type 0 where
+  pub words : usage ≡ Stack
   pub source : left ≡ Some script
   pub shelf : held ≡ Some files
 

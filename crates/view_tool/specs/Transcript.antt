@@ -1,10 +1,11 @@
--- What the tool writes for a script: the texts of its lines, one after another, from the empty world.
+-- What the tool writes for a script: the texts of its lines, one after another, from the empty world or from no window.
 use Rattle.std.specs.Prelude.{◌≢◌, ℕ, ◌+◌, Bool, false, nat_lt, if◌then◌else◌, length, List, [], ◌++◌, Option, None, fold, take}
 use Rattle.script_lines.specs.Lines.{Line, Text, LongLine, cut_of, is_passed_over, lines_of}
+use Rattle.stack_worlds.specs.PlainStack.{empty_stack}
 use Rattle.tool_io.specs.Fetched.{Files}
 use Rattle.view_model.specs.Refusals.{refusal_numbered}
 use Rattle.view_model.specs.declared.refusals.TheConstants.{LONG_LINE}
-use Rattle.view_tool.specs.Carried.{Carried, Alone, LineReply, Done, Refused, BytesWant, asked_by_bytes, reply_to_bytes}
+use Rattle.view_tool.specs.Carried.{Carried, Alone, Stacked, LineReply, Done, Refused, BytesWant, asked_by_bytes, reply_to_bytes}
 use Rattle.view_tool.specs.Refusals.{refused_line}
 use Rattle.view_world.specs.World.{empty_world}
 
@@ -66,6 +67,14 @@ after_lines files lines = after_from (Alone empty_world) files lines
 -- the transcript of a script, with these files at hand
 abbrev pub transcript : List ℕ → Files → List ℕ
 transcript script files = (after_lines files (lines_of script)).text
+
+-- the page of a script for a stack of windows, from no window
+abbrev pub stack_page : List ℕ → Files → List ℕ
+stack_page script files = (after_from (Stacked empty_stack) files (lines_of script)).text
+
+-- whether a line of such a script is refused
+abbrev pub refuses_in_stack : List ℕ → Files → Bool
+refuses_in_stack script files = nat_lt 0 (after_from (Stacked empty_stack) files (lines_of script)).refused
 
 -- whether a line of the script is refused
 abbrev pub has_refusal : List ℕ → Files → Bool

@@ -62,13 +62,14 @@ pub fn focus_source<S: Source, K: Sink, F: Shelf>(
     }
 }
 
-/// The answer to a question in the world that a run has made.
+/// The answer to a question in the world that a run has made. In a stack no window is meant.
 fn answer_in(carrier: &Carrier, question: Question) -> Result<Option<u64>, u8>
     ensures value { result ≡ answer_of (world_in (carried_of carrier.now)) question }
     ensures named { IfErr result IsNamed }
 {
     match carrier {
         Carrier::Alone(world) => answer(world, question),
+        Carrier::Stacked(_) => Err(NO_WINDOW),
     }
 }
 

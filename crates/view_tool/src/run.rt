@@ -14,7 +14,7 @@ ghost use Rattle.view_tool.specs.Transcript.{Asks, MayWant, Progress, after_line
 ghost use Rattle.view_tool.specs.Works.{Trace, trace};
 ghost use Rattle.view_world.specs.Carried.{CountsShelf, IsDone, faults_after_line};
 
-use crate::carrier::{Carrier, line_of_world};
+use crate::carrier::{Carrier, line_of_stack, line_of_world};
 use crate::refusals::write_refusal;
 use script_lines::{Ended, LinePlace, Lines, passes_over};
 use std::alloc::Global;
@@ -145,6 +145,7 @@ fn carry_out<K: Sink, F: Shelf>(
     };
     match carrier {
         Carrier::Alone(world) => line_of_world(world, alloc, bytes, shelf, sink, work),
+        Carrier::Stacked(stack) => line_of_stack(stack, alloc, bytes, shelf, sink, work),
     }
 }
 

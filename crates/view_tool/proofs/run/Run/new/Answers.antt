@@ -4,7 +4,7 @@ use Rattle.view_tool.specs.Carrier.{IsWatching, carried_of, next_of}
 use Rattle.view_tool.specs.Tally.{tally_from, watching_first}
 use Rattle.view_tool.specs.Transcript.{after_from}
 use Rattle.view_tool.proofs.CarrierLaws.{first_next, first_watching}
-use Rattle.view_tool.proofs.TallyLaws.{worth_none}
+use Rattle.view_tool.proofs.SumLaws.{worth_none}
 use Rattle.view_tool.proofs.run.Run.new.Goals as goal
 
 pub returns-clause-behind : goal.returns-clause-behind
