@@ -25,7 +25,7 @@ use Rattle.view_world.specs.Watched.{IsWorth}
 use Rattle.view_world.specs.World.{empty_world}
 
 pub works_none : (start : Carried) (files : Files) (work : Work) (lines : List Line) → WorksPart start files work work lines
-unfolding tally_of
+unfolding tally_from
 works_none start files work lines = record { done = []; left = lines; all = refl; worth = worth_none work }
 
 pub works_whole : (start : Carried) (files : Files) (first last : Trace) (lines : List Line) → Works start files first last lines → WorksPart start files first.work last.work lines

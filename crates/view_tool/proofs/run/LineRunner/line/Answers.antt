@@ -3,8 +3,10 @@ use Rattle.std.specs.Io.KnownBytes.{Appends}
 use Rattle.std.specs.Prelude.{Err}
 use Rattle.text_lines.specs.Prefix.{AppendsPrefix}
 use Rattle.view_model.specs.Refusals.{plain_refusal}
+use Rattle.view_tool.specs.Carried.{Carried}
 use Rattle.view_tool.specs.Refusals.{refused_line}
 use Rattle.view_tool.specs.Run.{line_now}
+use Rattle.view_tool.specs.Transcript.{MayWant}
 use Rattle.view_tool.specs.Works.{trace}
 use Rattle.view_tool.specs.Tally.{tally_from}
 use Rattle.view_tool.proofs.RunLaws.{after_from-lines, carried_refused, carried_sink, done_at, done_part, works_same, not_done, not_done_memory, passed_line, refused_at, refused_part}
@@ -64,6 +66,6 @@ returns-in-Err-NoMemory-clause-stopped g c start files first lines told short at
       line = line_now c.args.line;
       left = [];
       all = refl;
-      wants = c.in-Err-NoMemory.ensures.memory (ap Err c.in-Err-NoMemory.field-0-is);
+      wants = subst (λ (carried : Carried). MayWant carried (line_now c.args.line)) at.carried (c.in-Err-NoMemory.ensures.memory (ap Err c.in-Err-NoMemory.field-0-is));
       works = works_same start files first (trace (g.K.Sink.state c.args.sink.now) c.args.work.now) (trace (g.K.Sink.state c.carry_out.new.sink) c.carry_out.new.work) c.args.self.now lines at (ap (λ sink. (g.K.Sink.state sink).gone) same.1) idle;
     }
