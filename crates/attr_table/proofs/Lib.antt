@@ -1,3 +1,4 @@
 mod Examples
+mod NamedLaws
 mod TableLaws
 mod TakingLaws

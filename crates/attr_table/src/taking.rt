@@ -3,7 +3,8 @@ ghost use Rattle.std.specs.Prelude.{◌≡◌, ℕ, ◌+◌, ◌^◌, ◌<◌, �
 ghost use Rattle.axml_reader.specs.declared.doc.Node.TheVariants.{Start};
 ghost use Rattle.axml_reader.specs.Meaning.{document};
 ghost use Rattle.attr_table.specs.declared.table.TheConstants.{KNOWN};
-ghost use Rattle.attr_table.specs.Taken.{DraftsAs, IsStart, IsTakenAs};
+ghost use Rattle.attr_table.specs.Named.{named_at};
+ghost use Rattle.attr_table.specs.Taken.{DraftsAs, IsStart, IsTakenAs, facets};
 ghost use Rattle.attr_table.specs.Taking.{attrs_of, facets_at, finished, with_attr, with_attrs, with_known};
 
 use crate::draft::Draft;
@@ -40,6 +41,7 @@ pub fn take(
 ) -> Result<Taken, AttrFault>
     requires { IsStart doc.now.nodes.items node }
     ensures value { IsTakenAs (facets_at (document doc.now) res.now dpi node) result }
+    ensures named { IfOk result (λ taken. facets taken ≡ named_at (document doc.now) res.now dpi node) }
     ensures few { (line ns name first count : ℕ) → slice_get doc.now.nodes.items node ≡ Some (Start line ns name first count) → IfOk result (λ taken. taken.ignored ≤ count) }
 {
     let mut draft = Draft::new(alloc);

@@ -11,9 +11,6 @@ within opened a = record { opened = opened ++ a ∷ []; closed = false }
 abbrev pub without : List ℕ → Stack
 without opened = record { opened = opened; closed = eqb (length opened) 0 }
 
-abbrev some : Stack → Option Stack
-some s = Some s
-
 suc_is_none : (n : ℕ) → eqb (suc n) 0 ≡ false
 suc_is_none n = ne_eqb (suc n) 0 (λ e. omega (arith, e))
 
@@ -152,18 +149,3 @@ passes_rooted same (Opens a ∷ word) e =
 -- the test holds of the words with one outermost pair
 pub rooted_test : (same : ℕ → ℕ → Bool) (word : List Token) → IsRooted same word → is_rooted same word ≡ true
 rooted_test same word r = ap is_ended (rooted_passes same word r)
-
-nil_by_length : (xs : List ℕ) → eqb (length xs) 0 ≡ true → xs ≡ []
-nil_by_length [] e = refl
-nil_by_length (x ∷ xs) e = absurd (let q : false ≡ true = sym (suc_is_none (length xs)) ∙ e in cc)
-
-ended_by : (v : Bool) (opened : List ℕ) (closed : Bool) → eqb (length opened) 0 ≡ v → is_ended (Some (record { opened = opened; closed = closed })) ≡ true
-    → ◌≡◌ {A = Option Stack} (Some (record { opened = opened; closed = closed })) (Some (nothing_open true))
-ended_by true opened closed v e =
-    let is_closed : closed ≡ true = rw v at e in
-    ap (λ (xs : List ℕ). some (record { opened = xs; closed = closed })) (nil_by_length opened v) ∙ ap (λ (b : Bool). some (record { opened = []; closed = b })) is_closed
-ended_by false opened closed v e = absurd (let q = rw v at e in cc)
-
-ended_is : (o : Option Stack) → is_ended o ≡ true → o ≡ Some (nothing_open true)
-ended_is None e = absurd cc
-ended_is (Some s) e = ended_by (eqb (length s.opened) 0) s.opened s.closed refl e

@@ -2,7 +2,7 @@
 //!
 //! A list has, at the place of each number, that number or a smaller one of the same text. Numbers
 //! lead so to a least one; two that lead to the same one have the same text.
-ghost use Rattle.std.specs.Prelude.{◌≡◌, ◌<◌, ◌≤◌, length, Option, IfOk};
+ghost use Rattle.std.specs.Prelude.{◌≡◌, ◌<◌, Option, IfOk};
 ghost use Rattle.axml_chunks.specs.Pool.{StringPool};
 ghost use Rattle.axml_reader.specs.Alike.{text_of, AreAlike};
 ghost use Rattle.axml_reader.specs.Fields.{same_text};

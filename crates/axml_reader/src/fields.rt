@@ -1,5 +1,5 @@
 //! Fields that name strings, and attributes.
-ghost use Rattle.std.specs.Prelude.{◌≡◌, ◌+◌, ◌*◌, ◌^◌, ◌<◌, ◌≤◌, length, [], IfOk};
+ghost use Rattle.std.specs.Prelude.{◌≡◌, ◌+◌, ◌*◌, ◌^◌, ◌<◌, ◌≤◌, length, IfOk};
 ghost use Rattle.axml_chunks.specs.Steps.{Does};
 ghost use Rattle.axml_reader.specs.Fields.{reference_at, name_at, word_at, attr_at, attr_after, attrs_upto, words_at, same_text, strings};
 

@@ -1,1 +1,2 @@
 pub mod FramePlan
+pub mod Room

@@ -8,5 +8,5 @@ mod axis;
 mod placing;
 mod plan;
 
-pub use placing::place;
+pub use placing::{Room, place};
 pub use plan::FramePlan;

@@ -1,11 +1,14 @@
 //! Where a frame layout places its children.
 ghost use Rattle.std.specs.Prelude.{◌≡◌};
 ghost use Rattle.geom_core.specs.Limits.{IsSide, IsCoordinate, clamp_coordinate};
-ghost use Rattle.view_model.specs.Facts.{margin_left, margin_right, no_gravity, padding_left, padding_right};
+ghost use Rattle.view_model.specs.declared.facts.Facts.{Facts as FactsValue};
+ghost use Rattle.view_model.specs.Facts.{margin_left, margin_right};
 ghost use Rattle.view_model.specs.FrameLayout.{frame_place};
-ghost use Rattle.view_model.specs.Placing.{alignment_across, alignment_down, gravity_for, low_edge};
+ghost use Rattle.view_model.specs.Geometry.{size_of_rect};
+ghost use Rattle.view_model.specs.Placing.{alignment_across, alignment_down, low_edge};
+ghost use Rattle.geom_core.specs.declared.geometry.Size.{Size as SizeValue};
 
-use geom_core::{Rect, Size, to_coordinate};
+use geom_core::{Insets, Rect, Size, to_coordinate};
 use view_model::{Across, Down, Facts, Gravity, rect_at};
 
 const NO_GRAVITY: Gravity = Gravity {
@@ -14,56 +17,93 @@ const NO_GRAVITY: Gravity = Gravity {
     down: Down::Unset,
 };
 
+/// What is read of a group's facts to place its children, and its size. These few numbers of the group are copied, since
+/// a group is placed in each layout.
+#[derive(Clone, Copy, Debug)]
+pub struct Room {
+    /// On each side, the one that applies.
+    padding: Insets,
+    /// Whether the group runs from right to left.
+    rtl: bool,
+    size: Size,
+}
+
+impl Room {
+    ghost use Rattle.frame_layout.specs.Room.{IsRoom};
+
+    /// The room of a group with these facts and of this size.
+    #[inline(always)]
+    pub fn of(own: &Facts, size: Size) -> Room
+        ensures { IsRoom result own.now size }
+    {
+        Room {
+            padding: Insets {
+                left: own.padding_left(),
+                top: own.padding.top,
+                right: own.padding_right(),
+                bottom: own.padding.bottom,
+            },
+            rtl: own.rtl,
+            size,
+        }
+    }
+
+    /// The rectangle of a child of this size, in the group's coordinates.
+    #[inline(always)]
+    pub fn place(&self, kid: &Facts, size: Size) -> Rect
+        requires width { IsSide size.w }
+        requires height { IsSide size.h }
+        ensures extent { size_of_rect result ≡ size }
+        ensures place { (own : FactsValue) (room : SizeValue) → IsRoom self.now own room → result ≡ frame_place own room kid.now size }
+    {
+        let gravity = NO_GRAVITY.for_child(kid.layout_gravity);
+        rect_at(
+            self.left_edge(gravity.across, kid, size.w),
+            self.top_edge(gravity.down, kid, size.h),
+            size,
+        )
+    }
+
+    fn left_edge(&self, across: Across, kid: &Facts, width: i32) -> i32
+        ensures value { result ≡ clamp_coordinate
+            (low_edge (alignment_across self.now.rtl across) self.now.size.w self.now.padding.left self.now.padding.right width (margin_left kid.now) (margin_right kid.now)) }
+        ensures edge { IsCoordinate result }
+    {
+        to_coordinate(
+            across.alignment(self.rtl).low_edge(
+                self.size.w,
+                self.padding.left,
+                self.padding.right,
+                width,
+                kid.margin_left(),
+                kid.margin_right(),
+            ),
+        )
+    }
+
+    fn top_edge(&self, down: Down, kid: &Facts, height: i32) -> i32
+        ensures value { result ≡ clamp_coordinate
+            (low_edge (alignment_down down) self.now.size.h self.now.padding.top self.now.padding.bottom height kid.now.margins.top kid.now.margins.bottom) }
+        ensures edge { IsCoordinate result }
+    {
+        to_coordinate(
+            down.alignment().low_edge(
+                self.size.h,
+                self.padding.top,
+                self.padding.bottom,
+                height,
+                kid.margins.top,
+                kid.margins.bottom,
+            ),
+        )
+    }
+}
+
 /// The rectangle of a child of this size in a group of the size `room`, in the group's coordinates.
 pub fn place(own: &Facts, room: Size, kid: &Facts, size: Size) -> Rect
     requires width { IsSide size.w }
     requires height { IsSide size.h }
     ensures { result ≡ frame_place own.now room kid.now size }
 {
-    rect_at(
-        left_edge(own, room.w, kid, size.w),
-        top_edge(own, room.h, kid, size.h),
-        size,
-    )
-}
-
-/// The gravity by which a child is placed: start and top where none was given.
-fn gravity_of(kid: &Facts) -> Gravity
-    ensures { result ≡ gravity_for no_gravity kid.now.layout_gravity }
-{
-    NO_GRAVITY.for_child(kid.layout_gravity)
-}
-
-fn left_edge(own: &Facts, room: i32, kid: &Facts, width: i32) -> i32
-    ensures value { result ≡ clamp_coordinate
-        (low_edge (alignment_across own.now.rtl (gravity_for no_gravity kid.now.layout_gravity).across) room (padding_left own.now) (padding_right own.now) width (margin_left kid.now) (margin_right kid.now)) }
-    ensures edge { IsCoordinate result }
-{
-    to_coordinate(
-        gravity_of(kid).across.alignment(own.rtl).low_edge(
-            room,
-            own.padding_left(),
-            own.padding_right(),
-            width,
-            kid.margin_left(),
-            kid.margin_right(),
-        ),
-    )
-}
-
-fn top_edge(own: &Facts, room: i32, kid: &Facts, height: i32) -> i32
-    ensures value { result ≡ clamp_coordinate
-        (low_edge (alignment_down (gravity_for no_gravity kid.now.layout_gravity).down) room own.now.padding.top own.now.padding.bottom height kid.now.margins.top kid.now.margins.bottom) }
-    ensures edge { IsCoordinate result }
-{
-    to_coordinate(
-        gravity_of(kid).down.alignment().low_edge(
-            room,
-            own.padding.top,
-            own.padding.bottom,
-            height,
-            kid.margins.top,
-            kid.margins.bottom,
-        ),
-    )
+    Room::of(own, room).place(kid, size)
 }

@@ -14,7 +14,7 @@ use Rattle.view_tree.specs.Views.{Held, laid_rows, specs_of}
 use Rattle.view_tree.proofs.values.GeometryLaws.{laid_along}
 use Rattle.view_tree.proofs.forest.KeyLaws.{times_self}
 use Rattle.kept_views.specs.Kept.{IsSized, Kept, Reached, Ready, Sized, firm, hidden_in, last_edges, last_places, last_specs, loose, owed}
-use Rattle.kept_views.specs.Laying.{Fit, IsQuiet, IsQuietAs, IsQuietBack, differ, group_kids, group_kids_back, group_places, kid_place, kid_sizes, kid_under, last_sizes, places_all, places_back, sizes_back, some_all}
+use Rattle.kept_views.specs.Laying.{Fit, IsQuiet, IsQuietAs, IsQuietBack, differ, group_kids, group_places, kid_place, kid_sizes, kid_under, last_sizes, places_all, places_back, sizes_back, some_all}
 use Rattle.kept_views.proofs.Brought.{brought-along, brought-start}
 use Rattle.kept_views.proofs.KeptFrames.{Kept-along, Same, edges-along, places-along, same_kids, same_self, same_siblings, sized-along, specs-along}
 
@@ -101,15 +101,6 @@ pub sizes_back-along : (old new : ℕ → Held) (list : Forest Row) → Same old
 sizes_back-along old new Nothing same = refl
 sizes_back-along old new (Branch row kids siblings) same =
     rw (same row.key (times_self row kids siblings), sizes_back-along old new siblings (λ key live. same key (omega arith))) refl
-
-pub group_kids_back-along : (spot : Spot) (old new : ℕ → Held) (list : Forest Row) → Same old new list → group_kids_back spot new list ≡ group_kids_back spot old list
-group_kids_back-along spot old new Nothing same = refl
-group_kids_back-along spot old new (Branch row kids siblings) same =
-    rw (
-      same row.key (times_self row kids siblings),
-      sizes_back-along old new siblings (λ key live. same key (omega arith)),
-      group_kids_back-along spot old new siblings (λ key live. same key (omega arith)),
-    ) refl
 
 pub places_back-along : (spot : Spot) (old new : ℕ → Held) (list : Forest Row) → Same old new list → places_back spot new list ≡ places_back spot old list
 places_back-along spot old new Nothing same = refl

@@ -117,11 +117,6 @@ pressed_marks held keys key = elim (cases_Bool (among key keys)) [
   | inr e ↦ subst (Marks (held key)) (sym (pressed_out held keys key e)) (record { needed = refl; first = refl })
 ]
 
--- a view that was requested is no longer one
-pub record Requested (view : ℕ) (held : ℕ → Held) (tree : Forest Row) : Type 0 where
-  pub kept : Kept [] held loose tree
-  pub done : Done view held loose tree
-
 module _ (view : ℕ) (held : ℕ → Held) (tree : Forest Row) (once : (key : ℕ) → count_of_key key tree ≤ 1) (live : 0 < count_of_key view tree) where
   own_way : (keys : List ℕ) → Kept keys held loose tree → Way view (asking held view tree) held loose tree
   own_way keys k = way view (asking held view tree) held loose [] tree once live (kept_forces keys held loose tree k) refl (λ key here. refl)

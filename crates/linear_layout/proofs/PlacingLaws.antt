@@ -35,8 +35,12 @@ PlacesLinear-push cursor mark own room total before kid one more s =
     let count = s.count in
     let begin = line_begin (alignment_on own.vertical own.rtl (started own.gravity)) (low_padding own.vertical own) (size_on own.vertical room) total in
     record {
-      own_facts = s.own_facts;
-      own_size = s.own_size;
+      vertical = s.vertical;
+      rtl = s.rtl;
+      gravity = s.gravity;
+      padding_low = s.padding_low;
+      padding_high = s.padding_high;
+      breadth = s.breadth;
       count = omega arith;
       at = more ∙ ap (λ at. at +ℤ (size_on own.vertical kid.size +ℤ margins_on own.vertical kid.facts)) s.at
           ∙ behind begin (passed own.vertical before) (size_on own.vertical kid.size) (margins_on own.vertical kid.facts)

@@ -15,14 +15,22 @@ use crate::axis::{
 };
 use crate::mark::Mark;
 use geom_core::{Rect, Size, to_coordinate};
-use view_model::{Alignment, Facts, rect_at};
+use view_model::{Alignment, Facts, Gravity, rect_at};
 
 /// The placing of the children of one group. They are passed in order; in a horizontal line
 /// whose group runs from right to left, from the last to the first.
 #[derive(Clone, Copy, Debug)]
 pub struct Cursor {
-    own: Facts,
-    room: Size,
+    /// Whether the line runs from top to bottom.
+    vertical: bool,
+    /// Whether the group runs from right to left.
+    rtl: bool,
+    gravity: Gravity,
+    /// The paddings of the group on both sides of the line, and its size across it. These few numbers of the group are
+    /// copied, since a group is placed in each layout.
+    padding_low: i32,
+    padding_high: i32,
+    breadth: i32,
     /// Where the next child's low margin begins.
     mark: Mark,
 }
@@ -38,13 +46,19 @@ impl Cursor {
     ghost use Rattle.linear_layout.specs.Cursor.{PlacesLinear};
 
     /// Before the first child of a group of this size, of whose length its children and its padding take `total`.
+    #[inline(always)]
     pub fn start(own: &Facts, room: Size, total: i64) -> Cursor
         ensures { PlacesLinear result (layout_facts own.now) room total [] }
     {
         let along = own.vertical;
+        let beside = !own.vertical;
         Cursor {
-            own: *own,
-            room,
+            vertical: own.vertical,
+            rtl: own.rtl,
+            gravity: own.gravity,
+            padding_low: low_padding(beside, own),
+            padding_high: high_padding(beside, own),
+            breadth: size_on(beside, room),
             mark: Mark::new(line_begin(
                 alignment_on(along, own.rtl, own.gravity.started()),
                 low_padding(along, own),
@@ -55,6 +69,7 @@ impl Cursor {
     }
 
     /// The rectangle of the next child, which has this size, in the group's coordinates.
+    #[inline(always)]
     pub fn place(&mut self, kid: &Facts, size: Size) -> Rect
         requires width { IsSide size.w }
         requires height { IsSide size.h }
@@ -67,13 +82,32 @@ impl Cursor {
             → length before < MAX_VIEWS
             → PlacesLinear self.new own room total (before ++ record { facts = layout_facts kid.now; size = size } ∷ []) }
     {
-        let vertical = self.own.vertical;
+        let vertical = self.vertical;
         let along = self.mark.edge(low_margin(vertical, kid));
-        let beside = edge_beside(&self.own, self.room, kid, size);
+        let beside = self.edge_beside(kid, size);
         self.mark = self
             .mark
             .past(size_on(vertical, size), margins_on(vertical, kid));
         rect_by(vertical, along, beside, size)
+    }
+
+    /// The low edge of a child of this size across the line.
+    fn edge_beside(&self, kid: &Facts, size: Size) -> i32
+        ensures value { (own : FactsValue) (room : SizeValue) (total : ℤ) (before : List Measured)
+            → PlacesLinear self.now own room total before
+            → result ≡ clamp_coordinate (edge_beside own room (kid_with kid.now size)) }
+        ensures edge { IsCoordinate result }
+    {
+        let beside = !self.vertical;
+        let gravity = self.gravity.for_child(kid.layout_gravity);
+        to_coordinate(alignment_on(beside, self.rtl, gravity).low_edge(
+            self.breadth,
+            self.padding_low,
+            self.padding_high,
+            size_on(beside, size),
+            low_margin(beside, kid),
+            high_margin(beside, kid),
+        ))
     }
 }
 
@@ -105,23 +139,6 @@ fn behind(padding: i32, spare: i128) -> i128
     ensures near { unsigned_abs result ≤ 2 ^ 66 }
 {
     i128::from(padding) + spare
-}
-
-/// The low edge of a child of this size across the line.
-fn edge_beside(own: &Facts, room: Size, kid: &Facts, size: Size) -> i32
-    ensures value { result ≡ clamp_coordinate (edge_beside (layout_facts own.now) room (kid_with kid.now size)) }
-    ensures edge { IsCoordinate result }
-{
-    let beside = !own.vertical;
-    let gravity = own.gravity.for_child(kid.layout_gravity);
-    to_coordinate(alignment_on(beside, own.rtl, gravity).low_edge(
-        size_on(beside, room),
-        low_padding(beside, own),
-        high_padding(beside, own),
-        size_on(beside, size),
-        low_margin(beside, kid),
-        high_margin(beside, kid),
-    ))
 }
 
 /// The rectangle of this size whose low edges are these, along the line and across it.

@@ -53,6 +53,7 @@ impl FirstPass {
     }
 
     /// With one child more, which counts with this size.
+    #[inline(always)]
     pub fn with(self, line: &Line, kid: &Facts, size: Size) -> FirstPass
         ensures { (kids : List Measured)
             → length kids < MAX_VIEWS

@@ -131,6 +131,7 @@ impl Line {
     }
 
     /// What a child takes of the breadth.
+    #[inline(always)]
     pub fn breadth(&self, kid: &Facts, size: Size) -> i64
         ensures value { result ≡ breadth_of self.now.vertical (kid_with kid.now size) }
         ensures high { result ≤ℤ pos (2 ^ 33) }
@@ -141,6 +142,7 @@ impl Line {
 
     /// What a child takes of the breadth of a group that is as broad as its children are.
     #[tactic(auto, unfolding(view_model::specs::LinearLayout::claim))]
+    #[inline(always)]
     pub fn claim(&self, kid: &Facts, size: Size) -> i64
         ensures value { result ≡ claim_of self.now.vertical (is_exact_beside (own_in self.now) (specs_in self.now)) (kid_with kid.now size) }
         ensures high { result ≤ℤ pos (2 ^ 33) }
@@ -153,6 +155,7 @@ impl Line {
 
     /// The same of a child without a weight, and 0 for the others.
     #[tactic(auto, unfolding(view_model::specs::LinearLayout::where_even))]
+    #[inline(always)]
     pub fn even_claim(&self, kid: &Facts, size: Size) -> i64
         ensures value { result ≡ where_even kid.now.weight
             (claim_of self.now.vertical (is_exact_beside (own_in self.now) (specs_in self.now)) (kid_with kid.now size)) }
@@ -166,6 +169,7 @@ impl Line {
 
     /// The same of a child with a weight, and 0 for the others.
     #[tactic(auto, unfolding(view_model::specs::LinearLayout::where_weighted))]
+    #[inline(always)]
     pub fn weighted_claim(&self, kid: &Facts, size: Size) -> i64
         ensures value { result ≡ where_weighted kid.now.weight
             (claim_of self.now.vertical (is_exact_beside (own_in self.now) (specs_in self.now)) (kid_with kid.now size)) }

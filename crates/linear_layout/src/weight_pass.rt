@@ -45,6 +45,7 @@ impl WeightPass {
     }
 
     /// With one child more, of this size.
+    #[inline(always)]
     pub fn with(self, line: &Line, kid: &Facts, size: Size) -> WeightPass
         ensures { (first kids : List Measured)
             → length kids < MAX_VIEWS

@@ -1,6 +1,6 @@
 //! The lines that edit a view, and those of frames.
 
-ghost use Rattle.std.specs.Prelude.{◌≡◌, ◌<◌, ◌+◌, ◌^◌, codes};
+ghost use Rattle.std.specs.Prelude.{◌≡◌, ◌<◌, ◌+◌, ◌^◌};
 ghost use Rattle.load_maker.specs.Load.{Load, color_line, margins_line, size_line, visibility_name, visible_line, weight_line, with_color, with_edit, with_frame, with_margins, with_size, with_step, with_visibility, with_weight};
 ghost use Rattle.load_maker.specs.Made.{Makes, Puts};
 

@@ -1,7 +1,6 @@
 //! The lines that make views.
 
-ghost use Rattle.std.specs.Prelude.{◌≡◌, ◌<◌, codes};
-ghost use Rattle.text_lines.specs.Joined.{◌⧺◌};
+ghost use Rattle.std.specs.Prelude.{◌≡◌};
 ghost use Rattle.load_maker.specs.Load.{Load, add_line, class_name, text_line, with_text, with_view};
 ghost use Rattle.load_maker.specs.Made.{Makes, Puts};
 

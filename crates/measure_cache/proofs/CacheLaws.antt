@@ -112,14 +112,14 @@ found-put_in cache entry specs size h =
 
 -- the last of the first entries decides, otherwise the ones before it
 found-last_kept : (kept : List Kept) (place : ℕ) (unused : Kept) (specs : Specs) → place < length kept
-    → found (map entry_of (take (place + 1) kept)) specs ≡ (if is_of (entry_of (get_or kept place unused)) specs then Some (get_or kept place unused).size else found (map entry_of (take place kept)) specs)
+    → found (map entry_of (take (place + 1) kept)) specs ≡ (if is_of (entry_of (get_or kept place unused)) specs then Some (entry_of (get_or kept place unused)).size else found (map entry_of (take place kept)) specs)
 found-last_kept kept place unused specs there =
     ap (λ list. found (map entry_of list) specs) (take_more kept place unused there)
     ∙ ap (λ list. found list specs) (map-append entry_of (take place kept) (get_or kept place unused ∷ []))
     ∙ found_after-end None (map entry_of (take place kept)) (entry_of (get_or kept place unused)) specs
 
 pub found-last_is : (kept : List Kept) (place : ℕ) (unused : Kept) (specs : Specs) → place < length kept → is_of (entry_of (get_or kept place unused)) specs ≡ true
-    → found (map entry_of (take (place + 1) kept)) specs ≡ Some (get_or kept place unused).size
+    → found (map entry_of (take (place + 1) kept)) specs ≡ Some (entry_of (get_or kept place unused)).size
 found-last_is kept place unused specs there is = rw is at (found-last_kept kept place unused specs there)
 
 pub found-last_not : (kept : List Kept) (place : ℕ) (unused : Kept) (specs : Specs) → place < length kept → is_of (entry_of (get_or kept place unused)) specs ≡ false

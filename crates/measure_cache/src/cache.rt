@@ -1,7 +1,7 @@
 //! The last sizes of a view.
-ghost use Rattle.std.specs.Prelude.{◌≡◌, []};
+ghost use Rattle.std.specs.Prelude.{◌≡◌, ◌<◌, []};
 ghost use Rattle.measure_cache.specs.Entries.{found, is_of, put_in};
-ghost use Rattle.measure_cache.specs.Kept.{entry_of};
+ghost use Rattle.measure_cache.specs.Kept.{entry_of, length_of, mode_number, numbered_mode};
 
 use arrayvec::ArrayVec;
 use geom_core::{Mode, Size, Spec};
@@ -15,25 +15,26 @@ pub struct Entry {
     pub size: Size,
 }
 
-/// An entry as it is kept: the two modes are side by side, so that it takes 20 bytes and not 24.
+/// An entry as it is kept: 17 bytes without alignment, so that eight take 136 bytes. Lengths have their lowest byte first.
 #[derive(Clone, Copy, Debug, PartialEq, Eq)]
 struct Kept {
-    across: i32,
-    down: i32,
-    size: Size,
-    mode_across: Mode,
-    mode_down: Mode,
+    across: [u8; 4],
+    down: [u8; 4],
+    width: [u8; 4],
+    height: [u8; 4],
+    /// The number of the mode across, and four times that of the mode down.
+    modes: u8,
 }
 
 impl Default for Kept {
     /// What an unused place holds; nothing reads it.
     fn default() -> Kept {
         Kept {
-            across: 0,
-            down: 0,
-            size: Size { w: 0, h: 0 },
-            mode_across: Mode::Unspecified,
-            mode_down: Mode::Unspecified,
+            across: [0; 4],
+            down: [0; 4],
+            width: [0; 4],
+            height: [0; 4],
+            modes: 0,
         }
     }
 }
@@ -74,9 +75,9 @@ impl Cache {
     {
         let entries = self.entries.as_slice();
         for newer in 0..entries.len() {
-            let kept = entries[entries.len() - 1 - newer];
-            if is_for(&kept, ws, hs) {
-                return Some(kept.size);
+            let entry = entry_of(&entries[entries.len() - 1 - newer]);
+            if is_for(&entry, ws, hs) {
+                return Some(entry.size);
             }
         }
         None
@@ -105,28 +106,70 @@ fn keep(ws: Spec, hs: Spec, size: Size) -> Kept
     ensures { entry_of result ≡ record { ws = ws; hs = hs; size = size } }
 {
     Kept {
-        across: ws.size,
-        down: hs.size,
-        size,
-        mode_across: ws.mode,
-        mode_down: hs.mode,
+        across: length_bytes(ws.size),
+        down: length_bytes(hs.size),
+        width: length_bytes(size.w),
+        height: length_bytes(size.h),
+        modes: mode_number(ws.mode) + 4 * mode_number(hs.mode),
+    }
+}
+
+/// The bytes of a length, the lowest first.
+fn length_bytes(length: i32) -> [u8; 4]
+    ensures { length_of result ≡ length }
+{
+    length.to_le_bytes()
+}
+
+/// The entry that is kept in this form.
+fn entry_of(kept: &Kept) -> Entry
+    ensures { result ≡ entry_of kept.now }
+{
+    Entry {
+        ws: Spec {
+            mode: numbered_mode(kept.modes % 4),
+            size: i32::from_le_bytes(kept.across),
+        },
+        hs: Spec {
+            mode: numbered_mode(kept.modes / 4),
+            size: i32::from_le_bytes(kept.down),
+        },
+        size: Size {
+            w: i32::from_le_bytes(kept.width),
+            h: i32::from_le_bytes(kept.height),
+        },
+    }
+}
+
+/// The number of a mode: 0, 1 or 2.
+fn mode_number(mode: Mode) -> u8
+    ensures value { result ≡ mode_number mode }
+    ensures few { result < 3 }
+{
+    match mode {
+        Mode::Unspecified => 0,
+        Mode::Exactly => 1,
+        Mode::AtMost => 2,
+    }
+}
+
+/// The mode of a number.
+fn numbered_mode(number: u8) -> Mode
+    ensures { result ≡ numbered_mode number }
+{
+    match number {
+        0 => Mode::Unspecified,
+        1 => Mode::Exactly,
+        _ => Mode::AtMost,
     }
 }
 
 /// Whether an entry is for these specs.
-fn is_for(kept: &Kept, ws: Spec, hs: Spec) -> bool
-    ensures { result ≡ is_of (entry_of kept.now) (record { across = ws; down = hs }) }
+fn is_for(entry: &Entry, ws: Spec, hs: Spec) -> bool
+    ensures { result ≡ is_of entry.now (record { across = ws; down = hs }) }
 {
-    let across = Spec {
-        mode: kept.mode_across,
-        size: kept.across,
-    };
-    let down = Spec {
-        mode: kept.mode_down,
-        size: kept.down,
-    };
-    if same_spec(across, ws) {
-        same_spec(down, hs)
+    if same_spec(entry.ws, ws) {
+        same_spec(entry.hs, hs)
     } else {
         false
     }

@@ -34,7 +34,7 @@ pub fn anchors_of(tree: &ViewTree, view: Key, kid: Key, rtl: bool, axis: Axis) -
 
 /// The anchor to which such a rule ties a child, if there is one. Most children have no such rule, which is seen
 /// without a look-up.
-/// look-up.
+#[inline(always)]
 fn anchor_of(
     tree: &ViewTree,
     view: Key,
@@ -54,6 +54,26 @@ fn anchor_of(
     if id == 0 {
         return None;
     }
+    named_anchor(tree, view, kid, rtl, axis, tie)
+}
+
+/// The same by a search, whether the child has such a rule or not.
+#[inline(never)]
+fn named_anchor(
+    tree: &ViewTree,
+    view: Key,
+    kid: Key,
+    rtl: bool,
+    axis: Axis,
+    tie: Tie,
+) -> Option<Anchor>
+    requires live { IsLive tree.now view }
+    requires siblings { class_of tree.now view ≡ RelativeLayout }
+    requires kid { IsLive tree.now kid }
+    ensures { (place : ℕ) → part_from kid tree.now.tree ≡ siblings_from place (children_of_first (part_from view tree.now.tree))
+        → result ≡ anchor_by rtl axis (kids_in (children_of_first (part_from view tree.now.tree)))
+        (kept_spans axis (held_of tree.now) (children_of_first (part_from view tree.now.tree))) tie place }
+{
     match anchor_key(tree, view, kid, rtl, axis, tie) {
         None => None,
         Some(anchor) => Some(anchor_with(tree, anchor, axis)),

@@ -1,5 +1,5 @@
 //! The part of a column of a picture, whose pixels are set or not as the bits of a number are.
-ghost use Rattle.std.specs.Prelude.{◌≡◌, ◌<◌, ◌≤◌, ◌+◌, ◌-◌, ◌*◌, ◌^◌, ℕ, length, if◌then◌else◌};
+ghost use Rattle.std.specs.Prelude.{◌≡◌, ◌<◌, ◌≤◌, ◌+◌, ◌-◌, ◌*◌, ℕ, length, if◌then◌else◌};
 ghost use Rattle.geom_core.specs.Color.{blend_of};
 ghost use Rattle.view_model.specs.Glyphs.{has_bit};
 ghost use Rattle.pixel_raster.specs.Raster.{AllOpaque, pixel_at};

@@ -53,8 +53,22 @@ impl States {
         self.entries.len()
     }
 
-    /// The place of the entry of an id.
+    /// The place of the entry of an id. A view without an id, which has 0, has none.
+    #[inline]
+    #[tactic(auto, using(crate::proofs::EntryLaws::zero_absent))]
     pub(crate) fn place_of(&self, id: u32) -> Option<usize>
+        ensures entry { FindsEntry self.now id result }
+        ensures few { length self.now ≤ MAX_ENTRIES }
+    {
+        self.tell();
+        if id == 0 {
+            return None;
+        }
+        self.place_in(id)
+    }
+
+    /// The place of the entry of an id, found in as many steps as their number has bits.
+    fn place_in(&self, id: u32) -> Option<usize>
         ensures entry { FindsEntry self.now id result }
         ensures few { length self.now ≤ MAX_ENTRIES }
     {

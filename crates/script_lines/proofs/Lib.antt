@@ -3,6 +3,7 @@ mod BarLaws
 mod ChangeExamples
 mod CommandExamples
 pub mod CommandLaws
+mod EditLaws
 mod EscapeLaws
 mod FeedLaws
 mod FileNameLaws

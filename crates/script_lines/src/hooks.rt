@@ -17,7 +17,7 @@ use crate::commands::{Asked, Command};
 use crate::fault::LineFault;
 use crate::naming::name_word;
 use crate::parting::first_edit;
-use crate::words::word;
+use crate::words::{is, word};
 use arrayvec::ArrayVec;
 use view_model::limits::MAX_EDITS;
 
@@ -62,11 +62,6 @@ pub const LINE_WORDS: [&str; 37] = [
     "restore",
 ];
 
-/// The words with which the edits begin that a hook can make.
-pub const EDIT_WORDS: [&str; 7] = [
-    "size", "min", "margins", "padding", "weight", "gravity", "bg",
-];
-
 /// Whether a word is among these.
 fn is_among(names: &[&str], word: &[u8]) -> bool
     ensures { result ≡ list_any (λ name. bytes_eq name.now word.now) names.now }
@@ -84,15 +79,22 @@ fn begins_line(word: &[u8]) -> bool
 
 /// Whether an edit that a hook can make begins with this word.
 #[tactic(auto, unfolding(crate::specs::Hooks::begins_edit))]
-fn begins_edit(word: &[u8]) -> bool
+#[inline]
+pub fn begins_edit(word: &[u8]) -> bool
     ensures { result ≡ begins_edit word.now }
 {
-    is_among(&EDIT_WORDS, word)
+    is(b"size", word)
+        || is(b"min", word)
+        || is(b"margins", word)
+        || is(b"padding", word)
+        || is(b"weight", word)
+        || is(b"gravity", word)
+        || is(b"bg", word)
 }
 
 /// What an edit asks for, by its first word and what comes after that.
 #[tactic(auto, unfolding(crate::specs::Hooks::asked_of))]
-fn read_asked(head: &[u8], bytes: &[u8]) -> Result<Asked, LineFault>
+pub fn read_asked(head: &[u8], bytes: &[u8]) -> Result<Asked, LineFault>
     ensures value { result ≡ asked_of head.now (words bytes.now) }
     ensures bounds { IfOk result (λ asked. IsChangeInBounds asked.change) }
 {

@@ -2,6 +2,7 @@
 
 ghost use Rattle.std.specs.Prelude.{◌≡◌, ◌≤◌, true, length, Ok, Err, IfOk};
 ghost use Rattle.script_lines.specs.Commands.{IsInBounds, add_of, bounds_of, class_of, command_by, command_in, command_of, digest_of, disallow_of, dpi_of, frame_of, inflate_of, into_of, keep_by, remove_of, set_of, set_text_of, touch_by, window_of};
+ghost use Rattle.script_lines.specs.Hooks.{begins_edit};
 ghost use Rattle.script_lines.specs.Lines.{is_passed_over};
 ghost use Rattle.script_lines.specs.PlainCommands.{PlainCommand, plain_command, text_length};
 ghost use Rattle.script_lines.specs.Spelled.{HasLine, spelled};
@@ -13,7 +14,7 @@ use crate::dimension::extents;
 use crate::escapes::rest_text;
 use crate::fault::LineFault;
 use crate::file_name::file_name_word;
-use crate::hooks::hook;
+use crate::hooks::{begins_edit, hook, read_asked};
 use crate::naming::{Name, name_word, parent_word};
 use crate::number::{natural_within, number, pair};
 use crate::pixels::pixels;
@@ -21,7 +22,7 @@ use crate::resources::res;
 use crate::states::{restore, save};
 use crate::touches::{cancel, down, moved, up};
 use crate::words::{end, is, is_text, literal, read_on, word};
-use view_model::Class;
+use view_model::{Act, Class};
 
 fn window(bytes: &[u8]) -> Result<Command<'_>, LineFault>
     ensures value { map_ok plain_command result ≡ window_of (words bytes.now) }
@@ -263,6 +264,7 @@ fn read_command<'a>(head: &[u8], bytes: &'a [u8]) -> Result<Command<'a>, LineFau
 }
 
 /// The command of a line by its first word and what comes after that: the spaces in a text count.
+#[inline(never)]
 #[tactic(auto, unfolding(crate::specs::Commands::command_in))]
 fn read_rest<'a>(head: &[u8], bytes: &'a [u8]) -> Result<Command<'a>, LineFault>
     ensures value { map_ok plain_command result ≡ command_in head.now bytes.now }
@@ -277,8 +279,22 @@ fn read_rest<'a>(head: &[u8], bytes: &'a [u8]) -> Result<Command<'a>, LineFault>
     read_command(head, bytes)
 }
 
-/// The command of a line.
-#[tactic(auto, unfolding(crate::specs::Commands::command_of))]
+/// A line that sets something which a hook can set too.
+#[tactic(auto, using(crate::proofs::EditLaws::edit_line))]
+fn edit<'a>(head: &[u8], bytes: &'a [u8]) -> Result<Command<'a>, LineFault>
+    requires { begins_edit head.now ≡ true }
+    ensures value { map_ok plain_command result ≡ command_in head.now bytes.now }
+    ensures bounds { IfOk result (λ command. IsInBounds (plain_command command)) }
+{
+    let asked = read_asked(head, bytes)?;
+    Ok(Command::Act {
+        view: asked.view,
+        act: Act::Change(asked.change),
+    })
+}
+
+/// The command of a line. Those that come most often are looked for first.
+#[tactic(auto, unfolding(crate::specs::Commands::command_of), using(crate::proofs::EditLaws::add_line))]
 fn read_line(bytes: &[u8]) -> Result<Command<'_>, LineFault>
     ensures value { map_ok plain_command result ≡ command_of bytes.now }
     ensures bounds { IfOk result (λ command. IsInBounds (plain_command command)) }
@@ -287,6 +303,12 @@ fn read_line(bytes: &[u8]) -> Result<Command<'_>, LineFault>
         return Err(LineFault::Syntax);
     }
     let (head, rest) = word(bytes)?;
+    if begins_edit(head) {
+        return edit(head, rest);
+    }
+    if is(head, b"add") {
+        return add(rest);
+    }
     read_rest(head, rest)
 }
 

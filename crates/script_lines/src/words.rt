@@ -56,10 +56,17 @@ pub fn word(bytes: &[u8]) -> Result<(&[u8], &[u8]), LineFault>
     Ok((word, rest))
 }
 
-/// Whether two words are equal.
+/// Whether two words are equal. Most words that are compared differ in their length or their first byte.
+#[inline]
 pub fn is(word: &[u8], name: &[u8]) -> bool
     ensures { result ≡ bytes_eq word.now name.now }
 {
+    if word.len() != name.len() {
+        return false;
+    }
+    if !word.is_empty() && word[0] != name[0] {
+        return false;
+    }
     word == name
 }
 

@@ -24,13 +24,6 @@ placed_along old new (Branch row kids siblings) same =
       placed_along old new siblings (KeepsInside-siblings old new row kids siblings same),
     ) refl
 
--- what is seen depends only on the bounds and the offsets of views
-pub placed_by_bounds : (old new : ℕ → Held) (list : Forest Row) → ((key : ℕ) → (new key).state.bounds ≡ (old key).state.bounds) → ((key : ℕ) → (new key).offset ≡ (old key).offset)
-    → placed_rows new list ≡ placed_rows old list
-placed_by_bounds old new Nothing bounds offsets = refl
-placed_by_bounds old new (Branch row kids siblings) bounds offsets =
-    rw (bounds row.key, offsets row.key, placed_by_bounds old new kids bounds offsets, placed_by_bounds old new siblings bounds offsets) refl
-
 -- a view, and then its later siblings
 pub met_parts : (x y : ℤ) (canvas : Canvas) (held : ℕ → Held) (list : Forest Row)
     → met_at x y canvas (placed_rows held list) ≡ joined (met_at x y canvas (placed_rows held (first_tree list))) (met_at x y canvas (placed_rows held (later_siblings list)))

@@ -1,6 +1,6 @@
 -- A stack in which a command was carried out in the world of one window.
 use Rattle.std.proofs.Common.{◌≡◌, ◌∙◌, ℕ, List, [], ap, sym, subst, get_or, set}
-use Rattle.std.specs.Prelude.{Option, Some, None, Result, map}
+use Rattle.std.specs.Prelude.{Option, Some, None, Result}
 use Rattle.std.specs.Option.{option_map}
 use Rattle.std.proofs.lemmas.List.{get_or-set_same, map-set}
 use Rattle.script_lines.specs.PlainCommands.{PlainCommand}
@@ -39,9 +39,9 @@ pub held_after : (old mid new : KeyedStack) (holder : Option ℕ) (k : ℕ) (wor
     → stack_of new ≡ with_world (stack_of old) holder k (world_of after)
 held_after old mid new holder k world after e is hold =
     ap stack_of (hold after (ap (λ (s : KeyedStack). keyed_at s k) is ∙ at_after old k world after e)
-      ∙ ap (λ (s : KeyedStack). record s { panes = record s.panes { holder = holder_after holder k (world_of after) } }) is)
+    ∙ ap (λ (s : KeyedStack). record s { panes = record s.panes { holder = holder_after holder k (world_of after) } }) is)
     ∙ ap (λ (l : List (Option World)). record { panes = record old.panes { holder = holder_after holder k (world_of after) }; worlds = l })
-      (map-set (option_map world_of) old.worlds k (Some after))
+    (map-set (option_map world_of) old.worlds k (Some after))
 
 -- the file that a command asks for is that of the window's world
 pub asked_there : (old : KeyedStack) (k : ℕ) (said : PlainCommand) (world : KeyedWorld) → keyed_at old k ≡ Some world → asked_in (world_at (stack_of old) k) said ≡ asked_file (world_of world) said

@@ -1,5 +1,5 @@
 -- A line that is given to one window leaves the others as they are, and what it does in that one is what it does in a world
--- that nobody else uses.
+-- that no other window uses.
 use Rattle.std.proofs.Common.{◌≡◌, ℕ, zero, ◌<◌, ◌==◌, suc, true, false, length, List, [], ◌∷◌, ◌++◌, refl, ap, sym, subst, ◌∙◌, arith, inl, inr, get_or, set}
 use Rattle.std.specs.Prelude.{Option, Some, None, fold, if◌then◌else◌, not, ◌&&◌, replicate}
 use Rattle.std.proofs.lemmas.Bool.{cases_Bool, cases_eq, eq-eqb, ne_eqb}
@@ -7,9 +7,8 @@ use Rattle.std.proofs.lemmas.Grind.{fold-append}
 use Rattle.std.proofs.lemmas.List.{append-nil, get_or-set_same, get_or-set_other}
 use Rattle.script_lines.specs.PlainCommands.{PlainCommand}
 use Rattle.tool_io.specs.Fetched.{Files}
-use Rattle.stack_worlds.specs.Isolation.{AreAlike, DependsOnShare, IsAlone, IsIsolated, Shared, after_shared, after_way, given_by, nothing_shared, opens, replies_alone, replies_from, reply_in, reply_of, share, shared_by, stack_or, world_alone, world_or}
-use Rattle.stack_worlds.specs.PlainStack.{PlainStack, PlainWay, Given, Missed, RefusedBy, ToStack, after_given, by_way, empty_stack, given_to, own_step, stack_step, way_of, world_at}
-use Rattle.stack_worlds.specs.declared.stack.way.Own.{Own}
+use Rattle.stack_worlds.specs.Isolation.{AreAlike, DependsOnShare, IsAlone, IsIsolated, Shared, after_shared, given_by, nothing_shared, opens, replies_alone, replies_from, reply_in, reply_of, share, shared_by, stack_or, world_alone, world_or}
+use Rattle.stack_worlds.specs.PlainStack.{PlainStack, PlainWay, Given, Missed, RefusedBy, ToStack, after_given, by_way, empty_stack, given_to, own_step, way_of, world_at}
 use Rattle.stack_worlds.specs.declared.stack.way.Own.TheVariants as own
 use Rattle.view_world.specs.Step.{Reply, Done, Refused, step}
 use Rattle.view_world.specs.World.{World, empty_world}

@@ -1,10 +1,10 @@
 -- Which windows are open after a line, and that each of them has a world.
-use Rattle.std.proofs.Common.{◌≡◌, ◌∙◌, ℕ, zero, ◌<◌, ◌≤◌, suc, ◌==◌, true, false, Bool, length, List, [], ◌∷◌, ◌++◌, refl, ap, sym, subst, arith, inl, inr, get_or, set}
-use Rattle.std.specs.Prelude.{Option, Some, None, ℤ, ◌||◌, not, if◌then◌else◌, filter, find, map}
+use Rattle.std.proofs.Common.{◌≡◌, ◌∙◌, ℕ, ◌<◌, ◌≤◌, ◌==◌, true, false, Bool, length, List, [], ◌∷◌, ◌++◌, refl, ap, sym, arith, inl, inr, get_or, set}
+use Rattle.std.specs.Prelude.{Option, Some, None, ℤ, ◌||◌, if◌then◌else◌, map}
 use Rattle.std.specs.Option.{is_some}
 use Rattle.std.proofs.lemmas.Bool.{cases_Bool, cases_eq, eq-eqb, ne_eqb}
 use Rattle.std.proofs.lemmas.List.{get_or-set_same, get_or-set_other, length-set}
-use Rattle.stack_worlds.specs.KeptStack.{HasWorlds, KeyedStack, keyed_at}
+use Rattle.stack_worlds.specs.KeptStack.{HasWorlds}
 use Rattle.view_world.specs.KeyedWorld.{KeyedWorld}
 use Rattle.window_stack.specs.PlainPanes.{PlainPanes, closed, is_open, only, pane_at, placed, raised, set_at, without}
 use Rattle.window_stack.specs.declared.panes.Pane.{Pane}

@@ -20,6 +20,7 @@ mod composing;
 mod way;
 mod worlds;
 
+pub use crate::stack::way::NO_PANE;
 use crate::stack::way::{Given, Own, Way};
 use crate::stack::worlds::open_in;
 use std::alloc::Global;
@@ -29,8 +30,6 @@ use tool_io::{Failed, Shelf, Sink};
 use view_model::{Refusal, Work};
 use view_world::{StepFault, World};
 use window_stack::{MAX_PANES, Panes, StackLine};
-
-pub use crate::stack::way::NO_PANE;
 
 /// The windows of a stack, and the world of each that is open.
 #[derive(Drop)]

@@ -42,6 +42,8 @@ impl<R: Files> Shelf for FolderShelf<R> {
 
     ghost faults = { λ s. s.faults };
 
+    ghost fetches = { λ _. None };
+
     #[tactic(auto, using(crate::proofs::Counting::counts_each))]
     fn fetch(&mut self, name: &str, into: &mut Vec<u8>, limit: usize) -> Result<Found, ShelfFault>
         ensures empty { result ≢ Ok Found.Whole → into.new.items ≡ [] }

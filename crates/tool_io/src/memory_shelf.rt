@@ -1,4 +1,5 @@
 ghost use Rattle.std.specs.Prelude.{◌≡◌, ◌≢◌, ◌<◌, ◌≤◌, ◌↔◌, [], length, IfOk, IsFalse, IsTrue, IsSomeAnd, None};
+ghost use Rattle.tool_io.specs.Counts.{raised};
 ghost use Rattle.tool_io.specs.Fetched.{CountsFetch, Fetched, file_of};
 
 use crate::calls::Calls;
@@ -47,12 +48,15 @@ impl Shelf for MemoryShelf {
 
     ghost faults = { λ s. s.calls.faults };
 
+    ghost fetches = { λ s. Some s.calls.made };
+
     fn fetch(&mut self, name: &str, into: &mut Vec<u8>, limit: usize) -> Result<Found, ShelfFault>
         ensures stays { self.new.files ≡ self.old.files }
         ensures found { IfOk result (λ found. Fetched self.old.files name.now limit found into.new.items) }
         ensures empty { result ≢ Ok Found.Whole → into.new.items ≡ [] }
         ensures limit { length into.new.items ≤ limit }
         ensures counted { CountsFetch self.old.calls.faults self.new.calls.faults result }
+        ensures asked { self.new.calls.made ≡ raised self.old.calls.made }
 
         // The call fails exactly if it is listed. Otherwise a file is missing exactly if it is not
         // held, and long exactly if it is above the limit; there may be no memory for the bytes of

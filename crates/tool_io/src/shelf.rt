@@ -1,4 +1,5 @@
 ghost use Rattle.std.specs.Prelude.{◌≡◌, ◌≢◌, ℕ, ◌≤◌, List, [], length, Option, IfSome, IfOk};
+ghost use Rattle.tool_io.specs.Counts.{one_more};
 ghost use Rattle.tool_io.specs.Fetched.{CountsFetch, Fetched};
 
 /// How a fetch ended.
@@ -30,6 +31,10 @@ pub trait Shelf {
     /// How many calls have failed. The count ends at the greatest `u64`.
     ghost faults: { Self → ℕ };
 
+    /// How many calls were made, whether they have failed or not, if the object counts them. The count ends at the
+    /// greatest `u64`.
+    ghost fetches: { Self → Option ℕ };
+
     /// Puts the file of this name into `into`, in place of what that holds, if the file has at
     /// most `limit` bytes. After anything but `Found::Whole`, `into` is empty.
     fn fetch(&mut self, name: &str, into: &mut Vec<u8>, limit: usize) -> Result<Found, ShelfFault>
@@ -38,5 +43,6 @@ pub trait Shelf {
             (λ found. IfSome (files self.old) (λ files. Fetched files name.now limit found into.new.items)) }
         ensures empty { result ≢ Ok Found.Whole → into.new.items ≡ [] }
         ensures limit { length into.new.items ≤ limit }
-        ensures counted { CountsFetch (faults self.old) (faults self.new) result };
+        ensures counted { CountsFetch (faults self.old) (faults self.new) result }
+        ensures asked { fetches self.new ≡ one_more (fetches self.old) };
 }

@@ -37,6 +37,8 @@ impl Shelf for SteadyShelf {
 
     ghost faults = { λ _. 0 };
 
+    ghost fetches = { λ _. None };
+
     fn fetch(&mut self, name: &str, into: &mut Vec<u8>, limit: usize) -> Result<Found, ShelfFault>
         ensures stays { self.new ≡ self.old }
         ensures found { IfOk result (λ found. Fetched self.old name.now limit found into.new.items) }

@@ -21,3 +21,4 @@ mod WideLaws
 mod DistinctLaws
 mod Examples
 mod PlaceLaws
+mod PartLaws

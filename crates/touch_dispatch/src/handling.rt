@@ -7,7 +7,7 @@ ghost use Rattle.touch_dispatch.specs.TreeEvents.{progress_by, room_of};
 use crate::drag::asked_drag;
 use crate::gesture::Gesture;
 use crate::log::{Entry, Kind, Log};
-use crate::points::{is_down, is_near_first, is_planned};
+use crate::points::{cancel_event, is_down, is_near_first, is_planned};
 use crate::receiver::Receiver;
 use touch_event::{Action, Event};
 use view_model::Answer;
@@ -18,13 +18,15 @@ pub fn note(log: &mut Log, view: u64, kind: Kind, event: &Event, yes: bool)
     ensures noted { log.new.entries.items ≡ log.old.entries.items ++ record { view = view; kind = kind; event = event.now; yes = yes; offset = pos 0 } ∷ [] }
     ensures room { room_of log.new ≡ room_of log.old }
 {
-    log.note(Entry {
+    let mut entry = Entry {
         view,
         kind,
-        event: event.copy(),
+        event: cancel_event(),
         yes,
         offset: 0,
-    });
+    };
+    entry.event.set(event);
+    log.note(entry);
 }
 
 /// Whether a group takes an event away from its children.

@@ -1,15 +1,17 @@
 //! What a child gets of an event, and where its pointers are.
-ghost use Rattle.std.specs.Prelude.{◌≡◌, ◌≢◌, ◌<◌, ◌&&◌, IfSome};
+ghost use Rattle.std.specs.Prelude.{◌≡◌, ◌≢◌, ◌<◌, ◌&&◌, Some, None, false, if◌then◌else◌, map};
+ghost use Rattle.std.specs.Option.{option_map};
 ghost use Rattle.touch_dispatch.specs.Dispatch.{is_offered, only, part_for, tried_event, tried_ids};
 ghost use Rattle.touch_dispatch.specs.Handling.{is_cancel, is_down, is_planned, plan_bit};
 ghost use Rattle.touch_dispatch.specs.Points.{acting_point, cancel_event, corner_x, corner_y, is_between, is_inside, is_near, is_near_first, is_near_point, is_tried, is_under, is_visible, local_event, local_point, point_of};
 ghost use Rattle.touch_event.specs.PointerSets.{has_id};
+ghost use Rattle.touch_event.specs.Splitting.{kept_points, split_event};
 ghost use Rattle.touch_event.specs.declared.event.TheConstants.{MAX_POINTERS};
 
 use crate::receiver::Receiver;
 use arrayvec::ArrayVec;
 use geom_core::{Rect, to_coordinate};
-use touch_event::{Action, Event, MAX_POINTERS, Point, split};
+use touch_event::{Action, Event, MAX_POINTERS, Point, has_id, has_point, split, split_action};
 use view_model::{Facts, Visibility};
 
 pub fn is_down(action: Action) -> bool
@@ -198,6 +200,7 @@ fn local_event(rect: Option<Rect>, own: &Facts, event: &Event) -> Event
 }
 
 /// What a child gets that is tried.
+#[inline(never)]
 pub fn tried_event(own: &Facts, rect: Option<Rect>, event: &Event) -> Event
     requires { event.now.pointer < MAX_POINTERS }
     ensures value { result ≡ local_event rect own.now.offset (tried_event own.now.split event.now) }
@@ -233,26 +236,46 @@ pub fn tried_ids(is_split: bool, event: &Event) -> u32
     }
 }
 
-/// The part of a target with these bounds, if it gets one.
-pub fn part_for(
+/// Makes a part of an event that of a target with these bounds. Returns whether the target gets one.
+pub fn put_part(part: &mut Event, own: &Facts, rect: Option<Rect>, event: &Event, ids: u32) -> bool
+    ensures value { (if result then Some part.new else None) ≡ part_for rect own.now.offset event.now false (has_id ids) }
+    ensures pointer { part.new.pointer ≡ event.now.pointer }
+{
+    if is_cancel(event.action) {
+        part.set(event);
+        return true;
+    }
+    put_split(part, own, rect, event, ids)
+}
+
+/// Makes a part of an event that of these pointers, in the coordinates of a child with these bounds. Returns whether it
+/// has one of them.
+fn put_split(part: &mut Event, own: &Facts, rect: Option<Rect>, event: &Event, ids: u32) -> bool
+    ensures value { (if result then Some part.new else None) ≡ option_map (local_event rect own.now.offset) (split_event (has_id ids) event.now) }
+    ensures pointer { part.new.pointer ≡ event.now.pointer }
+{
+    put_points(&mut part.points, own, rect, event, ids);
+    let points = part.points.as_slice();
+    let kept = has_point(points, event.pointer);
+    part.action = split_action(event.action, kept, points.len() == 1);
+    part.pointer = event.pointer;
+    !part.points.is_empty()
+}
+
+/// The points of these pointers, in the coordinates of a child with these bounds.
+fn put_points(
+    points: &mut ArrayVec<Point, MAX_POINTERS>,
     own: &Facts,
     rect: Option<Rect>,
     event: &Event,
-    intercepted: bool,
     ids: u32,
-) -> Option<Event>
-    requires { event.now.pointer < MAX_POINTERS }
-    ensures value { result ≡ part_for rect own.now.offset event.now intercepted (has_id ids) }
-    ensures pointer { IfSome result (λ part. part.pointer < MAX_POINTERS) }
+)
+    ensures { points.new.items ≡ map (local_point rect own.now.offset) (kept_points (has_id ids) event.now.points.items) }
 {
-    if intercepted {
-        return Some(cancel_event());
-    }
-    if is_cancel(event.action) {
-        return Some(event.copy());
-    }
-    match split(event, ids) {
-        None => None,
-        Some(part) => Some(local_event(rect, own, &part)),
+    points.clear();
+    for point in event.points.as_slice() {
+        if has_id(ids, point.id) {
+            points.push(local_point(rect, own.offset, *point));
+        }
     }
 }

@@ -13,7 +13,7 @@ use crate::groups::{begin, end, is_target, settle};
 use crate::handling::{ask, handle};
 use crate::limits::Limits;
 use crate::log::Log;
-use crate::points::{id_bit, is_offered, is_tried, part_for, tried_event, tried_ids};
+use crate::points::{cancel_event, id_bit, is_offered, is_tried, put_part, tried_event, tried_ids};
 use crate::scrolling::{handle_drag, receiver_at};
 use crate::taker::Taker;
 use touch_event::Event;
@@ -141,6 +141,7 @@ fn try_children(
 }
 
 /// Tries one child: it gets the event if the pointer is in it, unless it is a target already.
+#[inline(never)]
 #[cycle(reach)]
 fn try_child(
     tree: &mut ViewTree,
@@ -157,22 +158,23 @@ fn try_child(
     ensures tried { try_child (scene_of tree.old limits.now.slop) (own_of tree.old view) event.now (child_at tree.old limits.now.slop kid) (progress_of tree.old gesture.old log.old) ≡ record { taker = result; progress = progress_of tree.new gesture.new log.new } }
     ensures kept { KeepsScene tree.old tree.new gesture.old gesture.new log.old log.new }
 {
-    let own = *tree.facts(view);
+    let own = tree.facts(view);
+    let split = own.split;
     let group = tree.number(view);
     let child = tree.number(kid);
     let rect = tree.state(kid).bounds;
-    if !is_tried(&own, tree.facts(kid), rect, event) {
+    if !is_tried(own, tree.facts(kid), rect, event) {
         return Taker::Nobody;
     }
     if is_target(gesture, group, child) {
         gesture.put(group, child, id_bit(event.pointer));
         return Taker::Earlier;
     }
-    let part = tried_event(&own, rect, event);
+    let part = tried_event(own, rect, event);
     if !reach(tree, gesture, log, limits, kid, &part) {
         return Taker::Nobody;
     }
-    gesture.put(group, child, tried_ids(own.split, event));
+    gesture.put(group, child, tried_ids(split, event));
     Taker::Handed(child)
 }
 
@@ -238,6 +240,7 @@ fn hand_out(
 }
 
 /// Sends a target its part of an event, unless it had it when it was captured.
+#[inline(never)]
 #[cycle(reach)]
 fn hand_to(
     tree: &mut ViewTree,
@@ -262,17 +265,14 @@ fn hand_to(
     let Some(kid) = tree.find(child) else {
         return false;
     };
+    let own = tree.facts(view);
     let rect = tree.state(kid).bounds;
-    match part_for(
-        tree.facts(view),
-        rect,
-        event,
-        intercepted,
-        gesture.ids(child),
-    ) {
-        None => false,
-        Some(part) => reach(tree, gesture, log, limits, kid, &part),
+    let ids = gesture.ids(child);
+    let mut part = cancel_event();
+    if !intercepted && !put_part(&mut part, own, rect, event, ids) {
+        return false;
     }
+    reach(tree, gesture, log, limits, kid, &part)
 }
 
 /// Both are looked at, whatever the first says.

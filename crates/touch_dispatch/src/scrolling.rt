@@ -17,6 +17,7 @@ use crate::gesture::Gesture;
 use crate::handling::{drag_answer, note};
 use crate::limits::Limits;
 use crate::log::{Entry, Kind, Log};
+use crate::points::cancel_event;
 use crate::receiver::Receiver;
 use geom_core::Rect;
 use scroll_view::range_in;
@@ -126,13 +127,15 @@ fn move_child(
     }
     let offset = facts.offset;
     set_offset(tree, view, facts);
-    log.note(Entry {
+    let mut entry = Entry {
         view: own.number,
         kind: Kind::Scroll,
-        event: event.copy(),
+        event: cancel_event(),
         yes: true,
         offset,
-    });
+    };
+    entry.event.set(event);
+    log.note(entry);
 }
 
 /// The facts of a scroll view, with its child this much further up, within its range.

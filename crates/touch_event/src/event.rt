@@ -42,18 +42,16 @@ pub struct Event {
 impl Event {
     ghost use Rattle.std.specs.Prelude.{◌≡◌};
 
-    /// A copy of the event.
-    pub fn copy(&self) -> Event
-        ensures { result ≡ self.now }
+    /// Becomes a copy of another event.
+    pub fn set(&mut self, other: &Event)
+        ensures { self.new ≡ other.now }
     {
-        let mut points = ArrayVec::new();
-        for point in self.points.as_slice() {
-            points.push(*point);
-        }
-        Event {
-            action: self.action,
-            pointer: self.pointer,
-            points,
+        self.action = other.action;
+        self.pointer = other.pointer;
+        self.points.clear();
+        match self.points.try_extend_from_slice(other.points.as_slice()) {
+            Ok(()) => (),
+            Err(_) => unreachable!(),
         }
     }
 }

@@ -8,4 +8,4 @@ mod splitting;
 
 pub use event::{Action, Event, MAX_POINTERS, Point};
 pub use pointer_set::has_id;
-pub use splitting::split;
+pub use splitting::{has_point, split, split_action};

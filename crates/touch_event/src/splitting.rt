@@ -41,14 +41,14 @@ fn kept_points(event: &Event, ids: u32) -> ArrayVec<Point, MAX_POINTERS>
 }
 
 /// Whether one of the points is that of this pointer.
-fn has_point(points: &[Point], id: u8) -> bool
+pub fn has_point(points: &[Point], id: u8) -> bool
     ensures { result ≡ has_point id points.now }
 {
     points.iter().any(|point| point.id == id)
 }
 
 /// What an action is to a part of the pointers: whether the acting one is `kept` in it, and whether one is kept `alone`.
-fn split_action(action: Action, kept: bool, alone: bool) -> Action
+pub fn split_action(action: Action, kept: bool, alone: bool) -> Action
     ensures { result ≡ split_action action kept alone }
 {
     match action {

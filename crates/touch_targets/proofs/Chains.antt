@@ -133,6 +133,7 @@ are_linked s places linked = record {
   free = linked.free;
   held = linked.held;
   fits = linked.fits;
+  small = linked.small;
   single = linked.single;
 }
 

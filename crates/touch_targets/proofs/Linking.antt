@@ -142,6 +142,7 @@ module _
           | inl e ↦ rw (eq-eqb p child e) small
           | inr ne ↦ rw (ne_eqb p child ne) (linked.fits p w.value w.is)
         ]);
+    small = λ p m h. let w = before p m h in linked.small p w.value w.is;
     single = λ p q m n h i same.
         let v = before p m h in
         let w = before q n i in

@@ -3,6 +3,7 @@ use Rattle.std.proofs.Common.{◌≡◌, ◌≢◌, ◌⊎◌, ◌<◌, ◌^◌,
 use Rattle.std.specs.Prelude.{◌==◌, if◌then◌else◌}
 use Rattle.std.proofs.lemmas.Bool.{cases_eq, eq-eqb, ne_eqb}
 use Rattle.slab.specs.Slab.{Slab, Updates, get}
+use Rattle.slab_link.specs.declared.link.TheConstants.{LINKS_END}
 use Rattle.touch_targets.specs.Nodes.{AreLinked, Chain, IsLinked, caught_at, caught_by, fresh_node, has_place, places_by, view_at}
 use Rattle.touch_targets.specs.Seats.{is_caught}
 use Rattle.touch_targets.specs.declared.node.Node.{Node}
@@ -50,6 +51,7 @@ module _
     free = λ p n h none. linked.free p n (still p n h).1 none;
     held = λ p x n h i. linked.held p x n (still p n h).1 i;
     fits = λ p n h. linked.fits p n (still p n h).1;
+    small = λ p n h. linked.small p n (still p n h).1;
     single = λ p q n m h i same. linked.single p q n m (still p n h).1 (still q m i).1 same;
   }
     where
@@ -78,6 +80,7 @@ module _
     (s t : Slab Node) (place view : ℕ)
     (linked : AreLinked s)
     (unused : get s place ≡ None)
+    (low : place < LINKS_END)
     (unknown : (x : ℕ) (n : Node) → get s x ≡ Some n → n.view ≢ view)
     (written : (x : ℕ) → get t x ≡ (if x == place then Some (fresh_node view) else get s x)) where
   come : (x : ℕ) → x ≡ place → get t x ≡ Some (fresh_node view)
@@ -128,6 +131,11 @@ module _
         elim (old_or p n h) [
           | inl new ↦ subst (λ (n : Node). n.ids < 2 ^ 32) (sym new.1) (omega arith)
           | inr old ↦ linked.fits p n old
+        ];
+    small = λ p n h.
+        elim (old_or p n h) [
+          | inl new ↦ subst (λ x. x < LINKS_END) (sym new.0) low
+          | inr old ↦ linked.small p n old
         ];
     single = λ p q n m h i same.
         elim (old_or p n h) [

@@ -1,14 +1,17 @@
 //! How nodes join and leave the targets of a group. A group and a target are named by the places of their nodes.
-ghost use Rattle.std.specs.Prelude.{◌≡◌, ◌≢◌, ◌==◌, ◌&&◌, true, if◌then◌else◌, ℕ, [], ◌∷◌, false, Some, None};
+ghost use Rattle.std.specs.Prelude.{◌≡◌, ◌≢◌, ◌==◌, ◌≤◌, ◌&&◌, true, if◌then◌else◌, ℕ, [], ◌∷◌, false, Some, None, OnOk};
 ghost use Rattle.slab.specs.Slab.{get, ContainsKey, HasRoomFor};
+ghost use Rattle.slab_link.specs.declared.link.TheConstants.{LINKS_END};
 ghost use Rattle.touch_targets.specs.declared.node.Node.{Node};
 ghost use Rattle.touch_targets.specs.Nodes.{AreLinked, IsBehind, IsTarget, caught_at, caught_by, caught_in_place, changed, fresh_node, has_place, left_at, places_by, relinked, view_at, view_of, without_place, without_caught};
 ghost use Rattle.touch_targets.specs.Seats.{drop_caught, is_caught, mask_with, mask_without, put_caught};
 
 use crate::node::Node;
 use slab::Slab;
+use slab_link::{LINKS_END, Link};
+use std::alloc::AllocError;
 
-fn set_newest(nodes: &mut Slab<Node>, group: usize, newest: Option<usize>)
+fn set_newest(nodes: &mut Slab<Node>, group: usize, newest: Link)
     requires { ContainsKey nodes.old group }
     ensures { (x : ℕ) → get nodes.new x ≡ changed (get nodes.old) group (λ node. record node { newest = newest }) x }
 {
@@ -16,7 +19,7 @@ fn set_newest(nodes: &mut Slab<Node>, group: usize, newest: Option<usize>)
     node.newest = newest;
 }
 
-fn set_next(nodes: &mut Slab<Node>, place: usize, next: Option<usize>)
+fn set_next(nodes: &mut Slab<Node>, place: usize, next: Link)
     requires { ContainsKey nodes.old place }
     ensures { (x : ℕ) → get nodes.new x ≡ changed (get nodes.old) place (λ node. record node { next = next }) x }
 {
@@ -33,7 +36,7 @@ fn write_ids(nodes: &mut Slab<Node>, place: usize, ids: u32)
 }
 
 /// Sets what comes right after a target, or first if that is none.
-fn set_behind(nodes: &mut Slab<Node>, group: usize, previous: Option<usize>, next: Option<usize>)
+fn set_behind(nodes: &mut Slab<Node>, group: usize, previous: Option<usize>, next: Link)
     requires group { ContainsKey nodes.old group }
     requires previous { (p : ℕ) → previous ≡ Some p → ContainsKey nodes.old p }
     ensures { (x : ℕ) → get nodes.new x ≡ relinked (get nodes.old) group previous next x }
@@ -45,13 +48,7 @@ fn set_behind(nodes: &mut Slab<Node>, group: usize, previous: Option<usize>, nex
 }
 
 /// Makes a node a target of a group, or of none.
-fn set_target(
-    nodes: &mut Slab<Node>,
-    place: usize,
-    group: Option<usize>,
-    next: Option<usize>,
-    ids: u32,
-)
+fn set_target(nodes: &mut Slab<Node>, place: usize, group: Link, next: Link, ids: u32)
     requires { ContainsKey nodes.old place }
     ensures { (x : ℕ) → get nodes.new x ≡ changed (get nodes.old) place (λ node. record node { group = group; next = next; ids = ids }) x }
 {
@@ -85,8 +82,8 @@ pub fn link_newest(nodes: &mut Slab<Node>, group: usize, child: usize, ids: u32)
     ensures views { (x : ℕ) → view_of (get nodes.new x) ≡ view_of (get nodes.old x) }
 {
     let next = nodes[group].newest;
-    set_target(nodes, child, Some(group), next, ids);
-    set_newest(nodes, group, Some(child));
+    set_target(nodes, child, Link::to(group), next, ids);
+    set_newest(nodes, group, Link::to(child));
 }
 
 /// Takes a target away from its group. `previous` is the target right before it, which is newer, if there is one.
@@ -101,7 +98,7 @@ pub fn unlink(nodes: &mut Slab<Node>, group: usize, previous: Option<usize>, pla
 {
     let next = nodes[place].next;
     set_behind(nodes, group, previous, next);
-    set_target(nodes, place, None, None, 0);
+    set_target(nodes, place, Link::none(), Link::none(), 0);
 }
 
 /// The target right before one of a group, if there is one.
@@ -112,13 +109,13 @@ fn before(nodes: &Slab<Node>, group: usize, place: usize) -> Option<usize>
     ensures { IsBehind result place (places_by nodes.now group) }
 {
     let mut previous = None;
-    let mut at = nodes[group].newest;
+    let mut at = nodes[group].newest.key();
     while let Some(other) = at {
         if other == place {
             return previous;
         }
         previous = at;
-        at = nodes[other].next;
+        at = nodes[other].next.key();
     }
     previous
 }
@@ -144,7 +141,7 @@ pub fn remove(nodes: &mut Slab<Node>, child: usize)
     ensures caught { (x : ℕ) → caught_by nodes.new x ≡ without_caught (view_of (get nodes.old child)) (caught_by nodes.old x) }
     ensures views { (x : ℕ) → view_of (get nodes.new x) ≡ view_of (get nodes.old x) }
 {
-    match nodes[child].group {
+    match nodes[child].group.key() {
         None => (),
         Some(group) => unlink_child(nodes, group, child),
     }
@@ -161,7 +158,7 @@ pub fn put(nodes: &mut Slab<Node>, group: usize, child: usize, ids: u32)
     ensures caught { (x : ℕ) → caught_by nodes.new x ≡ (if x == group then put_caught (view_at nodes.old child) ids (caught_by nodes.old x) else caught_by nodes.old x) }
     ensures views { (x : ℕ) → view_of (get nodes.new x) ≡ view_of (get nodes.old x) }
 {
-    match nodes[child].group {
+    match nodes[child].group.key() {
         None => link_newest(nodes, group, child, ids),
         Some(_) => {
             let all = ids_with(nodes[child].ids, ids);
@@ -183,9 +180,23 @@ pub fn take_out(nodes: &mut Slab<Node>, place: usize)
     nodes.remove(place);
 }
 
+/// Takes the memory for one more node, if links can name its place.
+pub fn make_room(nodes: &mut Slab<Node>) -> Result<(), AllocError>
+    ensures rest_kept { nodes.new ≡ record nodes.old { capacity = nodes.new.capacity } }
+    ensures room { OnOk result (HasRoomFor nodes.new 1) }
+    ensures small { OnOk result (nodes.new.capacity ≤ LINKS_END) }
+{
+    nodes.reserve(1)?;
+    if nodes.capacity() > LINKS_END {
+        return Err(AllocError);
+    }
+    Ok(())
+}
+
 /// Inserts the node of a view that has none yet, into free room. Returns its place.
 pub fn put_in(nodes: &mut Slab<Node>, view: u64) -> usize
     requires room { HasRoomFor nodes.old 1 }
+    requires small { nodes.old.capacity ≤ LINKS_END }
     requires linked { AreLinked nodes.old }
     requires unknown { (x : ℕ) (node : Node) → get nodes.old x ≡ Some node → node.view ≢ view }
     ensures linked { AreLinked nodes.new }
@@ -195,9 +206,9 @@ pub fn put_in(nodes: &mut Slab<Node>, view: u64) -> usize
 {
     nodes.insert_reserved(Node {
         view,
-        newest: None,
-        group: None,
-        next: None,
+        newest: Link::none(),
+        group: Link::none(),
+        next: Link::none(),
         ids: 0,
     })
 }
@@ -211,9 +222,9 @@ pub fn drop_ids(nodes: &mut Slab<Node>, group: usize, ids: u32)
     ensures views { (x : ℕ) → view_of (get nodes.new x) ≡ view_of (get nodes.old x) }
 {
     let mut previous = None;
-    let mut at = nodes[group].newest;
+    let mut at = nodes[group].newest.key();
     while let Some(place) = at {
-        at = nodes[place].next;
+        at = nodes[place].next.key();
         previous = drop_ids_at(nodes, group, previous, place, ids);
     }
 }

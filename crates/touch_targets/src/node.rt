@@ -1,16 +1,18 @@
 //! The node of an open view.
 
+use slab_link::Link;
+
 /// What is kept of an open view. Nodes name each other by their places in the pool.
 #[derive(Drop)]
 pub struct Node {
     /// The number of the view.
     pub view: u64,
     /// As a group: its newest target.
-    pub newest: Option<usize>,
+    pub newest: Link,
     /// As a target: the group that captured it. None for a view that is no target.
-    pub group: Option<usize>,
+    pub group: Link,
     /// As a target: the next older one of its group.
-    pub next: Option<usize>,
+    pub next: Link,
     /// As a target: its pointers, at least one, where bit `k` represents the id `k`.
     pub ids: u32,
 }

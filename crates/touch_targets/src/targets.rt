@@ -58,7 +58,7 @@ impl Targets {
         if self.places.contains_key(&view) {
             return Ok(());
         }
-        self.nodes.reserve(1)?;
+        links::make_room(&mut self.nodes)?;
         self.places.reserve(1)?;
         let place = links::put_in(&mut self.nodes, view);
         note_place(&mut self.places, view, place);
@@ -84,7 +84,7 @@ impl Targets {
         ensures part { targets_from result (targets_of self.now group) ≡ targets_of self.now group }
     {
         let place = place_of(&self.places, group)?;
-        let newest = self.nodes[place].newest?;
+        let newest = self.nodes[place].newest.key()?;
         Some(self.nodes[newest].view)
     }
 
@@ -95,7 +95,7 @@ impl Targets {
         ensures free { ((group : ℕ) → is_target child (targets_of self.now group) ≡ false) → result ≡ None }
     {
         let place = place_of(&self.places, child)?;
-        let next = self.nodes[place].next?;
+        let next = self.nodes[place].next.key()?;
         Some(self.nodes[next].view)
     }
 

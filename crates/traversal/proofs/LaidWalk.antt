@@ -1,8 +1,9 @@
 -- A walk over the children of a view, while each is laid.
-use Rattle.std.proofs.Common.{◌≡◌, ℕ, true, ◌<◌, ◌≤◌, List, [], ◌++◌, ◌+◌, length, length-append, Option, Some, sym, ap, subst, arith}
-use Rattle.std.specs.Prelude.{IfSome}
+use Rattle.std.proofs.Common.{◌≡◌, ℕ, Bool, true, not, inl, inr, refl, ◌<◌, ◌≤◌, List, [], ◌++◌, ◌+◌, length, length-append, Option, Some, sym, ap, subst, arith}
+use Rattle.std.specs.Prelude.{IfSome, is_some}
+use Rattle.std.proofs.lemmas.Bool.{cases_Bool}
 use Rattle.kept_views.specs.Kept.{owed}
-use Rattle.kept_views.specs.Laying.{Fit, IsQuiet, differ, last_sizes}
+use Rattle.kept_views.specs.Laying.{Fit, IsQuiet, IsQuietAll, differ, last_sizes}
 use Rattle.kept_views.proofs.LaidFrames.{Fit-later, IsQuietAs-along, IsQuiet-start, differ-along, differ_parts, last_sizes-along, last_sizes-few, owed-along, owed_parts, quiet_joined}
 use Rattle.measure_pass.specs.Caches.{Grown}
 use Rattle.view_model.specs.declared.kinds.Class.TheVariants.{RelativeLayout}
@@ -10,10 +11,10 @@ use Rattle.view_model.specs.declared.limits.TheConstants.{MAX_VIEWS}
 use Rattle.geom_core.specs.declared.geometry.Rect.{Rect}
 use Rattle.view_model.specs.Facts.{is_shown}
 use Rattle.view_model.specs.Forest.{Forest, Nothing, Branch, count_of}
-use Rattle.view_model.specs.Layout.{Spot}
+use Rattle.view_model.specs.Layout.{Spot, places_backwards}
 use Rattle.view_model.specs.Measuring.{Measured}
 use Rattle.view_model.specs.RelativeLayout.{sides_of}
-use Rattle.view_tree.specs.Rows.{Row, later_siblings, first_tree, head_view, part_from, rest_from, count_of_key}
+use Rattle.view_tree.specs.Rows.{Row, later_siblings, first_key, first_tree, head_view, part_from, rest_from, count_of_key}
 use Rattle.view_tree.specs.Views.{Held, KeepsInside, KeepsOutside}
 use Rattle.view_tree.proofs.forest.Walks.{KeepingWalk, KeepsInside-first, KeepsInside-rest, KeepsOutside-parts, count_of-parts, keeping_on, keeping_start, once_from, still_first}
 use Rattle.view_tree.proofs.forest.KeyLaws.{located, times_self}
@@ -132,7 +133,7 @@ sides_at tree kid held live shown narrow =
 
 pub narrow_for : (placer : Placer) (spot : Spot) (before : List Measured) (sides : Option Rect) → PlacesAs placer spot before
     → (spot.view.class ≡ RelativeLayout → AreSidesNarrow sides) → IsNarrowFor placer sides
-narrow_for (Over own room) spot before sides places narrow = tt
+narrow_for (Over room) spot before sides places narrow = tt
 narrow_for (InLine cursor) spot before sides places narrow = tt
 narrow_for Between spot before sides places narrow = narrow places
 
@@ -142,3 +143,11 @@ pub next_narrow : (tree kids : Forest Row) (placer : Placer) (spot : Spot) (star
 next_narrow tree kids placer spot start begin set kid now measured laid walk shown =
     narrow_for placer spot walk.before (sides_of (now kid).state.edges) walk.places
     (λ class. sides_at tree kid now walk.walked.walk.live shown (AreNarrow-along start now (part_from kid tree) walk.walked.still (walk.narrow class)))
+
+-- a view without children is laid, whatever its layout needs of them
+pub quiet_none : (held start : ℕ → Held) (spot : Spot) (list : Forest Row) (first : Option ℕ) (none : Bool) → is_some first ≡ not none → none ≡ true → first ≡ first_key list → IsQuietAll held spot start list
+quiet_none held start spot Nothing first none some is key = elim (cases_Bool (places_backwards spot.view.class spot.view.facts)) [
+  | inl e ↦ rw e (record { kept = tt; reached = tt; specs = refl; edges = refl; lies = refl; places = refl; offsets = tt })
+  | inr e ↦ rw e (record { kept = tt; reached = tt; specs = refl; edges = refl; lies = refl; places = refl; offsets = tt })
+]
+quiet_none held start spot (Branch row kids siblings) first none some is key = absurd (let s = rw (is, key) at some in cc)

@@ -30,6 +30,6 @@ AreNarrow held (Branch row kids siblings) =
 
 -- the sides of a child are narrow if it is placed between them
 abbrev pub IsNarrowFor : Placer → Option Rect → Type 0
-IsNarrowFor (Over own room) sides = Unit {0}
+IsNarrowFor (Over room) sides = Unit {0}
 IsNarrowFor (InLine cursor) sides = Unit {0}
 IsNarrowFor Between sides = AreSidesNarrow sides

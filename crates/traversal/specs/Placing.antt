@@ -1,5 +1,6 @@
 -- What is being placed, and how far that is.
 use Rattle.std.specs.Prelude.{◌≡◌, ℕ, false, List, ◌++◌, Option}
+use Rattle.frame_layout.specs.Room.{IsRoom}
 use Rattle.geom_core.specs.declared.geometry.Rect.{Rect}
 use Rattle.linear_layout.specs.Cursor.{PlacesLinear}
 use Rattle.view_model.specs.declared.kinds.Class.TheVariants.{LinearLayout, RelativeLayout}
@@ -15,8 +16,9 @@ use Rattle.kept_views.specs.Laying.{IsQuiet, last_sizes}
 
 -- a group places its children in this way, after these
 abbrev pub PlacesAs : Placer → Spot → List Measured → Type 0
-PlacesAs (Over own room) spot before =
-    (others : List Measured) (kid : Measured) (edges : Option Rect) → place_in spot others kid edges ≡ frame_place own room kid.facts kid.size
+PlacesAs (Over room) spot before =
+    IsRoom room spot.view.facts spot.room
+    × ((others : List Measured) (kid : Measured) (edges : Option Rect) → place_in spot others kid edges ≡ frame_place spot.view.facts spot.room kid.facts kid.size)
 PlacesAs Between spot before = spot.view.class ≡ RelativeLayout
 PlacesAs (InLine cursor) spot before = (spot.view.class ≡ LinearLayout) × PlacesLinear cursor spot.view.facts spot.room spot.total before
 

@@ -14,7 +14,7 @@ ghost use Rattle.view_model.specs.PlainTree.{with_facts};
 ghost use Rattle.view_tree.specs.Views.{IsLive, SameTree, held_of, number_of, plain_of};
 
 use crate::asking::request_by;
-use crate::changing::facts_after_act;
+use crate::changing::change_facts;
 use crate::edits::Edit;
 use crate::hiding::hide;
 use view_model::{Act, Direction, Member, Visibility};
@@ -28,6 +28,7 @@ pub fn names_views(act: Act) -> bool
 }
 
 /// Sets the id or a rule of a view, unless children of a relative layout then name one another in a circle.
+#[inline(never)]
 pub fn set_names(tree: &mut ViewTree, view: Key, act: Act) -> Result<(), AttachFault>
     requires live { IsLive tree.old view }
     requires verb { IsVerb act }
@@ -40,7 +41,8 @@ pub fn set_names(tree: &mut ViewTree, view: Key, act: Act) -> Result<(), AttachF
     ensures asked { LeavesUnasked tree.old tree.new (Edit.Act view act) }
     ensures measures { tree.new.counts.measures ≡ tree.old.counts.measures }
 {
-    let facts = facts_after_act(act, *tree.facts(view));
+    let mut facts = *tree.facts(view);
+    change_facts(act, &mut facts);
     match tree.set_rules(view, facts.id, facts.rules) {
         Err(fault) => Err(fault),
         Ok(()) => {
@@ -51,6 +53,7 @@ pub fn set_names(tree: &mut ViewTree, view: Key, act: Act) -> Result<(), AttachF
 }
 
 /// Sets the direction of a view, and in which way it runs with all that inherits from it.
+#[inline(never)]
 pub fn set_direction(tree: &mut ViewTree, view: Key, direction: Direction)
     requires live { IsLive tree.old view }
     ensures scene { scene_of tree.new ≡ after_act (scene_of tree.old) (number_of tree.old view) (Act.Direction direction) }
@@ -74,7 +77,8 @@ pub fn set_facts(tree: &mut ViewTree, view: Key, act: Act)
     ensures asked { LeavesUnasked tree.old tree.new (Edit.Act view act) }
     ensures measures { tree.new.counts.measures ≡ tree.old.counts.measures }
 {
-    let facts = facts_after_act(act, *tree.facts(view));
+    let mut facts = *tree.facts(view);
+    change_facts(act, &mut facts);
     hide_by(tree, view, act);
     tree.set_facts(view, facts);
     request_by(tree, view, act);

@@ -48,6 +48,7 @@ pub fn apply(alloc: Global, tree: &mut ViewTree, edit: Edit<'_>) -> Result<Optio
 }
 
 /// Makes a view, the last child of its parent or the root. Its facts are the default ones except for its dimensions.
+#[inline(never)]
 fn add(
     alloc: Global,
     tree: &mut ViewTree,
@@ -80,6 +81,7 @@ fn note_tree(tree: &ViewTree)
 }
 
 /// Removes a view and all below it.
+#[inline(never)]
 fn remove(tree: &mut ViewTree, view: Key)
     requires live { IsLive tree.old view }
     ensures scene { outcome_of_remove (scene_of tree.old) (number_of tree.old view) ≡ Ok (scene_of tree.new, None) }
@@ -119,6 +121,7 @@ fn act_on(tree: &mut ViewTree, view: Key, act: Act) -> Result<Option<u64>, EditF
 }
 
 /// Sets the text of a view whose class has one.
+#[inline(never)]
 fn write(
     alloc: Global,
     tree: &mut ViewTree,

@@ -1,5 +1,5 @@
 //! The facts of a view.
-ghost use Rattle.std.specs.Prelude.{◌≡◌, negsuc, pos, ◌≤ℤ◌};
+ghost use Rattle.std.specs.Prelude.{◌≡◌, false, negsuc, pos, ◌≤ℤ◌};
 
 use crate::kinds::{Answer, Visibility};
 use crate::placing::{Across, Direction, Down, Gravity, left_of_two, right_of_two};
@@ -136,34 +136,105 @@ impl Facts {
     }
 
     /// The margin on the left, a start value in the place of a left one, or under `rtl` an end value.
+    #[inline(always)]
     pub fn margin_left(&self) -> i32
+        ensures { result ≡ margin_left self.now }
+    {
+        if self.has_directed_margins() {
+            return self.directed_margin_left();
+        }
+        self.margins.left
+    }
+
+    /// The margin on the right, an end value in the place of a right one, or under `rtl` a start value.
+    #[inline(always)]
+    pub fn margin_right(&self) -> i32
+        ensures { result ≡ margin_right self.now }
+    {
+        if self.has_directed_margins() {
+            return self.directed_margin_right();
+        }
+        self.margins.right
+    }
+
+    /// The padding on the left, a start value in the place of a left one, or under `rtl` an end value.
+    #[inline(always)]
+    pub fn padding_left(&self) -> i32
+        ensures { result ≡ padding_left self.now }
+    {
+        if self.has_directed_padding() {
+            return self.directed_padding_left();
+        }
+        self.padding.left
+    }
+
+    /// The padding on the right, an end value in the place of a right one, or under `rtl` a start value.
+    #[inline(always)]
+    pub fn padding_right(&self) -> i32
+        ensures { result ≡ padding_right self.now }
+    {
+        if self.has_directed_padding() {
+            return self.directed_padding_right();
+        }
+        self.padding.right
+    }
+
+    /// Whether a start or an end margin is given. Without one, the margins on the left and on the right are the plain ones
+    /// in either direction; most views have none.
+    #[inline(always)]
+    fn has_directed_margins(&self) -> bool
+        ensures left { result ≡ false → margin_left self.now ≡ self.now.margins.left }
+        ensures right { result ≡ false → margin_right self.now ≡ self.now.margins.right }
+    {
+        match (self.margin_start, self.margin_end) {
+            (None, None) => false,
+            _ => true,
+        }
+    }
+
+    /// Whether a start or an end padding is given. Without one, the padding on the left and on the right is the plain one
+    /// in either direction; most views have none.
+    #[inline(always)]
+    fn has_directed_padding(&self) -> bool
+        ensures left { result ≡ false → padding_left self.now ≡ self.now.padding.left }
+        ensures right { result ≡ false → padding_right self.now ≡ self.now.padding.right }
+    {
+        match (self.padding_start, self.padding_end) {
+            (None, None) => false,
+            _ => true,
+        }
+    }
+
+    #[inline(never)]
+    fn directed_margin_left(&self) -> i32
         ensures { result ≡ margin_left self.now }
     {
         left_of_two(self.rtl, self.margin_start, self.margin_end).unwrap_or(self.margins.left)
     }
 
-    /// The margin on the right, an end value in the place of a right one, or under `rtl` a start value.
-    pub fn margin_right(&self) -> i32
+    #[inline(never)]
+    fn directed_margin_right(&self) -> i32
         ensures { result ≡ margin_right self.now }
     {
         right_of_two(self.rtl, self.margin_start, self.margin_end).unwrap_or(self.margins.right)
     }
 
-    /// The padding on the left, a start value in the place of a left one, or under `rtl` an end value.
-    pub fn padding_left(&self) -> i32
+    #[inline(never)]
+    fn directed_padding_left(&self) -> i32
         ensures { result ≡ padding_left self.now }
     {
         left_of_two(self.rtl, self.padding_start, self.padding_end).unwrap_or(self.padding.left)
     }
 
-    /// The padding on the right, an end value in the place of a right one, or under `rtl` a start value.
-    pub fn padding_right(&self) -> i32
+    #[inline(never)]
+    fn directed_padding_right(&self) -> i32
         ensures { result ≡ padding_right self.now }
     {
         right_of_two(self.rtl, self.padding_start, self.padding_end).unwrap_or(self.padding.right)
     }
 
     /// Both margins from left to right.
+    #[inline(always)]
     pub fn margins_across(&self) -> i64
         ensures value { result ≡ margins_across self.now }
         ensures low { negsuc 4294967295 ≤ℤ result }
@@ -182,6 +253,7 @@ impl Facts {
     }
 
     /// Both paddings from left to right.
+    #[inline(always)]
     pub fn padding_across(&self) -> i64
         ensures value { result ≡ padding_across self.now }
         ensures low { negsuc 4294967295 ≤ℤ result }

@@ -173,6 +173,7 @@ impl Tie {
     ghost use Rattle.view_model.specs.SiblingRules.{anchor_id};
 
     /// The id of the sibling to which rules tie a child on an axis, or 0; its group runs from right to left or not.
+    #[inline(always)]
     pub fn anchor_id(self, rtl: bool, axis: Axis, rules: &Rules) -> u32
         ensures { result ≡ anchor_id rtl axis self rules.now }
     {

@@ -1,6 +1,7 @@
 //! How nodes join and leave their neighbours. A key that is `None` means that there is no such neighbour.
-ghost use Rattle.std.specs.Prelude.{◌≡◌, ◌≢◌, ◌+◌, ℕ, Some, None};
+ghost use Rattle.std.specs.Prelude.{◌≡◌, ◌≢◌, ◌<◌, ◌≤◌, ◌+◌, ℕ, Some, None, IfSome};
 ghost use Rattle.slab.specs.Slab.{get, slab_len, ContainsKey, HasRoomFor};
+ghost use Rattle.slab_link.specs.declared.link.TheConstants.{LINKS_END};
 ghost use Rattle.view_tree.specs.Nodes.{PlainNode, IsAround, changed_at, held_in, linked, replaced_if_none, key_or, last_child, links_at, unlinked};
 ghost use Rattle.view_tree.specs.Views.{fresh_held};
 
@@ -9,10 +10,11 @@ use crate::node_links::Links;
 use crate::state::fresh_state;
 use measure_cache::Cache;
 use slab::Slab;
+use slab_link::Link;
 use view_model::{Class, Facts, Text};
 
 /// Sets the next sibling of a node, if there is one.
-fn set_next(nodes: &mut Slab<Node>, key: Option<usize>, next: Option<usize>)
+fn set_next(nodes: &mut Slab<Node>, key: Option<usize>, next: Link)
     requires { (k : ℕ) → key ≡ Some k → ContainsKey nodes.old k }
     ensures links { (x : ℕ) → links_at nodes.new x ≡ changed_at (links_at nodes.old) key (λ node. record node { next = next }) x }
     ensures held { (x : ℕ) → held_in (get nodes.new x) ≡ held_in (get nodes.old x) }
@@ -26,7 +28,7 @@ fn set_next(nodes: &mut Slab<Node>, key: Option<usize>, next: Option<usize>)
 }
 
 /// Sets the previous sibling of a node, if there is one.
-fn set_previous(nodes: &mut Slab<Node>, key: Option<usize>, previous: Option<usize>)
+fn set_previous(nodes: &mut Slab<Node>, key: Option<usize>, previous: Link)
     requires { (k : ℕ) → key ≡ Some k → ContainsKey nodes.old k }
     ensures links { (x : ℕ) → links_at nodes.new x ≡ changed_at (links_at nodes.old) key (λ node. record node { previous = previous }) x }
     ensures held { (x : ℕ) → held_in (get nodes.new x) ≡ held_in (get nodes.old x) }
@@ -41,7 +43,8 @@ fn set_previous(nodes: &mut Slab<Node>, key: Option<usize>, previous: Option<usi
 
 /// A child is added after the others.
 fn set_last(nodes: &mut Slab<Node>, parent: Option<usize>, kid: usize)
-    requires { (k : ℕ) → parent ≡ Some k → ContainsKey nodes.old k }
+    requires there { (k : ℕ) → parent ≡ Some k → ContainsKey nodes.old k }
+    requires small { kid < LINKS_END }
     ensures links { (x : ℕ) → links_at nodes.new x ≡ changed_at (links_at nodes.old) parent (λ node. record node { first = key_or node.first kid; last = Some kid }) x }
     ensures held { (x : ℕ) → held_in (get nodes.new x) ≡ held_in (get nodes.old x) }
     ensures len { slab_len nodes.new ≡ slab_len nodes.old }
@@ -49,20 +52,16 @@ fn set_last(nodes: &mut Slab<Node>, parent: Option<usize>, kid: usize)
 {
     if let Some(parent) = parent {
         let node = &mut nodes[parent];
-        if node.links.first.is_none() {
-            node.links.first = Some(kid);
+        let kid = Link::to(kid);
+        if node.links.first.key().is_none() {
+            node.links.first = kid;
         }
-        node.links.last = Some(kid);
+        node.links.last = kid;
     }
 }
 
 /// Sets the first and the last child of a node, once a child between these is taken out.
-fn set_ends(
-    nodes: &mut Slab<Node>,
-    parent: Option<usize>,
-    previous: Option<usize>,
-    next: Option<usize>,
-)
+fn set_ends(nodes: &mut Slab<Node>, parent: Option<usize>, previous: Link, next: Link)
     requires { (k : ℕ) → parent ≡ Some k → ContainsKey nodes.old k }
     ensures links { (x : ℕ) → links_at nodes.new x ≡ changed_at (links_at nodes.old) parent (λ node. record node { first = replaced_if_none previous next node.first; last = replaced_if_none next previous node.last }) x }
     ensures held { (x : ℕ) → held_in (get nodes.new x) ≡ held_in (get nodes.old x) }
@@ -71,22 +70,22 @@ fn set_ends(
 {
     if let Some(parent) = parent {
         let node = &mut nodes[parent];
-        if previous.is_none() {
+        if previous.key().is_none() {
             node.links.first = next;
         }
-        if next.is_none() {
+        if next.key().is_none() {
             node.links.last = previous;
         }
     }
 }
 
 /// The last child of a parent, if there is one.
-fn last_of(nodes: &Slab<Node>, parent: Option<usize>) -> Option<usize>
+fn last_of(nodes: &Slab<Node>, parent: Option<usize>) -> Link
     requires { (k : ℕ) → parent ≡ Some k → ContainsKey nodes.now k }
     ensures { result ≡ last_child (links_at nodes.now) parent }
 {
     match parent {
-        None => None,
+        None => Link::none(),
         Some(parent) => nodes[parent].links.last,
     }
 }
@@ -101,9 +100,12 @@ pub fn link_last(
     text: Text,
 ) -> usize
     requires room { HasRoomFor nodes.old 1 }
+    requires small { nodes.old.capacity ≤ LINKS_END }
+    requires linked { IfSome parent (λ k. k < LINKS_END) }
     requires parent { (k : ℕ) → parent ≡ Some k → ContainsKey nodes.old k }
     requires last { (k : ℕ) → last_child (links_at nodes.old) parent ≡ Some k → ContainsKey nodes.old k }
     ensures unused { get nodes.old result ≡ None }
+    ensures small { result < LINKS_END }
     ensures links { (x : ℕ) → links_at nodes.new x ≡ linked (links_at nodes.old) parent result (record { number = number; class = class; facts = facts; text = text }) (last_child (links_at nodes.old) parent) x }
     ensures held { held_in (get nodes.new result) ≡ Some (fresh_held facts.offset) }
     ensures others { (x : ℕ) → x ≢ result → held_in (get nodes.new x) ≡ held_in (get nodes.old x) }
@@ -117,16 +119,16 @@ pub fn link_last(
         facts,
         text,
         links: Links {
-            parent,
-            first: None,
-            last: None,
+            parent: Link::of(parent),
+            first: Link::none(),
+            last: Link::none(),
             previous: last,
-            next: None,
+            next: Link::none(),
         },
         state: fresh_state(),
         cache: Cache::new(),
     });
-    set_next(nodes, last, Some(key));
+    set_next(nodes, last.key(), Link::to(key));
     set_last(nodes, parent, key);
     key
 }
@@ -141,13 +143,9 @@ pub fn unlink(nodes: &mut Slab<Node>, key: usize) -> Node
     ensures len { slab_len nodes.new + 1 ≡ slab_len nodes.old }
 {
     let node = nodes.remove(key);
-    set_next(nodes, node.links.previous, node.links.next);
-    set_previous(nodes, node.links.next, node.links.previous);
-    set_ends(
-        nodes,
-        node.links.parent,
-        node.links.previous,
-        node.links.next,
-    );
+    let links = node.links;
+    set_next(nodes, links.previous.key(), links.next);
+    set_previous(nodes, links.next.key(), links.previous);
+    set_ends(nodes, links.parent.key(), links.previous, links.next);
     node
 }

@@ -1,12 +1,14 @@
 //! The neighbours of a view.
 
+use slab_link::Link;
+
 /// The views around a view, by their keys, if there are any: its parent, its first and its last child, and the siblings
 /// right before and right after it.
 #[derive(Clone, Copy, Debug, PartialEq, Eq)]
 pub struct Links {
-    pub parent: Option<usize>,
-    pub first: Option<usize>,
-    pub last: Option<usize>,
-    pub previous: Option<usize>,
-    pub next: Option<usize>,
+    pub parent: Link,
+    pub first: Link,
+    pub last: Link,
+    pub previous: Link,
+    pub next: Link,
 }

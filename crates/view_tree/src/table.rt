@@ -2,6 +2,7 @@
 ghost use Rattle.std.specs.Prelude.{◌≡◌, ◌<◌, ◌≤◌, ◌+◌, ℕ, Some, None, OnOk, if◌then◌else◌, nat_eq};
 ghost use Rattle.indexmap.specs.IndexMap.{get as key_of, spare};
 ghost use Rattle.slab.specs.Slab.{HasRoomFor};
+ghost use Rattle.slab_link.specs.declared.link.TheConstants.{LINKS_END};
 ghost use Rattle.view_tree.specs.Faults.{IsRefusedExactlyFor};
 
 use crate::fault::AttachFault;
@@ -9,6 +10,7 @@ use crate::ids::Holders;
 use crate::node::Node;
 use indexmap::IndexMap;
 use slab::Slab;
+use slab_link::LINKS_END;
 
 /// Records the key of a number, for which there is room.
 pub fn note_key(keys: &mut IndexMap<u64, usize>, number: u64, key: usize)
@@ -29,7 +31,7 @@ pub fn drop_key(keys: &mut IndexMap<u64, usize>, number: u64)
     keys.swap_remove(&number);
 }
 
-/// Takes the memory for this many more views and their numbers, and for this many more ids.
+/// Takes the memory for this many more views and their numbers, and for this many more ids, if links can name the views.
 pub fn make_room(
     nodes: &mut Slab<Node>,
     keys: &mut IndexMap<u64, usize>,
@@ -42,9 +44,11 @@ pub fn make_room(
     ensures keys { keys.new.entries ≡ keys.old.entries }
     ensures ids { ids.new.entries ≡ ids.old.entries }
     ensures room { OnOk result (HasRoomFor nodes.new views) }
+    ensures small { OnOk result (nodes.new.capacity ≤ LINKS_END) }
     ensures spare { OnOk result ((views ≤ spare keys.new) × (names ≤ spare ids.new)) }
 {
     if nodes.reserve(views).is_err()
+        || nodes.capacity() > LINKS_END
         || keys.reserve(views).is_err()
         || ids.reserve(names).is_err()
     {

@@ -23,10 +23,10 @@ pub fn turn(nodes: &mut Slab<Node>, view: usize, above: bool)
     if facts.rtl == rtl {
         return;
     }
-    let mut next = nodes[view].links.first;
+    let mut next = nodes[view].links.first.key();
     run(nodes, view, rtl);
     while let Some(kid) = next {
-        next = nodes[kid].links.next;
+        next = nodes[kid].links.next.key();
         turn(nodes, kid, rtl);
     }
 }

@@ -4,6 +4,7 @@ ghost use Rattle.std.specs.Prelude.{◌≡◌, ◌≢◌, Some, Err};
 ghost use Rattle.std.specs.Option.{option_map};
 ghost use Rattle.inflater.specs.Answers.{IsGrown};
 ghost use Rattle.script_lines.specs.PlainCommands.{plain_command};
+ghost use Rattle.tool_io.specs.Counts.{one_more};
 ghost use Rattle.tool_io.specs.Fetched.{Files, file_of};
 ghost use Rattle.view_model.specs.Refusals.{plain_refusal};
 ghost use Rattle.view_world.specs.Carried.{CountsShelf};
@@ -55,6 +56,7 @@ pub fn fetch<F: Shelf>(alloc: Global, shelf: &mut F, name: &str) -> Result<Vec<u
     ensures bytes { (files : Files) → F.files shelf.old ≡ Some files → Gives HasBytes (bytes_in (file_of files name.now)) result }
     ensures files_stay { F.files shelf.new ≡ F.files shelf.old }
     ensures shelf_failed { CountsShelf (F.faults shelf.old) (F.faults shelf.new) result }
+    ensures fetched { F.fetches shelf.new ≡ one_more (F.fetches shelf.old) }
     ensures no_sink { result ≢ Err StepFault.Sink }
 {
     let mut bytes = Vec::new(alloc);

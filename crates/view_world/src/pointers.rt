@@ -73,14 +73,14 @@ pub fn event_of(action: Action, pointer: u8, points: &[Point]) -> Event
     requires { length points.now ≤ MAX_POINTERS }
     ensures { result ≡ event_of action pointer points.now }
 {
-    let mut all = ArrayVec::new();
-    for point in points {
-        all.push(*point);
-    }
-    Event {
+    let mut event = Event {
         action,
         pointer,
-        points: all,
+        points: ArrayVec::new(),
+    };
+    match event.points.try_extend_from_slice(points) {
+        Ok(()) => event,
+        Err(_) => unreachable!(),
     }
 }
 

@@ -16,7 +16,8 @@ ghost use Rattle.view_model.specs.Forest.{Nothing};
 ghost use Rattle.view_model.specs.Resources.{definition_refusal_of};
 ghost use Rattle.view_world.specs.World.{World as PlainWorld};
 ghost use Rattle.view_tree.specs.Views.{IsLive, plain_of};
-ghost use Rattle.view_world.specs.Carried.{AreAtHand, CountsShelf, IsDone, MayWantMemory, WritesReply, faults_after_line};
+ghost use Rattle.view_world.specs.AfterLine.{Reports};
+ghost use Rattle.view_world.specs.Carried.{AreAtHand, CountsShelf, IsDone, MayWantMemory, WritesReply, faults_after_line, fetches_after};
 ghost use Rattle.view_world.specs.Changed.{CarriesOut, Inflates, IsPlace, LeavesViews, Pictured};
 ghost use Rattle.view_world.specs.Counting.{RisesWithin, paint_bound};
 ghost use Rattle.view_world.specs.Inflating.{asked_file, asked_for, inflation_of};
@@ -150,6 +151,7 @@ impl Screen {
             → AreAtHand files (F.files shelf.old) (asked_file (world_of self.old) (plain_command command.entry))
             → WritesReply (step files (world_of self.old) (plain_command command.entry)) (world_of self.new) (K.state sink.old) (K.state sink.new) result }
         ensures unchanged { IsDone result ⊎ ((self.new ≡ self.old) × (sink.new ≡ sink.old)) }
+        ensures reports { IsDone result → Reports self.new (K.state sink.old) (K.state sink.new) result }
         ensures silent { (files : Files) (world : PlainWorld)
             → AreAtHand files (F.files shelf.old) (asked_file (world_of self.old) (plain_command command.entry))
             → step files (world_of self.old) (plain_command command.entry) ≡ Done world []
@@ -158,6 +160,7 @@ impl Screen {
         ensures unasked { asked_file (world_of self.old) (plain_command command.entry) ≡ None → shelf.new ≡ shelf.old }
         ensures shelf_failed { CountsShelf (F.faults shelf.old) (F.faults shelf.new) result }
         ensures asked { result ≡ Err StepFault.Shelf → asked_file (world_of self.old) (plain_command command.entry) ≢ None }
+        ensures fetched { F.fetches shelf.new ≡ fetches_after (asked_file (world_of self.old) (plain_command command.entry)) (F.fetches shelf.old) }
         ensures memory { result ≡ Err StepFault.NoMemory → MayWantMemory (plain_command command.entry) }
         ensures numbers { self.new.views.next ≤ self.old.views.next + MAX_VIEWS }
         ensures work { plain_command command.entry ≢ Frame → work.new ≡ work.old }
@@ -212,6 +215,7 @@ impl Screen {
         requires short { text_length (plain_command command) < 2 ^ 31 }
         ensures carried { WritesReply (step [] (world_of self.old) (plain_command command.entry)) (world_of self.new) (K.state sink.old) (K.state sink.new) result }
         ensures unchanged { IsDone result ⊎ ((self.new ≡ self.old) × (sink.new ≡ sink.old)) }
+        ensures reports { IsDone result → Reports self.new (K.state sink.old) (K.state sink.new) result }
         ensures silent { (world : PlainWorld) → step [] (world_of self.old) (plain_command command.entry) ≡ Done world [] → sink.new ≡ sink.old }
         ensures memory { result ≡ Err StepFault.NoMemory → MayWantMemory (plain_command command.entry) }
         ensures numbers { self.new.views.next ≤ self.old.views.next + 1 }
@@ -242,10 +246,12 @@ impl Screen {
             → AreAtHand files (F.files shelf.old) (asked_for (plain_of self.old.views) (Some (name.now, into)))
             → WritesReply (inflation files (world_of self.old) name.now into) (world_of self.new) (K.state sink.old) (K.state sink.new) result }
         ensures unchanged { IsDone result ⊎ ((self.new ≡ self.old) × (sink.new ≡ sink.old)) }
+        ensures reports { IsDone result → Reports self.new (K.state sink.old) (K.state sink.new) result }
         ensures files_stay { F.files shelf.new ≡ F.files shelf.old }
         ensures unasked { asked_for (plain_of self.old.views) (Some (name.now, into)) ≡ None → shelf.new ≡ shelf.old }
         ensures shelf_failed { CountsShelf (F.faults shelf.old) (F.faults shelf.new) result }
         ensures asked { result ≡ Err StepFault.Shelf → asked_for (plain_of self.old.views) (Some (name.now, into)) ≢ None }
+        ensures fetched { F.fetches shelf.new ≡ fetches_after (asked_for (plain_of self.old.views) (Some (name.now, into))) (F.fetches shelf.old) }
         ensures numbers { self.new.views.next ≤ self.old.views.next + MAX_VIEWS }
         ensures keeps { IsDone result → KeepsLine (Inflate name.now into) self.old self.new }
         ensures sink_failed { (K.state sink.new).faults ≡ faults_after_line result (K.state sink.old).faults }
@@ -295,6 +301,7 @@ impl Screen {
         ensures unasked { asked_for (plain_of self.old.views) (Some (name.now, into)) ≡ None → shelf.new ≡ shelf.old }
         ensures shelf_failed { CountsShelf (F.faults shelf.old) (F.faults shelf.new) result }
         ensures asked { result ≡ Err StepFault.Shelf → asked_for (plain_of self.old.views) (Some (name.now, into)) ≢ None }
+        ensures fetched { F.fetches shelf.new ≡ fetches_after (asked_for (plain_of self.old.views) (Some (name.now, into))) (F.fetches shelf.old) }
         ensures numbers { self.new.views.next ≤ self.old.views.next + MAX_VIEWS }
         ensures keeps { OnOk result (KeepsLine (Inflate name.now into) self.old self.new) }
         ensures no_sink { result ≢ Err StepFault.Sink }

@@ -225,8 +225,10 @@ pub fn settle(tree: &mut ViewTree, view: Key)
     tree.set_state(view, state);
 }
 
-/// Lays the children of a view of this size, in the order in which it places them.
+/// Lays the children of a view of this size, in the order in which it places them. A view without children is done at
+/// once.
 #[cycle(lay)]
+#[inline(always)]
 fn lay_kids(
     tree: &mut ViewTree,
     view: Key,
@@ -250,6 +252,9 @@ fn lay_kids(
     ensures counted { IsCounted tree.old tree.new work.old work.new }
     ensures caches { Grown (LastAt (held_of tree.old) (children_of_first (part_from view tree.old.tree))) (held_of tree.old) (held_of tree.new) (children_of_first (part_from view tree.old.tree)) }
 {
+    if tree.first(view).is_none() {
+        return;
+    }
     if places_backwards(tree, view) {
         lay_backwards(tree, view, size, canvas, damage, work);
         return;
@@ -259,6 +264,7 @@ fn lay_kids(
 
 /// Lays the children of a view of this size, from the first to the last.
 #[cycle(lay)]
+#[inline(never)]
 fn lay_forwards(
     tree: &mut ViewTree,
     view: Key,
@@ -293,6 +299,7 @@ fn lay_forwards(
 
 /// Lays the children of a view of this size, from the last to the first.
 #[cycle(lay)]
+#[inline(never)]
 fn lay_backwards(
     tree: &mut ViewTree,
     view: Key,
@@ -327,6 +334,7 @@ fn lay_backwards(
 
 /// Lays a child where its group places it, if it takes part in layout.
 #[cycle(lay)]
+#[inline(always)]
 fn lay_kid(
     tree: &mut ViewTree,
     placer: &mut Placer,

@@ -13,7 +13,7 @@ ghost use Rattle.kept_views.specs.Laying.{spot_of};
 ghost use Rattle.traversal.specs.Narrow.{AreSidesNarrow, IsNarrow, IsNarrowFor};
 ghost use Rattle.traversal.specs.Placing.{PlacesAs};
 
-use frame_layout::place;
+use frame_layout::Room;
 use geom_core::{Rect, Size};
 use linear_layout::{Cursor, is_backwards};
 use view_model::{Class, Edges, Facts};
@@ -23,7 +23,7 @@ use view_tree::{Key, ViewTree};
 #[derive(Clone, Copy, Debug)]
 pub enum Placer {
     /// Over one another.
-    Over { own: Facts, room: Size },
+    Over(Room),
     /// One after the other.
     InLine(Cursor),
     /// Each between the sides that measuring has found for it.
@@ -32,16 +32,16 @@ pub enum Placer {
 
 impl Placer {
     /// Before the first child of a view of this size.
+    #[inline(always)]
     pub fn start(tree: &ViewTree, view: Key, room: Size) -> Placer
         requires live { IsLive tree.now view }
         ensures places { PlacesAs result (spot_of (part_from view tree.now.tree) (held_of tree.now view) room) [] }
         ensures is_tree { IsTree tree.now }
     {
         match tree.class(view) {
-            Class::View | Class::TextView | Class::FrameLayout | Class::ScrollView => Placer::Over {
-                own: *tree.facts(view),
-                room,
-            },
+            Class::View | Class::TextView | Class::FrameLayout | Class::ScrollView => {
+                Placer::Over(Room::of(tree.facts(view), room))
+            }
             Class::LinearLayout => {
                 Placer::InLine(Cursor::start(tree.facts(view), room, tree.state(view).total))
             }
@@ -50,6 +50,7 @@ impl Placer {
     }
 
     /// The place of the next child, which has this size, and in a relative layout these sides.
+    #[inline(always)]
     pub fn place(&mut self, kid: &Facts, size: Size, edges: Edges) -> Rect
         requires width { IsSide size.w }
         requires height { IsSide size.h }
@@ -64,7 +65,7 @@ impl Placer {
             → PlacesAs self.new spot (before ++ record { facts = layout_facts kid.now; size = size } ∷ []) }
     {
         match self {
-            Placer::Over { own, room } => place(own, *room, kid, size),
+            Placer::Over(room) => room.place(kid, size),
             Placer::InLine(cursor) => cursor.place(kid, size),
             Placer::Between => between(edges, size),
         }
@@ -72,6 +73,7 @@ impl Placer {
 }
 
 /// Whether a view places its children from the last to the first.
+#[inline(always)]
 pub fn places_backwards(tree: &ViewTree, view: Key) -> bool
     requires { IsLive tree.now view }
     ensures { result ≡ places_backwards (class_of tree.now view) (facts_of tree.now view) }

@@ -5,6 +5,7 @@ use Rattle.std.specs.Prelude.{◌==◌, IfSome, if◌then◌else◌, map, nat_eq
 use Rattle.std.specs.Option.{option_map}
 use Rattle.indexmap.specs.IndexMap.{get as get_key}
 use Rattle.slab.specs.Slab.{Slab, get, slab_len, ContainsKey}
+use Rattle.slab_link.specs.declared.link.TheConstants.{LINKS_END}
 use Rattle.view_model.specs.Direction.{dir}
 use Rattle.view_model.specs.Forest.{Forest, Nothing, count_of}
 use Rattle.view_model.specs.Growth.{refusal_at}
@@ -23,12 +24,18 @@ use Rattle.view_tree.proofs.forest.SiblingLaws.{last_live}
 use Rattle.view_tree.proofs.nodes.GrownTree.{grown_stands, root_stands, vacant_unused}
 use Rattle.view_tree.proofs.forest.IdLaws.{holders_of-with_child}
 use Rattle.view_tree.proofs.values.KeptLaws.{is_tree-with_child}
-use Rattle.view_tree.proofs.nodes.NodeReads.{contains_live, held_view, is_tree, named_for, small_for, stands_for}
+use Rattle.view_tree.proofs.nodes.NodeReads.{contains_live, held_view, is_tree, link_for, named_for, stands_for}
 use Rattle.view_tree.proofs.forest.NumberLaws.{count-with_child, count_of_key-leaf_other, count_of_key-with_child}
 use Rattle.view_tree.proofs.forest.PlainLaws.{plain-with_child}
 use Rattle.view_tree.proofs.forest.SearchLaws.{search_new}
 
 -- the parent of a new view is there, and so is its last child
+-- a link may name a parent
+pub parent_linked : (a : Inside) (v : Views) (parent : Option ℕ) → IsPlanted a → value_of a ≡ v → IfSome parent (λ parent. IsLive v parent)
+    → IfSome parent (λ parent. parent < LINKS_END)
+parent_linked a v None sound e live = live
+parent_linked a v (Some k) sound e live = link_for a v sound e k live
+
 pub parent_there : (a : Inside) (v : Views) (parent : Option ℕ) → IsPlanted a → value_of a ≡ v → IfSome parent (λ parent. IsLive v parent) → (k : ℕ)
     → parent ≡ Some k → ContainsKey a.nodes k
 parent_there a v parent sound e live k is = contains_live a v k sound e (rw is at live)
@@ -93,7 +100,7 @@ module _ (a b : Inside) (nodes : b.nodes ≡ record a.nodes { capacity = b.nodes
     full = ap slab_len nodes ∙ sound.full ∙ ap count_of (sym tree-room);
     found = λ n. rw keys (sound.found n) ∙ ap (key_where (λ (w : PlainView). w.number == n)) (sym tree-room);
     named = λ id. rw ids (sound.named id) ∙ ap (holders_of id) (sym tree-room);
-    small = subst (λ (t : Forest Row). (k : ℕ) → 0 < count_of_key k t → k < 2 ^ 64) (sym tree-room) sound.small;
+    small = subst (λ (t : Forest Row). (k : ℕ) → 0 < count_of_key k t → k < LINKS_END) (sym tree-room) sound.small;
   }
 
 -- how the fields have changed
@@ -106,7 +113,7 @@ module _ (a b : Inside) (v : Views) (parent : Option ℕ) (key : ℕ) (view : Pl
     (runs : view.facts.rtl ≡ dir (is_rtl_at parent v.tree) view.facts.direction)
     (len : slab_len b.nodes ≡ slab_len a.nodes + 1)
     (listed : (n : ℕ) → get_key nat_eq b.keys n ≡ (if nat_eq view.number n then Some key else get_key nat_eq a.keys n))
-    (ids : (id : ℕ) → get_key nat_eq b.ids id ≡ noted (get_key nat_eq a.ids id) view.facts.id key id) (fits : key < 2 ^ 64) where
+    (ids : (id : ℕ) → get_key nat_eq b.ids id ≡ noted (get_key nat_eq a.ids id) view.facts.id key id) (fits : key < LINKS_END) where
   stands-attach : RepresentsTree (links_at b.nodes) b.root b.next (with_child parent (leaf key view) v.tree)
   stands-attach =
       rw (root, next)
@@ -144,14 +151,14 @@ module _ (a b : Inside) (v : Views) (parent : Option ℕ) (key : ℕ) (view : Pl
     named = λ id.
         ids id
         ∙ ap (λ held. noted held view.facts.id key id) (named_for a v sound e id)
-        ∙ sym (holders_of-with_child id parent key view v.tree live empty (is_tree a v sound e).keys fits)
+        ∙ sym (holders_of-with_child id parent key view v.tree live empty (is_tree a v sound e).keys (omega (arith, fits)))
         ∙ ap (holders_of id) (sym tree-attach);
     small = λ k there.
         let all : count_of_key k (tree_of b) ≡ count_of_key k v.tree + count_of_key k (leaf key view) =
         ap (count_of_key k) tree-attach ∙ count_of_key-with_child k parent (leaf key view) v.tree live empty (is_tree a v sound e).keys in
         elim (cases_eq k key) [
           | inl e ↦ rw e fits
-          | inr ne ↦ let none = count_of_key-leaf_other k key view ne in small_for a v sound e k (omega arith)
+          | inr ne ↦ let none = count_of_key-leaf_other k key view ne in link_for a v sound e k (omega arith)
         ];
   }
 

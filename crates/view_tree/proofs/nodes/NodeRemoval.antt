@@ -16,7 +16,7 @@ use Rattle.view_tree.proofs.forest.Forests.{tree_is}
 use Rattle.view_tree.proofs.nodes.PrunedTree.{gone_around, gone_stands}
 use Rattle.view_tree.proofs.forest.IdLaws.{holders_of-pruned_at_key}
 use Rattle.view_tree.proofs.values.KeptLaws.{is_tree-pruned_at_key}
-use Rattle.view_tree.proofs.nodes.NodeReads.{contains_live, held_view, is_tree, named_for, small_for, stands_for, view_is}
+use Rattle.view_tree.proofs.nodes.NodeReads.{contains_live, held_view, is_tree, link_for, named_for, small_for, stands_for, view_is}
 use Rattle.view_tree.proofs.forest.NumberLaws.{count_of_key-cut_le}
 use Rattle.view_tree.proofs.forest.PlainLaws.{agree_live}
 use Rattle.view_tree.proofs.forest.SearchLaws.{search-pruned_at_key}
@@ -71,7 +71,7 @@ module _ (a b : Inside) (v : Views) (k : ℕ) (n : Node) (sound : IsPlanted a) (
         small = λ x there.
             let same : count_of_key x (tree_of b) ≡ count_of_key x (pruned_at_key k v.tree) = ap (count_of_key x) tree-removal in
             let less = count_of_key-cut_le x k v.tree in
-            small_for a v sound e x (omega arith);
+            link_for a v sound e x (omega arith);
       }
 
   pub others-removal : ((x : ℕ) → x ≢ k → held_in (get b.nodes x) ≡ held_in (get a.nodes x)) → KeepsOthers v (value_of b) k

@@ -6,6 +6,7 @@ use Rattle.std.proofs.lemmas.Grind.{common_steps}
 use Rattle.std.specs.Prelude.{◌==◌, count_by, is_some, nat_eq, pos, slice_index_or}
 use Rattle.indexmap.specs.IndexMap.{get as get_key}
 use Rattle.slab.specs.Slab.{get, with_value, Updates}
+use Rattle.slab_link.specs.declared.link.TheConstants.{LINKS_END}
 use Rattle.slab.proofs.SlabLemmas.{Updates-with_value}
 use Rattle.view_model.specs.Forest.{Forest, count_of}
 use Rattle.view_model.specs.PlainTree.{PlainView}
@@ -23,7 +24,7 @@ use Rattle.view_tree.proofs.forest.DirectedLaws.{KeepsRun}
 use Rattle.view_tree.proofs.forest.Forests.{tree_is, some_is}
 use Rattle.view_tree.proofs.forest.IdLaws.{holders_of-put}
 use Rattle.view_tree.proofs.values.KeptLaws.{is_tree-put, is_tree-same}
-use Rattle.view_tree.proofs.nodes.NodeReads.{held_view, held_at, is_tree, named_for, small_for, stands_for, view_is}
+use Rattle.view_tree.proofs.nodes.NodeReads.{held_view, held_at, is_tree, link_for, named_for, small_for, stands_for, view_is}
 use Rattle.view_tree.proofs.forest.NumberLaws.{count-put, count_of_key-put}
 use Rattle.view_tree.proofs.nodes.ChangedTree.{put_stands}
 use Rattle.view_tree.proofs.forest.SearchLaws.{search-put}
@@ -81,7 +82,7 @@ module _ (a : Inside) (k : ℕ) (n m : Node) (at : get a.nodes k ≡ Some n) (sa
     full = len_write a.nodes.slots k m (rw at) ∙ sound.full ∙ ap count_of (sym tree-write);
     found = λ number. sound.found number ∙ ap (key_where (λ (view : PlainView). view.number == number)) (sym tree-write);
     named = λ id. sound.named id ∙ ap (holders_of id) (sym tree-write);
-    small = subst (λ (t : Forest Row). (key : ℕ) → 0 < count_of_key key t → key < 2 ^ 64) (sym tree-write) sound.small;
+    small = subst (λ (t : Forest Row). (key : ℕ) → 0 < count_of_key key t → key < LINKS_END) (sym tree-write) sound.small;
   }
 
   -- and what is kept of relative layouts
@@ -166,7 +167,7 @@ module _ (a : Inside) (v : Views) (k : ℕ) (n m : Node) (f : PlainView → Plai
         ∙ ap (holders_of id) (sym tree-put);
     small = λ key there.
         let same : count_of_key key (tree_of (rewritten a other k m)) ≡ count_of_key key v.tree = ap (count_of_key key) tree-put ∙ count_of_key-put key k f v.tree in
-        small_for a v sound e key (omega arith);
+        link_for a v sound e key (omega arith);
   }
 
   pub view_put : ViewPut a other v k m f

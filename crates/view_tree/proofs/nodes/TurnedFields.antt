@@ -28,7 +28,7 @@ use Rattle.view_tree.proofs.forest.KeyLaws.{Located, count_of_key-within, here, 
 use Rattle.view_tree.proofs.forest.NumberLaws.{count_of_key-put}
 use Rattle.view_tree.proofs.forest.PlainLaws.{agree_live, plain-change_facts, plain_along}
 use Rattle.view_tree.proofs.nodes.ChangedTree.{put_stands}
-use Rattle.view_tree.proofs.nodes.NodeReads.{held_view, is_tree, named_for, small_for, stands_for}
+use Rattle.view_tree.proofs.nodes.NodeReads.{held_view, is_tree, link_for, named_for, stands_for}
 use Rattle.view_tree.proofs.nodes.TurnedHeld.{among_absent, forced_if, held_turned, turned_keys}
 use Rattle.view_tree.proofs.nodes.TurnedNodes.{first_key-directed, represents_turned}
 use Rattle.view_tree.proofs.nodes.TurnedTree.{Alike, alike_directed, alike_put, count-alike, count_of_key-alike, grouped-alike, holders_of-alike, is_tree-alike, key_where-alike, later_siblings-alike, only-alike}
@@ -159,7 +159,7 @@ module _ (a : Inside) (v : Views) (view : ℕ) (direction : Direction) (n : Node
               planted.found number ∙ ap (λ (v : Views). key_where (λ (view : PlainView). view.number == number) v.tree) e
               ∙ sym (key_where-alike (λ (view : PlainView). view.number == number) (λ row other s. ap (λ x. x == number) s.number) now);
           named = λ id. named_for a v planted e id ∙ sym (holders_of-alike id now);
-          small = λ key there. small_for a v planted e key (rw (count_of_key-alike key now) at there);
+          small = λ key there. link_for a v planted e key (rw (count_of_key-alike key now) at there);
         }
 
     pub sound-turned : IsSound a → IsSound turned_inside

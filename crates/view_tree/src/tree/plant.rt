@@ -4,6 +4,7 @@ ghost use Rattle.std.specs.Option.{option_map};
 ghost use Rattle.std.specs.Vec.Iter.{into_iter_items};
 ghost use Rattle.indexmap.specs.IndexMap.{spare};
 ghost use Rattle.slab.specs.Slab.{ContainsKey, HasRoomFor, slab_len};
+ghost use Rattle.slab_link.specs.declared.link.TheConstants.{LINKS_END};
 ghost use Rattle.view_model.specs.Directed.{directed};
 ghost use Rattle.view_model.specs.Direction.{dir};
 ghost use Rattle.view_model.specs.Forest.{Forest, Nothing};
@@ -39,6 +40,7 @@ pub fn plant(
 ) -> Key
     requires sound { IsPlanted (fields nodes.old keys.old ids.old root.old next.old) }
     requires room { HasRoomFor nodes.old 1 }
+    requires small { nodes.old.capacity ≤ LINKS_END }
     requires spare { 0 < spare keys.old }
     requires named { sprout.facts.id ≢ 0 → 0 < spare ids.old }
     requires live { IfSome parent (λ parent. IsLive (views_in nodes.old root.old next.old) parent) }
@@ -105,6 +107,7 @@ pub fn sow(
 )
     requires sound { IsPlanted (fields nodes.old keys.old ids.old root.old next.old) }
     requires room { HasRoomFor nodes.old (length (into_iter_items sprouts)) }
+    requires small { nodes.old.capacity ≤ LINKS_END }
     requires spare { (length (into_iter_items sprouts) ≤ spare keys.old) × (length (into_iter_items sprouts) ≤ spare ids.old) }
     requires live { IsLive (views_in nodes.old root.old next.old) outermost }
     requires follow { follows 1 (into_iter_items sprouts) ≡ true }

@@ -29,6 +29,7 @@ use view_model::refusals::{NO_FRAME, NO_ROOT, NO_WINDOW, UNSETTLED, WRONG_CLASS,
 
 impl Screen {
     /// A pointer goes down.
+    #[inline(never)]
     pub(super) fn down(&mut self, id: u8, x: i32, y: i32) -> Result<Response, StepFault>
         requires id { id < MAX_POINTERS }
         ensures changed { CarriesOut (step [] (world_of self.old) (Down id x y)) self.new result }
@@ -48,6 +49,7 @@ impl Screen {
     }
 
     /// A pointer moves.
+    #[inline(never)]
     pub(super) fn drag(&mut self, id: u8, x: i32, y: i32) -> Result<Response, StepFault>
         requires id { id < MAX_POINTERS }
         ensures changed { CarriesOut (step [] (world_of self.old) (Move id x y)) self.new result }
@@ -66,6 +68,7 @@ impl Screen {
     }
 
     /// A pointer goes up. The event still has it.
+    #[inline(never)]
     pub(super) fn up(&mut self, id: u8) -> Result<Response, StepFault>
         requires id { id < MAX_POINTERS }
         ensures changed { CarriesOut (step [] (world_of self.old) (Up id)) self.new result }
@@ -85,6 +88,7 @@ impl Screen {
     }
 
     /// All pointers that are down are taken away.
+    #[inline(never)]
     pub(super) fn cancel(&mut self) -> Result<Response, StepFault>
         ensures changed { CarriesOut (step [] (world_of self.old) Cancel) self.new result }
         ensures unchanged { OnErr result (self.new ≡ self.old) }

@@ -3,6 +3,7 @@ use Rattle.axml_reader.specs.declared.doc.Node.TheVariants.{Start}
 use Rattle.axml_reader.specs.Meaning.{document}
 use Rattle.attr_table.specs.Taken.{IsTakenAs}
 use Rattle.attr_table.proofs.TakingLaws.{facets-start, taken-finished, taken-stopped}
+use Rattle.attr_table.proofs.NamedLaws.{sets_named}
 use Rattle.attr_table.proofs.taking.take.Goals as goal
 
 pub take_attrs-requires : goal.take_attrs-requires
@@ -23,3 +24,6 @@ returns-clause-value c =
     (c.attrs_of.ensures.value start c.requires.is) c.new-draft.ensures in
     subst (λ sets. IsTakenAs sets c.finish.result) (sym sets)
     (taken-finished _ c.take_attrs.new.draft c.finish.result c.in_ok-take_attrs.ensures.value c.finish.ensures.value)
+
+pub returns-clause-named : goal.returns-clause-named
+returns-clause-named c = sets_named (document c.args.doc.now) c.args.res.now c.args.dpi c.args.node c.finish.result (returns-clause-value c)

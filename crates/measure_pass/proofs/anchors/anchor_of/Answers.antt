@@ -1,5 +1,5 @@
 use Rattle.std.proofs.Common.{ap, ◌∙◌}
-use Rattle.measure_pass.proofs.AnchorKeys.{anchor_none, anchor_some, unnamed}
+use Rattle.measure_pass.proofs.AnchorKeys.{unnamed}
 use Rattle.view_model.specs.declared.facts.Facts.{Facts}
 use Rattle.view_model.specs.SiblingRules.{anchor_id}
 use Rattle.view_tree.specs.Rows.{children_of_first, part_from}
@@ -11,14 +11,3 @@ returns-then-id-eq0 c = λ place part.
     let tree = c.args.tree.now.tree in
     unnamed tree (children_of_first (part_from c.args.view tree)) c.args.kid place c.args.rtl c.args.axis (held_of c.args.tree.now) c.args.tie c.anchor_id-id.result c.requires.kid part
     (c.anchor_id-id.ensures ∙ ap (λ (facts : Facts). anchor_id c.args.rtl c.args.axis c.args.tie facts.rules) c.facts.ensures.value) c.if-id-eq0.true
-
-pub returns-in-None : goal.returns-in-None
-returns-in-None c = λ place part.
-    let tree = c.args.tree.now.tree in
-    anchor_none tree (children_of_first (part_from c.args.view tree)) c.args.rtl c.args.axis (held_of c.args.tree.now) c.args.tie place (rw c.in-None.is at (c.anchor_key.ensures.key place part))
-
-pub returns-in-Some : goal.returns-in-Some
-returns-in-Some c = λ place part.
-    let tree = c.args.tree.now.tree in
-    anchor_some tree (children_of_first (part_from c.args.view tree)) c.args.rtl c.args.axis (held_of c.args.tree.now) c.args.tie place c.in-Some.anchor c.anchor_with.result
-    (rw c.in-Some.is at (c.anchor_key.ensures.key place part)) c.anchor_with.ensures

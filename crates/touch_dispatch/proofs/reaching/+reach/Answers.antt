@@ -13,7 +13,7 @@ use Rattle.touch_dispatch.proofs.SceneLaws.{fewer_kid, kid_found, reach_at, reac
 use Rattle.touch_dispatch.proofs.TargetLaws.{TargetStep, target_step, walk_there}
 use Rattle.touch_dispatch.proofs.TryLaws.{gets_part, hands_to, kept_put, may_put, names_child, names_still, reads_child, target_read, tried_read}
 use Rattle.touch_dispatch.proofs.TryWalk.{TryWalk}
-use Rattle.touch_dispatch.specs.Dispatch.{Tried, ended, tried_ids}
+use Rattle.touch_dispatch.specs.Dispatch.{Tried, ended, part_for, tried_ids}
 use Rattle.touch_dispatch.specs.Handling.{Reached, many}
 use Rattle.touch_dispatch.specs.Kept.{gesture_of, is_open}
 use Rattle.touch_dispatch.specs.TreeEvents.{IsKidAt, child_at, kids_of, offsets_in, own_of, progress_of, scene_of, target_of}
@@ -22,6 +22,7 @@ use Rattle.touch_event.specs.PointerSets.{has_id}
 use Rattle.touch_event.specs.declared.event.TheConstants.{MAX_POINTERS}
 use Rattle.touch_targets.specs.Captures.{first_child, is_target, targets_from}
 use Rattle.touch_dispatch.proofs.reaching.+reach.Goals as goal
+use Rattle.touch_dispatch.proofs.reaching.+reach.Goals.{hand_to-else-not-intercepted-via-else-not-intercepted, hand_to-else-not-intercepted-via-then-not-intercepted+else-not-put_part}
 
 pub reach-returns-then-is_group-clause-reached : goal.reach-returns-then-is_group-clause-reached
 reach-returns-then-is_group-clause-reached t c =
@@ -194,7 +195,7 @@ pub try_child-returns-then-not-is_tried-clause-tried : goal.try_child-returns-th
 try_child-returns-then-not-is_tried-clause-tried t c =
     let views = c.args.tree.now in
     let slop = c.args.limits.now.slop in
-    let reads = reads_child (names_child c.requires.may c.requires.kid c.number-group.ensures.value c.number-child.ensures.value) c.facts.ensures.value c.facts-2.ensures.value c.state-rect.ensures.value in
+    let reads = reads_child (names_child c.requires.may c.requires.kid c.number-group.ensures.value c.number-child.ensures.value) c.facts-own.ensures.value c.facts.ensures.value c.state-rect.ensures.value in
     try_no (scene_of views slop) (own_of views c.args.view) c.args.event.now (child_at views slop c.args.kid) (progress_of views c.args.gesture.now c.args.log.now)
     (tried_read slop reads ∙ sym c.is_tried.ensures ∙ c.if-not-is_tried.true)
 
@@ -205,7 +206,7 @@ pub try_child-returns-then-is_target-clause-tried : goal.try_child-returns-then-
 try_child-returns-then-is_target-clause-tried t c =
     let views = c.args.tree.now in
     let slop = c.args.limits.now.slop in
-    let reads = reads_child (names_child c.requires.may c.requires.kid c.number-group.ensures.value c.number-child.ensures.value) c.facts.ensures.value c.facts-2.ensures.value c.state-rect.ensures.value in
+    let reads = reads_child (names_child c.requires.may c.requires.kid c.number-group.ensures.value c.number-child.ensures.value) c.facts-own.ensures.value c.facts.ensures.value c.state-rect.ensures.value in
     try_earlier (scene_of views slop) (own_of views c.args.view) c.args.event.now (child_at views slop c.args.kid) (progress_of views c.args.gesture.now c.args.log.now) (progress_of views c.put.new.self c.args.log.now)
     (tried_read slop reads ∙ sym c.is_tried.ensures ∙ c.if-not-is_tried.false)
     (target_read reads.names ∙ sym c.is_target.ensures ∙ c.if-is_target.true)
@@ -219,7 +220,7 @@ pub try_child-reach-requires : goal.try_child-reach-requires
 try_child-reach-requires t c =
     let views = c.args.tree.now in
     let slop = c.args.limits.now.slop in
-    let reads = reads_child (names_child c.requires.may c.requires.kid c.number-group.ensures.value c.number-child.ensures.value) c.facts.ensures.value c.facts-2.ensures.value c.state-rect.ensures.value in
+    let reads = reads_child (names_child c.requires.may c.requires.kid c.number-group.ensures.value c.number-child.ensures.value) c.facts-own.ensures.value c.facts.ensures.value c.state-rect.ensures.value in
     let gets =
     gets_part slop c.args.log.now.entries.items c.tried_event-part.result reads (sym c.is_tried.ensures ∙ c.if-not-is_tried.false) (sym c.is_target.ensures ∙ c.if-is_target.false) c.tried_event-part.ensures.value in
     let progress = progress_of views c.args.gesture.now c.args.log.now in
@@ -235,7 +236,7 @@ try_child-returns-then-not-reach-clause-tried t c =
     let views = c.args.tree.now in
     let slop = c.args.limits.now.slop in
     let own = own_of views c.args.view in
-    let reads = reads_child (names_child c.requires.may c.requires.kid c.number-group.ensures.value c.number-child.ensures.value) c.facts.ensures.value c.facts-2.ensures.value c.state-rect.ensures.value in
+    let reads = reads_child (names_child c.requires.may c.requires.kid c.number-group.ensures.value c.number-child.ensures.value) c.facts-own.ensures.value c.facts.ensures.value c.state-rect.ensures.value in
     let gets =
     gets_part slop c.args.log.now.entries.items c.tried_event-part.result reads (sym c.is_tried.ensures ∙ c.if-not-is_tried.false) (sym c.is_target.ensures ∙ c.if-is_target.false) c.tried_event-part.ensures.value in
     let reached : Reached = record { yes = c.reach.result; progress = progress_of c.reach.new.tree c.reach.new.gesture c.reach.new.log } in
@@ -251,7 +252,7 @@ try_child-returns-clause-tried t c =
     let views = c.args.tree.now in
     let slop = c.args.limits.now.slop in
     let own = own_of views c.args.view in
-    let reads = reads_child (names_child c.requires.may c.requires.kid c.number-group.ensures.value c.number-child.ensures.value) c.facts.ensures.value c.facts-2.ensures.value c.state-rect.ensures.value in
+    let reads = reads_child (names_child c.requires.may c.requires.kid c.number-group.ensures.value c.number-child.ensures.value) c.facts-own.ensures.value c.facts.ensures.value c.state-rect.ensures.value in
     let gets =
     gets_part slop c.args.log.now.entries.items c.tried_event-part.result reads (sym c.is_tried.ensures ∙ c.if-not-is_tried.false) (sym c.is_target.ensures ∙ c.if-is_target.false) c.tried_event-part.ensures.value in
     let reached : Reached = record { yes = c.reach.result; progress = progress_of c.reach.new.tree c.reach.new.gesture c.reach.new.log } in
@@ -259,7 +260,7 @@ try_child-returns-clause-tried t c =
     try_handed (scene_of views slop) own c.args.event.now (child_at views slop c.args.kid) _ c.tried_event-part.result reached gets (sym (reach_at views slop c.args.kid c.tried_event-part.result _ c.requires.kid.live) ∙ c.reach.ensures.reached)
     ∙ taken_yes own c.args.event.now (own_of views c.args.kid).number reached new c.if-not-reach.false
     (put_named (offsets_in c.reach.new.tree) c.reach.new.log.entries.items (gesture_of c.reach.new.gesture) (gesture_of c.put-2.new.self) _ _ _ _ _ _ c.put-2.ensures.gesture c.number-group.ensures.value c.number-child.ensures.value
-    (c.tried_ids.ensures.value ∙ ap (λ (f : Facts). tried_ids f.split c.args.event.now) c.facts.ensures.value))
+    (c.tried_ids.ensures.value ∙ ap (λ (f : Facts). tried_ids f.split c.args.event.now) c.facts-own.ensures.value))
     ∙ ap (λ n. let t : Tried = record { taker = Handed n; progress = new } in t) (sym c.number-child.ensures.value)
 
 pub try_child-returns-clause-kept : goal.try_child-returns-clause-kept
@@ -349,18 +350,34 @@ hand_to-returns-in_default-clause-handed t c =
 
 pub hand_to-reach-requires : goal.hand_to-reach-requires
 hand_to-reach-requires t c =
+    let part : part_for c.state-rect.result.bounds c.facts-own.result.now.offset c.args.event.now c.args.intercepted (has_id c.ids-ids.result) ≡ Some c.else-not-intercepted.part =
+    elim c.else-not-intercepted.branch [
+      | hand_to-else-not-intercepted-via-else-not-intercepted w ↦ rw (w.if-not-intercepted.false, w.part-is, c.cancel_event-part.ensures) refl
+      | hand_to-else-not-intercepted-via-then-not-intercepted+else-not-put_part w ↦
+          rw (w.if-not-intercepted.true, w.part-is) (sym (rw w.if-not-put_part.false at w.put_part.ensures.value))
+    ] in
+    let pointer : c.else-not-intercepted.part.pointer < MAX_POINTERS =
+    elim c.else-not-intercepted.branch [
+      | hand_to-else-not-intercepted-via-else-not-intercepted w ↦ rw (w.part-is, c.cancel_event-part.ensures) (omega arith)
+      | hand_to-else-not-intercepted-via-then-not-intercepted+else-not-put_part w ↦ rw (w.part-is, w.put_part.ensures.pointer) c.requires.may.pointer
+    ] in
     let hands =
-    hands_to c.args.limits.now.slop c.args.log.now.entries.items c.requires.may c.requires.target (sym c.find.ensures.key ∙ c.in-Some.is) c.in-Some.ensures.number c.facts.ensures.value c.state-rect.ensures.value
-    (c.ids.ensures _ c.requires.target) (sym c.is_handed.ensures ∙ c.if-is_handed.false) (sym c.part_for.ensures.value ∙ c.in-Some-part_for.is) in
+    hands_to c.args.limits.now.slop c.args.log.now.entries.items c.requires.may c.requires.target (sym c.find.ensures.key ∙ c.in-Some.is) c.in-Some.ensures.number c.facts-own.ensures.value c.state-rect.ensures.value
+    (c.ids-ids.ensures _ c.requires.target) (sym c.is_handed.ensures ∙ c.if-is_handed.false) part in
     let fewer = fewer_kid c.args.tree.now c.args.view c.in-Some.kid c.requires.may.live hands.there in
-    let pointer : c.in-Some-part_for.part.pointer < MAX_POINTERS = rw c.in-Some-part_for.is at c.part_for.ensures.pointer in
     let fits = ap (λ (r : Reached). many r.progress) hands.is in
     let all = c.requires.fits in
     (omega (arith, c.decreases, fewer), (record { tree = c.requires.may.tree; live = hands.there.live; pointer = pointer; caught = c.requires.may.caught }, omega (arith, fits, all)))
 
-pub hand_to-returns-in-Some-part_for-clause-handed : goal.hand_to-returns-in-Some-part_for-clause-handed
-hand_to-returns-in-Some-part_for-clause-handed t c =
+pub hand_to-returns-clause-handed : goal.hand_to-returns-clause-handed
+hand_to-returns-clause-handed t c =
+    let part : part_for c.state-rect.result.bounds c.facts-own.result.now.offset c.args.event.now c.args.intercepted (has_id c.ids-ids.result) ≡ Some c.else-not-intercepted.part =
+    elim c.else-not-intercepted.branch [
+      | hand_to-else-not-intercepted-via-else-not-intercepted w ↦ rw (w.if-not-intercepted.false, w.part-is, c.cancel_event-part.ensures) refl
+      | hand_to-else-not-intercepted-via-then-not-intercepted+else-not-put_part w ↦
+          rw (w.if-not-intercepted.true, w.part-is) (sym (rw w.if-not-put_part.false at w.put_part.ensures.value))
+    ] in
     let hands =
-    hands_to c.args.limits.now.slop c.args.log.now.entries.items c.requires.may c.requires.target (sym c.find.ensures.key ∙ c.in-Some.is) c.in-Some.ensures.number c.facts.ensures.value c.state-rect.ensures.value
-    (c.ids.ensures _ c.requires.target) (sym c.is_handed.ensures ∙ c.if-is_handed.false) (sym c.part_for.ensures.value ∙ c.in-Some-part_for.is) in
+    hands_to c.args.limits.now.slop c.args.log.now.entries.items c.requires.may c.requires.target (sym c.find.ensures.key ∙ c.in-Some.is) c.in-Some.ensures.number c.facts-own.ensures.value c.state-rect.ensures.value
+    (c.ids-ids.ensures _ c.requires.target) (sym c.is_handed.ensures ∙ c.if-is_handed.false) part in
     hands.is ∙ c.reach.ensures.reached

@@ -69,6 +69,6 @@ returns-clause-moved c = λ g.
     ∙ sym c.is_same_offset.ensures ∙ c.if-is_same_offset.false in
     ap (λ o. progress_by o g c.note.new.self.entries.items) (c.set_offset.ensures.offsets ∙ ap (λ n. at_number n c.moved_facts-facts.result.offset (offsets_in views)) (sym c.requires.number))
     ∙ ap (progress_by (at_number own.number c.moved_facts-facts.result.offset (offsets_in views)) g) c.note.ensures.entries
-    ∙ ap (λ (o : ℤ). noted_with o own.number Scroll c.copy.result true (progress_by (at_number own.number c.moved_facts-facts.result.offset (offsets_in views)) g c.args.log.now.entries.items)) (to_z-of_z w32 c.moved_facts-facts.result.offset offset_fits)
-    ∙ ap (λ (e : Event). noted_with c.moved_facts-facts.result.offset own.number Scroll e true (progress_by (at_number own.number c.moved_facts-facts.result.offset (offsets_in views)) g c.args.log.now.entries.items)) c.copy.ensures
+    ∙ ap (λ (o : ℤ). noted_with o own.number Scroll c.set.new.self true (progress_by (at_number own.number c.moved_facts-facts.result.offset (offsets_in views)) g c.args.log.now.entries.items)) (to_z-of_z w32 c.moved_facts-facts.result.offset offset_fits)
+    ∙ ap (λ (e : Event). noted_with c.moved_facts-facts.result.offset own.number Scroll e true (progress_by (at_number own.number c.moved_facts-facts.result.offset (offsets_in views)) g c.args.log.now.entries.items)) c.set.ensures
     ∙ moved_other own c.args.event.now (progress_by (offsets_in views) g c.args.log.now.entries.items) c.args.by c.in-Some.way c.moved_facts-facts.result.offset c.in-Some.is new other

@@ -7,7 +7,7 @@ use Rattle.touch_targets.proofs.links.before.Goals as goal
 pub loop-at-init : goal.loop-at-init
 loop-at-init c =
     let s = c.args.nodes.now in
-    record {
+    rw c.key-at.ensures record {
       walk = walk_start s c.args.group c.index.result.now c.requires.linked c.index.ensures;
       there = subst (λ o. has_place c.args.place (places_from s (newest_of o)) ≡ true) c.index.ensures c.requires.there;
     }
@@ -32,7 +32,7 @@ loop-at-smaller c =
     let walk = subst (Walk s c.args.group c.loop-at.previous) c.in-Some.is c.loop-at.invariant.walk in
     let at = here s c.args.group c.loop-at.previous c.in-Some.other c.requires.linked c.requires.group walk in
     let rest = ap (places_from s) c.in-Some.is ∙ rest_here s c.args.group c.loop-at.previous c.in-Some.other walk at c.index-in-Some.result.now c.index-in-Some.ensures in
-    let longer : length (places_from s c.loop-at.at) ≡ length (places_from s c.index-in-Some.result.now.next) + 1 = rw rest (omega arith) in
+    let longer : length (places_from s c.loop-at.at) ≡ length (places_from s c.key-at-in-Some.result) + 1 = rw (c.key-at-in-Some.ensures, rest) (omega arith) in
     omega (arith, longer)
 
 pub loop-at-preserved : goal.loop-at-preserved
@@ -42,7 +42,7 @@ loop-at-preserved c =
     let walk = subst (Walk s c.args.group c.loop-at.previous) c.in-Some.is c.loop-at.invariant.walk in
     let at = here s c.args.group c.loop-at.previous c.in-Some.other c.requires.linked c.requires.group walk in
     let rest = ap (places_from s) c.in-Some.is ∙ rest_here s c.args.group c.loop-at.previous c.in-Some.other walk at n c.index-in-Some.ensures in
-    record {
+    rw c.key-at-in-Some.ensures record {
       walk = walk_on s c.args.group c.loop-at.previous c.in-Some.other walk at n c.index-in-Some.ensures;
       there = elim (has_cases c.in-Some.other c.args.place (places_from s n.next) (subst (λ l. has_place c.args.place l ≡ true) rest c.loop-at.invariant.there)) [
         | inl e ↦ absurd (c.if-other-place.false (sym e))

@@ -5,7 +5,7 @@ use Rattle.touch_targets.proofs.Walks.{behind_here, here}
 use Rattle.touch_targets.proofs.links.drop_ids.Goals as goal
 
 pub loop-at-init : goal.loop-at-init
-loop-at-init c = drops_start c.args.nodes.now c.args.group c.args.ids c.index.result.now c.requires.linked c.index.ensures
+loop-at-init c = rw c.key-at.ensures (drops_start c.args.nodes.now c.args.group c.args.ids c.index.result.now c.requires.linked c.index.ensures)
 
 pub index-requires-in-Some : goal.index-requires-in-Some
 index-requires-in-Some c =
@@ -24,7 +24,7 @@ loop-at-smaller c =
     let e = c.drop_ids_at-previous.ensures in
     let fewer = fewer_on c.args.nodes.now c.loop-at.nodes c.drop_ids_at-previous.new.nodes c.args.group c.args.ids c.in-Some.place c.loop-at.previous c.index-in-Some.result.now
     d c.index-in-Some.ensures e.linked e.places e.others e.own e.views in
-    subst (λ o. length (places_from c.drop_ids_at-previous.new.nodes c.index-in-Some.result.now.next) < length (places_from c.loop-at.nodes o)) (sym c.in-Some.is) fewer
+    rw c.key-at-in-Some.ensures (subst (λ o. length (places_from c.drop_ids_at-previous.new.nodes c.index-in-Some.result.now.next) < length (places_from c.loop-at.nodes o)) (sym c.in-Some.is) fewer)
 
 pub loop-at-preserved : goal.loop-at-preserved
 loop-at-preserved c =
@@ -32,7 +32,7 @@ loop-at-preserved c =
     let e = c.drop_ids_at-previous.ensures in
     let on = drops_on c.args.nodes.now c.loop-at.nodes c.drop_ids_at-previous.new.nodes c.args.group c.args.ids c.in-Some.place c.loop-at.previous c.index-in-Some.result.now
     d c.index-in-Some.ensures e.linked e.places e.others e.own e.views in
-    subst (λ o. Drops c.args.nodes.now c.drop_ids_at-previous.new.nodes c.args.group c.args.ids o c.index-in-Some.result.now.next) (sym e.previous) on
+    rw c.key-at-in-Some.ensures (subst (λ o. Drops c.args.nodes.now c.drop_ids_at-previous.new.nodes c.args.group c.args.ids o c.index-in-Some.result.now.next) (sym e.previous) on)
 
 pub returns : goal.returns
 returns c =

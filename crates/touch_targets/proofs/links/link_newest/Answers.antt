@@ -11,7 +11,7 @@ returns c =
     let g = c.index.result.now in
     let child = there (get s c.args.child) c.requires.child in
     let written : (x : ℕ) → get t x ≡ option_map (node_linked c.args.group c.args.child g.newest c.args.ids x) (get s x) =
-    linked_at s c.set_target.new.nodes t c.args.group c.args.child g.newest c.args.ids c.set_target.ensures c.set_newest.ensures in
+    linked_at s c.set_target.new.nodes t c.args.group c.args.child g.newest c.args.ids (rw c.to.ensures at c.set_target.ensures) (rw c.to-2.ensures at c.set_newest.ensures) in
     let free = c.requires.free child.value child.is in
     record {
       linked = are_linked_newest s t c.args.group c.args.child c.args.ids g child.value c.requires.linked c.index.ensures child.is free c.requires.ids c.ranges.ids.fits written;

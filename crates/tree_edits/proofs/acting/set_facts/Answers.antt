@@ -21,25 +21,25 @@ request_by-requires c =
     let still = ap (count_of_key c.args.view) c.hide_by.ensures.same.tree in
     omega arith
 
-facts_are : (c : After-request_by) → c.facts_after_act-facts.result ≡ facts_after_act c.args.act (facts_of c.args.tree.now c.args.view)
-facts_are c = c.facts_after_act-facts.ensures ∙ ap (facts_after_act c.args.act) c.facts.ensures.value
+facts_are : (c : After-request_by) → c.change_facts.new.facts ≡ facts_after_act c.args.act (facts_of c.args.tree.now c.args.view)
+facts_are c = c.change_facts.ensures ∙ ap (facts_after_act c.args.act) c.facts.ensures.value
 
 pub returns-clause-scene : goal.returns-clause-scene
 returns-clause-scene c =
     requested_scene c.set_facts.new.self c.request_by.new.tree (asked_by_act c.args.view c.args.act) c.request_by.ensures.same c.request_by.ensures.held
-    ∙ facts_scene c.args.tree.now c.hide_by.new.tree c.set_facts.new.self c.args.view c.args.act c.facts_after_act-facts.result
+    ∙ facts_scene c.args.tree.now c.hide_by.new.tree c.set_facts.new.self c.args.view c.args.act c.change_facts.new.facts
     c.facts.ensures.is_tree c.requires.live c.requires.turns (facts_are c) c.hide_by.ensures.same c.hide_by.ensures.held
     c.set_facts.ensures.tree c.set_facts.ensures.plain c.set_facts.ensures.next c.set_facts.ensures.held c.set_facts.ensures.others
 
 pub returns-clause-kept : goal.returns-clause-kept
 returns-clause-kept c =
-    facts_keep c.args.tree.now c.hide_by.new.tree c.set_facts.new.self c.request_by.new.tree c.args.view c.args.act c.facts_after_act-facts.result
+    facts_keep c.args.tree.now c.hide_by.new.tree c.set_facts.new.self c.request_by.new.tree c.args.view c.args.act c.change_facts.new.facts
     c.facts.ensures.is_tree c.requires.turns (facts_are c) c.hide_by.ensures.same c.hide_by.ensures.held
     c.set_facts.ensures.tree c.set_facts.ensures.next c.set_facts.ensures.held c.set_facts.ensures.others c.request_by.ensures.same c.request_by.ensures.held
 
 pub returns-clause-consistent : goal.returns-clause-consistent
 returns-clause-consistent c =
-    facts_kept c.args.tree.now c.hide_by.new.tree c.set_facts.new.self c.request_by.new.tree c.args.view c.args.act c.facts_after_act-facts.result
+    facts_kept c.args.tree.now c.hide_by.new.tree c.set_facts.new.self c.request_by.new.tree c.args.view c.args.act c.change_facts.new.facts
     c.facts.ensures.is_tree c.requires.live (facts_are c) c.hide_by.ensures.same c.hide_by.ensures.held
     c.set_facts.ensures.tree c.set_facts.ensures.held c.set_facts.ensures.others c.request_by.ensures.same c.request_by.ensures.held
 

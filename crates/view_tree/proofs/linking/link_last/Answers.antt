@@ -6,6 +6,7 @@ use Rattle.view_tree.proofs.linking.link_last.Goals as goal
 pub returns-clause-links : goal.returns-clause-links
 returns-clause-links c = λ x.
     hung_is c.args.nodes.now c.insert_reserved-key.new.self c.set_next.new.nodes c.set_last.new.nodes c.args.parent c.last_of-last.result c.insert_reserved-key.result _
-    c.insert_reserved-key.ensures.updates c.set_next.ensures.links c.set_last.ensures.links x
+    (rw (c.of.ensures, c.none.ensures, c.none-2.ensures, c.none-3.ensures) at c.insert_reserved-key.ensures.updates)
+    (rw (c.key.ensures, c.to.ensures) at c.set_next.ensures.links) c.set_last.ensures.links x
     ∙ ap (λ before. linked (links_at c.args.nodes.now) c.args.parent c.insert_reserved-key.result
     (record { number = c.args.number; class = c.args.class; facts = c.args.facts; text = c.args.text }) before x) c.last_of-last.ensures

@@ -14,7 +14,7 @@ returns-then-facts-rtl-clause-turned t c =
 pub loop-next-init : goal.loop-next-init
 loop-next-init t c = record {
   walk = subst (TurnWalk (get c.args.nodes.now) (get c.run.new.nodes) c.is_rtl-rtl.result c.args.view (children_of_first (part_at c.args.nodes.now c.args.view)))
-      (sym (first_kid c.args.nodes.now c.args.view c.requires c.index-2.result.now c.index-2.ensures))
+      (sym (first_kid c.args.nodes.now c.args.view c.requires c.index-2.result.now c.index-2.ensures) ∙ sym c.key-next.ensures)
       (walk_begins c.args.nodes.now c.args.view c.requires c.is_rtl-rtl.result c.run.new.nodes c.run.ensures.own c.run.ensures.others);
   len = c.run.ensures.len;
 }
@@ -33,15 +33,15 @@ turn-requires t c =
 pub loop-next-smaller : goal.loop-next-smaller
 loop-next-smaller t c =
     let w = rw c.in-Some.is at c.loop-next.invariant.walk in
-    rw c.in-Some.is
+    rw (c.in-Some.is, c.key-next-in-Some.ensures)
     (walk_falls c.args.nodes.now c.args.view c.requires c.is_rtl-rtl.result c.loop-next.nodes c.in-Some.kid w c.index-in-Some.result.now c.index-in-Some.ensures)
 
 pub loop-next-preserved : goal.loop-next-preserved
 loop-next-preserved t c =
     let w = rw c.in-Some.is at c.loop-next.invariant.walk in
     record {
-      walk = walk_goes c.args.nodes.now c.args.view c.requires c.is_rtl-rtl.result c.loop-next.nodes c.in-Some.kid w c.index-in-Some.result.now c.turn.new.nodes c.index-in-Some.ensures
-          c.turn.ensures.turned c.turn.ensures.others;
+      walk = rw c.key-next-in-Some.ensures (walk_goes c.args.nodes.now c.args.view c.requires c.is_rtl-rtl.result c.loop-next.nodes c.in-Some.kid w c.index-in-Some.result.now c.turn.new.nodes c.index-in-Some.ensures
+          c.turn.ensures.turned c.turn.ensures.others);
       len = c.turn.ensures.len ∙ c.loop-next.invariant.len;
     }
 

@@ -1,7 +1,7 @@
 use Rattle.std.proofs.Common.{◌≡◌, ◌∙◌, sym, subst, true}
 use Rattle.std.specs.Prelude.{Option, IfSome}
 use Rattle.script_lines.specs.PlainCommands.{plain_command}
-use Rattle.stack_worlds.proofs.GivenLaws.{asked_there, given_done, held_after, silent_there}
+use Rattle.stack_worlds.proofs.GivenLaws.{asked_there, given_done, held_after}
 use Rattle.stack_worlds.proofs.StackLaws.{there}
 use Rattle.stack_worlds.proofs.stack.Stack.give.Goals as goal
 use Rattle.view_world.specs.Carried.{AreAtHand}

@@ -27,7 +27,7 @@ nothing : (c : After-from_residual-in_err-newest) → targets_of c.args.self.now
 nothing c =
     let a = c.self.inside in
     let place = c.in_ok-place.place in
-    let none : c.index.result.now.newest ≡ None = c.in_err-newest.was in
+    let none : c.index.result.now.newest ≡ None = sym c.key.ensures ∙ c.in_err-newest.was in
     let chain = c.self.invariant.linked.chained place c.index.result.now c.index.ensures in
     at_group a c.args.self.now c.self.view_is c.args.group place (sym c.place_of.ensures ∙ c.in_ok-place.was)
     ∙ starts_none a.nodes place (places_by a.nodes place) (subst (λ o. Chain (get a.nodes) place o (places_by a.nodes place)) none chain)
@@ -45,7 +45,7 @@ start : (c : In_ok-newest) → StartsWith c.self.inside.nodes c.in_ok-newest.new
 start c =
     let s = c.self.inside.nodes in
     let place = c.in_ok-place.place in
-    let some : c.index.result.now.newest ≡ Some c.in_ok-newest.newest = c.in_ok-newest.was in
+    let some : c.index.result.now.newest ≡ Some c.in_ok-newest.newest = sym c.key.ensures ∙ c.in_ok-newest.was in
     let chain = c.self.invariant.linked.chained place c.index.result.now c.index.ensures in
     starts_with s place c.in_ok-newest.newest (places_by s place) (subst (λ o. Chain (get s) place o (places_by s place)) some chain)
 

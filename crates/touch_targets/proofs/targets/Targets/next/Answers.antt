@@ -24,7 +24,7 @@ index-requires c = rw (node_of c.self.inside c.self.invariant c.args.child c.in_
 last : (c : After-from_residual-in_err-next) → (group : ℕ) → is_target c.args.child (targets_of c.args.self.now group) ≡ true → older (from_child c.args.child (targets_of c.args.self.now group)) ≡ []
 last c group target =
     let s = c.self.inside.nodes in
-    let none : c.index.result.now.next ≡ None = c.in_err-next.was in
+    let none : c.index.result.now.next ≡ None = sym c.key.ensures ∙ c.in_err-next.was in
     let t = target_at c.self.inside c.args.self.now c.self.invariant c.self.view_is c.args.child c.in_ok-place.place c.index.result.now (sym c.place_of.ensures ∙ c.in_ok-place.was) c.index.ensures group target in
     ap older t.from ∙ starts_none s t.place t.found.rest (subst (λ o. Chain (get s) t.place o t.found.rest) none t.found.chain)
 
@@ -39,13 +39,13 @@ returns-in_err-next-clause-part c = λ group target.
 
 pub index-requires-2 : goal.index-requires-2
 index-requires-2 c =
-    let next : c.index.result.now.next ≡ Some c.in_ok-next.next = c.in_ok-next.was in
+    let next : c.index.result.now.next ≡ Some c.in_ok-next.next = sym c.key.ensures ∙ c.in_ok-next.was in
     rw (next_there c.self.inside.nodes c.self.invariant.linked c.in_ok-place.place c.in_ok-next.next c.index.result.now c.index.ensures next).is refl
 
 pub returns-clause-child : goal.returns-clause-child
 returns-clause-child c = λ group target.
     let a = c.self.inside in
-    let next : c.index.result.now.next ≡ Some c.in_ok-next.next = c.in_ok-next.was in
+    let next : c.index.result.now.next ≡ Some c.in_ok-next.next = sym c.key.ensures ∙ c.in_ok-next.was in
     let t = target_at a c.args.self.now c.self.invariant c.self.view_is c.args.child c.in_ok-place.place c.index.result.now (sym c.place_of.ensures ∙ c.in_ok-place.was) c.index.ensures group target in
     let n = next_some a.nodes c.self.invariant.linked t.place t.start c.in_ok-next.next c.index.result.now (places_by a.nodes t.place) t.chain t.found next c.index-2.result.now c.index-2.ensures in
     n.0 ∙ ap first_child (sym (ap older t.from))
@@ -53,13 +53,13 @@ returns-clause-child c = λ group target.
 pub returns-clause-part : goal.returns-clause-part
 returns-clause-part c = λ group target.
     let a = c.self.inside in
-    let next : c.index.result.now.next ≡ Some c.in_ok-next.next = c.in_ok-next.was in
+    let next : c.index.result.now.next ≡ Some c.in_ok-next.next = sym c.key.ensures ∙ c.in_ok-next.was in
     let t = target_at a c.args.self.now c.self.invariant c.self.view_is c.args.child c.in_ok-place.place c.index.result.now (sym c.place_of.ensures ∙ c.in_ok-place.was) c.index.ensures group target in
     let n = next_some a.nodes c.self.invariant.linked t.place t.start c.in_ok-next.next c.index.result.now (places_by a.nodes t.place) t.chain t.found next c.index-2.result.now c.index-2.ensures in
     ap (from_child c.index-2.result.now.view) t.whole ∙ n.1 ∙ sym (ap older t.from)
 
 pub returns-clause-free : goal.returns-clause-free
 returns-clause-free c = λ free.
-    let next : c.index.result.now.next ≡ Some c.in_ok-next.next = c.in_ok-next.was in
+    let next : c.index.result.now.next ≡ Some c.in_ok-next.next = sym c.key.ensures ∙ c.in_ok-next.was in
     let none = free_node c.self.inside c.args.self.now c.self.invariant c.self.view_is c.args.child c.in_ok-place.place c.index.result.now (sym c.place_of.ensures ∙ c.in_ok-place.was) c.index.ensures free in
     no_some (c.self.invariant.linked.free c.in_ok-place.place c.index.result.now c.index.ensures none).0 next

@@ -13,23 +13,23 @@ returns-then-contains_key-clause-opened c =
 
 pub invariant_of-self : goal.invariant_of-self
 invariant_of-self c =
-    sound_room c.self.inside (record { nodes = c.reserve.new.self; places = c.self.inside.places }) c.reserve.ensures.rest_kept refl c.self.invariant
+    sound_room c.self.inside (record { nodes = c.make_room.new.nodes; places = c.self.inside.places }) c.make_room.ensures.rest_kept refl c.self.invariant
 
-pub invariant_of-self-in_err-reserve-2 : goal.invariant_of-self-in_err-reserve-2
-invariant_of-self-in_err-reserve-2 c =
-    sound_room c.self.inside (record { nodes = c.reserve.new.self; places = c.reserve-2.new.self }) c.reserve.ensures.rest_kept c.reserve-2.ensures.entries c.self.invariant
+pub invariant_of-self-in_err-reserve : goal.invariant_of-self-in_err-reserve
+invariant_of-self-in_err-reserve c =
+    sound_room c.self.inside (record { nodes = c.make_room.new.nodes; places = c.reserve.new.self }) c.make_room.ensures.rest_kept c.reserve.ensures.entries c.self.invariant
 
 pub put_in-place-requires-clause-linked : goal.put_in-place-requires-clause-linked
 put_in-place-requires-clause-linked c =
-    linked_room c.self.inside (record { nodes = c.reserve.new.self; places = c.reserve-2.new.self }) c.reserve.ensures.rest_kept c.reserve-2.ensures.entries c.self.invariant.linked
+    linked_room c.self.inside (record { nodes = c.make_room.new.nodes; places = c.reserve.new.self }) c.make_room.ensures.rest_kept c.reserve.ensures.entries c.self.invariant.linked
 
 -- the pool once there is a node and its place is recorded
 opened : (c : After-note_place) → Grown c.args.self.now c.args.view (record { nodes = c.put_in-place.new.nodes; places = c.note_place.new.places })
 opened c =
-    let a : Inside = record { nodes = c.reserve.new.self; places = c.reserve-2.new.self } in
+    let a : Inside = record { nodes = c.make_room.new.nodes; places = c.reserve.new.self } in
     let b : Inside = record { nodes = c.put_in-place.new.nodes; places = c.note_place.new.places } in
-    let nodes = c.reserve.ensures.rest_kept in
-    let places = c.reserve-2.ensures.entries in
+    let nodes = c.make_room.ensures.rest_kept in
+    let places = c.reserve.ensures.entries in
     let closed = place_same c.self.inside a nodes places c.args.view ∙ place_none (place_in c.self.inside c.args.view) (sym c.contains_key.ensures ∙ c.if-contains_key.false) in
     grown a b c.args.self.now c.args.view c.put_in-place.result (sound_room c.self.inside a nodes places c.self.invariant) (seats_room c.self.inside a nodes places ∙ c.self.view_is)
     closed c.put_in-place.ensures.unused c.put_in-place.ensures.linked c.put_in-place.ensures.nodes c.put_in-place.ensures.caught c.note_place.ensures.noted
@@ -45,10 +45,10 @@ returns-clause-targets c = (opened (goal.at.returns-clause-targets c).After-note
 
 pub returns-clause-added : goal.returns-clause-added
 returns-clause-added c was_closed =
-    let a : Inside = record { nodes = c.reserve.new.self; places = c.reserve-2.new.self } in
+    let a : Inside = record { nodes = c.make_room.new.nodes; places = c.reserve.new.self } in
     let b : Inside = record { nodes = c.put_in-place.new.nodes; places = c.note_place.new.places } in
-    let nodes = c.reserve.ensures.rest_kept in
-    let places = c.reserve-2.ensures.entries in
+    let nodes = c.make_room.ensures.rest_kept in
+    let places = c.reserve.ensures.entries in
     let closed = place_same c.self.inside a nodes places c.args.view ∙ place_none (place_in c.self.inside c.args.view) (sym c.contains_key.ensures ∙ c.if-contains_key.false) in
     seat_added a b c.args.self.now c.args.view c.put_in-place.result (seats_room c.self.inside a nodes places ∙ c.self.view_is) closed
     c.put_in-place.ensures.unused c.put_in-place.ensures.caught c.note_place.ensures.entries

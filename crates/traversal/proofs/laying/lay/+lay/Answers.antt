@@ -32,7 +32,7 @@ use Rattle.traversal.proofs.CoverLaws.{SamePlaces}
 use Rattle.traversal.proofs.FollowedViews.{covers_along, covers_at, covers_end, covers_on, covers_start, settled_places, sight_along, sight_at, sight_same, steps_by, walks_end, walks_on, walks_start}
 use Rattle.traversal.proofs.BackWalk.{WalkTo, back_few, back_fit, back_narrow, back_on, back_start, backwards_is, fewer_back}
 use Rattle.traversal.proofs.LaidStages.{IsDone, stage_of}
-use Rattle.traversal.proofs.LaidWalk.{laid_on, laid_start, next_narrow}
+use Rattle.traversal.proofs.LaidWalk.{laid_on, laid_start, next_narrow, quiet_none}
 use Rattle.traversal.proofs.RestLaws.{calm_is, calm_of, unmoved}
 use Rattle.traversal.proofs.laying.lay.+lay.Goals as goal
 
@@ -314,6 +314,25 @@ lay_backwards-returns-clause-within t c =
     walk.done.within
 
 -- lay_kids
+
+pub lay_kids-returns-then-is_none-clause-quiet : goal.lay_kids-returns-then-is_none-clause-quiet
+lay_kids-returns-then-is_none-clause-quiet t c =
+    let tree = c.args.tree.now.tree in
+    let spot = spot_of (part_from c.args.view tree) (held_of c.args.tree.now c.args.view) c.args.size in
+    quiet_none (held_of c.args.tree.now) (held_of c.args.tree.now) spot (children_of_first (part_from c.args.view tree)) c.first.result c.is_none.result c.is_none.ensures c.if-is_none.true c.first.ensures.key
+
+pub lay_kids-returns-then-is_none-clause-caches : goal.lay_kids-returns-then-is_none-clause-caches
+lay_kids-returns-then-is_none-clause-caches t c =
+    let list = children_of_first (part_from c.args.view c.args.tree.now.tree) in
+    Grown-refl (LastAt (held_of c.args.tree.now) list) (held_of c.args.tree.now) list
+
+pub lay_kids-returns-then-is_none-clause-sight : goal.lay_kids-returns-then-is_none-clause-sight
+lay_kids-returns-then-is_none-clause-sight t c =
+    let list = children_of_first (part_from c.args.view c.args.tree.now.tree) in
+    sight_same c.args.canvas c.args.damage.now.rect (held_of c.args.tree.now) (held_of c.args.tree.now) list (λ key here. (refl, refl))
+
+pub lay_kids-returns-then-is_none-clause-within : goal.lay_kids-returns-then-is_none-clause-within
+lay_kids-returns-then-is_none-clause-within t c = λ box lies covered. lies
 
 pub lay_kids-returns-then-places_backwards-clause-quiet : goal.lay_kids-returns-then-places_backwards-clause-quiet
 lay_kids-returns-then-places_backwards-clause-quiet t c =

@@ -8,7 +8,7 @@ use Rattle.view_tree.specs.Nodes.{fields, last_child, linked, links_at, tree_of,
 use Rattle.view_tree.specs.Views.{fresh_held}
 use Rattle.view_tree.specs.declared.tree.ViewTree.TheInside.{Inside}
 use Rattle.view_tree.proofs.forest.IdLaws.{holders_of-few}
-use Rattle.view_tree.proofs.nodes.NodeGrowth.{attached, last_child_there, parent_there, runs_is, sound-attach}
+use Rattle.view_tree.proofs.nodes.NodeGrowth.{attached, last_child_there, parent_linked, parent_there, runs_is, sound-attach}
 use Rattle.view_tree.proofs.nodes.NodeReads.{is_tree, named_for}
 use Rattle.view_tree.proofs.tree.plant.plant.Goals as goal
 use Rattle.view_tree.proofs.tree.plant.plant.Goals.{After-note_id}
@@ -20,6 +20,10 @@ directed-facts-requires c = λ k is.
 pub link_last-key-requires-clause-parent : goal.link_last-key-requires-clause-parent
 link_last-key-requires-clause-parent c = λ k is.
     parent_there (fields c.args.nodes.now c.args.keys.now c.args.ids.now c.args.root.now c.args.next.now) _ c.args.parent c.requires.sound refl c.requires.live k is
+
+pub link_last-key-requires-clause-linked : goal.link_last-key-requires-clause-linked
+link_last-key-requires-clause-linked c =
+    parent_linked (fields c.args.nodes.now c.args.keys.now c.args.ids.now c.args.root.now c.args.next.now) _ c.args.parent c.requires.sound refl c.requires.live
 
 pub link_last-key-requires-clause-last : goal.link_last-key-requires-clause-last
 link_last-key-requires-clause-last c = λ l is.
@@ -57,7 +61,7 @@ returns-clause-sound c =
     let new : Inside = fields c.link_last-key.new.nodes c.note_key.new.keys c.note_id.new.ids c.root_with.result (c.args.next.now + 1) in
     sound-attach (old_of d) new (value_of (old_of d)) c.args.parent c.link_last-key.result (came d)
     c.requires.sound refl c.requires.live c.requires.empty c.requires.taken c.link_last-key.ensures.unused (linked_as d)
-    c.root_with.ensures refl refl refl c.link_last-key.ensures.len c.note_key.ensures.noted c.in-Ok.ensures.noted c.link_last-key.type_inv
+    c.root_with.ensures refl refl refl c.link_last-key.ensures.len c.note_key.ensures.noted c.in-Ok.ensures.noted c.link_last-key.ensures.small
 
 pub returns-clause-attached : goal.returns-clause-attached
 returns-clause-attached c =
@@ -65,5 +69,5 @@ returns-clause-attached c =
     let new : Inside = fields c.link_last-key.new.nodes c.note_key.new.keys c.note_id.new.ids c.root_with.result (c.args.next.now + 1) in
     attached (old_of d) new (value_of (old_of d)) c.args.parent c.link_last-key.result (came d)
     c.requires.sound refl c.requires.live c.requires.empty c.requires.taken c.link_last-key.ensures.unused (linked_as d)
-    c.root_with.ensures refl refl refl c.link_last-key.ensures.len c.note_key.ensures.noted c.in-Ok.ensures.noted c.link_last-key.type_inv
+    c.root_with.ensures refl refl refl c.link_last-key.ensures.len c.note_key.ensures.noted c.in-Ok.ensures.noted c.link_last-key.ensures.small
     (c.link_last-key.ensures.held ∙ ap (λ (facts : Facts). Some (fresh_held facts.offset)) (facts_as d)) c.link_last-key.ensures.others

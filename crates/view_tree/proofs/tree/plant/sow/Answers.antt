@@ -8,6 +8,7 @@ pub loop-next-init : goal.loop-next-init
 loop-next-init c = record {
   sound = c.requires.sound;
   room = c.requires.room;
+  small = c.requires.small;
   spare = c.requires.spare;
   sowing = sowing_start _ _ _ _ c.requires.live refl c.requires.follow c.requires.fits;
 }
@@ -34,6 +35,7 @@ loop-next-preserved c =
     record {
       sound = c.plant-key.ensures.sound;
       room = let r = c.loop-next.invariant.room in let l = c.plant-key.ensures.len in let k = c.plant-key.ensures.capacity in omega arith;
+      small = rw c.plant-key.ensures.capacity c.loop-next.invariant.small;
       spare = (let a = spared.0 in let b = spare.0 in omega arith, let a = spared.1 in let b = spare.1 in omega arith);
       sowing = sow_on _ _ _ _ _ _ _ c.loop-next.invariant.sound.kept sowing _ _ _ refl c.plant-key.ensures.attached;
     }

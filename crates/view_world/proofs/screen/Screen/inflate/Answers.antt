@@ -1,12 +1,13 @@
 use Rattle.std.proofs.Common.{◌≡◌, [], List, ℕ, ap, sym, subst, ◌∙◌}
-use Rattle.std.specs.Prelude.{Ok, Some}
+use Rattle.std.specs.Prelude.{Ok, Err, Some}
 use Rattle.view_tree.specs.Views.{plain_of}
-use Rattle.view_world.specs.Carried.{AreAtHand}
+use Rattle.view_world.specs.Carried.{AreAtHand, fetches_after}
 use Rattle.view_world.specs.Changed.{IsPlace}
 use Rattle.view_world.specs.Inflating.{asked_for, views_in, views_of}
 use Rattle.view_world.specs.KeyedScreen.{KeyedScreen, world_of}
 use Rattle.view_world.specs.Step.{graft_reason, grafted, inflation}
 use Rattle.view_world.specs.Sound.{keyed}
+use Rattle.view_world.proofs.AfterLineLaws.{fetches_placed, fetches_unplaced}
 use Rattle.view_world.proofs.FileLaws.{counts_nothing}
 use Rattle.view_world.proofs.InflatingLaws.{inflated_as, inflates_as, told_where_asked, views_of-bytes}
 use Rattle.view_world.proofs.SeedOffsets.{grown_unscrolled}
@@ -55,3 +56,34 @@ returns-clause-keeps g c =
     place_asked (world_of old) name c.args.into place.0 place.1 ∙ ap listed (place_number old.views place.0 c.in_ok-place.place place.2) in
     let now = subst (λ (w : KeyedScreen). asked_views (world_of w) (Inflate name c.args.into) ≡ listed (option_map (number_of w.views) c.in_ok-place.place)) c.self.view_is asked in
     subst (λ (numbers : List ℕ). OnOk c.graft.result (KeepsBut Asks numbers [] [] c.args.self.now c.graft.new.self)) (sym now) c.graft.ensures.keeps
+
+pub returns-in_err-place-clause-fetched : goal.returns-in_err-place-clause-fetched
+returns-in_err-place-clause-fetched g c =
+    let now = g.F.Shelf.fetches c.args.shelf.now in
+    subst (λ (w : KeyedScreen). now ≡ fetches_after (asked_for (plain_of w.views) (Some (c.args.name.now, c.args.into))) now) c.self.view_is
+    (fetches_unplaced c.self.inside.tree (plain_of c.self.inside.tree) c.args.name.now c.args.into c.in_err-place.field-0.0 now c.in_err-place.ensures.place
+    (λ e. c.in_err-place.ensures.no_memory (ap Err e)) (λ e. c.in_err-place.ensures.no_shelf (ap Err e)))
+
+pub returns-in_err-bytes-clause-fetched : goal.returns-in_err-bytes-clause-fetched
+returns-in_err-bytes-clause-fetched g c =
+    let place = c.in_ok-place.ensures.place in
+    let now = g.F.Shelf.fetches c.args.shelf.now in
+    let after = g.F.Shelf.fetches c.fetch.new.shelf in
+    subst (λ (w : KeyedScreen). after ≡ fetches_after (asked_for (plain_of w.views) (Some (c.args.name.now, c.args.into))) now) c.self.view_is
+    (fetches_placed (plain_of c.self.inside.tree) c.args.name.now c.args.into place.0 now after place.1 c.in_err-bytes.ensures.fetched)
+
+pub returns-in_err-grown-clause-fetched : goal.returns-in_err-grown-clause-fetched
+returns-in_err-grown-clause-fetched g c =
+    let place = c.in_ok-place.ensures.place in
+    let now = g.F.Shelf.fetches c.args.shelf.now in
+    let after = g.F.Shelf.fetches c.fetch.new.shelf in
+    subst (λ (w : KeyedScreen). after ≡ fetches_after (asked_for (plain_of w.views) (Some (c.args.name.now, c.args.into))) now) c.self.view_is
+    (fetches_placed (plain_of c.self.inside.tree) c.args.name.now c.args.into place.0 now after place.1 c.in_ok-bytes.ensures.fetched)
+
+pub returns-clause-fetched : goal.returns-clause-fetched
+returns-clause-fetched g c =
+    let place = c.in_ok-place.ensures.place in
+    let now = g.F.Shelf.fetches c.args.shelf.now in
+    let after = g.F.Shelf.fetches c.fetch.new.shelf in
+    subst (λ (w : KeyedScreen). after ≡ fetches_after (asked_for (plain_of w.views) (Some (c.args.name.now, c.args.into))) now) c.self.view_is
+    (fetches_placed (plain_of c.self.inside.tree) c.args.name.now c.args.into place.0 now after place.1 c.in_ok-bytes.ensures.fetched)

@@ -1,6 +1,7 @@
 use Rattle.std.specs.Prelude.{Err}
-use Rattle.std.proofs.Common.{◌≡◌}
+use Rattle.std.proofs.Common.{◌≡◌, ap}
 use Rattle.std.proofs.lemmas.Result.{err_from_is_err_and}
+use Rattle.view_world.proofs.AfterLineLaws.{reported, undone}
 use Rattle.view_world.proofs.InflatingLaws.{told_counts, writes_fault}
 use Rattle.view_world.proofs.screen.Screen.inflate_line.Goals as goal
 
@@ -18,3 +19,14 @@ returns-clause-shelf_failed g c = told_counts _ _ c.tell.result c.tell.ensures.d
 
 pub returns-clause-asked : goal.returns-clause-asked
 returns-clause-asked g c failed = absurd (rw failed at c.tell.ensures.done)
+
+pub returns-in_err-response-clause-reports : goal.returns-in_err-response-clause-reports
+returns-in_err-response-clause-reports g c done =
+    let p = err_from_is_err_and c.from_residual.result c.from_residual.ensures.1 in
+    let e : c.from_residual.result ≡ Err c.in_err-response.field-0.0 = cc (p.1, p.2) in
+    absurd (undone c.in_err-response.field-0.0 c.from_residual.result e (λ sink. c.in_err-response.ensures.no_sink (ap Err sink)) done)
+
+pub returns-clause-reports : goal.returns-clause-reports
+returns-clause-reports g c done =
+    reported c.inflate.new.self c.tell.new.self (g.K.Sink.state c.args.sink.now) (g.K.Sink.state c.tell.new.sink) c.tell.result c.in_ok-response.response c.in_ok-response.ensures.told c.tell.ensures.same
+    c.tell.ensures.carried

@@ -1,4 +1,4 @@
-use Rattle.std.proofs.Common.{◌≡◌, sym, ◌∙◌}
+use Rattle.std.proofs.Common.{◌≡◌, refl, sym, ◌∙◌}
 use Rattle.std.specs.Prelude.{None, Some}
 use Rattle.script_lines.specs.PlainCommands.{plain_command}
 use Rattle.view_world.specs.Inflating.{inflation_of}
@@ -22,3 +22,13 @@ returns-in-Some-clause-silent g c files world at e =
     let file : inflation_of (plain_command c.args.command) ≡ Some (c.in-Some.name.now, c.in-Some.into) = rw c.in-Some.is at (sym c.inflation_of.ensures) in
     absurd (inflation_tells files (world_of c.args.self.now) world c.in-Some.name.now c.in-Some.into
     (sym (inflates files (world_of c.args.self.now) (plain_command c.args.command) (c.in-Some.name.now, c.in-Some.into) file) ∙ e))
+
+pub returns-in-Some-clause-fetched : goal.returns-in-Some-clause-fetched
+returns-in-Some-clause-fetched g c =
+    let e : inflation_of (plain_command c.args.command) ≡ Some (c.in-Some.name.now, c.in-Some.into) = rw c.in-Some.is at (sym c.inflation_of.ensures) in
+    rw e c.inflate_line.ensures.fetched
+
+pub returns-in-None-clause-fetched : goal.returns-in-None-clause-fetched
+returns-in-None-clause-fetched g c =
+    let e : inflation_of (plain_command c.args.command) ≡ None = rw c.in-None.is at (sym c.inflation_of.ensures) in
+    rw e refl

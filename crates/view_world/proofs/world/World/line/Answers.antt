@@ -9,7 +9,8 @@ use Rattle.view_world.specs.Watched.{HasBox, IsWatched, IsWorth, box_after, cost
 use Rattle.view_world.specs.declared.marks.Marks.{Marks}
 use Rattle.view_world.proofs.MarkLaws.{bounded, frame_or_not, leaves_all, marks_are, marks_line, measures_same, unchanged_all, world_same}
 use Rattle.view_world.specs.Asked.{LeavesUnasked}
-use Rattle.view_world.specs.Carried.{AreAtHand, IsDone, WritesReply}
+use Rattle.view_world.proofs.AfterLineLaws.{parts_stay}
+use Rattle.view_world.specs.Carried.{AreAtHand, IsDone, WritesReply, fetches_after}
 use Rattle.view_world.specs.Inflating.{asked_file}
 use Rattle.view_world.specs.Step.{Done, step}
 use Rattle.view_world.specs.World.{World}
@@ -42,6 +43,19 @@ returns-clause-unchanged g c =
     let new : KeyedWorld = record { screen = c.line-outcome.new.self; marks = c.marks_after-self-inside.result } in
     subst (λ (w : KeyedWorld). IsDone c.line-outcome.result ⊎ ((new ≡ w) × (c.line-outcome.new.sink ≡ c.args.sink.now))) c.self.view_is
     (world_same c.line-outcome.result c.self.inside.screen c.line-outcome.new.self c.self.inside.marks c.marks_after-self-inside.result c.args.sink.now c.line-outcome.new.sink c.line-outcome.ensures.unchanged c.marks_after-self-inside.ensures.stays)
+
+pub returns-clause-as_before : goal.returns-clause-as_before
+returns-clause-as_before g c =
+    let new : KeyedWorld = record { screen = c.line-outcome.new.self; marks = c.marks_after-self-inside.result } in
+    parts_stay c.line-outcome.result c.args.self.now new (returns-clause-unchanged g c)
+
+pub returns-clause-reports : goal.returns-clause-reports
+returns-clause-reports g c done = c.line-outcome.ensures.reports done
+
+pub returns-clause-fetched : goal.returns-clause-fetched
+returns-clause-fetched g c =
+    subst (λ (w : KeyedWorld). g.F.Shelf.fetches c.line-outcome.new.shelf ≡ fetches_after (asked_file (world_of w) (plain_command c.args.command)) (g.F.Shelf.fetches c.args.shelf.now)) c.self.view_is
+    c.line-outcome.ensures.fetched
 
 pub returns-clause-marks : goal.returns-clause-marks
 returns-clause-marks g c is =

@@ -5,7 +5,7 @@ use Rattle.saved_state.specs.Restoring.{IsEntry, value_for}
 use Rattle.saved_state.specs.State.{StateEntry}
 use Rattle.saved_state.specs.declared.format.TheConstants.{VERSION}
 use Rattle.saved_state.proofs.EntryLaws.{searched}
-use Rattle.saved_state.proofs.states.States.place_of.Goals as goal
+use Rattle.saved_state.proofs.states.States.place_in.Goals as goal
 
 pub returns-in-Ok-clause-entry : goal.returns-in-Ok-clause-entry
 returns-in-Ok-clause-entry c =

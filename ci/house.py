@@ -1,0 +1,210 @@
+"""What the house of docs/STYLE.md does not want, found in the text of the crates; run as a program, it prints the list.
+
+    python3 ci/house.py > ci/house.txt
+
+    unused import       a name that a file of code or of definitions imports and does not use, which a trait may be
+    unreached           a definition or a lemma that no code, and no answer to a goal of code, uses (definitions.py)
+    twice               a record or a data type whose name another one has too
+    many parameters     a function with more than five, `self` not counted
+    wide clause         a function with a line of its contract above 120 columns
+    long file           a file of more than 800 lines
+    long function       a function whose body has more than 40 lines
+
+What is known of these is in house.txt, one a line. That list may only become shorter: the check fails for one that is
+not in it, and for one in it that is no longer found.
+"""
+import os
+import re
+import sys
+
+sys.dont_write_bytecode = True
+
+import definitions
+from running import TOP
+
+KNOWN = os.path.join(TOP, "ci", "house.txt")
+MOST_PARAMETERS, MOST_COLUMNS, MOST_LINES, MOST_IN_BODY = 5, 120, 800, 40
+SHOWN = 12
+USE = re.compile(r"^[ \t]*(pub(?:\([a-z]+\))? )?(ghost )?use ([^;]+);", re.M)
+ANTT_USE = re.compile(r"^use (\S+?)(?:\.\{([^}]*)\}| as (\S+))?$", re.M)
+COMMENT = re.compile(r"(?:^|\s)//.*$", re.M)
+FUNCTION = re.compile(r"^( *)(?:pub(?:\([a-z]+\))? )?(?:const )?fn (\w+)", re.M)
+WORD = re.compile(r"[\w']+")
+
+
+def below_top(path):
+    """A path as the list has it."""
+    return os.path.relpath(path, TOP)
+
+
+def read(path):
+    with open(path, encoding="utf-8") as file:
+        return file.read()
+
+
+def split(text):
+    """The parts of a text between commas that are in no bracket."""
+    parts, depth, begun = [], 0, 0
+    for place, it in enumerate(text):
+        depth += (it in "([{<") - (it in ")]}" or (it == ">" and text[place - 1] not in "-="))
+        if it == "," and depth == 0:
+            parts.append(text[begun:place].strip())
+            begun = place + 1
+    return [part for part in [*parts, text[begun:].strip()] if part]
+
+
+class Function:
+    """A function in the layout of `rt fmt`: its name, and the lines of its head and of its body."""
+
+    def __init__(self, name, head, body):
+        self.name, self.head, self.body = name, head, body
+
+    def parameters(self):
+        """How many parameters it has, without `self`."""
+        text = " ".join(self.head)
+        begun = text.index("(", text.index(" " + self.name))
+        if "<" in text[:begun]:
+            # types of a function may have brackets of their own
+            begun = re.compile(r">\s*\(").search(text, text.index("<")).end() - 1
+        depth = 0
+        for place in range(begun, len(text)):
+            depth += (text[place] == "(") - (text[place] == ")")
+            if depth == 0:
+                given = split(text[begun + 1 : place])
+                return sum(not re.fullmatch(r"(&('\w+ )?)?(mut )?self(: .*)?", it) for it in given)
+        return 0
+
+
+def functions(text):
+    """The functions of a file of code."""
+    lines = text.split("\n")
+    for found in FUNCTION.finditer(text):
+        first = text.count("\n", 0, found.start())
+        margin = found[1]
+        end = next((k for k in range(first, len(lines)) if lines[k] in (margin + "}", margin + "{}")
+                    or lines[k].startswith(margin) and lines[k].rstrip().endswith((" {}", ";")) and k == first), None)
+        if end is None:
+            continue
+        opened = next((k for k in range(first, end + 1) if lines[k] == margin + "{"
+                       or lines[k].startswith(margin) and lines[k].endswith(" {")), end)
+        head = lines[first : opened + (lines[opened] != margin + "{")]
+        yield Function(found[2], head, lines[opened + 1 : end])
+
+
+def imported(text):
+    """The names that a file of code imports for itself, each with whether that is for ghosts alone."""
+    for is_public, is_ghost, path in USE.findall(text):
+        inner = re.search(r"\{(.*)\}", path, re.S)
+        # of braces in braces the names stay
+        names = re.sub(r"[\w:]+::\{|\}", "", inner[1]).split(",") if inner else [re.split(r"::|\.", path)[-1]]
+        for name in filter(None, map(str.strip, [] if is_public else names)):
+            yield re.split(r"\s+as\s+", name)[-1], bool(is_ghost)
+
+
+def has(name, text, words):
+    """Whether a text uses a name; one with holes by each of its parts."""
+    if name == "◌>>=◌" and "do" in words:
+        return True
+    if "◌" in name:
+        return all(part in text for part in name.split("◌") if part)
+    return name in words if WORD.fullmatch(name) else name in text
+
+
+def unused_in_code(path, text):
+    plain = COMMENT.sub("", text)
+    heads = [line for it in functions(plain) for line in it.head]
+    ghosts = "\n".join([line for line in plain.split("\n") if not USE.match(line) and (
+        re.match(r"\s*(ghost|requires|ensures|#)", line) or not re.search(r"[;{}]$", line))] + heads)
+    body = USE.sub("", plain)
+    clauses = re.compile(r"^\s*(requires|ensures)\b.*$|^\s+(→|×|⊎).*$", re.M)
+    rust = clauses.sub("", body)
+    words = {True: set(WORD.findall(ghosts)), False: set(WORD.findall(rust))}
+    for name, is_ghost in imported(plain):
+        if name not in ("self", "_", "*") and not has(name, body if is_ghost else rust, words[is_ghost]):
+            yield "unused import: %s: %s" % (below_top(path), name)
+
+
+def unused_in_definitions(path, text):
+    body = definitions.COMMENT.sub("", ANTT_USE.sub("", text))
+    words = set(definitions.TOKEN.findall(body))
+    for module, names, alias in ANTT_USE.findall(text):
+        for name in [alias] if alias else [it.strip().split(" as ")[-1] for it in names.split(",") if it.strip()]:
+            is_word = "◌" not in name and name[:1].isalpha()
+            if not (name in words if is_word else has(name, body, words)):
+                yield "unused import: %s: %s" % (below_top(path), name)
+
+
+def of_code(path):
+    """What is found in a file of code."""
+    text = read(path)
+    yield from unused_in_code(path, text)
+    for it in functions(text):
+        name = "%s: %s" % (below_top(path), it.name)
+        if it.parameters() > MOST_PARAMETERS:
+            yield "many parameters: " + name
+        if any(len(line) > MOST_COLUMNS for line in it.head):
+            yield "wide clause: " + name
+        if len(it.body) > MOST_IN_BODY:
+            yield "long function: " + name
+
+
+def long_file(path):
+    return ["long file: " + below_top(path)] if read(path).count("\n") > MOST_LINES else []
+
+
+def twice(files):
+    """The types of definitions of which there is another one with the same name."""
+    places = {}
+    for file in files:
+        for it in file.definitions:
+            if it.kind in ("data", "record"):
+                places.setdefault(it.name, set()).add(below_top(it.path))
+    for name, paths in places.items():
+        yield from ("twice: %s: %s" % (path, name) for path in paths if len(paths) > 1)
+
+
+def found():
+    """All that is found, in order."""
+    code = list(definitions.files_below(".rt", ("src",)))
+    specs = list(definitions.files_below(".antt", ("specs",)))
+    proofs = list(definitions.files_below(".antt", ("proofs",)))
+    files = definitions.all_files()
+    every = [line for path in code for line in of_code(path)]
+    every += [line for path in specs for line in unused_in_definitions(path, read(path))]
+    every += [line for path in code + specs + proofs for line in long_file(path)]
+    every += twice(files)
+    every += ["unreached: %s: %s" % (below_top(it.path), it.name) for it in definitions.unreached(files)]
+    return sorted(set(every))
+
+
+def listed(lines):
+    """Some of many lines, as a reason why a check fails."""
+    more = "; and %d more" % (len(lines) - SHOWN) if len(lines) > SHOWN else ""
+    return "; ".join(lines[:SHOWN]) + more
+
+
+def problem():
+    """What is found and not known, or known and not found."""
+    is_known = set(read(KNOWN).split("\n")) - {""}
+    now = set(found())
+    new, old = sorted(now - is_known), sorted(is_known - now)
+    why = "not in ci/house.txt: " + listed(new) if new else ""
+    return why + ("; " if new and old else "") + ("no longer found, so drop it from ci/house.txt: " + listed(old) if old else "")
+
+
+def example():
+    """Why the patterns miss something, or find what is right."""
+    text = ("use a::{A, B};\nghost use Rattle.x.{C, ◌+◌, D};\n\nfn f<K: Fn(A) -> A>(&mut self, a: [B; 2], b: (A, A)) -> A\n"
+            "    ensures { C ≡ 1 + 2 }\n{\n    a\n}\n\nfn g() {}\n")
+    counts = [(it.name, it.parameters(), len(it.body)) for it in functions(text)]
+    names = [line.rpartition(" ")[2] for line in unused_in_code(os.path.join(TOP, "x.rt"), text)]
+    return "" if (counts, names) == ([("f", 2, 1), ("g", 0, 0)], ["D"]) else "found %s, %s" % (counts, names)
+
+
+def checks():
+    yield "the house: the patterns themselves", example
+    yield "the house: unused, unreached, twice, wide and long", problem
+
+
+if __name__ == "__main__":
+    print("\n".join(found()))

@@ -1,0 +1,12 @@
+use Rattle.std.proofs.Common.{sym, subst}
+use Rattle.stack_worlds.proofs.stack.Stack.carry_out.Goals as goal
+use Rattle.stack_worlds.specs.KeptStack.{stack_of}
+use Rattle.stack_worlds.specs.PlainStack.{PlainWay, asked_on, by_way}
+use Rattle.stack_worlds.specs.StackCarried.{WritesStack}
+use Rattle.view_world.specs.Carried.{AreAtHand}
+
+pub returns-in-Given-clause-carried : goal.returns-in-Given-clause-carried
+returns-in-Given-clause-carried g c files hand =
+    let old = stack_of c.args.self.now in
+    subst (λ (way : PlainWay). WritesStack (by_way files old way) (stack_of c.give.new.self) (g.K.Sink.state c.args.sink.now) (g.K.Sink.state c.give.new.sink) c.give.result) c.in-Given.ensures.value
+    (c.give.ensures.carried files (subst (λ (way : PlainWay). AreAtHand files (g.F.Shelf.files c.args.shelf.now) (asked_on old way)) (sym c.in-Given.ensures.value) hand))
