@@ -85,12 +85,12 @@ at_watched (world ∷ worlds) (one ∷ watched) (suc k) seen = at_watched worlds
 
 set_watched : (worlds : List (Option KeyedWorld)) (watched : List (Option Watched)) (k : ℕ) (world : Option KeyedWorld) (one : Option Watched) → AreWatched worlds watched → IsWatchedAt world one
     → AreWatched (slice_set worlds k world) (slice_set watched k one)
-set_watched [] [] zero world one seen at = tt
-set_watched [] [] (suc k) world one seen at = tt
-set_watched [] (other ∷ watched) k world one seen at = absurd seen
-set_watched (other ∷ worlds) [] k world one seen at = absurd seen
-set_watched (other ∷ worlds) (past ∷ watched) zero world one seen at = (at, seen.1)
-set_watched (other ∷ worlds) (past ∷ watched) (suc k) world one seen at = (seen.0, set_watched worlds watched k world one seen.1 at)
+set_watched [] [] zero world one seen held = tt
+set_watched [] [] (suc k) world one seen held = tt
+set_watched [] (other ∷ watched) k world one seen held = absurd seen
+set_watched (other ∷ worlds) [] k world one seen held = absurd seen
+set_watched (other ∷ worlds) (past ∷ watched) zero world one seen held = (held, seen.1)
+set_watched (other ∷ worlds) (past ∷ watched) (suc k) world one seen held = (seen.0, set_watched worlds watched k world one seen.1 held)
 
 pub none_watched : (n : ℕ) → AreWatched (replicate n None) (map (option_map watched_first) (map (option_map world_of) (replicate n None)))
 none_watched zero = tt
@@ -117,11 +117,11 @@ given_watched : (files : Files) (before after : KeyedStack) (watched : WatchedSt
     → by_way files (plain_stack watched) (Given holder k said) ≡ stack_reply.Done (stack_of after) text → IsDone result
     → AreWatched after.worlds (after_said files watched.worlds k said here) × IsWorth (costs_in here said) old new
 given_watched files before after watched holder k said result old new text None e seen works done ended =
-    let at = at_watched before.worlds watched.worlds k seen.worlds in
-    absurd (rw (e, works.1) at at)
+    let held = at_watched before.worlds watched.worlds k seen.worlds in
+    absurd (rw (e, works.1) at held)
 given_watched files before after watched holder k said result old new text (Some one) e seen works done ended =
-    let at = at_watched before.worlds watched.worlds k seen.worlds in
-    let is : IsWatched works.0 one = rw (e, works.1) at at in
+    let held = at_watched before.worlds watched.worlds k seen.worlds in
+    let is : IsWatched works.0 one = rw (e, works.1) at held in
     let here : slice_index_or (plain_stack watched).worlds k None ≡ Some one.world = at_map (λ (w : Watched). w.world) watched.worlds k ∙ ap (option_map (λ (w : Watched). w.world)) e in
     let given : given_to files (plain_stack watched) holder k said (Some one.world) ≡ stack_reply.Done (stack_of after) text = ap (given_to files (plain_stack watched) holder k said) (sym here) ∙ done in
     let made = reply_world files (plain_stack watched) (stack_of after) holder k said one.world (step files one.world said) text refl given in
