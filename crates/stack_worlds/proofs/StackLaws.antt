@@ -1,5 +1,5 @@
 -- How a plain stack follows the stack of the code.
-use Rattle.std.proofs.Common.{◌≡◌, ◌∙◌, ℕ, zero, suc, true, false, List, [], ◌∷◌, refl, ap, sym, subst, get_or, inl, inr}
+use Rattle.std.proofs.Common.{◌≡◌, ◌∙◌, ℕ, zero, suc, true, List, [], ◌∷◌, refl, ap, sym, subst, get_or, inl, inr}
 use Rattle.std.specs.Prelude.{◌⊎◌, Option, Some, None, Result, Ok, Err, map}
 use Rattle.std.specs.Option.{is_some, option_map}
 use Rattle.tool_io.specs.Fetched.{Files}
@@ -7,7 +7,7 @@ use Rattle.tool_io.specs.SinkState.{SinkState}
 use Rattle.stack_worlds.proofs.IsolationLaws.{alone_after}
 use Rattle.stack_worlds.specs.Isolation.{IsAfter, IsAlone, Shared, after_shared, stack_or}
 use Rattle.stack_worlds.specs.KeptStack.{HasWorlds, KeyedStack, keyed_at, stack_of}
-use Rattle.stack_worlds.specs.PlainStack.{PlainStack, StackReply, Done, after_given, stack_step, with_world, world_at}
+use Rattle.stack_worlds.specs.PlainStack.{PlainStack, Done, after_given, stack_step, with_world, world_at}
 use Rattle.stack_worlds.specs.StackCarried.{IsReplied, WritesStack}
 use Rattle.view_world.specs.Carried.{IsDone, WritesReply}
 use Rattle.view_world.specs.KeyedWorld.{KeyedWorld, world_of}

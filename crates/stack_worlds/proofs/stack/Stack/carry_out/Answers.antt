@@ -1,4 +1,4 @@
-use Rattle.std.proofs.Common.{sym, subst}
+use Rattle.std.proofs.Common.{◌∙◌, ap, sym, subst}
 use Rattle.stack_worlds.proofs.stack.Stack.carry_out.Goals as goal
 use Rattle.stack_worlds.specs.KeptStack.{stack_of}
 use Rattle.stack_worlds.specs.PlainStack.{PlainWay, asked_on, by_way}
@@ -10,3 +10,10 @@ returns-in-Given-clause-carried g c files hand =
     let old = stack_of c.args.self.now in
     subst (λ (way : PlainWay). WritesStack (by_way files old way) (stack_of c.give.new.self) (g.K.Sink.state c.args.sink.now) (g.K.Sink.state c.give.new.sink) c.give.result) c.in-Given.ensures.value
     (c.give.ensures.carried files (subst (λ (way : PlainWay). AreAtHand files (g.F.Shelf.files c.args.shelf.now) (asked_on old way)) (sym c.in-Given.ensures.value) hand))
+
+pub returns-in-Given-clause-silent : goal.returns-in-Given-clause-silent
+returns-in-Given-clause-silent g c files stack hand done =
+    let old = stack_of c.args.self.now in
+    c.give.ensures.silent files stack
+    (subst (λ (way : PlainWay). AreAtHand files (g.F.Shelf.files c.args.shelf.now) (asked_on old way)) (sym c.in-Given.ensures.value) hand)
+    (ap (by_way files old) c.in-Given.ensures.value ∙ done)

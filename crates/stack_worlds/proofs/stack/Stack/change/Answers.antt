@@ -11,13 +11,26 @@ use Rattle.stack_worlds.specs.WindowLines.{worlds_after}
 use Rattle.stack_worlds.specs.declared.stack.way.Own.{Own}
 use Rattle.text_lines.specs.Delivered.{Delivered}
 use Rattle.view_world.specs.declared.fault.StepFault.{StepFault}
-use Rattle.window_stack.specs.PlainPanes.{PlainPanes, closed, is_open}
+use Rattle.window_stack.specs.PlainPanes.{PlainPanes, closed, is_open, raised}
 
 pub invariant_of-self : goal.invariant_of-self
 invariant_of-self g c =
     has_same c.self.inside.panes c.raise.new.self (map kept_world c.self.inside.worlds)
     (λ j. ap (λ (p : PlainPanes). is_open p j) c.raise.ensures ∙ raise_keeps c.self.inside.panes c.in-Raise.k j)
     c.self.invariant
+
+pub returns-in-Raise-clause-carried : goal.returns-in-Raise-clause-carried
+returns-in-Raise-clause-carried g c =
+    let k = c.in-Raise.k in
+    let before = g.K.Sink.state c.args.sink.now in
+    let left =
+    ap (λ (p : PlainPanes). stacked p (map kept_world c.self.inside.worlds)) c.raise.ensures
+    ∙ ap (λ (s : KeyedStack). stacked (raised s.panes k) s.worlds) c.self.view_is in (
+      [],
+      ap (own_step (stack_of c.args.self.now)) c.in-Raise.is ∙ ap (λ (s : KeyedStack). Done (stack_of s) []) (sym left),
+      Appends-nil before.gone,
+      refl,
+    )
 
 pub invariant_of-self-in-Close : goal.invariant_of-self-in-Close
 invariant_of-self-in-Close g c =

@@ -1,8 +1,7 @@
 use Rattle.std.proofs.Common.{◌≡◌, ◌∙◌, sym, subst, true}
-use Rattle.std.specs.Prelude.{Option, IfSome}
+use Rattle.std.specs.Prelude.{IfSome}
 use Rattle.script_lines.specs.PlainCommands.{plain_command}
-use Rattle.stack_worlds.proofs.GivenLaws.{asked_there, given_done, held_after}
-use Rattle.stack_worlds.proofs.StackLaws.{there}
+use Rattle.stack_worlds.proofs.GivenLaws.{asked_there, given_done, held_after, silent_there}
 use Rattle.stack_worlds.proofs.stack.Stack.give.Goals as goal
 use Rattle.view_world.specs.Carried.{AreAtHand}
 use Rattle.window_stack.specs.PlainPanes.{PlainPanes, is_open}
@@ -40,3 +39,21 @@ pub returns-clause-works : goal.returns-clause-works
 returns-clause-works g c =
     let at = c.world_line-outcome.ensures.there c.requires.sound.window.there in
     let now = c.world_line-outcome.ensures.works at.0 at.1 in (at.0, at.1, now.0, c.hold_after.ensures.worlds ∙ now.1, now.2)
+
+pub returns-clause-silent : goal.returns-clause-silent
+returns-clause-silent g c files stack hand done =
+    let old = c.args.self.now in
+    let said = plain_command c.args.given.command in
+    let k = c.args.given.k in
+    let at = c.world_line-outcome.ensures.there c.requires.sound.window.there in
+    let plain = silent_there files old c.args.given.holder k said at.0 stack at.1 done in
+    c.world_line-outcome.ensures.silent files at.0 plain.0 at.1 (subst (AreAtHand files (g.F.Shelf.files c.args.shelf.now)) (asked_there old k said at.0 at.1) hand) plain.1
+
+pub returns-then-not-is_done-clause-silent : goal.returns-then-not-is_done-clause-silent
+returns-then-not-is_done-clause-silent g c files stack hand done =
+    let old = c.args.self.now in
+    let said = plain_command c.args.given.command in
+    let k = c.args.given.k in
+    let at = c.world_line-outcome.ensures.there c.requires.sound.window.there in
+    let plain = silent_there files old c.args.given.holder k said at.0 stack at.1 done in
+    c.world_line-outcome.ensures.silent files at.0 plain.0 at.1 (subst (AreAtHand files (g.F.Shelf.files c.args.shelf.now)) (asked_there old k said at.0 at.1) hand) plain.1
