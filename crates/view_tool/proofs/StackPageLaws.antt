@@ -16,10 +16,10 @@ use Rattle.view_tool.specs.Transcript.{Progress, after_from, after_line, after_r
 use Rattle.window_stack.specs.StackLines.{PlainLine, stack_line_of}
 
 -- the stacks that lines make, one after another
-stacks : Files → PlainStack → List PlainLine → PlainStack
+abbrev stacks : Files → PlainStack → List PlainLine → PlainStack
 stacks files stack lines = fold (λ (s : PlainStack) line. stack_or s (stack_step files s line)) stack lines
 
-carried_or : Carried → LineReply → Carried
+abbrev carried_or : Carried → LineReply → Carried
 carried_or carried (reply.Done after text) = after
 carried_or carried (reply.Refused refusal) = carried
 
