@@ -14,7 +14,7 @@ use Rattle.view_tool.specs.Tally.{Watching, WatchedWorld, WatchedWindows, carrie
 use Rattle.view_tool.specs.declared.carrier.Carrier.{Carrier}
 use Rattle.view_tool.specs.declared.carrier.Carrier.TheVariants as carrier
 use Rattle.view_world.specs.Carried.{WritesReply}
-use Rattle.view_world.specs.KeyedWorld.{KeyedWorld, new_world}
+use Rattle.view_world.specs.KeyedWorld.{KeyedWorld}
 use Rattle.view_world.specs.Step.{Reply}
 use Rattle.view_world.specs.Watched.{Watched}
 use Rattle.view_world.specs.World.{World}

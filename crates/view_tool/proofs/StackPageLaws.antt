@@ -1,15 +1,15 @@
 -- The windows of the page of a stack are isolated.
-use Rattle.std.proofs.Common.{◌≡◌, ◌∙◌, ℕ, List, [], ◌∷◌, ◌++◌, refl, ap, sym, inl, inr}
+use Rattle.std.proofs.Common.{◌≡◌, ◌∙◌, ℕ, List, [], ◌∷◌, refl, ap, sym, inl, inr}
 use Rattle.std.specs.Prelude.{fold, Result, Ok, Err}
 use Rattle.std.proofs.lemmas.Bool.{cases_Bool}
 use Rattle.std.proofs.lemmas.Grind.{fold-append}
 use Rattle.script_lines.specs.Lines.{Line, Text, LongLine, is_passed_over, lines_of}
 use Rattle.script_lines.specs.declared.fault.LineFault.{LineFault}
-use Rattle.stack_worlds.specs.Isolation.{Shared, after_shared, nothing_shared, shared_by, stack_or}
+use Rattle.stack_worlds.specs.Isolation.{Shared, after_shared, nothing_shared, stack_or}
 use Rattle.stack_worlds.specs.PlainStack.{PlainStack, StackReply, Done, Refused, empty_stack, stack_step}
 use Rattle.stack_worlds.proofs.IsolationLaws.{isolated}
 use Rattle.tool_io.specs.Fetched.{Files}
-use Rattle.view_tool.specs.Carried.{Carried, Alone, Stacked, LineReply, of_stack, reply_to_read}
+use Rattle.view_tool.specs.Carried.{Carried, Stacked, LineReply, of_stack, reply_to_read}
 use Rattle.view_tool.specs.Carried as reply
 use Rattle.view_tool.specs.StackPage.{IsPageIsolated, all_asked, asked_of, read_or_none}
 use Rattle.view_tool.specs.Transcript.{Progress, after_from, after_line, after_reply, at_start, reply_to_line}

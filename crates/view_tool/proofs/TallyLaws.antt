@@ -1,5 +1,5 @@
 -- What lines cost, one after another, and what was counted for it.
-use Rattle.std.proofs.Common.{◌≡◌, ℕ, ◌∷◌, ◌++◌, List, [], refl, ap, sym, subst, ◌∙◌, arith, inl, inr}
+use Rattle.std.proofs.Common.{◌≡◌, ℕ, ◌∷◌, ◌++◌, List, [], refl, ap, sym, subst, ◌∙◌, inl, inr}
 use Rattle.std.specs.Prelude.{true, false, Result, Ok, Err}
 use Rattle.std.proofs.lemmas.Bool.{cases_Bool}
 use Rattle.std.proofs.lemmas.Grind.{fold-append}
@@ -17,10 +17,10 @@ use Rattle.tool_io.specs.Fetched.{Files}
 use Rattle.tool_io.specs.SinkState.{SinkState}
 use Rattle.view_model.specs.Refusals.{PlainRefusal}
 use Rattle.view_model.specs.declared.work.Work.{Work}
-use Rattle.view_tool.specs.Carried.{Carried, LineReply, Refused, of_stack, of_world, reply_to_bytes, reply_to_command, reply_to_read}
+use Rattle.view_tool.specs.Carried.{Carried, Refused, of_stack, of_world, reply_to_bytes, reply_to_command, reply_to_read}
 use Rattle.view_tool.specs.Carrier.{IsWatching}
 use Rattle.view_tool.specs.Run.{HasTallied}
-use Rattle.view_tool.specs.Tally.{Tally, Watching, WatchedWorld, WatchedWindows, after_bytes, after_change, after_command, after_read, after_done, at_first, carried_in, tally_from, with_cost, with_costs}
+use Rattle.view_tool.specs.Tally.{Tally, Watching, WatchedWorld, WatchedWindows, after_bytes, after_change, after_command, after_read, after_done, at_first, carried_in, tally_from, with_cost}
 use Rattle.view_tool.specs.Transcript.{is_idle, reply_to_line}
 use Rattle.view_tool.specs.declared.carrier.Carrier.TheVariants as carrier
 use Rattle.view_tool.specs.WatchedStack.{WatchedStack, plain_stack}

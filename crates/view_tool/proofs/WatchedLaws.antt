@@ -1,19 +1,19 @@
 -- The worlds of a stack of windows that are watched, one by one, and what a line leaves of them.
-use Rattle.std.proofs.Common.{◌≡◌, ◌≤◌, ℕ, zero, suc, max, List, [], ◌∷◌, refl, ap, sym, subst, ◌∙◌, arith, inl, inr, true, false}
+use Rattle.std.proofs.Common.{◌≡◌, ◌≤◌, ℕ, zero, suc, List, [], ◌∷◌, refl, ap, sym, subst, ◌∙◌, arith, inl, inr, true, false}
 use Rattle.std.specs.Prelude.{Option, Some, None, Result, map, replicate, slice_index_or, slice_set}
 use Rattle.std.specs.Option.{option_map}
 use Rattle.std.proofs.lemmas.Bool.{cases_Bool}
 use Rattle.script_lines.specs.PlainCommands.{PlainCommand}
-use Rattle.stack_worlds.specs.KeptStack.{KeyedStack, keyed_at, stack_of}
-use Rattle.stack_worlds.specs.PlainStack.{PlainStack, PlainWay, Given, Missed, RefusedBy, ToStack, StackReply, after_given, by_way, given_to, with_world}
+use Rattle.stack_worlds.specs.KeptStack.{KeyedStack, stack_of}
+use Rattle.stack_worlds.specs.PlainStack.{PlainStack, PlainWay, Given, Missed, RefusedBy, ToStack, after_given, by_way, given_to, with_world}
 use Rattle.stack_worlds.specs.PlainStack as stack_reply
-use Rattle.stack_worlds.specs.WindowLines.{WorksBy, WorksIn, next_in, worlds_after}
+use Rattle.stack_worlds.specs.WindowLines.{WorksBy, next_in, worlds_after}
 use Rattle.stack_worlds.specs.declared.stack.way.Own.{Own}
 use Rattle.stack_worlds.specs.declared.stack.way.Own.TheVariants as own
 use Rattle.tool_io.specs.Fetched.{Files}
 use Rattle.view_model.specs.declared.work.Work.{Work}
 use Rattle.view_tool.specs.Carrier.{AreWatched, IsWatchedAt, IsWatchedStack, greatest_next}
-use Rattle.view_tool.specs.WatchedStack.{WatchedStack, after_accepted, after_own, after_said, after_way, costs_in, costs_of_way, plain_stack, watched_at, watched_first}
+use Rattle.view_tool.specs.WatchedStack.{WatchedStack, after_own, after_said, after_way, costs_in, costs_of_way, plain_stack, watched_at, watched_first}
 use Rattle.view_tool.proofs.SumLaws.{worth_none}
 use Rattle.view_world.specs.Carried.{IsDone}
 use Rattle.view_world.specs.KeyedWorld.{KeyedWorld, new_world, world_of}

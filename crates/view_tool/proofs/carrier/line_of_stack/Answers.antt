@@ -1,10 +1,8 @@
 use Rattle.std.proofs.Common.{ap, arith, sym, ◌∙◌, inl}
-use Rattle.std.specs.Prelude.{Ok, Err}
 use Rattle.script_lines.specs.Words.{map_ok}
-use Rattle.stack_worlds.specs.KeptStack.{keyed_at, stack_of}
+use Rattle.stack_worlds.specs.KeptStack.{stack_of}
 use Rattle.stack_worlds.specs.PlainStack.{stack_step}
 use Rattle.view_tool.specs.Carried.{Refused}
-use Rattle.view_tool.specs.Carrier.{greatest_next}
 use Rattle.view_tool.proofs.CarrierLaws.{have_numbers, numbers_after, writes_stack}
 use Rattle.view_tool.proofs.TallyLaws.{done_in_stack, tallied_stack}
 use Rattle.window_stack.specs.StackLines.{plain_line}

@@ -1,5 +1,4 @@
 use Rattle.std.proofs.Common.{ap, arith, sym, ◌∙◌, inl}
-use Rattle.std.specs.Prelude.{Ok, Err}
 use Rattle.script_lines.specs.PlainCommands.{plain_command}
 use Rattle.script_lines.specs.Words.{map_ok}
 use Rattle.view_world.specs.KeyedWorld.{world_of}

@@ -1,7 +1,6 @@
-use Rattle.std.proofs.Common.{◌≡◌, refl, arith, subst, sym}
+use Rattle.std.proofs.Common.{refl, arith}
 use Rattle.text_lines.proofs.Prefixes.{appends_none}
-use Rattle.view_tool.specs.Carrier.{IsWatching, carried_of, next_of}
-use Rattle.view_tool.specs.Tally.{tally_from, watching_first}
+use Rattle.view_tool.specs.Tally.{tally_from}
 use Rattle.view_tool.specs.Transcript.{after_from}
 use Rattle.view_tool.proofs.CarrierLaws.{first_next, first_watching}
 use Rattle.view_tool.proofs.SumLaws.{worth_none}
