@@ -28,6 +28,7 @@ SHOWN = 12
 USE = re.compile(r"^[ \t]*(pub(?:\([a-z]+\))? )?(ghost )?use ([^;]+);", re.M)
 ANTT_USE = re.compile(r"^use (\S+?)(?:\.\{([^}]*)\}| as (\S+))?$", re.M)
 COMMENT = re.compile(r"(?:^|\s)//.*$", re.M)
+CLAUSE = re.compile(r"^[ ]*(?:requires|ensures)\b.*(?:\n[ ]+(?!requires|ensures|fn\b).*[^;\n])*", re.M)
 FUNCTION = re.compile(r"^( *)(?:pub(?:\([a-z]+\))? )?(?:const )?fn (\w+)", re.M)
 WORD = re.compile(r"[\w']+")
 
@@ -112,7 +113,7 @@ def has(name, text, words):
 
 def unused_in_code(path, text):
     plain = COMMENT.sub("", text)
-    heads = [line for it in functions(plain) for line in it.head]
+    heads = [line for it in functions(plain) for line in it.head] + CLAUSE.findall(plain)
     ghosts = "\n".join([line for line in plain.split("\n") if not USE.match(line) and (
         re.match(r"\s*(ghost|requires|ensures|#)", line) or not re.search(r"[;{}]$", line))] + heads)
     body = USE.sub("", plain)

@@ -19,10 +19,16 @@ use Rattle.attr_table.specs.declared.given.Given.TheVariants as given
 use Rattle.attr_table.specs.declared.table.Takes.{Takes}
 use Rattle.attr_table.specs.declared.table.Takes.TheVariants as takes
 use Rattle.attr_table.specs.Setting.{across_of, all_sides, down_of, gravity_of, visibility_of, with_margins, with_paddings}
-use Rattle.attr_table.specs.Attributes.{Attribute, attributes}
+use Rattle.attr_table.specs.declared.table.TheConstants.{ATTRIBUTES}
+use Rattle.attr_table.specs.Attributes.{Attribute, attributes, known}
 use Rattle.attr_table.specs.Table.{place_of}
 use Rattle.attr_table.specs.Taking.{Facets, facets_of, finished, known_place, with_known}
 use Rattle.attr_table.specs.Values.{below_given, boolean_given, color_of, dimension_of, extent_given, found_of, given_of, pixels_within, reference_given, signed, text_of, weight_given}
+
+-- the table of the code has these rows
+tabled : map (λ row. known row.0.now row.1 row.2) ATTRIBUTES ≡ attributes
+unfolding attributes
+tabled = refl
 
 -- each name leads to its own row, so no name is there twice
 own_rows : map place_of (map (λ (known : Attribute). known.name) attributes) ≡ map (λ (place : ℕ). Some place) (range_with_len 0 54)

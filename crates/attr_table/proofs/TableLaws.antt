@@ -10,20 +10,8 @@ use Rattle.attr_table.specs.declared.table.Slot.{Slot}
 use Rattle.attr_table.specs.declared.table.Slot.TheVariants as slot
 use Rattle.attr_table.specs.declared.table.Takes.{Takes}
 use Rattle.attr_table.specs.Setting.{HasVerb}
-use Rattle.attr_table.specs.declared.table.TheConstants.{ATTRIBUTES}
 use Rattle.attr_table.specs.Attributes.{Attribute, attributes, known}
 use Rattle.attr_table.specs.Table.{attribute, place_in, slot_at}
-
--- the table of the code has these rows
-pub tabled : map (λ row. known row.0.now row.1 row.2) ATTRIBUTES ≡ attributes
-unfolding attributes
-tabled = refl
-
-pub attribute-index : (rows : List (Bor (List ℕ) × Takes × Slot)) (place : ℕ) (default : Bor (List ℕ) × Takes × Slot) → place < length rows
-    → slice_get (map attribute rows) place ≡ Some (attribute (slice_index_or rows place default))
-attribute-index [] place default within = absurd (omega (arith, within))
-attribute-index (row ∷ rows) zero default within = refl
-attribute-index (row ∷ rows) (suc place) default within = attribute-index rows place default (omega (arith, within))
 
 prefix_len-rows : (rows : List (Bor (List ℕ) × Takes × Slot)) (name : List ℕ)
     → prefix_len (λ (known : Attribute). not (bytes_eq known.name name)) (map attribute rows) ≡ prefix_len (λ row. not (bytes_eq row.0.now name)) rows

@@ -42,7 +42,9 @@ pub fn take(
     requires { IsStart doc.now.nodes.items node }
     ensures value { IsTakenAs (facets_at (document doc.now) res.now dpi node) result }
     ensures named { IfOk result (λ taken. facets taken ≡ named_at (document doc.now) res.now dpi node) }
-    ensures few { (line ns name first count : ℕ) → slice_get doc.now.nodes.items node ≡ Some (Start line ns name first count) → IfOk result (λ taken. taken.ignored ≤ count) }
+    ensures few { (line ns name first count : ℕ)
+        → slice_get doc.now.nodes.items node ≡ Some (Start line ns name first count)
+        → IfOk result (λ taken. taken.ignored ≤ count) }
 {
     let mut draft = Draft::new(alloc);
     take_attrs(alloc, &doc.pool, res, dpi, attrs_of(doc, node), &mut draft)?;
@@ -52,8 +54,12 @@ pub fn take(
 /// The attributes of the element that begins at a node.
 fn attrs_of(doc: &Doc, node: usize) -> &[Attr]
     requires { IsStart doc.now.nodes.items node }
-    ensures value { (start : Node) → slice_get doc.now.nodes.items node ≡ Some start → result.now ≡ attrs_of (document doc.now) start }
-    ensures count { (line ns name first count : ℕ) → slice_get doc.now.nodes.items node ≡ Some (Start line ns name first count) → length result.now ≡ count }
+    ensures value { (start : Node)
+        → slice_get doc.now.nodes.items node ≡ Some start
+        → result.now ≡ attrs_of (document doc.now) start }
+    ensures count { (line ns name first count : ℕ)
+        → slice_get doc.now.nodes.items node ≡ Some (Start line ns name first count)
+        → length result.now ≡ count }
     ensures few { length result.now < 2 ^ 32 }
 {
     match doc.nodes[node] {

@@ -59,7 +59,8 @@ pub fn given(
     attr: Attr,
     found: Option<&Value>,
 ) -> Result<Option<Given>, AllocError>
-    ensures { IfOk result (λ given. given ≡ given_of pool.now dpi takes attr.kind attr.word (option_map (λ value. resource value.now) found.entry)) }
+    ensures { IfOk result (λ given. given
+        ≡ given_of pool.now dpi takes attr.kind attr.word (option_map (λ value. resource value.now) found.entry)) }
 {
     let Attr { kind, word, .. } = attr;
     match takes {
@@ -233,7 +234,8 @@ fn text(
     word: u32,
     found: Option<&Value>,
 ) -> Result<Option<Given>, AllocError>
-    ensures { IfOk result (λ given. given ≡ text_of pool.now kind word (option_map (λ value. resource value.now) found.entry)) }
+    ensures { IfOk result (λ given. given
+        ≡ text_of pool.now kind word (option_map (λ value. resource value.now) found.entry)) }
 {
     match found {
         Some(Value::Text(text)) => Ok(Some(Given::Text(text.copy(alloc)?))),
@@ -252,7 +254,8 @@ fn text(
 
 /// The characters of a string.
 fn string(alloc: Global, pool: &Pool, number: u32) -> Result<Option<Given>, AllocError>
-    ensures { IfOk result (λ given. given ≡ option_map (λ text. says.Text (chars text)) (slice_get pool.now.texts number)) }
+    ensures { IfOk result (λ given. given
+        ≡ option_map (λ text. says.Text (chars text)) (slice_get pool.now.texts number)) }
 {
     match pool.text(number) {
         Some(text) => Ok(Some(Given::Text(characters(alloc, text)?))),

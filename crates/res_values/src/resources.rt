@@ -42,7 +42,8 @@ impl Resources {
     /// Defines a resource, or gives an id that is defined another value.
     pub fn define(&mut self, id: u32, value: Value) -> Result<(), ResFault>
         ensures entries { OnOk result (self.new ≡ with_resource self.old id (resource value)) }
-        ensures value { OnOk result ((other : ℕ) → resource_of self.new other ≡ (if nat_eq id other then Some (resource value) else resource_of self.old other)) }
+        ensures value { OnOk result ((other : ℕ) → resource_of self.new other
+            ≡ (if nat_eq id other then Some (resource value) else resource_of self.old other)) }
         ensures refused { IsRefusedExactlyFor (definition_refusal_of self.old id) result }
         ensures unchanged { OnErr result (self.new ≡ self.old) }
     {

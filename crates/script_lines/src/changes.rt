@@ -1,6 +1,6 @@
 //! What a line sets of a view.
 
-ghost use Rattle.std.specs.Prelude.{◌≡◌, pos, negsuc, ◌≤ℤ◌, IfOk};
+ghost use Rattle.std.specs.Prelude.{◌≡◌, negsuc, ◌≤ℤ◌, IfOk};
 ghost use Rattle.script_lines.specs.Changes.{IsActInBounds, IsChangeInBounds, act_of, answer_named, answer_of, background_of, change_of, direction_named, direction_of, flag_named, flag_of, gravity_change_of, ink_of, insets_of, intercept_of, kids_of, margins_of, min_of, new_id_of, orient_of, padding_of, scroll_of, sides_of, size_of, vertical_of, visibility_of, visible_of, weight_change_of, weight_sum_of};
 ghost use Rattle.script_lines.specs.Numbers.{IsWithin};
 ghost use Rattle.script_lines.specs.Words.{words};

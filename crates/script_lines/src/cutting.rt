@@ -82,12 +82,14 @@ impl Lines {
         ensures all { result.1 ≡ LinePlace.No → result.0 ≡ length piece.now }
         ensures none { (result.1 ≡ LinePlace.No) ↔ (position_or_len is_line_feed piece.now ≡ length piece.now) }
         ensures lines { (before : List ℕ) → IsAfter self.old before
-            → (cut_of (before ++ take result.0 piece.now)).lines ≡ (cut_of before).lines ++ lines_at result.1 piece.now self.new.line }
+            → (cut_of (before ++ take result.0 piece.now)).lines
+            ≡ (cut_of before).lines ++ lines_at result.1 piece.now self.new.line }
         ensures lent { IsLent result.1 (length piece.now) }
         ensures whole { self.old.begun ≡ [] → result.1 ≢ LinePlace.Held }
         ensures line { (result.1 ≡ LinePlace.Held) ⊎ (self.new.line ≡ []) }
         ensures begun { (result.1 ≡ LinePlace.No) ⊎ (self.new.begun ≡ []) }
-        ensures stands { (before : List ℕ) → IsAfter self.old before → IsAfter self.new (before ++ take result.0 piece.now) }
+        ensures stands { (before : List ℕ) → IsAfter self.old before
+            → IsAfter self.new (before ++ take result.0 piece.now) }
     {
         let end = line_end(piece);
         self.line = 0;
@@ -120,9 +122,11 @@ impl Lines {
         ensures all { result.1 ≡ Ended.No → result.0 ≡ length piece.now }
         ensures none { (result.1 ≡ Ended.No) ↔ (position_or_len is_line_feed piece.now ≡ length piece.now) }
         ensures lines { (before : List ℕ) → IsAfter self.old before
-            → (cut_of (before ++ take result.0 piece.now)).lines ≡ (cut_of before).lines ++ lines_as result.1 self.new.line }
+            → (cut_of (before ++ take result.0 piece.now)).lines
+            ≡ (cut_of before).lines ++ lines_as result.1 self.new.line }
         ensures line { (result.1 ≡ Ended.Line) ⊎ (self.new.line ≡ []) }
-        ensures stands { (before : List ℕ) → IsAfter self.old before → IsAfter self.new (before ++ take result.0 piece.now) }
+        ensures stands { (before : List ℕ) → IsAfter self.old before
+            → IsAfter self.new (before ++ take result.0 piece.now) }
     {
         let (used, place) = self.next_line(piece);
         match place {
@@ -140,7 +144,8 @@ impl Lines {
     /// Ends the script: the beginning of a line is its last one, unless it is empty. From then on another script may
     /// come. After any `course` of pieces the lines of all their bytes are those that were returned, and this one.
     pub fn finish(&mut self) -> Ended
-        ensures lines { (before : List ℕ) → IsAfter self.old before → last_of (cut_of before).rest ≡ lines_as result self.new.line }
+        ensures lines { (before : List ℕ) → IsAfter self.old before
+            → last_of (cut_of before).rest ≡ lines_as result self.new.line }
         ensures pieces { (first : LineBuffer) (course : List Feed)
             → IsAfter first []
             → FeedSequence first course self.old

@@ -175,8 +175,10 @@ impl Gathered {
     fn add(&mut self, bytes: &[u8]) -> Result<(), LineFault>
         requires room { array_vec_len self.old.edits + self.old.left ≤ MAX_EDITS }
         ensures room { array_vec_len self.new.edits + self.new.left ≤ MAX_EDITS }
-        ensures bounds { All (λ asked. IsChangeInBounds asked.change) self.old.edits.items → All (λ asked. IsChangeInBounds asked.change) self.new.edits.items }
-        ensures edits { (more : List (List (List ℕ))) → edits_after self.old (words bytes.now ∷ more) ≡ behind result (edits_after self.new more) }
+        ensures bounds { All (λ asked. IsChangeInBounds asked.change) self.old.edits.items
+            → All (λ asked. IsChangeInBounds asked.change) self.new.edits.items }
+        ensures edits { (more : List (List (List ℕ)))
+            → edits_after self.old (words bytes.now ∷ more) ≡ behind result (edits_after self.new more) }
     {
         let reading = read_next(self.left, bytes);
         self.left = self.left.saturating_sub(1);

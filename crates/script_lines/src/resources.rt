@@ -1,6 +1,6 @@
 //! What a line gives a resource.
 
-ghost use Rattle.std.specs.Prelude.{◌≡◌, ◌≢◌, ◌<◌, pos, negsuc, ◌≤ℤ◌, IfOk};
+ghost use Rattle.std.specs.Prelude.{◌≡◌, ◌<◌, IfOk};
 ghost use Rattle.script_lines.specs.Numbers.{IsWithin};
 ghost use Rattle.script_lines.specs.PlainCommands.{plain_command, plain_given};
 ghost use Rattle.script_lines.specs.Commands.{IsInBounds};
