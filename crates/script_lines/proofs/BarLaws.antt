@@ -18,7 +18,7 @@ split_whole p (x ∷ xs) h = elim (cases_Bool (p x)) [
       (let r : slice_split p (x ∷ xs) ≡ onto_first x (slice_split p xs) = rw e refl in r) ∙ ap (onto_first x) (split_whole p xs (omega (arith, q, h))))
 ]
 
-after_fault : (fault : LineFault) (words : List (List ℕ)) → fold word_step (Err fault) words ≡ Err fault
+pub after_fault : (fault : LineFault) (words : List (List ℕ)) → fold word_step (Err fault) words ≡ Err fault
 after_fault fault [] = refl
 after_fault fault (word ∷ words) = after_fault fault words
 

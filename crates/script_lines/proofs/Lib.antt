@@ -9,9 +9,11 @@ mod FeedLaws
 mod FileNameLaws
 mod HookExamples
 mod HookLaws
+mod LimitExamples
 mod LineExamples
 pub mod LineLaws
 pub mod PieceLaws
+mod OkLaws
 mod PartLaws
 mod PlaceLaws
 mod ResourceExamples
@@ -34,3 +36,7 @@ mod TextLaws
 mod TextLengthLaws
 mod TouchExamples
 pub mod WordLaws
+mod WrittenActs
+mod WrittenCommands
+mod WrittenHooks
+mod WrittenWords

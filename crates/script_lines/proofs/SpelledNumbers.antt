@@ -13,10 +13,10 @@ use Rattle.script_lines.specs.Numbers.{IsWithin, integer_of, is_natural, natural
 use Rattle.script_lines.proofs.CommandLaws.{and-left, and-right}
 use Rattle.script_lines.proofs.SpelledWords.{IsWord}
 
-abbrev digits_from : ℕ → List ℕ → ℕ
+abbrev pub digits_from : ℕ → List ℕ → ℕ
 digits_from n ds = fold (λ n d. 10 * n + (d - 48)) n ds
 
-own : IsNumeralModel (λ ds. list_all is_ascii_digit ds ≡ true) (digits_from 0)
+pub own : IsNumeralModel (λ ds. list_all is_ascii_digit ds ≡ true) (digits_from 0)
 own = numerals_by_fold _ (search rules) digits_from (search rules)
 
 digit_graphic : (b : ℕ) → is_ascii_digit b ≡ true → is_ascii_graphic b ≡ true

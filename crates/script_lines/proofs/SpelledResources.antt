@@ -52,11 +52,11 @@ unit_word Pt = word_by _ refl
 unit_word In = word_by _ refl
 unit_word Mm = word_by _ refl
 
-dimen_word-unit : (n : ℤ) (unit : LengthUnit) → dimen_word n unit % 256 ≡ unit_number unit
+pub dimen_word-unit : (n : ℤ) (unit : LengthUnit) → dimen_word n unit % 256 ≡ unit_number unit
 unfolding dimen_word
 dimen_word-unit n unit = omega (arith, unit_below unit)
 
-mantissa-dimen : (n : ℤ) (unit : LengthUnit) → IsWithin MIN_MANTISSA MAX_MANTISSA n → mantissa (dimen_word n unit) ≡ n
+pub mantissa-dimen : (n : ℤ) (unit : LengthUnit) → IsWithin MIN_MANTISSA MAX_MANTISSA n → mantissa (dimen_word n unit) ≡ n
 unfolding mantissa dimen_word
 mantissa-dimen (pos n) unit h =
     let less : n < 8388608 = omega (arith, ints, h.1) in

@@ -1,6 +1,6 @@
 -- The text of a command is no longer than its line.
-use Rattle.std.proofs.Common.{◌≡◌, ℕ, ◌≤◌, Bool, true, false, subst, sym, inl, inr, List, [], ◌∷◌, length, drop, arith, length-drop, length-take}
-use Rattle.std.specs.Prelude.{ℤ, pos, nat_lt, codes, if◌then◌else◌, IfOk, Result, Ok, Err}
+use Rattle.std.proofs.Common.{ℕ, ◌≤◌, Bool, inl, inr, List, [], ◌∷◌, length, drop, arith, length-drop, length-take}
+use Rattle.std.specs.Prelude.{ℤ, pos, nat_lt, codes, if◌then◌else◌, IfOk, Ok, Err}
 use Rattle.std.specs.List.{prefix_len}
 use Rattle.std.specs.Str.{bytes_eq, is_utf8}
 use Rattle.std.proofs.lemmas.Bool.{cases_lt}
@@ -19,44 +19,14 @@ use Rattle.script_lines.specs.Pixels.{is_small, part_of, pixels_of}
 use Rattle.script_lines.specs.Resources.{dimen_given, given_by, given_of, res_of, resource_id, unit_of}
 use Rattle.script_lines.specs.States.{is_state_text, restore_of, save_of, state_text_of}
 use Rattle.script_lines.specs.Touches.{cancel_of, pointer_of, touch_of, up_of}
-use Rattle.script_lines.specs.Words.{◌>>=◌, after_spaces, after_word, end_of, first_word, in_word, map_ok, on_of, text_of, word_in, words}
+use Rattle.script_lines.specs.Words.{after_spaces, after_word, end_of, first_word, in_word, on_of, text_of, word_in, words}
 use Rattle.script_lines.specs.declared.commands.Asked.{Asked}
 use Rattle.script_lines.specs.declared.commands.TheConstants.{MAX_DPI, MAX_POINT, MAX_WINDOW, MIN_DPI}
-use Rattle.script_lines.specs.declared.fault.LineFault.{LineFault}
 use Rattle.script_lines.specs.declared.fault.LineFault.TheVariants.{Syntax}
 use Rattle.script_lines.specs.declared.resources.TheConstants.{MAX_MANTISSA, MIN_MANTISSA}
 use Rattle.script_lines.specs.declared.touches.Touch.{Touch}
+use Rattle.script_lines.proofs.OkLaws.{if_either, if_map, if_map_with, if_ok_more, if_then, if_then_with}
 use Rattle.script_lines.proofs.WordLaws.{words_none, words_some}
-
--- what holds of whatever a reading gives
-if_then : {A B : Type 0} (P : B → Type 0) (r : Result A LineFault) (next : A → Result B LineFault) → ((a : A) → IfOk (next a) P) → IfOk (r >>= next) P
-if_then P (Ok a) next h = h a
-if_then P (Err fault) next h = tt
-
-if_then_with : {A B : Type 0} (Q : A → Type 0) (P : B → Type 0) (r : Result A LineFault) (next : A → Result B LineFault) → IfOk r Q → ((a : A) → Q a → IfOk (next a) P) → IfOk (r >>= next) P
-if_then_with Q P (Ok a) next q h = h a q
-if_then_with Q P (Err fault) next q h = tt
-
-if_map : {A B : Type 0} (P : B → Type 0) (f : A → B) (r : Result A LineFault) → ((a : A) → P (f a)) → IfOk (map_ok f r) P
-if_map P f (Ok a) h = h a
-if_map P f (Err fault) h = tt
-
-if_map_with : {A B : Type 0} (Q : A → Type 0) (P : B → Type 0) (f : A → B) (r : Result A LineFault) → IfOk r Q → ((a : A) → Q a → P (f a)) → IfOk (map_ok f r) P
-if_map_with Q P f (Ok a) q h = h a q
-if_map_with Q P f (Err fault) q h = tt
-
-if_ok_more : {B : Type 0} (Q P : B → Type 0) (r : Result B LineFault) → IfOk r Q → ((b : B) → Q b → P b) → IfOk r P
-if_ok_more Q P (Ok b) q h = h b q
-if_ok_more Q P (Err fault) q h = tt
-
-if_either : {B : Type 0} (P : B → Type 0) (b : Bool) (r s : Result B LineFault) → IfOk r P → IfOk s P → IfOk (if b then r else s) P
-if_either P true r s h k = h
-if_either P false r s h k = k
-
--- what holds of the plain value that a reading gives
-pub from_plain : {A B : Type 0} (f : A → B) (P : B → Type 0) (r : Result A LineFault) (plain : Result B LineFault) → map_ok f r ≡ plain → IfOk plain P → IfOk r (λ a. P (f a))
-from_plain f P (Ok a) plain e h = subst (λ r. IfOk r P) (sym e) h
-from_plain f P (Err fault) plain e h = tt
 
 after_word-short : (bytes : List ℕ) → length (after_word bytes) ≤ length bytes
 unfolding after_word

@@ -22,3 +22,4 @@ pub mod States
 pub mod Touches
 pub mod Weights
 pub mod Words
+pub mod Written

@@ -7,6 +7,7 @@ ghost use Rattle.script_lines.specs.Lines.{is_passed_over};
 ghost use Rattle.script_lines.specs.PlainCommands.{PlainCommand, plain_command, text_length};
 ghost use Rattle.script_lines.specs.Spelled.{HasLine, spelled};
 ghost use Rattle.script_lines.specs.Words.{map_ok, words};
+ghost use Rattle.script_lines.specs.Written.{IsWritten};
 
 use crate::changes::read_act;
 use crate::commands::{Command, MAX_DPI, MAX_WINDOW, MIN_DPI};
@@ -313,7 +314,8 @@ fn read_line(bytes: &[u8]) -> Result<Command<'_>, LineFault>
 }
 
 /// The command of a line. A fault of the grammar counts before a number outside its bounds, wherever the two are. A
-/// line that is passed over has no command. The text of a command is read as that command.
+/// line that is passed over has no command. The text of a command is read as that command, and a line that is read has
+/// the words of its command and no others.
 pub fn line(bytes: &[u8]) -> Result<Command<'_>, LineFault>
     ensures value { map_ok plain_command result ≡ command_of bytes.now }
     ensures bounds { IfOk result (λ command. IsInBounds (plain_command command)) }
@@ -324,6 +326,7 @@ pub fn line(bytes: &[u8]) -> Result<Command<'_>, LineFault>
         → HasLine command
         → bytes.now ≡ spelled command
         → map_ok plain_command result ≡ Ok command }
+    ensures written { IfOk result (λ command. IsWritten (plain_command command) bytes.now) }
 {
     read_line(bytes)
 }

@@ -4,7 +4,9 @@ use Rattle.script_lines.specs.PlainCommands.{plain_command}
 use Rattle.script_lines.specs.declared.fault.LineFault.TheVariants.{Syntax}
 use Rattle.script_lines.proofs.CommandLaws.{map_ok-fault, passed_over}
 use Rattle.script_lines.proofs.SpelledCommands.{command_of-spelled}
-use Rattle.script_lines.proofs.TextLengthLaws.{command_of-short, from_plain}
+use Rattle.script_lines.proofs.OkLaws.{from_plain}
+use Rattle.script_lines.proofs.TextLengthLaws.{command_of-short}
+use Rattle.script_lines.proofs.WrittenCommands.{command_of-written}
 use Rattle.script_lines.proofs.reading.line.Goals as goal
 
 pub returns-clause-spelled : goal.returns-clause-spelled
@@ -15,3 +17,6 @@ returns-clause-passed c passed = map_ok-fault plain_command c.read_line.result S
 
 pub returns-clause-short : goal.returns-clause-short
 returns-clause-short c = from_plain plain_command _ c.read_line.result (command_of c.args.bytes.now) c.read_line.ensures.value (command_of-short c.args.bytes.now)
+
+pub returns-clause-written : goal.returns-clause-written
+returns-clause-written c = from_plain plain_command _ c.read_line.result (command_of c.args.bytes.now) c.read_line.ensures.value (command_of-written c.args.bytes.now)
