@@ -6,9 +6,14 @@ and all later ones are refused, the status is 5, and what is written is the answ
 that request alone is refused, unless the line makes do with less: then all is as if nothing was refused. Any other line
 makes no request, nor does one that is passed over or fits no form. Where a request before the first line is refused,
 nothing is written; nor is it under `dump`, `lookup` and `gen`, which begin to write when they need no more memory.
+
+A sink in memory needs memory for what is written. The built program writes to none, so a test of `tool` over one is run
+by `rt try`, unproved, with one request refused: if it is the sink's, the status is 4.
 """
 import functools
+import json
 import os
+import re
 import shutil
 import subprocess
 import tempfile
@@ -18,7 +23,11 @@ from running import PROGRAM, SECONDS, TOP, difference
 from vindaesk import grammar
 
 TAKING = ("inflate", "add", "window", "res", "text", "id", "rule", "save", "restore")
-OUT_OF_MEMORY = 5
+OUT_OF_MEMORY, WRITE_FAILED = 5, 4
+# a test that first carries out a script of this answer, whose last lines make no request, so the last ones of that run
+# are the sink's; a request in the middle of the run, and one after it
+SINK_TEST, SINK_ANSWER = "bytes_are_moved_one_by_one", b"v1\nv2\nsettled 0\nv1 0 0 100 50\nv2 0 0 10 20\n"
+WITHIN, AFTER = 16, 64
 NEVER, ALWAYS = 0, 1 << 40
 TABLE = os.path.join("app", "resources.arsc")
 CALLS = (("dump", "a.xml"), ("lookup", "resources.arsc", "7f010000", "7f020000"), ("gen", "1"))
@@ -172,8 +181,37 @@ def each_form():
     return "" if makes == set(TAKING) else "requests are made by %s" % sorted(makes)
 
 
+def first_run(number):
+    """The status of the test's first script and what that has written, with this request refused; or nothing, if the
+    request is not one of its run."""
+    ended = subprocess.run(
+        ["rt", "try", "--test", "--fail-alloc", str(number), "--", SINK_TEST], text=True, stdout=subprocess.PIPE,
+        stderr=subprocess.STDOUT, cwd=os.path.join(TOP, "crates", "view_tool")
+    )
+    found = re.search(r"left: \((\d+), (\[.*\])\)\n *right: \(0, (\[.*\])\)", ended.stdout)
+    status, written, wanted = map(json.loads, found.groups()) if found else (None, [], [])
+    return (status, bytes(written)) if bytes(wanted) == SINK_ANSWER else None
+
+
+def sink():
+    """Why the run whose last request is refused is wrong, or nothing; that request is found by halving."""
+    low, high = WITHIN, AFTER
+    last = first_run(low)
+    while last and low + 1 < high:
+        middle = (low + high) // 2
+        run = first_run(middle)
+        low, high, last = (middle, high, run) if run else (low, middle, last)
+    if not last:
+        return "request %d is none of the run" % low
+    status, written = last
+    if status != WRITE_FAILED:
+        return "with request %d refused the status is %d" % (low, status)
+    return "" if written and SINK_ANSWER.startswith(written) else "%r is no prefix" % written
+
+
 def checks():
     yield "memory/requests/each form", each_form
+    yield "memory/requests/a sink in memory", sink
     yield "memory/requests/before the lines", before_the_lines
     for words in CALLS:
         yield "memory/requests/" + " ".join(words), partial(call, words)
