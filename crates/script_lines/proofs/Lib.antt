@@ -16,6 +16,8 @@ pub mod PieceLaws
 mod OkLaws
 mod PartLaws
 mod PlaceLaws
+mod ReadLines
+mod ReadWords
 mod ResourceExamples
 mod SpelledActions
 mod SpelledChanges

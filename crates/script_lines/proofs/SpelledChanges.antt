@@ -173,7 +173,7 @@ kids_word : (kids : Bool) → IsWord (if kids then codes "kids" else codes "self
 kids_word true = word_by (codes "kids") refl
 kids_word false = word_by (codes "self") refl
 
-kids_of-text : (kids : Bool) → kids_of (if kids then codes "kids" else codes "self") ≡ Ok kids
+pub kids_of-text : (kids : Bool) → kids_of (if kids then codes "kids" else codes "self") ≡ Ok kids
 unfolding kids_of
 kids_of-text true = refl
 kids_of-text false = refl

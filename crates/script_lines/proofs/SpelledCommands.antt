@@ -24,7 +24,7 @@ use Rattle.script_lines.specs.Numbers.{IsWithin}
 use Rattle.script_lines.specs.Hooks.{hook_of}
 use Rattle.script_lines.specs.Pixels.{IsPart, is_small, part_of, pixels_of}
 use Rattle.script_lines.specs.Rules.{rule_of}
-use Rattle.script_lines.specs.Spelled.{ActHasLine, ChangeHasLine, HasLine, act_head, act_words, change_head, change_words, class_text, edits_words, event_answer_text, extent_text, flag_text, hook_edits, name_text, on_text, parent_text, spelled, touch_words, visibility_text, direction_text}
+use Rattle.script_lines.specs.Spelled.{ActHasLine, HasLine, act_head, act_words, change_head, change_words, class_text, edits_words, event_answer_text, extent_text, flag_text, hook_edits, name_text, on_text, parent_text, spelled, touch_words, visibility_text, direction_text}
 use Rattle.script_lines.specs.States.{restore_of, save_of}
 use Rattle.script_lines.specs.Touches.{cancel_of, up_of}
 use Rattle.script_lines.specs.Words.{map_ok, on_of}
@@ -47,7 +47,7 @@ use Rattle.script_lines.proofs.StateLaws.{state_text_of-text, state_word}
 use Rattle.script_lines.proofs.SpelledWords.{AreWords, IsWord, command_of-joined, ends_in_text, word_by}
 
 -- classes
-class_of-text : (class : Class) → class_of (class_text class) ≡ Ok class
+pub class_of-text : (class : Class) → class_of (class_text class) ≡ Ok class
 unfolding class_of
 class_of-text class.View = refl
 class_of-text class.TextView = refl
@@ -81,7 +81,7 @@ on_word : (on : Bool) → IsWord (on_text on)
 on_word true = word_by (codes "yes") refl
 on_word false = word_by (codes "no") refl
 
-on_of-text : (on : Bool) → on_of (on_text on) ≡ Ok on
+pub on_of-text : (on : Bool) → on_of (on_text on) ≡ Ok on
 unfolding on_of
 on_of-text true = refl
 on_of-text false = refl
@@ -131,7 +131,7 @@ event_answer_word answer.Yes = word_by (codes "yes") refl
 event_answer_word answer.Click = word_by (codes "click") refl
 
 -- the line that makes a change
-act_of-change : (c : Change) (ws : List (List ℕ)) → act_of (change_head c) ws ≡ map_ok act.Change (change_of (change_head c) ws)
+pub act_of-change : (c : Change) (ws : List (List ℕ)) → act_of (change_head c) ws ≡ map_ok act.Change (change_of (change_head c) ws)
 unfolding act_of
 act_of-change (change.Size width height) ws = refl
 act_of-change (change.Min size) ws = refl
@@ -141,12 +141,12 @@ act_of-change (change.Weight weight) ws = refl
 act_of-change (change.Gravity kids gravity) ws = refl
 act_of-change (change.Background color) ws = refl
 
-record ActReads (a : Act) : Type 0 where
-  head : IsWord (act_head a)
-  words : AreWords (act_words a)
-  value : act_of (act_head a) (act_words a) ≡ Ok a
+pub record ActReads (a : Act) : Type 0 where
+  pub head : IsWord (act_head a)
+  pub words : AreWords (act_words a)
+  pub value : act_of (act_head a) (act_words a) ≡ Ok a
 
-act_reads : (a : Act) → IsActInBounds a → ActHasLine a → ActReads a
+pub act_reads : (a : Act) → IsActInBounds a → ActHasLine a → ActReads a
 unfolding act_of visible_of new_id_of orient_of direction_of flag_of answer_of scroll_of rule_of
 act_reads (act.Change change) b l = let r = change_reads change b l in record { head = r.head; words = r.words; value = act_of-change change (change_words change) ∙ rw r.value refl }
 act_reads (act.Visible visibility) b l = record {
@@ -208,72 +208,72 @@ act_reads (act.Scroll offset) b l =
     }
 
 -- the first words of the lines that set something are none of the others
-command_by-change : (c : Change) (ws : List (List ℕ)) → ChangeHasLine c → command_by (change_head c) ws ≡ set_of (change_head c) ws
+pub command_by-change : (c : Change) (ws : List (List ℕ)) → command_by (change_head c) ws ≡ set_of (change_head c) ws
 unfolding command_by
-command_by-change (change.Size width height) ws l = refl
-command_by-change (change.Min size) ws l = refl
-command_by-change (change.Margins sides) ws l = refl
-command_by-change (change.Padding sides) ws l = refl
-command_by-change (change.Weight weight) ws l = refl
-command_by-change (change.Gravity kids gravity) ws l = refl
-command_by-change (change.Background color) ws l = refl
+command_by-change (change.Size width height) ws = refl
+command_by-change (change.Min size) ws = refl
+command_by-change (change.Margins sides) ws = refl
+command_by-change (change.Padding sides) ws = refl
+command_by-change (change.Weight weight) ws = refl
+command_by-change (change.Gravity kids gravity) ws = refl
+command_by-change (change.Background color) ws = refl
 
-command_by-act : (a : Act) (ws : List (List ℕ)) → ActHasLine a → command_by (act_head a) ws ≡ set_of (act_head a) ws
+pub command_by-act : (a : Act) (ws : List (List ℕ)) → command_by (act_head a) ws ≡ set_of (act_head a) ws
 unfolding command_by
-command_by-act (act.Change change) ws l = command_by-change change ws l
-command_by-act (act.Visible visibility) ws l = refl
-command_by-act (act.Id id) ws l = refl
-command_by-act (act.WeightSum sum) ws l = refl
-command_by-act (act.Orient vertical) ws l = refl
-command_by-act (act.Flag flag on) ws l = refl
-command_by-act (act.Ink color) ws l = refl
-command_by-act (act.Rule verb value) ws l = refl
-command_by-act (act.Answer answer) ws l = refl
-command_by-act (act.Intercept actions) ws l = refl
-command_by-act (act.Scroll offset) ws l = refl
-command_by-act (act.Direction direction) ws l = refl
+command_by-act (act.Change change) ws = command_by-change change ws
+command_by-act (act.Visible visibility) ws = refl
+command_by-act (act.Id id) ws = refl
+command_by-act (act.WeightSum sum) ws = refl
+command_by-act (act.Orient vertical) ws = refl
+command_by-act (act.Flag flag on) ws = refl
+command_by-act (act.Ink color) ws = refl
+command_by-act (act.Rule verb value) ws = refl
+command_by-act (act.Answer answer) ws = refl
+command_by-act (act.Intercept actions) ws = refl
+command_by-act (act.Scroll offset) ws = refl
+command_by-act (act.Direction direction) ws = refl
 
-change_no_text : (c : Change) → ChangeHasLine c → ends_in_text (change_head c) ≡ false
-change_no_text (change.Size width height) l = refl
-change_no_text (change.Min size) l = refl
-change_no_text (change.Margins sides) l = refl
-change_no_text (change.Padding sides) l = refl
-change_no_text (change.Weight weight) l = refl
-change_no_text (change.Gravity kids gravity) l = refl
-change_no_text (change.Background color) l = refl
+pub change_no_text : (c : Change) → ends_in_text (change_head c) ≡ false
+change_no_text (change.Size width height) = refl
+change_no_text (change.Min size) = refl
+change_no_text (change.Margins sides) = refl
+change_no_text (change.Padding sides) = refl
+change_no_text (change.Weight weight) = refl
+change_no_text (change.Gravity kids gravity) = refl
+change_no_text (change.Background color) = refl
 
-act_no_text : (a : Act) → ActHasLine a → ends_in_text (act_head a) ≡ false
-act_no_text (act.Change change) l = change_no_text change l
-act_no_text (act.Visible visibility) l = refl
-act_no_text (act.Id id) l = refl
-act_no_text (act.WeightSum sum) l = refl
-act_no_text (act.Orient vertical) l = refl
-act_no_text (act.Flag flag on) l = refl
-act_no_text (act.Ink color) l = refl
-act_no_text (act.Rule verb value) l = refl
-act_no_text (act.Answer answer) l = refl
-act_no_text (act.Intercept actions) l = refl
-act_no_text (act.Scroll offset) l = refl
-act_no_text (act.Direction direction) l = refl
+pub act_no_text : (a : Act) → ends_in_text (act_head a) ≡ false
+act_no_text (act.Change change) = change_no_text change
+act_no_text (act.Visible visibility) = refl
+act_no_text (act.Id id) = refl
+act_no_text (act.WeightSum sum) = refl
+act_no_text (act.Orient vertical) = refl
+act_no_text (act.Flag flag on) = refl
+act_no_text (act.Ink color) = refl
+act_no_text (act.Rule verb value) = refl
+act_no_text (act.Answer answer) = refl
+act_no_text (act.Intercept actions) = refl
+act_no_text (act.Scroll offset) = refl
+act_no_text (act.Direction direction) = refl
 
-side_of_window : (z : ℤ) → IsWithin (pos 1) MAX_WINDOW z → IsShort z
+pub side_of_window : (z : ℤ) → IsWithin (pos 1) MAX_WINDOW z → IsShort z
 side_of_window z h = short_within 0 4096 z (omega (arith, ints, h.0)) h.1 (omega arith) (omega arith)
 
-dpi_short : (dpi : ℕ) → dpi ≤ MAX_DPI → dpi < 10 ^ 10
+pub dpi_short : (dpi : ℕ) → dpi ≤ MAX_DPI → dpi < 10 ^ 10
 dpi_short dpi h = omega (arith, h)
 
-point_short : (z : ℤ) → IsWithin (pos 0) MAX_POINT z → IsShort z
+pub point_short : (z : ℤ) → IsWithin (pos 0) MAX_POINT z → IsShort z
 point_short z h = short_within 0 4095 z (omega (arith, ints, h.0)) h.1 (omega arith) (omega arith)
 
 -- the four numbers of a part of the picture
-part_short : (x y w h : ℤ) → IsPart x y w h → AreShort (record { left = x; top = y; right = w; bottom = h })
+pub part_short : (x y w h : ℤ) → IsPart x y w h → AreShort (record { left = x; top = y; right = w; bottom = h })
 part_short x y w h b = record { left = point_short x b.0; top = point_short y b.1; right = side_of_window w b.2; bottom = side_of_window h b.3 }
 
 is_small-part : (w h : ℤ) → (w *ℤ h) ≤ℤ MAX_PIXELS → is_small w h ≡ true
 unfolding is_small
 is_small-part w h small = grind (arith, ints)
 
-pixels_of-text : (x y w h : ℤ) → IsPart x y w h → pixels_of (signed_decimal x ∷ signed_decimal y ∷ signed_decimal w ∷ signed_decimal h ∷ []) ≡ Ok (plain.Pixels x y w h)
+pub pixels_of-text : (x y w h : ℤ) → IsPart x y w h → pixels_of (signed_decimal x ∷ signed_decimal y ∷ signed_decimal w ∷ signed_decimal h ∷ []) ≡ Ok (plain.Pixels x y w h)
 unfolding pixels_of part_of
 pixels_of-text x y w h b =
     let short = part_short x y w h b in
@@ -314,8 +314,8 @@ command_of-spelled (plain.Remove view) b l =
     ∙ rw (name_of-text view l) refl
 command_of-spelled (plain.Act view act) b l =
     let r = act_reads act b l.1 in
-    command_of-joined (act_head act) (name_text view ∷ act_words act) (act_no_text act l.1) (r.head, (name_word view l.0, r.words))
-    ∙ command_by-act act (name_text view ∷ act_words act) l.1
+    command_of-joined (act_head act) (name_text view ∷ act_words act) (act_no_text act) (r.head, (name_word view l.0, r.words))
+    ∙ command_by-act act (name_text view ∷ act_words act)
     ∙ rw (name_of-text view l.0, r.value) refl
 command_of-spelled (plain.SetText view text) b l = command_of-text view text b l.0 l.1
 command_of-spelled (plain.Disallow view on) b l =

@@ -38,7 +38,7 @@ record EditReads (asked : Asked) : Type 0 where
   value : edit_of (edit_words asked) ≡ Ok (Some asked)
   whole : All (λ word. parts_edits word ≡ false) (edit_words asked)
 
-change_begins : (c : Change) → begins_edit (change_head c) ≡ true
+pub change_begins : (c : Change) → begins_edit (change_head c) ≡ true
 unfolding begins_edit
 change_begins (change.Size width height) = refl
 change_begins (change.Min size) = refl

@@ -35,7 +35,7 @@ unit_below Pt = omega arith
 unit_below In = omega arith
 unit_below Mm = omega arith
 
-unit_of-number : (unit : LengthUnit) → unit_of (unit_text (unit_number unit)) ≡ Ok unit
+pub unit_of-number : (unit : LengthUnit) → unit_of (unit_text (unit_number unit)) ≡ Ok unit
 unfolding unit_of
 unit_of-number Px = refl
 unit_of-number Dp = refl

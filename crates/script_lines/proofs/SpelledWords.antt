@@ -77,7 +77,7 @@ after_word-joined head ws h = elim (cases_lt 0 (length (first_word (join_with_by
 abbrev pub ends_in_text : List ℕ → Bool
 ends_in_text head = bytes_eq head (codes "res") || bytes_eq head (codes "text")
 
-neither : (a b : Bool) → (a || b) ≡ false → (a ≡ false) × (b ≡ false)
+pub neither : (a b : Bool) → (a || b) ≡ false → (a ≡ false) × (b ≡ false)
 neither false b h = (refl, h)
 neither true b h = absurd (cc)
 

@@ -270,7 +270,7 @@ action_of-written word =
     (if_word P word (codes "pdown") _ _ (λ e. record { place = 4; known = omega arith; are = e; bit_of = refl })
     (if_word P word (codes "pup") _ _ (λ e. record { place = 5; known = omega arith; are = e; bit_of = refl }) tt)))))
 
-abbrev with_place : ℕ → ℕ → ℕ
+abbrev pub with_place : ℕ → ℕ → ℕ
 with_place bits place = bit_or bits (2 ^ place)
 
 record MoreActions (bits : ℕ) (ws : List (List ℕ)) (actions : ℕ) : Type 0 where

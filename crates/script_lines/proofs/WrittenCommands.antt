@@ -1,5 +1,5 @@
 -- The lines from which commands are read.
-use Rattle.std.proofs.Common.{◌≡◌, ℕ, ◌+◌, ◌<◌, ◌≤◌, Bool, refl, ap, sym, ◌∙◌, inl, inr, List, [], ◌∷◌, length, drop, arith}
+use Rattle.std.proofs.Common.{◌≡◌, ℕ, ◌+◌, ◌<◌, ◌≤◌, Bool, true, refl, ap, sym, ◌∙◌, inl, inr, List, [], ◌∷◌, length, drop, arith}
 use Rattle.std.specs.Prelude.{◌==◌, nat_lt, ℤ, pos, codes, IfOk, Option, Some, None, Result, Ok}
 use Rattle.std.specs.Fmt.{signed_decimal}
 use Rattle.std.specs.List.{prefix_len, slice_split}
@@ -40,11 +40,11 @@ use Rattle.script_lines.proofs.WrittenHooks.{edits_of-written}
 use Rattle.script_lines.proofs.WrittenWords.{FirstWord, class_of-written, end_of-written, file_name_in-written, id_in-written, integer_in-written, last_color-written, literal_in-written, name_in-written, on_of-written, parent_in-written, unit_of-written, word_in-written}
 
 -- a line that begins with a word
-record LineBegins (line head : List ℕ) : Type 0 where
-  first : first_word line ≡ head
-  all : words line ≡ head ∷ words (after_word line)
+pub record LineBegins (line head : List ℕ) : Type 0 where
+  pub first : first_word line ≡ head
+  pub all : words line ≡ head ∷ words (after_word line)
 
-line_begins : (line head : List ℕ) (rest : List (List ℕ)) → words line ≡ head ∷ rest → LineBegins line head
+pub line_begins : (line head : List ℕ) (rest : List (List ℕ)) → words line ≡ head ∷ rest → LineBegins line head
 line_begins line head rest are = elim (cases_lt 0 (length (first_word line))) [
   | inl some ↦ (let is = words_some line some in record { first = cc; all = cc })
   | inr none ↦ absurd (let is = words_none line (omega (arith, none)) in cc)
@@ -66,14 +66,18 @@ after_word-begins : (bytes : List ℕ) → 0 < length (after_word bytes) → aft
 unfolding after_word
 after_word-begins bytes h = rest_begins (after_spaces bytes) h
 
-rest_of-written : (bytes : List ℕ) → IfOk (rest_of (after_word bytes)) (λ text. after_word bytes ≡ 32 ∷ text)
+-- what comes after the first word is a space and this text
+abbrev EndsInText : List ℕ → List ℕ → Type 0
+EndsInText bytes text = (after_word bytes ≡ 32 ∷ text) × (is_utf8 text ≡ true)
+
+rest_of-written : (bytes : List ℕ) → IfOk (rest_of (after_word bytes)) (λ text. EndsInText bytes text)
 unfolding rest_of escaped_text_of text_of
 rest_of-written bytes =
     let rest = after_word bytes in
-    let P = λ (text : List ℕ). after_word bytes ≡ 32 ∷ text in
+    let P = λ (text : List ℕ). EndsInText bytes text in
     if_test P (nat_lt 0 (length rest)) _ _ (λ some.
     let h = after_word-begins bytes (grind (arith, nat_tests)) in
-    if_either P (has_escapes (drop 1 rest)) _ _ (if_either P (is_utf8 (drop 1 rest)) _ _ h tt) tt) tt
+    if_either P (has_escapes (drop 1 rest)) _ _ (if_test P (is_utf8 (drop 1 rest)) _ _ (λ utf8. (h, utf8)) tt) tt) tt
 
 -- the values of resources
 dimen_given-written : (ws : List (List ℕ)) (bytes : List ℕ) → words bytes ≡ codes "dimen" ∷ ws → IfOk (dimen_given ws) (λ value. IsGivenBy value bytes)
@@ -96,7 +100,7 @@ given_by-written kind bytes head =
     (λ e. if_map_with (λ color. FirstWord (IsColorWord color) ws []) P plain.Color (last_color ws) (last_color-written ws) (λ color h. (h.word, head.all ∙ rw (e, h.are) refl, h.fits)))
     (if_word P kind (codes "dimen") _ _ (λ e. dimen_given-written ws bytes (head.all ∙ ap (λ kind. kind ∷ ws) e))
     (if_word P kind (codes "text") _ _
-    (λ e. if_map_with (λ text. after_word bytes ≡ 32 ∷ text) P plain.Text (rest_of (after_word bytes)) (rest_of-written bytes) (λ text h. (head.first ∙ e, h))) tt))
+    (λ e. if_map_with (EndsInText bytes) P plain.Text (rest_of (after_word bytes)) (rest_of-written bytes) (λ text h. (head.first ∙ e, h.0, h.1))) tt))
 
 given_of-written : (bytes : List ℕ) → IfOk (given_of bytes) (λ value. IsGivenBy value bytes)
 unfolding given_of
@@ -120,8 +124,8 @@ set_text_of-written line first =
     let P = λ (command : PlainCommand). IsWritten command line in
     let rest = after_word line in
     if_then_with (λ (r : Name × List (List ℕ)). FirstWord (IsNameWord r.0) (words rest) r.1) P (name_in (words rest)) _ (name_in-written (words rest)) (λ view h.
-    if_map_with (λ text. after_word rest ≡ 32 ∷ text) P (plain.SetText view.0) (rest_of (after_word rest)) (rest_of-written rest) (λ text is.
-    (first, rw (line_begins rest h.word view.1 h.are).first h.fits, is)))
+    if_map_with (EndsInText rest) P (plain.SetText view.0) (rest_of (after_word rest)) (rest_of-written rest) (λ text is.
+    (first, rw (line_begins rest h.word view.1 h.are).first h.fits, is.0, is.1)))
 
 -- the words of a line, of which the first is this
 abbrev Line : List ℕ → List ℕ → List (List ℕ) → Type 0

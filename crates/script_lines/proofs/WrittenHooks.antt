@@ -20,7 +20,7 @@ use Rattle.script_lines.proofs.WrittenActs.{AreChange, change_of-written}
 use Rattle.script_lines.proofs.WrittenWords.{FirstWord, name_in-written, word_in-written}
 
 -- a word is in a list, or it is not
-any_place : (names : List (List ℕ)) (word : List ℕ) → list_any (λ name. bytes_eq name word) names ≡ true → (k : ℕ) × (slice_get names k ≡ Some word)
+pub any_place : (names : List (List ℕ)) (word : List ℕ) → list_any (λ name. bytes_eq name word) names ≡ true → (k : ℕ) × (slice_get names k ≡ Some word)
 any_place [] word h = absurd (cc)
 any_place (name ∷ names) word h = elim (cases_Bool (bytes_eq name word)) [
   | inl same ↦ (0, ap Some ((bytes_eq-Decides name word).0 same))

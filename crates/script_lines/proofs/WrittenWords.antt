@@ -1,5 +1,5 @@
 -- The words from which numbers, views, colours and the words of tables are read.
-use Rattle.std.proofs.Common.{◌≡◌, ℕ, suc, zero, ◌<◌, ◌≤◌, Bool, true, refl, ap, sym, ◌∙◌, inl, inr, List, [], ◌∷◌, length, drop, arith}
+use Rattle.std.proofs.Common.{◌≡◌, ℕ, suc, zero, ◌<◌, ◌≤◌, ◌^◌, Bool, true, refl, ap, sym, ◌∙◌, inl, inr, List, [], ◌∷◌, length, drop, arith}
 use Rattle.std.specs.Prelude.{◌==◌, ◌&&◌, ◌||◌, not, nat_lt, nat_le, slice_index, codes, if◌then◌else◌, IfOk, Option, Some, None}
 use Rattle.std.specs.Char.{is_ascii_digit, is_ascii_hexdigit}
 use Rattle.std.specs.Fmt.{decimal, signed_decimal}
@@ -20,7 +20,7 @@ use Rattle.script_lines.specs.Names.{begins_with, hex_of, hex_value, id_in, id_o
 use Rattle.script_lines.specs.Numbers.{digits_value, integer_in, integer_of, is_natural, natural_of, negative, positive}
 use Rattle.script_lines.specs.Resources.{unit_number, unit_of}
 use Rattle.script_lines.specs.Rules.{verb_of, verbs}
-use Rattle.script_lines.specs.Spelled.{class_text, direction_text, event_answer_text, flag_text, name_text, on_text, unit_text, verb_text, visibility_text}
+use Rattle.script_lines.specs.Spelled.{class_text, direction_text, event_answer_text, flag_text, on_text, unit_text, verb_text, visibility_text}
 use Rattle.script_lines.specs.Words.{end_of, literal_in, on_of, word_in}
 use Rattle.script_lines.specs.Written.{IsColorWord, IsHexWord, IsNameWord, IsParentWord}
 use Rattle.script_lines.specs.declared.naming.Name.{Name}
@@ -39,8 +39,13 @@ use Rattle.script_lines.proofs.SpelledNumbers.{own}
 one_or : (n first : ℕ) → (n == 1 || not (first == 48)) ≡ true → first ≡ 48 → n ≡ 1
 one_or n first h e = grind (arith, nat_tests)
 
-decimal_of : (word : List ℕ) → is_natural word ≡ true → decimal (digits_value word) ≡ word
-decimal_of word h =
+-- the number of digits, of which there are at most ten
+record IsNumber (word : List ℕ) (n : ℕ) : Type 0 where
+  text : word ≡ decimal n
+  short : n < 10 ^ 10
+
+is_number : (word : List ℕ) → is_natural word ≡ true → IsNumber word (digits_value word)
+is_number word h =
     let front = nat_lt 0 (length word) && nat_le (length word) 10 in
     let first = and-right (front && list_all is_ascii_digit word) (length word == 1 || not (slice_index word 0 == 48)) h in
     let all = and-left (front && list_all is_ascii_digit word) (length word == 1 || not (slice_index word 0 == 48)) h in
@@ -50,15 +55,21 @@ decimal_of word h =
     let most = and-right (nat_lt 0 (length word)) (nat_le (length word) 10) long in
     let some : 0 < length word = grind (arith, nat_tests, less) in
     let few : length word ≤ 10 = grind (arith, nat_tests, most) in
-    decimal-digits_value own word digits some (one_or (length word) (slice_index word 0) first)
-    (let below = digits_value_short own word 10 digits few in omega (arith, below))
+    let below = digits_value_short own word 10 digits few in
+    record {
+      text = sym (decimal-digits_value own word digits some (one_or (length word) (slice_index word 0) first) (omega (arith, below)));
+      short = below;
+    }
 
-pub natural_of-back : (word : List ℕ) (n : ℕ) → natural_of word ≡ Some n → word ≡ decimal n
+number_of-back : (word : List ℕ) (n : ℕ) → natural_of word ≡ Some n → IsNumber word n
 unfolding natural_of
-natural_of-back word n e = elim (cases_Bool (is_natural word)) [
-  | inl is ↦ (let v : Some (digits_value word) ≡ Some n = rw is at e in let w : digits_value word ≡ n = cc in sym (decimal_of word is) ∙ ap decimal w)
+number_of-back word n e = elim (cases_Bool (is_natural word)) [
+  | inl is ↦ (let v : Some (digits_value word) ≡ Some n = rw is at e in let w : digits_value word ≡ n = cc in rw w at (is_number word is))
   | inr other ↦ absurd (let v : None ≡ Some n = rw other at e in cc)
 ]
+
+natural_of-back : (word : List ℕ) (n : ℕ) → natural_of word ≡ Some n → word ≡ decimal n
+natural_of-back word n e = (number_of-back word n e).text
 
 negative-written : (o : Option ℕ) (ds : List ℕ) → ((n : ℕ) → o ≡ Some n → ds ≡ decimal n) → IfOk (negative o) (λ z. 45 ∷ ds ≡ signed_decimal z)
 negative-written None ds h = tt
@@ -149,10 +160,10 @@ pub name_of-written : (word : List ℕ) → IfOk (name_of word) (λ name. IsName
 unfolding name_of
 name_of-written word =
     let P = λ (name : Name). IsNameWord name word in
-    let Q = λ (n : ℕ). word ≡ name_text (Number n) in
+    let Q = λ (n : ℕ). IsNameWord (Number n) word in
     if_test P (begins_with 118 word) _ _
     (λ begins. if_map_with Q P Number (known (natural_of (drop 1 word)))
-    (if_known Q (natural_of (drop 1 word)) (λ n e. begins-mark 118 word begins ∙ ap (λ ds. 118 ∷ ds) (natural_of-back (drop 1 word) n e))) (λ n h. h))
+    (if_known Q (natural_of (drop 1 word)) (λ n e. ((number_of-back (drop 1 word) n e).short, begins-mark 118 word begins ∙ ap (λ ds. 118 ∷ ds) (natural_of-back (drop 1 word) n e)))) (λ n h. h))
     (if_map_with (λ id. IsHexWord 64 id word) P Id (id_of word) (id_of-written word) (λ id h. h))
 
 pub name_in-written : (ws : List (List ℕ)) → IfOk (name_in ws) (λ r. FirstWord (IsNameWord r.0) ws r.1)

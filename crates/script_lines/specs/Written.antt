@@ -3,6 +3,7 @@ use Rattle.std.specs.Prelude.{◌≡◌, ◌≢◌, ℕ, ◌-◌, ◌<◌, ◌�
 use Rattle.std.specs.Char.{is_ascii_hexdigit}
 use Rattle.std.specs.Fmt.{decimal, signed_decimal}
 use Rattle.std.specs.List.{All, list_all, slice_split}
+use Rattle.std.specs.Str.{is_utf8}
 use Rattle.geom_core.specs.declared.color.Argb.{Argb}
 use Rattle.view_model.specs.Dimensions.{mantissa}
 use Rattle.view_model.specs.Facts.{no_gravity}
@@ -37,9 +38,9 @@ pub record IsHexWord (mark n : ℕ) (word : List ℕ) : Type 0 where
   pub hex : list_all is_ascii_hexdigit digits ≡ true
   pub value : hex_value digits ≡ n
 
--- a view: `v` and its number in decimal digits, or `@` and an id
+-- a view: `v` and its number, of at most ten decimal digits, or `@` and an id
 abbrev pub IsNameWord : Name → List ℕ → Type 0
-IsNameWord (Number n) word = word ≡ name_text (Number n)
+IsNameWord (Number n) word = (n < 10 ^ 10) × (word ≡ name_text (Number n))
 IsNameWord (Id id) word = IsHexWord 64 id word
 
 -- a view, or `root` for none
@@ -173,7 +174,7 @@ AreArguments command ws = ws ≡ drop 1 (command_words command)
 abbrev pub IsGivenBy : PlainGiven → List ℕ → Type 0
 IsGivenBy (plain.Color color) bytes = (word : List ℕ) × (words bytes ≡ codes "color" ∷ word ∷ []) × IsColorWord color word
 IsGivenBy (plain.Dimen word) bytes = words bytes ≡ codes "dimen" ∷ signed_decimal (mantissa word) ∷ unit_text (word % 256) ∷ []
-IsGivenBy (plain.Text text) bytes = (first_word bytes ≡ codes "text") × (after_word bytes ≡ 32 ∷ text)
+IsGivenBy (plain.Text text) bytes = (first_word bytes ≡ codes "text") × (after_word bytes ≡ 32 ∷ text) × (is_utf8 text ≡ true)
 
 -- a line that gives this command
 abbrev pub IsWritten : PlainCommand → List ℕ → Type 0
@@ -181,5 +182,6 @@ IsWritten (plain.Res id value) line =
     (first_word line ≡ codes "res") × IsHexWord 64 id (first_word (after_word line)) × IsGivenBy value (after_word (after_word line))
 IsWritten (plain.SetText view text) line =
     (first_word line ≡ codes "text") × IsNameWord view (first_word (after_word line)) × (after_word (after_word line) ≡ 32 ∷ text)
+    × (is_utf8 text ≡ true)
 IsWritten command line =
     (arguments : List (List ℕ)) × (words line ≡ slice_index_or (command_words command) 0 [] ∷ arguments) × AreArguments command arguments

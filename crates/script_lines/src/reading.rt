@@ -1,6 +1,7 @@
 //! The command of a line.
 
-ghost use Rattle.std.specs.Prelude.{◌≡◌, ◌≤◌, true, length, Ok, Err, IfOk};
+ghost use Rattle.std.specs.Prelude.{◌≡◌, ◌≤◌, true, length, Ok, Err, IfOk, IsTrue};
+ghost use Rattle.std.specs.Str.{is_utf8};
 ghost use Rattle.script_lines.specs.Commands.{IsInBounds, add_of, bounds_of, class_of, command_by, command_in, command_of, digest_of, disallow_of, dpi_of, frame_of, inflate_of, into_of, keep_by, remove_of, set_of, set_text_of, touch_by, window_of};
 ghost use Rattle.script_lines.specs.Hooks.{begins_edit};
 ghost use Rattle.script_lines.specs.Lines.{is_passed_over};
@@ -314,8 +315,8 @@ fn read_line(bytes: &[u8]) -> Result<Command<'_>, LineFault>
 }
 
 /// The command of a line. A fault of the grammar counts before a number outside its bounds, wherever the two are. A
-/// line that is passed over has no command. The text of a command is read as that command, and a line that is read has
-/// the words of its command and no others.
+/// line that is passed over has no command. The text of a command is read as that command. A line that is read has the
+/// words of its command and no others, and each line that has them is read as that command.
 pub fn line(bytes: &[u8]) -> Result<Command<'_>, LineFault>
     ensures value { map_ok plain_command result ≡ command_of bytes.now }
     ensures bounds { IfOk result (λ command. IsInBounds (plain_command command)) }
@@ -327,6 +328,11 @@ pub fn line(bytes: &[u8]) -> Result<Command<'_>, LineFault>
         → bytes.now ≡ spelled command
         → map_ok plain_command result ≡ Ok command }
     ensures written { IfOk result (λ command. IsWritten (plain_command command) bytes.now) }
+    ensures given { (command : PlainCommand)
+        → IsInBounds command
+        → IsWritten command bytes.now
+        → IsTrue (is_utf8 bytes.now)
+        → map_ok plain_command result ≡ Ok command }
 {
     read_line(bytes)
 }

@@ -3,6 +3,7 @@ use Rattle.script_lines.specs.Commands.{command_of}
 use Rattle.script_lines.specs.PlainCommands.{plain_command}
 use Rattle.script_lines.specs.declared.fault.LineFault.TheVariants.{Syntax}
 use Rattle.script_lines.proofs.CommandLaws.{map_ok-fault, passed_over}
+use Rattle.script_lines.proofs.ReadLines.{command_of-given}
 use Rattle.script_lines.proofs.SpelledCommands.{command_of-spelled}
 use Rattle.script_lines.proofs.OkLaws.{from_plain}
 use Rattle.script_lines.proofs.TextLengthLaws.{command_of-short}
@@ -20,3 +21,6 @@ returns-clause-short c = from_plain plain_command _ c.read_line.result (command_
 
 pub returns-clause-written : goal.returns-clause-written
 returns-clause-written c = from_plain plain_command _ c.read_line.result (command_of c.args.bytes.now) c.read_line.ensures.value (command_of-written c.args.bytes.now)
+
+pub returns-clause-given : goal.returns-clause-given
+returns-clause-given c command bounds written utf8 = c.read_line.ensures.value ∙ command_of-given command c.args.bytes.now utf8 bounds written
