@@ -41,7 +41,8 @@ fn absorb_row(hasher: &mut Sha256, row: &[Argb])
 /// The same of at most `PIECE` pixels of a row that begins with this one.
 fn absorb(hasher: &mut Sha256, first: Argb, run: &[Argb])
     requires { length run.now ≤ 1024 }
-    ensures { (message : List ℕ) → Holds256 hasher.old message → Holds256 hasher.new (message ++ bytes_of (map (seen_of first) run.now)) }
+    ensures { (message : List ℕ) → Holds256 hasher.old message
+        → Holds256 hasher.new (message ++ bytes_of (map (seen_of first) run.now)) }
 {
     let mut bytes = [0; 3 * PIECE];
     put_bytes(first, run, &mut bytes);

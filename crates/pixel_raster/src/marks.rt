@@ -29,7 +29,8 @@ pub fn mark_rows(pixels: &mut [Argb], width: usize, top: usize, bottom: usize, c
     requires down { top ≤ bottom }
     requires rows { bottom * width ≤ length pixels.old }
     ensures marks { (x y : ℕ) → x < width
-        → pixel_at width pixels.new x y ≡ (if (x == 0) && is_between top bottom y then mark_of color else pixel_at width pixels.old x y) }
+        → pixel_at width pixels.new x y
+        ≡ (if (x == 0) && is_between top bottom y then mark_of color else pixel_at width pixels.old x y) }
 {
     for y in top..bottom {
         pixels[y * width] = Argb(color.0 % 0x100_0000);
@@ -41,7 +42,8 @@ pub fn write_rows(pixels: &mut [Argb], width: usize, top: usize, bottom: usize)
     requires down { top ≤ bottom }
     requires rows { bottom * width ≤ length pixels.old }
     ensures seen { (x y : ℕ) → x < width
-        → pixel_at width pixels.new x y ≡ (if is_between top bottom y then seen_at width pixels.old x y else pixel_at width pixels.old x y) }
+        → pixel_at width pixels.new x y
+        ≡ (if is_between top bottom y then seen_at width pixels.old x y else pixel_at width pixels.old x y) }
 {
     for y in top..bottom {
         write_row(&mut pixels[y * width..(y + 1) * width]);

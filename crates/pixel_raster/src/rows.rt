@@ -31,7 +31,9 @@ fn fill_rows(pixels: &mut [Argb], width: usize, cut: Cut, color: Argb)
     requires down { cut.top ≤ cut.bottom }
     requires rows { cut.bottom * width ≤ length pixels.old }
     ensures colors { (x y : ℕ) → x < width
-        → pixel_at width pixels.new x y ≡ (if has_pixel cut x y then blend_of color (pixel_at width pixels.old x y) else pixel_at width pixels.old x y) }
+        → pixel_at width pixels.new x y ≡ (if has_pixel cut x y
+        then blend_of color (pixel_at width pixels.old x y)
+        else pixel_at width pixels.old x y) }
 {
     for y in cut.top..cut.bottom {
         let start = y * width;
@@ -46,7 +48,8 @@ pub fn fill_part(pixels: &mut [Argb], width: usize, cut: Cut, color: Argb)
     requires down { cut.top ≤ cut.bottom }
     requires rows { cut.bottom * width ≤ length pixels.old }
     ensures colors { (x y : ℕ) → x < width
-        → seen_at width pixels.new x y ≡ (if has_pixel cut x y then blend_of color (seen_at width pixels.old x y) else seen_at width pixels.old x y) }
+        → seen_at width pixels.new x y
+        ≡ (if has_pixel cut x y then blend_of color (seen_at width pixels.old x y) else seen_at width pixels.old x y) }
 {
     if color.alpha() == 255 && cut.left == 0 && cut.right == width {
         mark_rows(pixels, width, cut.top, cut.bottom, color);

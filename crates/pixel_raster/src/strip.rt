@@ -56,7 +56,9 @@ pub fn ink_strip(pixels: &mut [Argb], width: usize, strip: Strip, bits: u8, colo
     requires few { strip.bottom ≤ strip.top + 8 }
     ensures count { result ≡ set_bits bits (strip.bottom - strip.top) }
     ensures colors { (x y : ℕ) → x < width
-        → seen_at width pixels.new x y ≡ (if is_set strip bits x y then blend_of color (seen_at width pixels.old x y) else seen_at width pixels.old x y) }
+        → seen_at width pixels.new x y ≡ (if is_set strip bits x y
+        then blend_of color (seen_at width pixels.old x y)
+        else seen_at width pixels.old x y) }
 {
     write_rows(pixels, width, strip.top, strip.bottom);
     ink_written(pixels, width, strip, bits, color)
@@ -70,7 +72,9 @@ fn ink_written(pixels: &mut [Argb], width: usize, strip: Strip, bits: u8, color:
     requires few { strip.bottom ≤ strip.top + 8 }
     ensures count { result ≡ set_bits bits (strip.bottom - strip.top) }
     ensures colors { (x y : ℕ) → x < width
-        → pixel_at width pixels.new x y ≡ (if is_set strip bits x y then blend_of color (pixel_at width pixels.old x y) else pixel_at width pixels.old x y) }
+        → pixel_at width pixels.new x y ≡ (if is_set strip bits x y
+        then blend_of color (pixel_at width pixels.old x y)
+        else pixel_at width pixels.old x y) }
 {
     let mut count = 0;
     for y in strip.top..strip.bottom {
