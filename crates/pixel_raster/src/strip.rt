@@ -44,6 +44,9 @@ fn inked(set: bool, color: Argb, under: Argb) -> Argb
     if !set {
         return under;
     }
+    if color.alpha() == 255 {
+        return color;
+    }
     blend(color, under)
 }
 
