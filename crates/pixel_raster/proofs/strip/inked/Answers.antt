@@ -1,4 +1,4 @@
-use Rattle.std.proofs.Common.{◌≡◌, sym, ◌∙◌}
+use Rattle.std.proofs.Common.{sym, ◌∙◌}
 use Rattle.geom_core.proofs.ColorLaws.{blend_of-covering}
 use Rattle.pixel_raster.proofs.strip.inked.Goals as goal
 
