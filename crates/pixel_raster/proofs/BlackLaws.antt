@@ -6,7 +6,7 @@ use Rattle.geom_core.specs.declared.color.Argb.{Argb}
 use Rattle.geom_core.specs.declared.color.TheConstants.{BLACK}
 use Rattle.pixel_raster.specs.Raster.{AllOpaque, IsRaster}
 
-black-opaque : alpha_of BLACK ≡ 255
+pub black-opaque : alpha_of BLACK ≡ 255
 unfolding alpha_of
 black-opaque = refl
 

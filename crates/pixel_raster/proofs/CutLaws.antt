@@ -1,5 +1,5 @@
 -- The part of a picture that a rectangle covers has the pixels that the rectangle holds.
-use Rattle.std.proofs.Common.{◌≡◌, ℕ, suc, ◌+◌, ◌-◌, ◌*◌, ◌<◌, ◌≤◌, ℤ, pos, negsuc, ◌≤ℤ◌, ◌<ℤ◌, Bool, false, nat_lt, if◌then◌else◌, refl, sym, ap, ◌∙◌, arith, mul-le-mul_right}
+use Rattle.std.proofs.Common.{◌≡◌, ℕ, ◌-◌, ◌*◌, ◌<◌, ◌≤◌, ℤ, pos, negsuc, ◌≤ℤ◌, ◌<ℤ◌, Bool, false, nat_lt, if◌then◌else◌, refl, sym, ap, ◌∙◌, arith}
 use Rattle.std.specs.Prelude.{int_lt}
 use Rattle.std.proofs.lemmas.Bool.Decides.{nat_tests}
 use Rattle.std.proofs.lemmas.Int.{ints}
@@ -46,14 +46,8 @@ pub by_rect-none : (width height x y : ℕ) (rect : Rect) (cut : Cut) (on off : 
 by_rect-none width height x y rect cut on off column row is none =
     by_rect width height x y rect cut off on off column row is (ap (λ (test : Bool). if test then on else off) (sym (has_pixel-none cut x y none)))
 
--- each point of a picture has a place in its rows
-pub place-inside : (width height : ℕ) (x y : ℤ) → pos 0 ≤ℤ x → x <ℤ pos width → pos 0 ≤ℤ y → y <ℤ pos height
-    → from_zero y * width + from_zero x < width * height
+-- a place that is in a picture
+pub from_zero-inside : (limit : ℕ) (place : ℤ) → pos 0 ≤ℤ place → place <ℤ pos limit → from_zero place < limit
 unfolding from_zero
-place-inside width height (pos x) (pos y) right_of left_of below above =
-    let row : y < height = omega (arith, ints) in
-    let column : x < width = omega (arith, ints) in
-    let rows : suc y * width ≤ height * width = mul-le-mul_right width row in
-    omega arith
-place-inside width height (negsuc x) y right_of left_of below above = absurd (omega (arith, ints))
-place-inside width height (pos x) (negsuc y) right_of left_of below above = absurd (omega (arith, ints))
+from_zero-inside limit (pos n) low high = omega (arith, ints)
+from_zero-inside limit (negsuc n) low high = absurd (omega (arith, ints))

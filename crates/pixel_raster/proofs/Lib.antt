@@ -1,10 +1,13 @@
 mod BlackLaws
 mod CutLaws
 mod Examples
+mod MarkLaws
 mod MixLaws
 pub mod PictureLaws
 mod PieceLaws
 mod RowLaws
 mod RunLaws
+mod SeenLaws
 pub mod StripLaws
 mod TestLaws
+mod WritingLaws

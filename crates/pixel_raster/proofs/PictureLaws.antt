@@ -16,13 +16,13 @@ module _ (width height k : ℕ) (inside : k < width * height) where
   wide : 0 < width
   wide = positive width height k inside
 
-  row_of : k / width < height
+  pub row_of : k / width < height
   row_of = (div-lt_iff_lt-mul wide).1 (let e = mul_comm width height in omega arith)
 
-  place_of : k / width * width + k % width ≡ k
+  pub place_of : k / width * width + k % width ≡ k
   place_of = let d = div-add-mod k width in let e = mul_comm width (k / width) in omega arith
 
-  column_of : k % width < width
+  pub column_of : k % width < width
   column_of = let w = wide in omega arith
 
 -- each pixel has the colour of its point: the pixels are the picture

@@ -1,15 +1,14 @@
 -- What one more row of a rectangle adds to a picture.
-use Rattle.std.proofs.Common.{◌≡◌, ℕ, suc, ◌+◌, ◌-◌, ◌*◌, ◌<◌, ◌≤◌, Bool, true, false, List, map, length, get_or, if◌then◌else◌, refl, ap, ◌∙◌, arith, inl, inr, mul-le-mul_right}
+use Rattle.std.proofs.Common.{◌≡◌, ℕ, suc, ◌+◌, ◌-◌, ◌*◌, ◌<◌, ◌≤◌, Bool, true, false, List, map, length, if◌then◌else◌, refl, ap, ◌∙◌, arith, inl, inr, mul-le-mul_right}
 use Rattle.std.specs.Prelude.{◌&&◌, ◌||◌}
 use Rattle.std.specs.List.{between}
 use Rattle.std.proofs.lemmas.Bool.{cases_order}
 use Rattle.std.proofs.lemmas.Bool.Decides.{nat_tests}
 use borrow.Rule.Slice.PartMut.{put_mid}
-use Rattle.geom_core.specs.Color.{alpha_of}
 use Rattle.geom_core.specs.declared.color.Argb.{Argb}
 use Rattle.geom_core.specs.declared.color.TheConstants.{BLACK}
 use Rattle.pixel_raster.specs.Cuts.{is_between}
-use Rattle.pixel_raster.specs.Raster.{AllOpaque, pixel_at}
+use Rattle.pixel_raster.specs.Raster.{pixel_at}
 use Rattle.pixel_raster.proofs.RunLaws.{get_or-mapped_run}
 use Rattle.pixel_raster.proofs.TestLaws.{between_from, between_to, both, of_both, same_test}
 
@@ -42,7 +41,7 @@ place_in_run width left right x y z fits column =
     rw row (between_to (z * width + left) (z * width + right) (z * width + x) (omega arith) (omega arith)))
 
 -- one more row of what is changed between two columns
-one_row_more : {A : Type 0} (f : A → A) (across was now next : Bool) (start old new : A) → (now ≡ true → was ≡ false) → next ≡ (was || now)
+pub one_row_more : {A : Type 0} (f : A → A) (across was now next : Bool) (start old new : A) → (now ≡ true → was ≡ false) → next ≡ (was || now)
     → old ≡ (if across && was then f start else start) → new ≡ (if across && now then f old else old)
     → new ≡ (if across && next then f start else start)
 one_row_more f true true true next start old new apart is e g = absurd (let never = apart refl in cc)
@@ -67,14 +66,3 @@ pixel_at-next_row f start now width left right top z x y ordered fits begun insi
     one_row_more f (is_between left right x) (is_between top z y) (is_between z (z + 1) y) (is_between top (z + 1) y)
     (pixel_at width start x y) (pixel_at width now x y) _ (rows_apart top z y) (rows_more top z y begun) was
     (mapped ∙ ap (λ (test : Bool). if test then f (pixel_at width now x y) else pixel_at width now x y) (place_in_run width left right x y z fits column))
-
--- a picture stays opaque if a run becomes so
-pub opaque_run : (f : Argb → Argb) (now : List Argb) (low high : ℕ) → low ≤ high → high ≤ length now → ((under : Argb) → alpha_of (f under) ≡ 255)
-    → AllOpaque now → AllOpaque (put_mid low (high - low) now (map f (between low high now)))
-opaque_run f now low high ordered inside opaque was place =
-    ap (λ (color : Argb). alpha_of color) (get_or-mapped_run f now low high place BLACK ordered inside)
-    ∙ either (is_between low high place) (get_or now place BLACK) (was place)
-  where
-    either : (test : Bool) (under : Argb) → alpha_of under ≡ 255 → alpha_of (if test then f under else under) ≡ 255
-    either true under is = opaque under
-    either false under is = is

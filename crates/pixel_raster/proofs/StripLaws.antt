@@ -2,21 +2,20 @@
 use Rattle.std.proofs.Common.{◌≡◌, ◌≢◌, ℕ, zero, suc, ◌+◌, ◌-◌, ◌*◌, ◌<◌, ◌≤◌, Bool, true, false, List, length, get_or, set, get_or-set_same, get_or-set_other, if◌then◌else◌, refl, ap, ◌∙◌, arith, inl, inr}
 use Rattle.std.specs.Prelude.{◌&&◌, ◌||◌, ◌==◌}
 use Rattle.std.proofs.lemmas.Bool.Decides.{nat_tests}
-use Rattle.geom_core.specs.Color.{alpha_of}
 use Rattle.geom_core.specs.declared.color.Argb.{Argb}
 use Rattle.geom_core.specs.declared.color.TheConstants.{BLACK}
 use Rattle.view_model.specs.Glyphs.{has_bit}
 use Rattle.pixel_raster.specs.Cuts.{is_between}
-use Rattle.pixel_raster.specs.Raster.{AllOpaque, pixel_at}
+use Rattle.pixel_raster.specs.Raster.{pixel_at}
 use Rattle.pixel_raster.specs.Strips.{set_bits}
 use Rattle.pixel_raster.proofs.RowLaws.{place_in_run, rows_apart, rows_more}
 use Rattle.pixel_raster.proofs.TestLaws.{beside, between_from, chosen}
 
-one_column : (c x : ℕ) → is_between c (c + 1) x ≡ (x == c)
+pub one_column : (c x : ℕ) → is_between c (c + 1) x ≡ (x == c)
 one_column c x = grind (arith, nat_tests)
 
 -- a pixel of a list, where one is written
-get_or-written : {X : Type 0} (items : List X) (at place : ℕ) (value default : X) → at < length items
+pub get_or-written : {X : Type 0} (items : List X) (at place : ℕ) (value default : X) → at < length items
     → get_or (set items at value) place default ≡ (if is_between at (at + 1) place then value else get_or items place default)
 get_or-written items at place value default inside =
     chosen (is_between at (at + 1) place) _ _ _
@@ -72,15 +71,6 @@ pixel_at-next_place f start now width column top z bits x y within begun inside 
     at_place true true here value other same = rw (same refl refl) refl
     at_place true false here value other same = refl
     at_place false t here value other same = refl
-
--- a picture stays opaque if an opaque pixel is written
-pub opaque_place : (now : List Argb) (at : ℕ) (value : Argb) → at < length now → alpha_of value ≡ 255 → AllOpaque now → AllOpaque (set now at value)
-opaque_place now at value inside opaque was place =
-    ap (λ (color : Argb). alpha_of color) (get_or-written now at place value BLACK inside) ∙ either (is_between at (at + 1) place) (get_or now place BLACK) (was place)
-  where
-    either : (test : Bool) (under : Argb) → alpha_of under ≡ 255 → alpha_of (if test then value else under) ≡ 255
-    either true under is = opaque
-    either false under is = is
 
 pub set_bits-bound : (bits n : ℕ) → set_bits bits n ≤ n
 set_bits-bound bits zero = omega arith

@@ -2,10 +2,12 @@
 ghost use Rattle.std.specs.Prelude.{◌≡◌, ◌<◌, ◌≤◌, ◌+◌, ◌-◌, ◌*◌, ℕ, length, if◌then◌else◌};
 ghost use Rattle.geom_core.specs.Color.{blend_of};
 ghost use Rattle.view_model.specs.Glyphs.{has_bit};
-ghost use Rattle.pixel_raster.specs.Raster.{AllOpaque, pixel_at};
+ghost use Rattle.pixel_raster.specs.Marks.{seen_at};
+ghost use Rattle.pixel_raster.specs.Raster.{pixel_at};
 ghost use Rattle.pixel_raster.specs.Strips.{is_set, set_bits};
 
 use crate::blending::blend;
+use crate::marks::write_rows;
 use geom_core::Argb;
 
 /// The pixels of a column from its row `top` on and before its row `bottom`.
@@ -42,6 +44,9 @@ fn inked(set: bool, color: Argb, under: Argb) -> Argb
     if !set {
         return under;
     }
+    if color.alpha() == 255 {
+        return color;
+    }
     blend(color, under)
 }
 
@@ -53,9 +58,26 @@ pub fn ink_strip(pixels: &mut [Argb], width: usize, strip: Strip, bits: u8, colo
     requires rows { strip.bottom * width ≤ length pixels.old }
     requires few { strip.bottom ≤ strip.top + 8 }
     ensures count { result ≡ set_bits bits (strip.bottom - strip.top) }
-    ensures opaque { AllOpaque pixels.old → AllOpaque pixels.new }
     ensures colors { (x y : ℕ) → x < width
-        → pixel_at width pixels.new x y ≡ (if is_set strip bits x y then blend_of color (pixel_at width pixels.old x y) else pixel_at width pixels.old x y) }
+        → seen_at width pixels.new x y ≡ (if is_set strip bits x y
+        then blend_of color (seen_at width pixels.old x y)
+        else seen_at width pixels.old x y) }
+{
+    write_rows(pixels, width, strip.top, strip.bottom);
+    ink_written(pixels, width, strip, bits, color)
+}
+
+/// The same of a strip whose rows are not marked.
+fn ink_written(pixels: &mut [Argb], width: usize, strip: Strip, bits: u8, color: Argb) -> u64
+    requires column { strip.column < width }
+    requires down { strip.top ≤ strip.bottom }
+    requires rows { strip.bottom * width ≤ length pixels.old }
+    requires few { strip.bottom ≤ strip.top + 8 }
+    ensures count { result ≡ set_bits bits (strip.bottom - strip.top) }
+    ensures colors { (x y : ℕ) → x < width
+        → pixel_at width pixels.new x y ≡ (if is_set strip bits x y
+        then blend_of color (pixel_at width pixels.old x y)
+        else pixel_at width pixels.old x y) }
 {
     let mut count = 0;
     for y in strip.top..strip.bottom {

@@ -8,7 +8,8 @@ ghost use Rattle.pixel_raster.specs.Strips.{InksStrip, set_bits};
 
 use crate::cut::{Cut, from_zero};
 use crate::digest::digest_of;
-use crate::rows::{cover_black, fill_rows};
+use crate::marks::seen_of;
+use crate::rows::{cover_black, fill_part};
 use crate::strip::{Strip, ink_strip};
 use geom_core::{Argb, BLACK, Rect, Size};
 use std::alloc::{AllocError, Global};
@@ -40,6 +41,13 @@ impl Model for Surface {
     ghost view = { raster_of };
 
     ghost invariant = { IsSurface };
+}
+
+/// Whether there are this many pixels, none of which was painted since all were made black.
+fn is_black(black: bool, pixels: &[Argb], count: usize) -> bool
+    ensures { result ≡ true → (black ≡ true) × (length pixels.now ≡ count) }
+{
+    black && pixels.len() == count
 }
 
 impl Surface {
@@ -77,7 +85,7 @@ impl Surface {
     {
         let width = from_zero(size.w);
         let height = from_zero(size.h);
-        if !self.is_black(width * height) {
+        if !is_black(self.black, &self.pixels, width * height) {
             cover_black(&mut self.pixels, width * height)?;
             self.digest = None;
             self.black = true;
@@ -86,13 +94,6 @@ impl Surface {
         self.height = height;
         self.filled = 0;
         Ok(())
-    }
-
-    /// Whether there are this many pixels, and none was painted since all were made black.
-    fn is_black(&self, count: usize) -> bool
-        ensures { result ≡ true → self.now.pixels ≡ replicate count BLACK }
-    {
-        self.black && self.pixels.len() == count
     }
 
     /// The size of the window whose picture it is, in pixels.
@@ -153,7 +154,7 @@ impl Surface {
         }
         self.digest = None;
         self.black = false;
-        fill_rows(&mut self.pixels, self.width, cut, color);
+        fill_part(&mut self.pixels, self.width, cut, color);
     }
 
     /// Blends a colour over those pixels of a strip whose bits are set; the lowest bit is that of its top row. Both counts
@@ -188,7 +189,7 @@ impl Surface {
         requires { IsInside self.now x y }
         ensures { result ≡ color_at self.now (from_zero x) (from_zero y) }
     {
-        self.pixels[self.place(x, y)]
+        self.color_at(from_zero(x), from_zero(y))
     }
 
     /// The colour of a pixel, which is opaque, by its column and its row.
@@ -197,16 +198,8 @@ impl Surface {
         requires row { row < self.now.height }
         ensures { result ≡ color_at self.now column row }
     {
-        self.pixels[row * self.width + column]
-    }
-
-    /// The place of a pixel in the rows, by its window coordinates.
-    fn place(&self, x: i32, y: i32) -> usize
-        requires { IsInside self.now x y }
-        ensures value { result ≡ from_zero y * self.now.width + from_zero x }
-        ensures inside { result < length self.now.pixels }
-    {
-        from_zero(y) * self.width + from_zero(x)
+        let start = row * self.width;
+        seen_of(self.pixels[start], self.pixels[start + column])
     }
 
     /// The SHA-256 of the red, green and blue of each pixel, row by row from the top. It is computed only if pixels
@@ -216,7 +209,7 @@ impl Surface {
     {
         match self.digest {
             Some(digest) => digest,
-            None => digest_of(&self.pixels),
+            None => digest_of(&self.pixels, self.width, self.height),
         }
     }
 

@@ -1,10 +1,11 @@
 -- Painters of ink, piece by piece.
-use Rattle.std.proofs.Common.{◌≡◌, ℕ, ◌+◌, ◌-◌, ◌*◌, ◌/◌, ◌%◌, ◌<◌, ◌≤◌, ℤ, pos, negsuc, ◌-ℤ◌, ◌+ℤ◌, ◌≤ℤ◌, ◌<ℤ◌, Bool, true, false, nat_lt, if◌then◌else◌, List, [], length, inl, inr, Option, Some, None, refl, sym, ap, ◌∙◌, arith}
+use Rattle.std.proofs.Common.{◌≡◌, ℕ, ◌+◌, ◌-◌, ◌*◌, ◌/◌, ◌%◌, ◌^◌, ◌<◌, ◌≤◌, ℤ, pos, negsuc, ◌-ℤ◌, ◌+ℤ◌, ◌≤ℤ◌, ◌<ℤ◌, Bool, true, false, nat_lt, if◌then◌else◌, List, [], length, inl, inr, Option, Some, None, refl, sym, ap, ◌∙◌, arith}
 use Rattle.std.specs.Prelude.{◌&&◌, ◌==◌, ◌⊎◌, not, slice_get}
 use Rattle.std.proofs.lemmas.Int.{ints}
 use Rattle.std.proofs.lemmas.Bool.{cases_Bool, cases_order}
 use Rattle.std.proofs.lemmas.Bool.Decides.{nat_tests}
 use Rattle.std.proofs.lemmas.Option.{slice_get_past}
+use Rattle.std.proofs.Math.Nat.{zero-div}
 use Rattle.geom_core.specs.Color.{blend_of}
 use Rattle.geom_core.specs.Rects.{holds}
 use Rattle.geom_core.specs.declared.color.Argb.{Argb}
@@ -188,3 +189,18 @@ column_away ink bits row c left x y u = let e : x -ℤ (left +ℤ pos c) ≡ x -
 
 pub text_away : (ink : Argb) (n : ℕ) (text : List ℕ) (top x y : ℤ) (u : Argb) → text_ink ink n text x (y -ℤ (top +ℤ pos 8)) u ≡ text_ink ink n text x (y -ℤ top -ℤ pos 8) u
 text_away ink n text top x y u = let e : y -ℤ (top +ℤ pos 8) ≡ y -ℤ top -ℤ pos 8 = omega (arith, ints) in ap (λ (z : ℤ). text_ink ink n text x z u) e
+
+no_bit : (row : ℕ) → has_bit 0 row ≡ false
+no_bit row = ap (λ (n : ℕ). n % 2 == 1) (zero-div (2 ^ row))
+
+-- a column without a set bit has no ink
+pub column_clear : (ink : Argb) (bits : ℕ) → bits ≡ 0 → (x y : ℤ) (u : Argb) → column_ink ink bits 0 x y u ≡ u
+column_clear ink bits none (pos x) (pos y) u = rw (none, no_bit y) (unset (x == 0) (not (nat_lt y 0)) (nat_lt y 8))
+  where
+    unset : (p q r : Bool) → (if p && (q && (r && false)) then blend_of ink u else u) ≡ u
+    unset true true true = refl
+    unset true true false = refl
+    unset true false r = refl
+    unset false q r = refl
+column_clear ink bits none (pos x) (negsuc y) u = refl
+column_clear ink bits none (negsuc x) y u = refl

@@ -96,6 +96,9 @@ pub fn ink_column(bits: u8, surface: &mut Surface, canvas: Canvas, ink: Argb, wo
     ensures painted { PaintedIn canvas (column_ink ink bits 0) surface.old surface.new }
     ensures counted { IsCounted (area_between surface.old canvas.clip canvas.left canvas.top (canvas.left +ℤ pos 1) (canvas.top +ℤ pos 8)) surface.old surface.new work.old work.new }
 {
+    if bits == 0 {
+        return;
+    }
     let seen = column_edges(surface, canvas);
     if seen.right <= seen.left {
         return;

@@ -1,13 +1,8 @@
-use Rattle.std.proofs.Common.{◌≤◌, ◌-◌, take, length}
+use Rattle.std.proofs.Common.{◌*◌, take}
 use Rattle.sha2.specs.Hashers.{Holds256}
 use Rattle.pixel_raster.specs.Bytes.{bytes_of}
+use Rattle.pixel_raster.specs.Marks.{seen_pixels}
 use Rattle.pixel_raster.proofs.digest.digest_of.Given as goal
 
-abbrev pub invariant-pieces : goal.invariant-pieces
-invariant-pieces l = record {
-  inside : l.at ≤ length l.pixels;
-  holds : Holds256 l.hasher (bytes_of (take l.at l.pixels));
-}
-
-abbrev pub decreases-pieces : goal.decreases-pieces
-decreases-pieces l = length l.pixels - l.at
+abbrev pub invariant-loop-y : goal.invariant-loop-y
+invariant-loop-y l = Holds256 l.hasher (bytes_of (take (l.y * l.width) (seen_pixels l.width l.pixels)))

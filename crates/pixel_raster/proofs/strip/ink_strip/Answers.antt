@@ -1,41 +1,19 @@
-use Rattle.std.proofs.Common.{rules, ◌≡◌, suc, ◌+◌, ◌-◌, ◌*◌, ◌≤◌, ◌<◌, ◌^◌, Bool, true, false, length, get_or, refl, ap, ◌∙◌, arith, mul-le-mul_right, if◌then◌else◌, Fits, w32}
-use Rattle.std.proofs.lemmas.List.{get_or_default}
-use Rattle.geom_core.specs.Color.{alpha_of, blend_of}
-use Rattle.geom_core.specs.declared.color.Argb.{Argb}
-use Rattle.geom_core.specs.declared.color.TheConstants.{BLACK}
+use Rattle.std.proofs.Common.{rules, ◌<◌, Fits, w32, arith}
+use Rattle.geom_core.specs.Color.{blend_of}
 use Rattle.geom_core.proofs.ColorLaws.{alpha_of-blend_of}
-use Rattle.view_model.specs.Glyphs.{has_bit}
-use Rattle.pixel_raster.proofs.StripLaws.{opaque_place, pixel_at-next_place, set_bits-bound}
+use Rattle.pixel_raster.specs.Cuts.{is_between}
+use Rattle.pixel_raster.specs.Strips.{is_set}
+use Rattle.pixel_raster.proofs.MarkLaws.{seen_of-written_then}
+use Rattle.pixel_raster.proofs.TestLaws.{of_both}
 use Rattle.pixel_raster.proofs.strip.ink_strip.Goals as goal
 
-pub overflow_add-count : goal.overflow_add-count
-overflow_add-count c =
-    let bound = set_bits-bound c.args.bits (c.loop-y.y - c.args.strip.top) in
-    record { fits = omega (arith, bound, c.loop-y.invariant.count, c.one_if-count.ensures.bound) }
-
-pub loop-y-preserved : goal.loop-y-preserved
-loop-y-preserved c =
-    let z = c.loop-y.y in
-    let top = c.args.strip.top in
-    let at = z * c.args.width + c.args.strip.column in
-    let rows : suc z * c.args.width ≤ c.args.strip.bottom * c.args.width = mul-le-mul_right c.args.width c.loop-y-test.true in
-    let inside : at < length c.loop-y.pixels = omega arith in
+pub returns-clause-colors : goal.returns-clause-colors
+returns-clause-colors c =
+    let strip = c.args.strip in
     let fits : Fits w32 c.args.color.0 = search rules in
-    let written : c.inked.result ≡ (if has_bit c.args.bits (z - top) then blend_of c.args.color (get_or c.loop-y.pixels at BLACK) else get_or c.loop-y.pixels at BLACK) =
-    c.inked.ensures
-    ∙ ap (λ (t : Bool). let under : Argb = get_or c.loop-y.pixels at (record { 0 = 0 }) in if t then blend_of c.args.color under else under) c.has_bit-set.ensures
-    ∙ ap (λ (under : Argb). if has_bit c.args.bits (z - top) then blend_of c.args.color under else under) (get_or_default c.loop-y.pixels at _ BLACK inside) in
-    let next : z + 1 - top ≡ suc (z - top) = omega arith in
-    record {
-      count = rw (c.loop-y.invariant.count, c.one_if-count.ensures.value, c.has_bit-set.ensures, next) refl;
-      opaque = λ was. opaque_place c.loop-y.pixels at c.inked.result inside
-          (ap (λ (color : Argb). alpha_of color) written ∙ either (has_bit c.args.bits (z - top)) c.args.color (get_or c.loop-y.pixels at BLACK) fits.fits (c.loop-y.invariant.opaque was at))
-          (c.loop-y.invariant.opaque was);
-      colors = λ x y column.
-          rw written (pixel_at-next_place (blend_of c.args.color) c.args.pixels.now c.loop-y.pixels c.args.width c.args.strip.column top z c.args.bits x y
-          c.requires.column (omega arith) inside column (c.loop-y.invariant.colors x y column));
-    }
-  where
-    either : (t : Bool) (color under : Argb) → color.0 < 2 ^ 32 → alpha_of under ≡ 255 → alpha_of (if t then blend_of color under else under) ≡ 255
-    either true color under fits is = alpha_of-blend_of color under fits
-    either false color under fits is = is
+    λ x y column.
+    let some : 0 < c.args.width = omega arith in
+    seen_of-written_then (blend_of c.args.color) (is_between strip.top strip.bottom y) (is_set strip c.args.bits x y) (is_set strip c.args.bits 0 y) _ _ _ _ _ _
+    (λ under. alpha_of-blend_of c.args.color under fits.fits) (λ is. (of_both _ _ (of_both _ _ is).1).0) (λ is. (of_both _ _ (of_both _ _ is).1).0)
+    (c.write_rows.ensures.seen 0 y some) (c.write_rows.ensures.seen x y column)
+    (c.ink_written.ensures.colors 0 y some) (c.ink_written.ensures.colors x y column)

@@ -1,7 +1,15 @@
-use Rattle.std.proofs.Common.{arith}
+use Rattle.std.proofs.Common.{◌-ℤ◌, arith}
 use Rattle.std.proofs.lemmas.Int.{ints}
+use Rattle.tree_painter.proofs.InkLaws.{column_clear}
+use Rattle.tree_painter.proofs.PainterLaws.{painted_nothing}
 use Rattle.tree_painter.proofs.ColumnLaws.{column_inked, column_unseen, counted_strip, last_spanned, row_spanned}
 use Rattle.tree_painter.proofs.ink.ink_column.Goals as goal
+
+pub returns-then-bits-eq0-clause-painted : goal.returns-then-bits-eq0-clause-painted
+returns-then-bits-eq0-clause-painted c =
+    let canvas = c.args.canvas in
+    painted_nothing _ canvas.clip c.args.surface.now (λ x y u h.
+    column_clear c.args.ink c.args.bits c.if-bits-eq0.true (x -ℤ canvas.left) (y -ℤ canvas.top) u)
 
 pub returns-then-seen-clause-painted : goal.returns-then-seen-clause-painted
 returns-then-seen-clause-painted c =

@@ -2,7 +2,7 @@ use Rattle.std.proofs.Common.{◌<◌, length, arith, get_or}
 use Rattle.std.proofs.lemmas.List.Edits.{map_over_more}
 use Rattle.std.proofs.lemmas.List.{get_or_default}
 use Rattle.geom_core.specs.declared.color.Argb.{Argb}
-use Rattle.pixel_raster.proofs.rows.cover_run.Goals as goal
+use Rattle.pixel_raster.proofs.runs.cover_run.Goals as goal
 
 pub loop-pixel-preserved : goal.loop-pixel-preserved
 loop-pixel-preserved c =

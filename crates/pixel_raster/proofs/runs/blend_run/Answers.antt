@@ -2,7 +2,7 @@ use Rattle.std.proofs.Common.{◌<◌, length, arith}
 use Rattle.std.proofs.lemmas.List.Edits.{map_over_more}
 use Rattle.std.proofs.lemmas.List.{get_or_default}
 use Rattle.geom_core.specs.Color.{blend_of}
-use Rattle.pixel_raster.proofs.rows.blend_run.Goals as goal
+use Rattle.pixel_raster.proofs.runs.blend_run.Goals as goal
 
 pub loop-pixel-preserved : goal.loop-pixel-preserved
 loop-pixel-preserved c =

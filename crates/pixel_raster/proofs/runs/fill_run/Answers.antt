@@ -2,7 +2,7 @@ use Rattle.std.proofs.Common.{◌≡◌, List, [], ◌∷◌, map, refl, sym, �
 use Rattle.geom_core.specs.Color.{alpha_of, blend_of}
 use Rattle.geom_core.specs.declared.color.Argb.{Argb}
 use Rattle.geom_core.proofs.ColorLaws.{blend_of-covering}
-use Rattle.pixel_raster.proofs.rows.fill_run.Goals as goal
+use Rattle.pixel_raster.proofs.runs.fill_run.Goals as goal
 
 map-covering : (over : Argb) (run : List Argb) → alpha_of over ≡ 255 → map (λ (_ : Argb). over) run ≡ map (blend_of over) run
 map-covering over [] is = refl

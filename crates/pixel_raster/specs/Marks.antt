@@ -1,0 +1,24 @@
+-- Rows of one colour, of which a surface keeps no more than a mark in the place of their first pixel.
+use Rattle.std.specs.Prelude.{ℕ, ◌+◌, ◌*◌, ◌/◌, ◌%◌, ◌==◌, List, length, map, slice_index_or, if◌then◌else◌}
+use Rattle.std.specs.List.{range_with_len}
+use Rattle.geom_core.specs.Color.{alpha_of}
+use Rattle.geom_core.specs.declared.color.Argb.{Argb}
+use Rattle.geom_core.specs.declared.color.TheConstants.{BLACK}
+use Rattle.pixel_raster.specs.Raster.{pixel_at}
+
+-- the mark of a row of an opaque colour: the colour without its alpha, which no pixel has
+unfoldable pub mark_of : Argb → Argb
+mark_of color = record { 0 = color.0 % 0x100_0000 }
+
+-- the colour that is seen of a pixel in a row that begins with this one
+unfoldable pub seen_of : Argb → Argb → Argb
+seen_of first pixel = if alpha_of first == 0 then record { 0 = first.0 + 0xff00_0000 } else pixel
+
+-- the colour that is seen in a column and a row
+abbrev pub seen_at : ℕ → List Argb → ℕ → ℕ → Argb
+seen_at width pixels x y = seen_of (pixel_at width pixels 0 y) (pixel_at width pixels x y)
+
+-- the colours that are seen of all pixels
+unfoldable pub seen_pixels : ℕ → List Argb → List Argb
+seen_pixels width pixels =
+    map (λ place. seen_of (slice_index_or pixels (place / width * width) BLACK) (slice_index_or pixels place BLACK)) (range_with_len 0 (length pixels))

@@ -1,0 +1,64 @@
+//! Rows of one opaque colour, which are kept as a mark in the place of their first pixel: the colour with the alpha 0, that
+//! no pixel has. What the other pixels of such a row hold is not seen.
+ghost use Rattle.std.specs.Prelude.{◌≡◌, ◌<◌, ◌≤◌, ◌*◌, ℕ, ◌&&◌, ◌==◌, length, map, slice_index_or, if◌then◌else◌};
+ghost use Rattle.geom_core.specs.Color.{alpha_of};
+ghost use Rattle.geom_core.specs.declared.color.TheConstants.{BLACK};
+ghost use Rattle.pixel_raster.specs.Cuts.{is_between};
+ghost use Rattle.pixel_raster.specs.Marks.{mark_of, seen_at, seen_of};
+ghost use Rattle.pixel_raster.specs.Raster.{pixel_at};
+
+use crate::runs::cover_run;
+use geom_core::Argb;
+
+/// The colour that is seen of a pixel in a row that begins with this one.
+#[inline(always)]
+#[tactic(auto, unfolding(geom_core::specs::Color::alpha_of, crate::specs::Marks::seen_of))]
+pub fn seen_of(first: Argb, pixel: Argb) -> Argb
+    ensures { result ≡ seen_of first pixel }
+{
+    if first.alpha() == 0 {
+        Argb(first.0 + 0xff00_0000)
+    } else {
+        pixel
+    }
+}
+
+/// Gives rows of a picture whose rows have this many pixels one opaque colour.
+pub fn mark_rows(pixels: &mut [Argb], width: usize, top: usize, bottom: usize, color: Argb)
+    requires across { 0 < width }
+    requires down { top ≤ bottom }
+    requires rows { bottom * width ≤ length pixels.old }
+    ensures marks { (x y : ℕ) → x < width
+        → pixel_at width pixels.new x y
+        ≡ (if (x == 0) && is_between top bottom y then mark_of color else pixel_at width pixels.old x y) }
+{
+    for y in top..bottom {
+        pixels[y * width] = Argb(color.0 % 0x100_0000);
+    }
+}
+
+/// Writes out those of these rows that are marked: each pixel gets the colour that is seen of it.
+pub fn write_rows(pixels: &mut [Argb], width: usize, top: usize, bottom: usize)
+    requires down { top ≤ bottom }
+    requires rows { bottom * width ≤ length pixels.old }
+    ensures seen { (x y : ℕ) → x < width
+        → pixel_at width pixels.new x y
+        ≡ (if is_between top bottom y then seen_at width pixels.old x y else pixel_at width pixels.old x y) }
+{
+    for y in top..bottom {
+        write_row(&mut pixels[y * width..(y + 1) * width]);
+    }
+}
+
+/// Writes out a row if it is marked.
+fn write_row(row: &mut [Argb])
+    ensures { row.new ≡ map (seen_of (slice_index_or row.old 0 BLACK)) row.old }
+{
+    if row.is_empty() {
+        return;
+    }
+    let first = row[0];
+    if first.alpha() == 0 {
+        cover_run(row, seen_of(first, first));
+    }
+}
