@@ -49,7 +49,8 @@ fn absorb(hasher: &mut Sha256, first: Argb, run: &[Argb])
     hasher.update(&bytes[..3 * run.len()]);
 }
 
-/// Writes the red, green and blue that are seen of each pixel at the start of the bytes; what follows them may be anything.
+/// Writes the red, green and blue that are seen of each pixel at the start of the bytes; what follows them may be
+/// anything.
 fn put_bytes(first: Argb, run: &[Argb], bytes: &mut [u8])
     requires { 3 * length run.now ≤ length bytes.old }
     ensures { take (3 * length run.now) bytes.new ≡ bytes_of (map (seen_of first) run.now) }

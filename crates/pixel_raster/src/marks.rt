@@ -1,5 +1,5 @@
-//! Rows of one opaque colour, which are kept as a mark in the place of their first pixel: the colour with the alpha 0, that
-//! no pixel has. What the other pixels of such a row hold is not seen.
+//! Rows of one opaque colour, which are kept as a mark in the place of their first pixel: the colour with the alpha 0,
+//! which no pixel has. What the other pixels of such a row hold is not seen.
 ghost use Rattle.std.specs.Prelude.{◌≡◌, ◌<◌, ◌≤◌, ◌*◌, ℕ, ◌&&◌, ◌==◌, length, map, slice_index_or, if◌then◌else◌};
 ghost use Rattle.geom_core.specs.Color.{alpha_of};
 ghost use Rattle.geom_core.specs.declared.color.TheConstants.{BLACK};
