@@ -466,6 +466,7 @@ fn frame_more(
 
 /// One phase of a frame layout's measuring: each of its children in order, as the plan asks for it.
 #[cycle(measure)]
+#[inline(always)]
 fn frame_kids(tree: &mut ViewTree, view: Key, plan: &mut FramePlan, work: &mut Work)
     requires live { IsLive tree.old view }
     requires ready { Ready (held_of tree.old) (children_of_first (part_from view tree.old.tree)) }
@@ -598,6 +599,7 @@ fn linear_more(
 
 /// One phase of a linear layout's measuring: each of its children in order, as the plan asks for it.
 #[cycle(measure)]
+#[inline(always)]
 fn linear_kids(tree: &mut ViewTree, view: Key, plan: &mut LinearPlan, work: &mut Work)
     requires live { IsLive tree.old view }
     requires ready { Ready (held_of tree.old) (children_of_first (part_from view tree.old.tree)) }
@@ -733,6 +735,7 @@ fn scroll_more(
 
 /// One phase of a scroll view's measuring: each of its children in order, as the plan asks for it.
 #[cycle(measure)]
+#[inline(always)]
 fn scroll_kids(tree: &mut ViewTree, view: Key, plan: &mut ScrollPlan, work: &mut Work)
     requires live { IsLive tree.old view }
     requires ready { Ready (held_of tree.old) (children_of_first (part_from view tree.old.tree)) }

@@ -48,6 +48,7 @@ pub struct Inside {
 
 /// Lays a shown view, which was measured, in a rectangle, and all below it, where they need that.
 #[cycle(lay)]
+#[inline(always)]
 pub fn lay(
     tree: &mut ViewTree,
     view: Key,
@@ -76,6 +77,7 @@ pub fn lay(
 
 /// The same, but that the view itself has not settled: what was asked of it stays until then.
 #[cycle(lay)]
+#[inline(always)]
 pub fn lay_open(
     tree: &mut ViewTree,
     view: Key,
