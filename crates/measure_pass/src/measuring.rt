@@ -391,11 +391,11 @@ fn measure_in_turn(
     if !tree.facts(kid).is_shown() {
         return;
     }
-    let anchors = anchors_of(tree, view, kid, plan.is_rtl(), axis);
+    let anchors = &anchors_of(tree, view, kid, plan.is_rtl(), axis);
     let edges = edges_before(tree, kid, axis);
-    let (across, down) = plan.ask(tree.facts(kid), edges, &anchors);
+    let (across, down) = plan.ask(tree.facts(kid), edges, anchors);
     let got = measure(tree, kid, across, down, work);
-    let edges = plan.take(tree.facts(kid), edges, &anchors, got);
+    let edges = plan.take(tree.facts(kid), edges, anchors, got);
     keep_edges(tree, kid, edges);
 }
 

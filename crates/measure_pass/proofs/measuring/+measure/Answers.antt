@@ -807,10 +807,10 @@ measure_in_turn-returns-clause-turn t c = λ own specs past taken place stands i
     (record (held_of c.measure-got.new.tree key) { state = record (held_of c.measure-got.new.tree key).state { edges = c.take-edges.result } })) (sym x.key_is)
     (record { at = c.keep_edges.ensures.held; others = c.keep_edges.ensures.others }) in
     rw x.is (turn_taken c.args.axis own specs past taken list place x.row x.kids x.siblings (sym x.is ∙ part) c.take-edges.new.self
-    (held_of c.args.tree.now) (held_of c.measure-got.new.tree) (held_of c.keep_edges.new.tree) (facts_in (part_from c.args.kid tree)) c.edges_before-edges.result c.take-edges.result c.anchors_of-anchors.result asked
+    (held_of c.args.tree.now) (held_of c.measure-got.new.tree) (held_of c.keep_edges.new.tree) (facts_in (part_from c.args.kid tree)) c.edges_before-edges.result c.take-edges.result c.anchors_of.result asked
     c.measure-got.result c.args.work.now.measured c.measure-got.new.work.measured is fixed (rw x.is at shown) (rw x.is refl)
     (edges_known c.args.axis own specs kids (held_of c.args.tree.now) c.args.kid tree place c.edges_before-edges.result c.requires.kid shown c.edges_before-edges.ensures.first c.edges_before-edges.ensures.second known)
-    (rw (c.is_rtl.ensures own specs past taken stands) at (c.anchors_of-anchors.ensures place part)) (rw facts_is at (c.ask.ensures own specs past taken stands)) (rw x.is at m.size) (rw (m.same.tree, x.is) at m.measured.sized)
+    (rw (c.is_rtl.ensures own specs past taken stands) at (c.anchors_of.ensures place part)) (rw facts_is at (c.ask.ensures own specs past taken stands)) (rw x.is at m.size) (rw (m.same.tree, x.is) at m.measured.sized)
     (subst (λ key. specs_of (held_of c.measure-got.new.tree key).state ≡ asked) (sym x.key_is) m.measured.last)
     (rw still at (c.take-edges.ensures.edges own specs past taken stands)) (rw still at (c.take-edges.ensures.taken own specs past taken stands)) wrote
     (let o = once x.row.key in omega arith)
