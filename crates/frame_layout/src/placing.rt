@@ -64,6 +64,7 @@ impl Room {
         )
     }
 
+    #[inline(always)]
     fn left_edge(&self, across: Across, kid: &Facts, width: i32) -> i32
         ensures value { result ≡ clamp_coordinate
             (low_edge (alignment_across self.now.rtl across) self.now.size.w self.now.padding.left self.now.padding.right width (margin_left kid.now) (margin_right kid.now)) }
@@ -81,6 +82,7 @@ impl Room {
         )
     }
 
+    #[inline(always)]
     fn top_edge(&self, down: Down, kid: &Facts, height: i32) -> i32
         ensures value { result ≡ clamp_coordinate
             (low_edge (alignment_down down) self.now.size.h self.now.padding.top self.now.padding.bottom height kid.now.margins.top kid.now.margins.bottom) }

@@ -42,6 +42,7 @@ impl FramePlan {
 
     /// The specs of a child in this phase, or `None` if it is not measured in it. The size is the child's present
     /// measured size; a frame layout has no use for it.
+    #[inline(always)]
     pub fn ask(&self, kid: &Facts, size: Size) -> Option<(Spec, Spec)>
         ensures { (own : FactsValue) (specs : Specs) (past : List (List Measured)) (taken : List Measured)
             → StandsFrame self.now own specs past taken
@@ -61,6 +62,7 @@ impl FramePlan {
     }
 
     /// Takes the size that a child has got; if `ask` returned `None`, the one that was passed to it.
+    #[inline(always)]
     pub fn take(&mut self, kid: &Facts, size: Size)
         ensures { (own : FactsValue) (specs : Specs) (past : List (List Measured)) (taken : List Measured)
             → StandsFrame self.old own specs past taken

@@ -1,5 +1,5 @@
 //! Measuring a view through all views below it: the walk, with functions for each class of groups.
-ghost use Rattle.std.specs.Prelude.{◌≡◌, ◌≤◌, ◌<◌, ◌+◌, ◌-◌, ◌^◌, ℕ, min, None, true, false, [], ◌∷◌, ◌++◌, List, length};
+ghost use Rattle.std.specs.Prelude.{◌≡◌, ◌≤◌, ◌<◌, ◌+◌, ◌-◌, ◌^◌, ℕ, min, None, true, false, [], ◌∷◌, ◌++◌, List, length, pos};
 ghost use Rattle.geom_core.specs.Limits.{IsSide};
 ghost use Rattle.measure_pass.specs.Courses.{AfterAll, AfterPhase, CanTurn, InCourse, IsMeasuredBelow, StaysReady};
 ghost use Rattle.measure_cache.specs.Entries.{found, put_in};
@@ -130,6 +130,7 @@ fn measure_anew(tree: &mut ViewTree, view: Key, ws: Spec, hs: Spec, work: &mut W
 
 /// Measures the children of a marked view for its last specs, and takes the mark away; its size, its specs and its
 /// cache stay. Layout calls it before it places the children. It is a measuring of the view, and counted as one.
+#[inline(never)]
 pub fn remeasure(tree: &mut ViewTree, view: Key, work: &mut Work)
     requires fit { IsFit tree.old view }
     requires marked { (state_of tree.old view).measure_first ≡ true }
@@ -245,7 +246,10 @@ fn measure_frame(tree: &mut ViewTree, view: Key, ws: Spec, hs: Spec, work: &mut 
     ensures counted { Counted 0 tree.old tree.new work.old work.new }
 {
     let mut plan = FramePlan::start(tree.facts(view), ws, hs);
-    frame_phases(tree, view, &mut plan, 2, work)
+    Outcome {
+        size: frame_phases(tree, view, &mut plan, 2, work),
+        total: 0,
+    }
 }
 
 /// The same of a linear layout.
@@ -285,7 +289,10 @@ fn measure_scroll(tree: &mut ViewTree, view: Key, ws: Spec, hs: Spec, work: &mut
     ensures counted { Counted 0 tree.old tree.new work.old work.new }
 {
     let mut plan = ScrollPlan::start(tree.facts(view), ws, hs);
-    scroll_phases(tree, view, &mut plan, 2, work)
+    Outcome {
+        size: scroll_phases(tree, view, &mut plan, 2, work),
+        total: 0,
+    }
 }
 
 /// Measures what is below a relative layout under these specs: each child on the horizontal axis and then each on the
@@ -384,23 +391,24 @@ fn measure_in_turn(
     if !tree.facts(kid).is_shown() {
         return;
     }
-    let anchors = anchors_of(tree, view, kid, plan.is_rtl(), axis);
+    let anchors = &anchors_of(tree, view, kid, plan.is_rtl(), axis);
     let edges = edges_before(tree, kid, axis);
-    let (across, down) = plan.ask(tree.facts(kid), edges, &anchors);
+    let (across, down) = plan.ask(tree.facts(kid), edges, anchors);
     let got = measure(tree, kid, across, down, work);
-    let edges = plan.take(tree.facts(kid), edges, &anchors, got);
+    let edges = plan.take(tree.facts(kid), edges, anchors, got);
     keep_edges(tree, kid, edges);
 }
 
 /// The remaining phases of a frame layout's measuring, at most this many after the next, and their result.
 #[cycle(measure)]
+#[inline(always)]
 fn frame_phases(
     tree: &mut ViewTree,
     view: Key,
     plan: &mut FramePlan,
     left: usize,
     work: &mut Work,
-) -> Outcome
+) -> Size
     requires live { IsLive tree.old view }
     requires left { left ≤ 2 }
     requires ready { Ready (held_of tree.old) (children_of_first (part_from view tree.old.tree)) }
@@ -411,7 +419,7 @@ fn frame_phases(
         → InCourse (held_of tree.old) (children_of_first (part_from view tree.old.tree)) kids
         → StaysReady (rule_in group) left (record { past = past; kids = kids })
         → AfterAll group left (record { past = past; kids = kids }) (held_of tree.old) (held_of tree.new) (children_of_first (part_from view tree.old.tree))
-        result.size result.total work.old.measured work.new.measured }
+        result (pos 0) work.old.measured work.new.measured }
     ensures same { SameTree tree.old tree.new }
     ensures keeps { Keeps (held_of tree.old) (held_of tree.new) }
     ensures others { KeepsOutside (held_of tree.old) (held_of tree.new) (children_of_first (part_from view tree.old.tree)) }
@@ -419,16 +427,46 @@ fn frame_phases(
 {
     frame_kids(tree, view, plan, work);
     if left == 0 {
-        return frame_outcome(plan);
+        return frame_size(plan);
     }
     if !frame_turn(plan) {
-        return frame_outcome(plan);
+        return frame_size(plan);
     }
-    frame_phases(tree, view, plan, left - 1, work)
+    frame_more(tree, view, plan, left - 1, work)
+}
+
+/// The same, for the phases after the first one. Most groups have only one.
+#[cycle(measure)]
+#[inline(never)]
+fn frame_more(
+    tree: &mut ViewTree,
+    view: Key,
+    plan: &mut FramePlan,
+    left: usize,
+    work: &mut Work,
+) -> Size
+    requires live { IsLive tree.old view }
+    requires left { left ≤ 2 }
+    requires ready { Ready (held_of tree.old) (children_of_first (part_from view tree.old.tree)) }
+    ensures ready { Ready (held_of tree.new) (children_of_first (part_from view tree.old.tree)) }
+    ensures is_tree { IsTree tree.old }
+    ensures phases { (group : Group) (past : List (List Measured)) (kids : List Requested)
+        → Stands (Frame plan.old) group past []
+        → InCourse (held_of tree.old) (children_of_first (part_from view tree.old.tree)) kids
+        → StaysReady (rule_in group) left (record { past = past; kids = kids })
+        → AfterAll group left (record { past = past; kids = kids }) (held_of tree.old) (held_of tree.new) (children_of_first (part_from view tree.old.tree))
+        result (pos 0) work.old.measured work.new.measured }
+    ensures same { SameTree tree.old tree.new }
+    ensures keeps { Keeps (held_of tree.old) (held_of tree.new) }
+    ensures others { KeepsOutside (held_of tree.old) (held_of tree.new) (children_of_first (part_from view tree.old.tree)) }
+    ensures counted { Counted 0 tree.old tree.new work.old work.new }
+{
+    frame_phases(tree, view, plan, left, work)
 }
 
 /// One phase of a frame layout's measuring: each of its children in order, as the plan asks for it.
 #[cycle(measure)]
+#[inline(always)]
 fn frame_kids(tree: &mut ViewTree, view: Key, plan: &mut FramePlan, work: &mut Work)
     requires live { IsLive tree.old view }
     requires ready { Ready (held_of tree.old) (children_of_first (part_from view tree.old.tree)) }
@@ -453,6 +491,7 @@ fn frame_kids(tree: &mut ViewTree, view: Key, plan: &mut FramePlan, work: &mut W
 
 /// Measures a child as the plan of a frame layout asks for it, if it takes part in layout.
 #[cycle(measure)]
+#[inline(always)]
 fn frame_kid(tree: &mut ViewTree, kid: Key, plan: &mut FramePlan, work: &mut Work)
     requires live { IsLive tree.old kid }
     requires ready { Ready (held_of tree.old) (first_tree (part_from kid tree.old.tree)) }
@@ -481,23 +520,21 @@ fn frame_kid(tree: &mut ViewTree, kid: Key, plan: &mut FramePlan, work: &mut Wor
     frame_take(plan, tree.facts(kid), size);
 }
 
-/// The result of a frame layout's plan after its last phase.
-fn frame_outcome(plan: &FramePlan) -> Outcome
+/// The size of a frame layout by its plan after its last phase. It has no total.
+fn frame_size(plan: &FramePlan) -> Size
     ensures size { (group : Group) (past : List (List Measured)) (taken : List Measured)
         → Stands (Frame plan.now) group past taken
-        → result.size ≡ (rule_in group).size (past ++ taken ∷ []) }
+        → result ≡ (rule_in group).size (past ++ taken ∷ []) }
     ensures total { (group : Group) (past : List (List Measured)) (taken : List Measured)
         → Stands (Frame plan.now) group past taken
-        → result.total ≡ (rule_in group).total (past ++ taken ∷ []) }
+        → pos 0 ≡ (rule_in group).total (past ++ taken ∷ []) }
 {
-    Outcome {
-        size: plan.finish(),
-        total: 0,
-    }
+    plan.finish()
 }
 
 /// The remaining phases of a linear layout's measuring, at most this many after the next, and their result.
 #[cycle(measure)]
+#[inline(always)]
 fn linear_phases(
     tree: &mut ViewTree,
     view: Key,
@@ -528,11 +565,41 @@ fn linear_phases(
     if !linear_turn(plan) {
         return linear_outcome(plan);
     }
-    linear_phases(tree, view, plan, left - 1, work)
+    linear_more(tree, view, plan, left - 1, work)
+}
+
+/// The same, for the phases after the first one. Most groups have only one.
+#[cycle(measure)]
+#[inline(never)]
+fn linear_more(
+    tree: &mut ViewTree,
+    view: Key,
+    plan: &mut LinearPlan,
+    left: usize,
+    work: &mut Work,
+) -> Outcome
+    requires live { IsLive tree.old view }
+    requires left { left ≤ 2 }
+    requires ready { Ready (held_of tree.old) (children_of_first (part_from view tree.old.tree)) }
+    ensures ready { Ready (held_of tree.new) (children_of_first (part_from view tree.old.tree)) }
+    ensures is_tree { IsTree tree.old }
+    ensures phases { (group : Group) (past : List (List Measured)) (kids : List Requested)
+        → Stands (Linear plan.old) group past []
+        → InCourse (held_of tree.old) (children_of_first (part_from view tree.old.tree)) kids
+        → StaysReady (rule_in group) left (record { past = past; kids = kids })
+        → AfterAll group left (record { past = past; kids = kids }) (held_of tree.old) (held_of tree.new) (children_of_first (part_from view tree.old.tree))
+        result.size result.total work.old.measured work.new.measured }
+    ensures same { SameTree tree.old tree.new }
+    ensures keeps { Keeps (held_of tree.old) (held_of tree.new) }
+    ensures others { KeepsOutside (held_of tree.old) (held_of tree.new) (children_of_first (part_from view tree.old.tree)) }
+    ensures counted { Counted 0 tree.old tree.new work.old work.new }
+{
+    linear_phases(tree, view, plan, left, work)
 }
 
 /// One phase of a linear layout's measuring: each of its children in order, as the plan asks for it.
 #[cycle(measure)]
+#[inline(always)]
 fn linear_kids(tree: &mut ViewTree, view: Key, plan: &mut LinearPlan, work: &mut Work)
     requires live { IsLive tree.old view }
     requires ready { Ready (held_of tree.old) (children_of_first (part_from view tree.old.tree)) }
@@ -557,6 +624,7 @@ fn linear_kids(tree: &mut ViewTree, view: Key, plan: &mut LinearPlan, work: &mut
 
 /// Measures a child as the plan of a linear layout asks for it, if it takes part in layout.
 #[cycle(measure)]
+#[inline(always)]
 fn linear_kid(tree: &mut ViewTree, kid: Key, plan: &mut LinearPlan, work: &mut Work)
     requires live { IsLive tree.old kid }
     requires ready { Ready (held_of tree.old) (first_tree (part_from kid tree.old.tree)) }
@@ -602,13 +670,14 @@ fn linear_outcome(plan: &LinearPlan) -> Outcome
 
 /// The remaining phases of a scroll view's measuring, at most this many after the next, and their result.
 #[cycle(measure)]
+#[inline(always)]
 fn scroll_phases(
     tree: &mut ViewTree,
     view: Key,
     plan: &mut ScrollPlan,
     left: usize,
     work: &mut Work,
-) -> Outcome
+) -> Size
     requires live { IsLive tree.old view }
     requires left { left ≤ 2 }
     requires ready { Ready (held_of tree.old) (children_of_first (part_from view tree.old.tree)) }
@@ -619,7 +688,7 @@ fn scroll_phases(
         → InCourse (held_of tree.old) (children_of_first (part_from view tree.old.tree)) kids
         → StaysReady (rule_in group) left (record { past = past; kids = kids })
         → AfterAll group left (record { past = past; kids = kids }) (held_of tree.old) (held_of tree.new) (children_of_first (part_from view tree.old.tree))
-        result.size result.total work.old.measured work.new.measured }
+        result (pos 0) work.old.measured work.new.measured }
     ensures same { SameTree tree.old tree.new }
     ensures keeps { Keeps (held_of tree.old) (held_of tree.new) }
     ensures others { KeepsOutside (held_of tree.old) (held_of tree.new) (children_of_first (part_from view tree.old.tree)) }
@@ -627,16 +696,46 @@ fn scroll_phases(
 {
     scroll_kids(tree, view, plan, work);
     if left == 0 {
-        return scroll_outcome(plan);
+        return scroll_size(plan);
     }
     if !scroll_turn(plan) {
-        return scroll_outcome(plan);
+        return scroll_size(plan);
     }
-    scroll_phases(tree, view, plan, left - 1, work)
+    scroll_more(tree, view, plan, left - 1, work)
+}
+
+/// The same, for the phases after the first one. Most groups have only one.
+#[cycle(measure)]
+#[inline(never)]
+fn scroll_more(
+    tree: &mut ViewTree,
+    view: Key,
+    plan: &mut ScrollPlan,
+    left: usize,
+    work: &mut Work,
+) -> Size
+    requires live { IsLive tree.old view }
+    requires left { left ≤ 2 }
+    requires ready { Ready (held_of tree.old) (children_of_first (part_from view tree.old.tree)) }
+    ensures ready { Ready (held_of tree.new) (children_of_first (part_from view tree.old.tree)) }
+    ensures is_tree { IsTree tree.old }
+    ensures phases { (group : Group) (past : List (List Measured)) (kids : List Requested)
+        → Stands (Scroll plan.old) group past []
+        → InCourse (held_of tree.old) (children_of_first (part_from view tree.old.tree)) kids
+        → StaysReady (rule_in group) left (record { past = past; kids = kids })
+        → AfterAll group left (record { past = past; kids = kids }) (held_of tree.old) (held_of tree.new) (children_of_first (part_from view tree.old.tree))
+        result (pos 0) work.old.measured work.new.measured }
+    ensures same { SameTree tree.old tree.new }
+    ensures keeps { Keeps (held_of tree.old) (held_of tree.new) }
+    ensures others { KeepsOutside (held_of tree.old) (held_of tree.new) (children_of_first (part_from view tree.old.tree)) }
+    ensures counted { Counted 0 tree.old tree.new work.old work.new }
+{
+    scroll_phases(tree, view, plan, left, work)
 }
 
 /// One phase of a scroll view's measuring: each of its children in order, as the plan asks for it.
 #[cycle(measure)]
+#[inline(always)]
 fn scroll_kids(tree: &mut ViewTree, view: Key, plan: &mut ScrollPlan, work: &mut Work)
     requires live { IsLive tree.old view }
     requires ready { Ready (held_of tree.old) (children_of_first (part_from view tree.old.tree)) }
@@ -661,6 +760,7 @@ fn scroll_kids(tree: &mut ViewTree, view: Key, plan: &mut ScrollPlan, work: &mut
 
 /// Measures a child as the plan of a scroll view asks for it, if it takes part in layout.
 #[cycle(measure)]
+#[inline(always)]
 fn scroll_kid(tree: &mut ViewTree, kid: Key, plan: &mut ScrollPlan, work: &mut Work)
     requires live { IsLive tree.old kid }
     requires ready { Ready (held_of tree.old) (first_tree (part_from kid tree.old.tree)) }
@@ -689,17 +789,14 @@ fn scroll_kid(tree: &mut ViewTree, kid: Key, plan: &mut ScrollPlan, work: &mut W
     scroll_take(plan, tree.facts(kid), size);
 }
 
-/// The result of a scroll view's plan after its last phase.
-fn scroll_outcome(plan: &ScrollPlan) -> Outcome
+/// The size of a scroll view by its plan after its last phase. It has no total.
+fn scroll_size(plan: &ScrollPlan) -> Size
     ensures size { (group : Group) (past : List (List Measured)) (taken : List Measured)
         → Stands (Scroll plan.now) group past taken
-        → result.size ≡ (rule_in group).size (past ++ taken ∷ []) }
+        → result ≡ (rule_in group).size (past ++ taken ∷ []) }
     ensures total { (group : Group) (past : List (List Measured)) (taken : List Measured)
         → Stands (Scroll plan.now) group past taken
-        → result.total ≡ (rule_in group).total (past ++ taken ∷ []) }
+        → pos 0 ≡ (rule_in group).total (past ++ taken ∷ []) }
 {
-    Outcome {
-        size: plan.finish(),
-        total: 0,
-    }
+    plan.finish()
 }

@@ -1,9 +1,10 @@
 -- What is being placed, and how far that is.
-use Rattle.std.specs.Prelude.{◌≡◌, ℕ, false, List, ◌++◌, Option}
+use Rattle.std.specs.Prelude.{◌≡◌, ℕ, Bool, true, false, List, ◌++◌, Option}
 use Rattle.frame_layout.specs.Room.{IsRoom}
 use Rattle.geom_core.specs.declared.geometry.Rect.{Rect}
 use Rattle.linear_layout.specs.Cursor.{PlacesLinear}
-use Rattle.view_model.specs.declared.kinds.Class.TheVariants.{LinearLayout, RelativeLayout}
+use Rattle.view_model.specs.declared.kinds.Class.{Class}
+use Rattle.view_model.specs.declared.kinds.Class.TheVariants.{View, TextView, FrameLayout, LinearLayout, ScrollView, RelativeLayout}
 use Rattle.view_model.specs.Forest.{Forest}
 use Rattle.view_model.specs.FrameLayout.{frame_place}
 use Rattle.view_model.specs.Layout.{Spot, place_in}
@@ -13,6 +14,15 @@ use Rattle.view_tree.specs.Views.{Held, specs_of}
 use Rattle.traversal.specs.declared.laying.placer.Placer.{Placer}
 use Rattle.traversal.specs.declared.laying.placer.Placer.TheVariants.{Between, Over, InLine}
 use Rattle.kept_views.specs.Laying.{IsQuiet, last_sizes}
+
+-- whether a view of this class places its children over one another
+abbrev pub lays_over : Class → Bool
+lays_over View = true
+lays_over TextView = true
+lays_over FrameLayout = true
+lays_over LinearLayout = false
+lays_over ScrollView = true
+lays_over RelativeLayout = false
 
 -- a group places its children in this way, after these
 abbrev pub PlacesAs : Placer → Spot → List Measured → Type 0

@@ -1,16 +1,16 @@
 //! Laying a measured view and all below it, where they need that: the walk, which is the same for every class.
-ghost use Rattle.std.specs.Prelude.{◌≡◌, ◌≢◌, ◌+◌, ◌-ℤ◌, ◌≤◌, ◌^◌, ℤ, ◌⊎◌, true, false, if◌then◌else◌, [], IfSome, List, Some, length};
+ghost use Rattle.std.specs.Prelude.{◌≡◌, ◌≢◌, ◌+◌, ◌-ℤ◌, ◌≤◌, ◌^◌, ℤ, ◌⊎◌, true, false, if◌then◌else◌, [], IfSome, List, None, Some, length};
 ghost use Rattle.damage_rect.specs.Within.{LiesIn};
 ghost use Rattle.geom_core.specs.Rects.{holds};
 ghost use Rattle.geom_core.specs.declared.geometry.Rect.{Rect};
 ghost use Rattle.seen_parts.specs.Frames.{IsCanvas};
-ghost use Rattle.seen_parts.specs.Meeting.{as_seen};
+ghost use Rattle.seen_parts.specs.Meeting.{Follows, as_seen};
 ghost use Rattle.kept_views.specs.Kept.{owed};
 ghost use Rattle.kept_views.specs.Laying.{Fit, IsPut, IsQuiet, IsQuietAll, IsQuietBack, differ, moved_to, same_place, spot_of};
 ghost use Rattle.kept_views.specs.Passes.{settled, settled_at};
 ghost use Rattle.measure_pass.specs.Caches.{Grown};
 ghost use Rattle.measure_pass.specs.Measured.{IsFit, Keeps};
-ghost use Rattle.view_model.specs.declared.kinds.Class.TheVariants.{RelativeLayout};
+ghost use Rattle.view_model.specs.declared.kinds.Class.TheVariants.{LinearLayout, RelativeLayout};
 ghost use Rattle.view_model.specs.declared.limits.TheConstants.{MAX_VIEWS};
 ghost use Rattle.view_model.specs.Forest.{count_of};
 ghost use Rattle.view_model.specs.Facts.{is_shown};
@@ -19,7 +19,7 @@ ghost use Rattle.view_model.specs.Layout.{Spot};
 ghost use Rattle.view_model.specs.Measuring.{Measured};
 ghost use Rattle.view_model.specs.Offsets.{brought};
 ghost use Rattle.view_model.specs.RelativeLayout.{sides_of};
-ghost use Rattle.view_model.specs.Visible.{seen_in};
+ghost use Rattle.view_model.specs.Visible.{canvas_below, seen_in};
 ghost use Rattle.view_tree.specs.Rows.{first_tree, children_of_first, part_from};
 ghost use Rattle.scroll_offsets.specs.Bringing.{range_at};
 ghost use Rattle.view_tree.specs.Views.{IsLive, IsTree, KeepsOthers, KeepsOutside, SameTree, class_of, facts_of, held_of, offset_of, specs_of, state_of};
@@ -27,7 +27,7 @@ ghost use Rattle.traversal.specs.Counting.{IsCounted};
 ghost use Rattle.traversal.specs.Following.{GrowsWithin, KeepsSightIn};
 ghost use Rattle.traversal.specs.Growing.{LastAt};
 ghost use Rattle.traversal.specs.Narrow.{AreNarrow, IsNarrow, IsNarrowFor, IsStretch};
-ghost use Rattle.traversal.specs.Placing.{LaidKids, PlacesAs, Unmarked};
+ghost use Rattle.traversal.specs.Placing.{LaidKids, PlacesAs, Unmarked, lays_over};
 ghost use Rattle.traversal.specs.Resting.{IsAtPlace};
 
 use super::placer::{Placer, places_backwards};
@@ -36,25 +36,33 @@ use geom_core::{Rect, Size};
 use measure_pass::remeasure;
 use scroll_offsets::bring_one;
 use seen_parts::{Canvas, follow, part_seen};
-use view_model::Work;
+use view_model::{Class, Facts, Work};
 use view_tree::{Key, ViewTree};
+
+/// What the children of a view are laid in: the size of the view, and the canvas in which they are seen, if they are.
+#[derive(Clone, Copy)]
+pub struct Inside {
+    size: Size,
+    canvas: Option<Canvas>,
+}
 
 /// Lays a shown view, which was measured, in a rectangle, and all below it, where they need that.
 #[cycle(lay)]
+#[inline(always)]
 pub fn lay(
     tree: &mut ViewTree,
     view: Key,
     rect: Rect,
-    canvas: Option<Canvas>,
+    canvas: &Option<Canvas>,
     damage: &mut Damage,
     work: &mut Work,
 )
     requires fit { IsFit tree.old view }
     requires narrow { IsNarrow rect }
-    requires near { IfSome canvas (IsCanvas (2 ^ 37)) }
+    requires near { IfSome canvas.now (IsCanvas (2 ^ 37)) }
     ensures grew { LiesIn damage.old.rect damage.new.rect }
-    ensures sight { KeepsSightIn canvas damage.new.rect (held_of tree.old) (held_of tree.new) (first_tree (part_from view tree.old.tree)) }
-    ensures within { GrowsWithin canvas damage.old.rect damage.new.rect (held_of tree.old) (held_of tree.new) (first_tree (part_from view tree.old.tree)) }
+    ensures sight { KeepsSightIn canvas.now damage.new.rect (held_of tree.old) (held_of tree.new) (first_tree (part_from view tree.old.tree)) }
+    ensures within { GrowsWithin canvas.now damage.old.rect damage.new.rect (held_of tree.old) (held_of tree.new) (first_tree (part_from view tree.old.tree)) }
     ensures same { SameTree tree.old tree.new }
     ensures put { IsPut (held_of tree.old) (held_of tree.new) view (part_from view tree.old.tree) rect }
     ensures others { KeepsOutside (held_of tree.old) (held_of tree.new) (first_tree (part_from view tree.old.tree)) }
@@ -69,20 +77,21 @@ pub fn lay(
 
 /// The same, but that the view itself has not settled: what was asked of it stays until then.
 #[cycle(lay)]
+#[inline(always)]
 pub fn lay_open(
     tree: &mut ViewTree,
     view: Key,
     rect: Rect,
-    canvas: Option<Canvas>,
+    canvas: &Option<Canvas>,
     damage: &mut Damage,
     work: &mut Work,
 )
     requires fit { IsFit tree.old view }
     requires narrow { IsNarrow rect }
-    requires near { IfSome canvas (IsCanvas (2 ^ 37)) }
+    requires near { IfSome canvas.now (IsCanvas (2 ^ 37)) }
     ensures grew { LiesIn damage.old.rect damage.new.rect }
-    ensures sight { KeepsSightIn canvas damage.new.rect (held_of tree.old) (held_of tree.new) (first_tree (part_from view tree.old.tree)) }
-    ensures within { GrowsWithin canvas damage.old.rect damage.new.rect (held_of tree.old) (held_of tree.new) (first_tree (part_from view tree.old.tree)) }
+    ensures sight { KeepsSightIn canvas.now damage.new.rect (held_of tree.old) (held_of tree.new) (first_tree (part_from view tree.old.tree)) }
+    ensures within { GrowsWithin canvas.now damage.old.rect damage.new.rect (held_of tree.old) (held_of tree.new) (first_tree (part_from view tree.old.tree)) }
     ensures same { SameTree tree.old tree.new }
     ensures put { IsPut (held_of tree.old) (settled_at view (held_of tree.new)) view (part_from view tree.old.tree) rect }
     ensures others { KeepsOutside (held_of tree.old) (held_of tree.new) (first_tree (part_from view tree.old.tree)) }
@@ -99,25 +108,75 @@ pub fn lay_open(
     if is_calm(moved, state.forced, state.layout_needed) {
         return;
     }
-    let inner = follow(tree.facts(view), before, rect, canvas, damage);
-    lay_kids(tree, view, extent(rect), inner, damage, work);
+    let inner = follow_in(tree.facts(view), before, rect, canvas, damage);
+    let inside = Inside {
+        size: extent(rect),
+        canvas: inner,
+    };
+    lay_kids(tree, view, &inside, damage, work);
     bring(tree, view, rect, canvas, damage);
+}
+
+/// The same as `follow`, which is not called without a canvas.
+#[inline(always)]
+fn follow_in(
+    facts: &Facts,
+    before: Option<Rect>,
+    rect: Rect,
+    canvas: &Option<Canvas>,
+    damage: &mut Damage,
+) -> Option<Canvas>
+    requires { IfSome canvas.now (IsCanvas (2 ^ 37)) }
+    ensures grew { LiesIn damage.old.rect damage.new.rect }
+    ensures near { IfSome result (IsCanvas (2 ^ 37)) }
+    ensures follows { IfSome canvas.now (λ canvas. Follows facts.now before rect (as_seen canvas) damage.new.rect result) }
+    ensures within { (box : Rect) → LiesIn damage.old.rect box
+        → IfSome canvas.now (λ canvas. before ≢ Some rect → LiesIn (seen_in before (as_seen canvas)) box × LiesIn (seen_in (Some rect) (as_seen canvas)) box)
+        → LiesIn damage.new.rect box }
+    ensures unfollowed { canvas.now ≡ None → result ≡ None }
+    ensures stays { IfSome result (λ inner. (before ≡ Some rect) × IfSome canvas.now (λ canvas. as_seen inner ≡ canvas_below (Some rect) facts.now (as_seen canvas))) }
+{
+    match canvas {
+        None => None,
+        Some(canvas) => follow_seen(facts, before, rect, canvas, damage),
+    }
+}
+
+/// The same with a canvas. Most views that are laid have none, since what was seen of a view above them is damage.
+#[inline(never)]
+fn follow_seen(
+    facts: &Facts,
+    before: Option<Rect>,
+    rect: Rect,
+    canvas: &Canvas,
+    damage: &mut Damage,
+) -> Option<Canvas>
+    requires { IsCanvas (2 ^ 37) canvas.now }
+    ensures grew { LiesIn damage.old.rect damage.new.rect }
+    ensures near { IfSome result (IsCanvas (2 ^ 37)) }
+    ensures follows { Follows facts.now before rect (as_seen canvas.now) damage.new.rect result }
+    ensures within { (box : Rect) → LiesIn damage.old.rect box
+        → (before ≢ Some rect → LiesIn (seen_in before (as_seen canvas.now)) box × LiesIn (seen_in (Some rect) (as_seen canvas.now)) box)
+        → LiesIn damage.new.rect box }
+    ensures stays { IfSome result (λ inner. (before ≡ Some rect) × (as_seen inner ≡ canvas_below (Some rect) facts.now (as_seen canvas.now))) }
+{
+    follow(facts, before, rect, Some(*canvas), damage)
 }
 
 /// Brings the offset of a view in this rectangle into its range. If that changes it, what is seen of the view is
 /// damage; a view without a canvas is not looked at.
-fn bring(tree: &mut ViewTree, view: Key, rect: Rect, canvas: Option<Canvas>, damage: &mut Damage)
+fn bring(tree: &mut ViewTree, view: Key, rect: Rect, canvas: &Option<Canvas>, damage: &mut Damage)
     requires live { IsLive tree.old view }
-    requires near { IfSome canvas (IsCanvas (2 ^ 37)) }
+    requires near { IfSome canvas.now (IsCanvas (2 ^ 37)) }
     ensures same { SameTree tree.old tree.new }
     ensures held { held_of tree.new view ≡ record (held_of tree.old view) { offset = brought (range_at tree.old view) (offset_of tree.old view) } }
     ensures others { KeepsOthers tree.old tree.new view }
     ensures counts { tree.new.counts ≡ tree.old.counts }
     ensures grew { LiesIn damage.old.rect damage.new.rect }
-    ensures seen { IfSome canvas (λ canvas. (offset_of tree.new view ≡ offset_of tree.old view)
+    ensures seen { IfSome canvas.now (λ canvas. (offset_of tree.new view ≡ offset_of tree.old view)
         ⊎ ((x y : ℤ) → holds damage.new.rect x y ≡ false → holds (seen_in (Some rect) (as_seen canvas)) x y ≡ false)) }
     ensures within { (box : Rect) → LiesIn damage.old.rect box
-        → IfSome canvas (λ canvas. offset_of tree.new view ≢ offset_of tree.old view → LiesIn (seen_in (Some rect) (as_seen canvas)) box)
+        → IfSome canvas.now (λ canvas. offset_of tree.new view ≢ offset_of tree.old view → LiesIn (seen_in (Some rect) (as_seen canvas)) box)
         → LiesIn damage.new.rect box }
 {
     if !bring_one(tree, view) {
@@ -126,7 +185,7 @@ fn bring(tree: &mut ViewTree, view: Key, rect: Rect, canvas: Option<Canvas>, dam
     let Some(canvas) = canvas else {
         return;
     };
-    damage.add(part_seen(Some(rect), canvas));
+    damage.add(part_seen(Some(rect), *canvas));
 }
 
 /// Whether nothing is to be done below a view.
@@ -225,27 +284,20 @@ pub fn settle(tree: &mut ViewTree, view: Key)
     tree.set_state(view, state);
 }
 
-/// Lays the children of a view of this size, in the order in which it places them. A view without children is done at
-/// once.
+/// Lays the children of a view, in the order in which it places them. A view without children is done at once. What a
+/// placer holds is cleared where the function that holds it begins, so each kind of placing has a function of its own.
 #[cycle(lay)]
 #[inline(always)]
-fn lay_kids(
-    tree: &mut ViewTree,
-    view: Key,
-    size: Size,
-    canvas: Option<Canvas>,
-    damage: &mut Damage,
-    work: &mut Work,
-)
+fn lay_kids(tree: &mut ViewTree, view: Key, inside: &Inside, damage: &mut Damage, work: &mut Work)
     requires live { IsLive tree.old view }
     requires fit { Fit (held_of tree.old) (children_of_first (part_from view tree.old.tree)) }
     requires narrow { class_of tree.old view ≡ RelativeLayout → AreNarrow (held_of tree.old) (children_of_first (part_from view tree.old.tree)) }
-    requires near { IfSome canvas (IsCanvas (2 ^ 37)) }
+    requires near { IfSome inside.now.canvas (IsCanvas (2 ^ 37)) }
     ensures grew { LiesIn damage.old.rect damage.new.rect }
-    ensures sight { KeepsSightIn canvas damage.new.rect (held_of tree.old) (held_of tree.new) (children_of_first (part_from view tree.old.tree)) }
-    ensures within { GrowsWithin canvas damage.old.rect damage.new.rect (held_of tree.old) (held_of tree.new) (children_of_first (part_from view tree.old.tree)) }
+    ensures sight { KeepsSightIn inside.now.canvas damage.new.rect (held_of tree.old) (held_of tree.new) (children_of_first (part_from view tree.old.tree)) }
+    ensures within { GrowsWithin inside.now.canvas damage.old.rect damage.new.rect (held_of tree.old) (held_of tree.new) (children_of_first (part_from view tree.old.tree)) }
     ensures same { SameTree tree.old tree.new }
-    ensures quiet { IsQuietAll (held_of tree.new) (spot_of (part_from view tree.old.tree) (held_of tree.old view) size) (held_of tree.old) (children_of_first (part_from view tree.old.tree)) }
+    ensures quiet { IsQuietAll (held_of tree.new) (spot_of (part_from view tree.old.tree) (held_of tree.old view) inside.now.size) (held_of tree.old) (children_of_first (part_from view tree.old.tree)) }
     ensures others { KeepsOutside (held_of tree.old) (held_of tree.new) (children_of_first (part_from view tree.old.tree)) }
     ensures measured { work.new.measured ≤ work.old.measured + owed (held_of tree.old) (children_of_first (part_from view tree.old.tree)) }
     ensures laid { tree.new.counts.laid ≤ tree.old.counts.laid + differ (held_of tree.old) (held_of tree.new) (children_of_first (part_from view tree.old.tree)) }
@@ -256,32 +308,123 @@ fn lay_kids(
         return;
     }
     if places_backwards(tree, view) {
-        lay_backwards(tree, view, size, canvas, damage, work);
+        lay_backwards(tree, view, inside, damage, work);
         return;
     }
-    lay_forwards(tree, view, size, canvas, damage, work);
+    match tree.class(view) {
+        Class::View | Class::TextView | Class::FrameLayout | Class::ScrollView => {
+            lay_over(tree, view, inside, damage, work)
+        }
+        Class::LinearLayout => lay_in_line(tree, view, inside, damage, work),
+        Class::RelativeLayout => lay_between(tree, view, inside, damage, work),
+    }
 }
 
-/// Lays the children of a view of this size, from the first to the last.
+/// Lays the children of a view that places them over one another.
 #[cycle(lay)]
 #[inline(never)]
-fn lay_forwards(
+fn lay_over(tree: &mut ViewTree, view: Key, inside: &Inside, damage: &mut Damage, work: &mut Work)
+    requires live { IsLive tree.old view }
+    requires class { lays_over (class_of tree.old view) ≡ true }
+    requires fit { Fit (held_of tree.old) (children_of_first (part_from view tree.old.tree)) }
+    requires narrow { class_of tree.old view ≡ RelativeLayout → AreNarrow (held_of tree.old) (children_of_first (part_from view tree.old.tree)) }
+    requires near { IfSome inside.now.canvas (IsCanvas (2 ^ 37)) }
+    ensures grew { LiesIn damage.old.rect damage.new.rect }
+    ensures sight { KeepsSightIn inside.now.canvas damage.new.rect (held_of tree.old) (held_of tree.new) (children_of_first (part_from view tree.old.tree)) }
+    ensures within { GrowsWithin inside.now.canvas damage.old.rect damage.new.rect (held_of tree.old) (held_of tree.new) (children_of_first (part_from view tree.old.tree)) }
+    ensures same { SameTree tree.old tree.new }
+    ensures quiet { IsQuiet (held_of tree.new) (spot_of (part_from view tree.old.tree) (held_of tree.old view) inside.now.size) [] (held_of tree.old) (children_of_first (part_from view tree.old.tree)) }
+    ensures others { KeepsOutside (held_of tree.old) (held_of tree.new) (children_of_first (part_from view tree.old.tree)) }
+    ensures measured { work.new.measured ≤ work.old.measured + owed (held_of tree.old) (children_of_first (part_from view tree.old.tree)) }
+    ensures laid { tree.new.counts.laid ≤ tree.old.counts.laid + differ (held_of tree.old) (held_of tree.new) (children_of_first (part_from view tree.old.tree)) }
+    ensures counted { IsCounted tree.old tree.new work.old work.new }
+    ensures caches { Grown (LastAt (held_of tree.old) (children_of_first (part_from view tree.old.tree))) (held_of tree.old) (held_of tree.new) (children_of_first (part_from view tree.old.tree)) }
+{
+    let mut placer = Placer::over(tree, view, inside.size);
+    lay_forwards(tree, view, &mut placer, inside, damage, work);
+}
+
+/// Lays the children of a linear layout, from the first to the last.
+#[cycle(lay)]
+#[inline(never)]
+fn lay_in_line(
     tree: &mut ViewTree,
     view: Key,
-    size: Size,
-    canvas: Option<Canvas>,
+    inside: &Inside,
     damage: &mut Damage,
     work: &mut Work,
 )
     requires live { IsLive tree.old view }
+    requires class { class_of tree.old view ≡ LinearLayout }
     requires fit { Fit (held_of tree.old) (children_of_first (part_from view tree.old.tree)) }
     requires narrow { class_of tree.old view ≡ RelativeLayout → AreNarrow (held_of tree.old) (children_of_first (part_from view tree.old.tree)) }
-    requires near { IfSome canvas (IsCanvas (2 ^ 37)) }
+    requires near { IfSome inside.now.canvas (IsCanvas (2 ^ 37)) }
     ensures grew { LiesIn damage.old.rect damage.new.rect }
-    ensures sight { KeepsSightIn canvas damage.new.rect (held_of tree.old) (held_of tree.new) (children_of_first (part_from view tree.old.tree)) }
-    ensures within { GrowsWithin canvas damage.old.rect damage.new.rect (held_of tree.old) (held_of tree.new) (children_of_first (part_from view tree.old.tree)) }
+    ensures sight { KeepsSightIn inside.now.canvas damage.new.rect (held_of tree.old) (held_of tree.new) (children_of_first (part_from view tree.old.tree)) }
+    ensures within { GrowsWithin inside.now.canvas damage.old.rect damage.new.rect (held_of tree.old) (held_of tree.new) (children_of_first (part_from view tree.old.tree)) }
     ensures same { SameTree tree.old tree.new }
-    ensures quiet { IsQuiet (held_of tree.new) (spot_of (part_from view tree.old.tree) (held_of tree.old view) size) [] (held_of tree.old) (children_of_first (part_from view tree.old.tree)) }
+    ensures quiet { IsQuiet (held_of tree.new) (spot_of (part_from view tree.old.tree) (held_of tree.old view) inside.now.size) [] (held_of tree.old) (children_of_first (part_from view tree.old.tree)) }
+    ensures others { KeepsOutside (held_of tree.old) (held_of tree.new) (children_of_first (part_from view tree.old.tree)) }
+    ensures measured { work.new.measured ≤ work.old.measured + owed (held_of tree.old) (children_of_first (part_from view tree.old.tree)) }
+    ensures laid { tree.new.counts.laid ≤ tree.old.counts.laid + differ (held_of tree.old) (held_of tree.new) (children_of_first (part_from view tree.old.tree)) }
+    ensures counted { IsCounted tree.old tree.new work.old work.new }
+    ensures caches { Grown (LastAt (held_of tree.old) (children_of_first (part_from view tree.old.tree))) (held_of tree.old) (held_of tree.new) (children_of_first (part_from view tree.old.tree)) }
+{
+    let mut placer = Placer::in_line(tree, view, inside.size);
+    lay_forwards(tree, view, &mut placer, inside, damage, work);
+}
+
+/// Lays the children of a relative layout, each between its sides.
+#[cycle(lay)]
+#[inline(never)]
+fn lay_between(
+    tree: &mut ViewTree,
+    view: Key,
+    inside: &Inside,
+    damage: &mut Damage,
+    work: &mut Work,
+)
+    requires live { IsLive tree.old view }
+    requires class { class_of tree.old view ≡ RelativeLayout }
+    requires fit { Fit (held_of tree.old) (children_of_first (part_from view tree.old.tree)) }
+    requires narrow { class_of tree.old view ≡ RelativeLayout → AreNarrow (held_of tree.old) (children_of_first (part_from view tree.old.tree)) }
+    requires near { IfSome inside.now.canvas (IsCanvas (2 ^ 37)) }
+    ensures grew { LiesIn damage.old.rect damage.new.rect }
+    ensures sight { KeepsSightIn inside.now.canvas damage.new.rect (held_of tree.old) (held_of tree.new) (children_of_first (part_from view tree.old.tree)) }
+    ensures within { GrowsWithin inside.now.canvas damage.old.rect damage.new.rect (held_of tree.old) (held_of tree.new) (children_of_first (part_from view tree.old.tree)) }
+    ensures same { SameTree tree.old tree.new }
+    ensures quiet { IsQuiet (held_of tree.new) (spot_of (part_from view tree.old.tree) (held_of tree.old view) inside.now.size) [] (held_of tree.old) (children_of_first (part_from view tree.old.tree)) }
+    ensures others { KeepsOutside (held_of tree.old) (held_of tree.new) (children_of_first (part_from view tree.old.tree)) }
+    ensures measured { work.new.measured ≤ work.old.measured + owed (held_of tree.old) (children_of_first (part_from view tree.old.tree)) }
+    ensures laid { tree.new.counts.laid ≤ tree.old.counts.laid + differ (held_of tree.old) (held_of tree.new) (children_of_first (part_from view tree.old.tree)) }
+    ensures counted { IsCounted tree.old tree.new work.old work.new }
+    ensures caches { Grown (LastAt (held_of tree.old) (children_of_first (part_from view tree.old.tree))) (held_of tree.old) (held_of tree.new) (children_of_first (part_from view tree.old.tree)) }
+{
+    let mut placer = Placer::Between;
+    lay_forwards(tree, view, &mut placer, inside, damage, work);
+}
+
+/// Lays the children of a view, from the first to the last, by a placer that has placed none of them.
+#[cycle(lay)]
+#[inline(always)]
+fn lay_forwards(
+    tree: &mut ViewTree,
+    view: Key,
+    placer: &mut Placer,
+    inside: &Inside,
+    damage: &mut Damage,
+    work: &mut Work,
+)
+    requires live { IsLive tree.old view }
+    requires places { PlacesAs placer.old (spot_of (part_from view tree.old.tree) (held_of tree.old view) inside.now.size) [] }
+    requires fit { Fit (held_of tree.old) (children_of_first (part_from view tree.old.tree)) }
+    requires narrow { class_of tree.old view ≡ RelativeLayout → AreNarrow (held_of tree.old) (children_of_first (part_from view tree.old.tree)) }
+    requires near { IfSome inside.now.canvas (IsCanvas (2 ^ 37)) }
+    ensures grew { LiesIn damage.old.rect damage.new.rect }
+    ensures sight { KeepsSightIn inside.now.canvas damage.new.rect (held_of tree.old) (held_of tree.new) (children_of_first (part_from view tree.old.tree)) }
+    ensures within { GrowsWithin inside.now.canvas damage.old.rect damage.new.rect (held_of tree.old) (held_of tree.new) (children_of_first (part_from view tree.old.tree)) }
+    ensures same { SameTree tree.old tree.new }
+    ensures quiet { IsQuiet (held_of tree.new) (spot_of (part_from view tree.old.tree) (held_of tree.old view) inside.now.size) [] (held_of tree.old) (children_of_first (part_from view tree.old.tree)) }
     ensures others { KeepsOutside (held_of tree.old) (held_of tree.new) (children_of_first (part_from view tree.old.tree)) }
     ensures measured { work.new.measured ≤ work.old.measured + owed (held_of tree.old) (children_of_first (part_from view tree.old.tree)) }
     ensures laid { tree.new.counts.laid ≤ tree.old.counts.laid + differ (held_of tree.old) (held_of tree.new) (children_of_first (part_from view tree.old.tree)) }
@@ -290,33 +433,32 @@ fn lay_forwards(
 {
     let _in_range = work.measured;
     let mut next = tree.first(view);
-    let mut placer = Placer::start(tree, view, size);
     while let Some(kid) = next {
-        lay_kid(tree, &mut placer, kid, canvas, damage, work);
+        lay_kid(tree, placer, kid, &inside.canvas, damage, work);
         next = tree.next(kid);
     }
 }
 
-/// Lays the children of a view of this size, from the last to the first.
+/// Lays the children of a linear layout, from the last to the first.
 #[cycle(lay)]
 #[inline(never)]
 fn lay_backwards(
     tree: &mut ViewTree,
     view: Key,
-    size: Size,
-    canvas: Option<Canvas>,
+    inside: &Inside,
     damage: &mut Damage,
     work: &mut Work,
 )
     requires live { IsLive tree.old view }
+    requires class { class_of tree.old view ≡ LinearLayout }
     requires fit { Fit (held_of tree.old) (children_of_first (part_from view tree.old.tree)) }
     requires narrow { class_of tree.old view ≡ RelativeLayout → AreNarrow (held_of tree.old) (children_of_first (part_from view tree.old.tree)) }
-    requires near { IfSome canvas (IsCanvas (2 ^ 37)) }
+    requires near { IfSome inside.now.canvas (IsCanvas (2 ^ 37)) }
     ensures grew { LiesIn damage.old.rect damage.new.rect }
-    ensures sight { KeepsSightIn canvas damage.new.rect (held_of tree.old) (held_of tree.new) (children_of_first (part_from view tree.old.tree)) }
-    ensures within { GrowsWithin canvas damage.old.rect damage.new.rect (held_of tree.old) (held_of tree.new) (children_of_first (part_from view tree.old.tree)) }
+    ensures sight { KeepsSightIn inside.now.canvas damage.new.rect (held_of tree.old) (held_of tree.new) (children_of_first (part_from view tree.old.tree)) }
+    ensures within { GrowsWithin inside.now.canvas damage.old.rect damage.new.rect (held_of tree.old) (held_of tree.new) (children_of_first (part_from view tree.old.tree)) }
     ensures same { SameTree tree.old tree.new }
-    ensures quiet { IsQuietBack (held_of tree.new) (spot_of (part_from view tree.old.tree) (held_of tree.old view) size) (held_of tree.old) (children_of_first (part_from view tree.old.tree)) }
+    ensures quiet { IsQuietBack (held_of tree.new) (spot_of (part_from view tree.old.tree) (held_of tree.old view) inside.now.size) (held_of tree.old) (children_of_first (part_from view tree.old.tree)) }
     ensures others { KeepsOutside (held_of tree.old) (held_of tree.new) (children_of_first (part_from view tree.old.tree)) }
     ensures measured { work.new.measured ≤ work.old.measured + owed (held_of tree.old) (children_of_first (part_from view tree.old.tree)) }
     ensures laid { tree.new.counts.laid ≤ tree.old.counts.laid + differ (held_of tree.old) (held_of tree.new) (children_of_first (part_from view tree.old.tree)) }
@@ -324,10 +466,10 @@ fn lay_backwards(
     ensures caches { Grown (LastAt (held_of tree.old) (children_of_first (part_from view tree.old.tree))) (held_of tree.old) (held_of tree.new) (children_of_first (part_from view tree.old.tree)) }
 {
     let _in_range = work.measured;
-    let mut placer = Placer::start(tree, view, size);
+    let mut placer = Placer::in_line(tree, view, inside.size);
     let mut next = tree.last(view);
     while let Some(kid) = next {
-        lay_kid(tree, &mut placer, kid, canvas, damage, work);
+        lay_kid(tree, &mut placer, kid, &inside.canvas, damage, work);
         next = tree.previous(kid);
     }
 }
@@ -339,17 +481,17 @@ fn lay_kid(
     tree: &mut ViewTree,
     placer: &mut Placer,
     kid: Key,
-    canvas: Option<Canvas>,
+    canvas: &Option<Canvas>,
     damage: &mut Damage,
     work: &mut Work,
 )
     requires live { IsLive tree.old kid }
     requires fit { Fit (held_of tree.old) (first_tree (part_from kid tree.old.tree)) }
     requires narrow { is_shown (facts_of tree.old kid) ≡ true → IsNarrowFor placer.old (sides_of (state_of tree.old kid).edges) }
-    requires near { IfSome canvas (IsCanvas (2 ^ 37)) }
+    requires near { IfSome canvas.now (IsCanvas (2 ^ 37)) }
     ensures grew { LiesIn damage.old.rect damage.new.rect }
-    ensures sight { KeepsSightIn canvas damage.new.rect (held_of tree.old) (held_of tree.new) (first_tree (part_from kid tree.old.tree)) }
-    ensures within { GrowsWithin canvas damage.old.rect damage.new.rect (held_of tree.old) (held_of tree.new) (first_tree (part_from kid tree.old.tree)) }
+    ensures sight { KeepsSightIn canvas.now damage.new.rect (held_of tree.old) (held_of tree.new) (first_tree (part_from kid tree.old.tree)) }
+    ensures within { GrowsWithin canvas.now damage.old.rect damage.new.rect (held_of tree.old) (held_of tree.new) (first_tree (part_from kid tree.old.tree)) }
     ensures same { SameTree tree.old tree.new }
     ensures quiet { (spot : Spot) (before : List Measured)
         → PlacesAs placer.old spot before

@@ -1,5 +1,5 @@
 //! Where a group places its children, one after the other. What is here has one arm per class.
-ghost use Rattle.std.specs.Prelude.{◌≡◌, ◌<◌, [], ◌∷◌, ◌++◌, List, length};
+ghost use Rattle.std.specs.Prelude.{◌≡◌, ◌<◌, true, [], ◌∷◌, ◌++◌, List, length};
 ghost use Rattle.geom_core.specs.Limits.{IsSide};
 ghost use Rattle.view_model.specs.declared.limits.TheConstants.{MAX_VIEWS};
 ghost use Rattle.view_model.specs.Facts.{layout_facts};
@@ -11,7 +11,8 @@ ghost use Rattle.view_tree.specs.Rows.{part_from};
 ghost use Rattle.view_tree.specs.Views.{IsLive, IsTree, class_of, facts_of, held_of};
 ghost use Rattle.kept_views.specs.Laying.{spot_of};
 ghost use Rattle.traversal.specs.Narrow.{AreSidesNarrow, IsNarrow, IsNarrowFor};
-ghost use Rattle.traversal.specs.Placing.{PlacesAs};
+ghost use Rattle.traversal.specs.Placing.{PlacesAs, lays_over};
+ghost use Rattle.view_model.specs.declared.kinds.Class.TheVariants.{LinearLayout};
 
 use frame_layout::Room;
 use geom_core::{Rect, Size};
@@ -31,22 +32,26 @@ pub enum Placer {
 }
 
 impl Placer {
-    /// Before the first child of a view of this size.
+    /// Before the first child of a view of this size that places its children over one another.
     #[inline(always)]
-    pub fn start(tree: &ViewTree, view: Key, room: Size) -> Placer
+    pub fn over(tree: &ViewTree, view: Key, room: Size) -> Placer
         requires live { IsLive tree.now view }
+        requires class { lays_over (class_of tree.now view) ≡ true }
         ensures places { PlacesAs result (spot_of (part_from view tree.now.tree) (held_of tree.now view) room) [] }
         ensures is_tree { IsTree tree.now }
     {
-        match tree.class(view) {
-            Class::View | Class::TextView | Class::FrameLayout | Class::ScrollView => {
-                Placer::Over(Room::of(tree.facts(view), room))
-            }
-            Class::LinearLayout => {
-                Placer::InLine(Cursor::start(tree.facts(view), room, tree.state(view).total))
-            }
-            Class::RelativeLayout => Placer::Between,
-        }
+        Placer::Over(Room::of(tree.facts(view), room))
+    }
+
+    /// Before the first child of a linear layout of this size.
+    #[inline(always)]
+    pub fn in_line(tree: &ViewTree, view: Key, room: Size) -> Placer
+        requires live { IsLive tree.now view }
+        requires class { class_of tree.now view ≡ LinearLayout }
+        ensures places { PlacesAs result (spot_of (part_from view tree.now.tree) (held_of tree.now view) room) [] }
+        ensures is_tree { IsTree tree.now }
+    {
+        Placer::InLine(Cursor::start(tree.facts(view), room, tree.state(view).total))
     }
 
     /// The place of the next child, which has this size, and in a relative layout these sides.

@@ -58,7 +58,7 @@ pub fn lay_root(tree: &mut ViewTree, root: Key, window: Size, damage: &mut Damag
         tree,
         root,
         rect_at(0, 0, size),
-        Some(window_canvas(window)),
+        &Some(window_canvas(window)),
         damage,
         work,
     );

@@ -223,7 +223,7 @@ pub measure_frame-returns-clause-measured : goal.measure_frame-returns-clause-me
 measure_frame-returns-clause-measured t c =
     let specs : Specs = record { across = c.args.ws; down = c.args.hs } in
     let m = c.frame_phases in
-    measured_planned c.args.tree.now c.args.view specs (Frame c.start-plan.result) (held_of c.args.tree.now) (held_of m.new.tree) m.result.size m.result.total
+    measured_planned c.args.tree.now c.args.view specs (Frame c.start-plan.result) (held_of c.args.tree.now) (held_of m.new.tree) m.result (pos 0)
     c.args.work.now.measured m.new.work.measured m.ensures.is_tree c.requires.live
     (is_frame (for_layout (head_view (part_from c.args.view c.args.tree.now.tree))) specs c.start-plan.result c.requires.class (rw (ap layout_facts c.facts.ensures.value) at c.start-plan.ensures))
     m.ensures.phases
@@ -242,34 +242,34 @@ pub measure_scroll-returns-clause-measured : goal.measure_scroll-returns-clause-
 measure_scroll-returns-clause-measured t c =
     let specs : Specs = record { across = c.args.ws; down = c.args.hs } in
     let m = c.scroll_phases in
-    measured_planned c.args.tree.now c.args.view specs (Scroll c.start-plan.result) (held_of c.args.tree.now) (held_of m.new.tree) m.result.size m.result.total
+    measured_planned c.args.tree.now c.args.view specs (Scroll c.start-plan.result) (held_of c.args.tree.now) (held_of m.new.tree) m.result (pos 0)
     c.args.work.now.measured m.new.work.measured m.ensures.is_tree c.requires.live
     (is_scroll (for_layout (head_view (part_from c.args.view c.args.tree.now.tree))) specs c.start-plan.result c.requires.class (rw (ap layout_facts c.facts.ensures.value) at c.start-plan.ensures))
     m.ensures.phases
 
 pub frame_phases-returns-clause-counted : goal.frame_phases-returns-clause-counted
 frame_phases-returns-clause-counted t c =
-    counted_then 0 0 c.args.tree.now c.frame_kids.new.tree c.frame_phases.new.tree c.args.work.now c.frame_kids.new.work c.frame_phases.new.work
-    c.frame_kids.ensures.counted c.frame_phases.ensures.counted
+    counted_then 0 0 c.args.tree.now c.frame_kids.new.tree c.frame_more.new.tree c.args.work.now c.frame_kids.new.work c.frame_more.new.work
+    c.frame_kids.ensures.counted c.frame_more.ensures.counted
 
 pub frame_phases-returns-then-left-eq0-clause-phases : goal.frame_phases-returns-then-left-eq0-clause-phases
 frame_phases-returns-then-left-eq0-clause-phases t c = λ group past kids stands course ready.
     let before : Progress = record { past = past; kids = kids } in
     let phase = c.frame_kids.ensures.phase group past kids stands course (ready_now (rule_in group) c.args.left before ready) in
-    phases_end (Frame c.frame_kids.new.plan) group c.args.left past kids (held_of c.args.tree.now) (held_of c.frame_kids.new.tree) (children_of_first (part_from c.args.view c.args.tree.now.tree)) c.frame_outcome.result.size c.frame_outcome.result.total
+    phases_end (Frame c.frame_kids.new.plan) group c.args.left past kids (held_of c.args.tree.now) (held_of c.frame_kids.new.tree) (children_of_first (part_from c.args.view c.args.tree.now.tree)) c.frame_size.result (pos 0)
     c.args.work.now.measured c.frame_kids.new.work.measured
-    (ends_at_0 group c.args.left (one_phase (rule_in group) before) c.if-left-eq0.true) phase (c.frame_outcome.ensures.size group past _ phase.plan_stands) (c.frame_outcome.ensures.total group past _ phase.plan_stands)
+    (ends_at_0 group c.args.left (one_phase (rule_in group) before) c.if-left-eq0.true) phase (c.frame_size.ensures.size group past _ phase.plan_stands) (c.frame_size.ensures.total group past _ phase.plan_stands)
 
 pub frame_phases-returns-then-not-frame_turn-clause-phases : goal.frame_phases-returns-then-not-frame_turn-clause-phases
 frame_phases-returns-then-not-frame_turn-clause-phases t c = λ group past kids stands course ready.
     let before : Progress = record { past = past; kids = kids } in
     let phase = c.frame_kids.ensures.phase group past kids stands course (ready_now (rule_in group) c.args.left before ready) in
     let turned = c.frame_turn.ensures group past _ phase.plan_stands in
-    phases_end (Frame c.frame_kids.new.plan) group c.args.left past kids (held_of c.args.tree.now) (held_of c.frame_kids.new.tree) (children_of_first (part_from c.args.view c.args.tree.now.tree)) c.frame_outcome-then-not-frame_turn.result.size c.frame_outcome-then-not-frame_turn.result.total
+    phases_end (Frame c.frame_kids.new.plan) group c.args.left past kids (held_of c.args.tree.now) (held_of c.frame_kids.new.tree) (children_of_first (part_from c.args.view c.args.tree.now.tree)) c.frame_size-then-not-frame_turn.result (pos 0)
     c.args.work.now.measured c.frame_kids.new.work.measured
     (ends_here group c.args.left (one_phase (rule_in group) before) (sym turned.answers ∙ c.if-not-frame_turn.true)) phase
-    (c.frame_outcome-then-not-frame_turn.ensures.size group past _ (turned.ends c.if-not-frame_turn.true))
-    (c.frame_outcome-then-not-frame_turn.ensures.total group past _ (turned.ends c.if-not-frame_turn.true))
+    (c.frame_size-then-not-frame_turn.ensures.size group past _ (turned.ends c.if-not-frame_turn.true))
+    (c.frame_size-then-not-frame_turn.ensures.total group past _ (turned.ends c.if-not-frame_turn.true))
 
 pub frame_phases-returns-clause-phases : goal.frame_phases-returns-clause-phases
 frame_phases-returns-clause-phases t c = λ group past kids stands course ready.
@@ -280,9 +280,9 @@ frame_phases-returns-clause-phases t c = λ group past kids stands course ready.
     let turned = c.frame_turn.ensures group past _ phase.plan_stands in
     let again = sym turned.answers ∙ c.if-not-frame_turn.false in
     let next = one_phase rule before in
-    let more = rw c.frame_kids.ensures.same.tree at (c.frame_phases.ensures.phases group next.past next.kids (turned.follows c.if-not-frame_turn.false)) in
-    phases_more (Frame c.frame_kids.new.plan) group c.args.left past kids (held_of c.args.tree.now) (held_of c.frame_kids.new.tree) (held_of c.frame_phases.new.tree) list c.frame_phases.result.size c.frame_phases.result.total
-    c.args.work.now.measured c.frame_kids.new.work.measured c.frame_phases.new.work.measured
+    let more = rw c.frame_kids.ensures.same.tree at (c.frame_more.ensures.phases group next.past next.kids (turned.follows c.if-not-frame_turn.false)) in
+    phases_more (Frame c.frame_kids.new.plan) group c.args.left past kids (held_of c.args.tree.now) (held_of c.frame_kids.new.tree) (held_of c.frame_more.new.tree) list c.frame_more.result (pos 0)
+    c.args.work.now.measured c.frame_kids.new.work.measured c.frame_more.new.work.measured
     c.if-left-eq0.false again phase (more phase.course (ready_then rule c.args.left before c.if-left-eq0.false again ready))
 
 pub frame_kid-returns-then-not-is_shown-clause-counted : goal.frame_kid-returns-then-not-is_shown-clause-counted
@@ -396,8 +396,8 @@ frame_kids-returns-clause-ready t c =
 
 pub linear_phases-returns-clause-counted : goal.linear_phases-returns-clause-counted
 linear_phases-returns-clause-counted t c =
-    counted_then 0 0 c.args.tree.now c.linear_kids.new.tree c.linear_phases.new.tree c.args.work.now c.linear_kids.new.work c.linear_phases.new.work
-    c.linear_kids.ensures.counted c.linear_phases.ensures.counted
+    counted_then 0 0 c.args.tree.now c.linear_kids.new.tree c.linear_more.new.tree c.args.work.now c.linear_kids.new.work c.linear_more.new.work
+    c.linear_kids.ensures.counted c.linear_more.ensures.counted
 
 pub linear_phases-returns-then-left-eq0-clause-phases : goal.linear_phases-returns-then-left-eq0-clause-phases
 linear_phases-returns-then-left-eq0-clause-phases t c = λ group past kids stands course ready.
@@ -427,9 +427,9 @@ linear_phases-returns-clause-phases t c = λ group past kids stands course ready
     let turned = c.linear_turn.ensures group past _ phase.plan_stands in
     let again = sym turned.answers ∙ c.if-not-linear_turn.false in
     let next = one_phase rule before in
-    let more = rw c.linear_kids.ensures.same.tree at (c.linear_phases.ensures.phases group next.past next.kids (turned.follows c.if-not-linear_turn.false)) in
-    phases_more (Linear c.linear_kids.new.plan) group c.args.left past kids (held_of c.args.tree.now) (held_of c.linear_kids.new.tree) (held_of c.linear_phases.new.tree) list c.linear_phases.result.size c.linear_phases.result.total
-    c.args.work.now.measured c.linear_kids.new.work.measured c.linear_phases.new.work.measured
+    let more = rw c.linear_kids.ensures.same.tree at (c.linear_more.ensures.phases group next.past next.kids (turned.follows c.if-not-linear_turn.false)) in
+    phases_more (Linear c.linear_kids.new.plan) group c.args.left past kids (held_of c.args.tree.now) (held_of c.linear_kids.new.tree) (held_of c.linear_more.new.tree) list c.linear_more.result.size c.linear_more.result.total
+    c.args.work.now.measured c.linear_kids.new.work.measured c.linear_more.new.work.measured
     c.if-left-eq0.false again phase (more phase.course (ready_then rule c.args.left before c.if-left-eq0.false again ready))
 
 pub linear_kid-returns-then-not-is_shown-clause-counted : goal.linear_kid-returns-then-not-is_shown-clause-counted
@@ -543,27 +543,27 @@ linear_kids-returns-clause-ready t c =
 
 pub scroll_phases-returns-clause-counted : goal.scroll_phases-returns-clause-counted
 scroll_phases-returns-clause-counted t c =
-    counted_then 0 0 c.args.tree.now c.scroll_kids.new.tree c.scroll_phases.new.tree c.args.work.now c.scroll_kids.new.work c.scroll_phases.new.work
-    c.scroll_kids.ensures.counted c.scroll_phases.ensures.counted
+    counted_then 0 0 c.args.tree.now c.scroll_kids.new.tree c.scroll_more.new.tree c.args.work.now c.scroll_kids.new.work c.scroll_more.new.work
+    c.scroll_kids.ensures.counted c.scroll_more.ensures.counted
 
 pub scroll_phases-returns-then-left-eq0-clause-phases : goal.scroll_phases-returns-then-left-eq0-clause-phases
 scroll_phases-returns-then-left-eq0-clause-phases t c = λ group past kids stands course ready.
     let before : Progress = record { past = past; kids = kids } in
     let phase = c.scroll_kids.ensures.phase group past kids stands course (ready_now (rule_in group) c.args.left before ready) in
-    phases_end (Scroll c.scroll_kids.new.plan) group c.args.left past kids (held_of c.args.tree.now) (held_of c.scroll_kids.new.tree) (children_of_first (part_from c.args.view c.args.tree.now.tree)) c.scroll_outcome.result.size c.scroll_outcome.result.total
+    phases_end (Scroll c.scroll_kids.new.plan) group c.args.left past kids (held_of c.args.tree.now) (held_of c.scroll_kids.new.tree) (children_of_first (part_from c.args.view c.args.tree.now.tree)) c.scroll_size.result (pos 0)
     c.args.work.now.measured c.scroll_kids.new.work.measured
-    (ends_at_0 group c.args.left (one_phase (rule_in group) before) c.if-left-eq0.true) phase (c.scroll_outcome.ensures.size group past _ phase.plan_stands) (c.scroll_outcome.ensures.total group past _ phase.plan_stands)
+    (ends_at_0 group c.args.left (one_phase (rule_in group) before) c.if-left-eq0.true) phase (c.scroll_size.ensures.size group past _ phase.plan_stands) (c.scroll_size.ensures.total group past _ phase.plan_stands)
 
 pub scroll_phases-returns-then-not-scroll_turn-clause-phases : goal.scroll_phases-returns-then-not-scroll_turn-clause-phases
 scroll_phases-returns-then-not-scroll_turn-clause-phases t c = λ group past kids stands course ready.
     let before : Progress = record { past = past; kids = kids } in
     let phase = c.scroll_kids.ensures.phase group past kids stands course (ready_now (rule_in group) c.args.left before ready) in
     let turned = c.scroll_turn.ensures group past _ phase.plan_stands in
-    phases_end (Scroll c.scroll_kids.new.plan) group c.args.left past kids (held_of c.args.tree.now) (held_of c.scroll_kids.new.tree) (children_of_first (part_from c.args.view c.args.tree.now.tree)) c.scroll_outcome-then-not-scroll_turn.result.size c.scroll_outcome-then-not-scroll_turn.result.total
+    phases_end (Scroll c.scroll_kids.new.plan) group c.args.left past kids (held_of c.args.tree.now) (held_of c.scroll_kids.new.tree) (children_of_first (part_from c.args.view c.args.tree.now.tree)) c.scroll_size-then-not-scroll_turn.result (pos 0)
     c.args.work.now.measured c.scroll_kids.new.work.measured
     (ends_here group c.args.left (one_phase (rule_in group) before) (sym turned.answers ∙ c.if-not-scroll_turn.true)) phase
-    (c.scroll_outcome-then-not-scroll_turn.ensures.size group past _ (turned.ends c.if-not-scroll_turn.true))
-    (c.scroll_outcome-then-not-scroll_turn.ensures.total group past _ (turned.ends c.if-not-scroll_turn.true))
+    (c.scroll_size-then-not-scroll_turn.ensures.size group past _ (turned.ends c.if-not-scroll_turn.true))
+    (c.scroll_size-then-not-scroll_turn.ensures.total group past _ (turned.ends c.if-not-scroll_turn.true))
 
 pub scroll_phases-returns-clause-phases : goal.scroll_phases-returns-clause-phases
 scroll_phases-returns-clause-phases t c = λ group past kids stands course ready.
@@ -574,9 +574,9 @@ scroll_phases-returns-clause-phases t c = λ group past kids stands course ready
     let turned = c.scroll_turn.ensures group past _ phase.plan_stands in
     let again = sym turned.answers ∙ c.if-not-scroll_turn.false in
     let next = one_phase rule before in
-    let more = rw c.scroll_kids.ensures.same.tree at (c.scroll_phases.ensures.phases group next.past next.kids (turned.follows c.if-not-scroll_turn.false)) in
-    phases_more (Scroll c.scroll_kids.new.plan) group c.args.left past kids (held_of c.args.tree.now) (held_of c.scroll_kids.new.tree) (held_of c.scroll_phases.new.tree) list c.scroll_phases.result.size c.scroll_phases.result.total
-    c.args.work.now.measured c.scroll_kids.new.work.measured c.scroll_phases.new.work.measured
+    let more = rw c.scroll_kids.ensures.same.tree at (c.scroll_more.ensures.phases group next.past next.kids (turned.follows c.if-not-scroll_turn.false)) in
+    phases_more (Scroll c.scroll_kids.new.plan) group c.args.left past kids (held_of c.args.tree.now) (held_of c.scroll_kids.new.tree) (held_of c.scroll_more.new.tree) list c.scroll_more.result (pos 0)
+    c.args.work.now.measured c.scroll_kids.new.work.measured c.scroll_more.new.work.measured
     c.if-left-eq0.false again phase (more phase.course (ready_then rule c.args.left before c.if-left-eq0.false again ready))
 
 pub scroll_kid-returns-then-not-is_shown-clause-counted : goal.scroll_kid-returns-then-not-is_shown-clause-counted
@@ -807,10 +807,10 @@ measure_in_turn-returns-clause-turn t c = λ own specs past taken place stands i
     (record (held_of c.measure-got.new.tree key) { state = record (held_of c.measure-got.new.tree key).state { edges = c.take-edges.result } })) (sym x.key_is)
     (record { at = c.keep_edges.ensures.held; others = c.keep_edges.ensures.others }) in
     rw x.is (turn_taken c.args.axis own specs past taken list place x.row x.kids x.siblings (sym x.is ∙ part) c.take-edges.new.self
-    (held_of c.args.tree.now) (held_of c.measure-got.new.tree) (held_of c.keep_edges.new.tree) (facts_in (part_from c.args.kid tree)) c.edges_before-edges.result c.take-edges.result c.anchors_of-anchors.result asked
+    (held_of c.args.tree.now) (held_of c.measure-got.new.tree) (held_of c.keep_edges.new.tree) (facts_in (part_from c.args.kid tree)) c.edges_before-edges.result c.take-edges.result c.anchors_of.result asked
     c.measure-got.result c.args.work.now.measured c.measure-got.new.work.measured is fixed (rw x.is at shown) (rw x.is refl)
     (edges_known c.args.axis own specs kids (held_of c.args.tree.now) c.args.kid tree place c.edges_before-edges.result c.requires.kid shown c.edges_before-edges.ensures.first c.edges_before-edges.ensures.second known)
-    (rw (c.is_rtl.ensures own specs past taken stands) at (c.anchors_of-anchors.ensures place part)) (rw facts_is at (c.ask.ensures own specs past taken stands)) (rw x.is at m.size) (rw (m.same.tree, x.is) at m.measured.sized)
+    (rw (c.is_rtl.ensures own specs past taken stands) at (c.anchors_of.ensures place part)) (rw facts_is at (c.ask.ensures own specs past taken stands)) (rw x.is at m.size) (rw (m.same.tree, x.is) at m.measured.sized)
     (subst (λ key. specs_of (held_of c.measure-got.new.tree key).state ≡ asked) (sym x.key_is) m.measured.last)
     (rw still at (c.take-edges.ensures.edges own specs past taken stands)) (rw still at (c.take-edges.ensures.taken own specs past taken stands)) wrote
     (let o = once x.row.key in omega arith)

@@ -20,31 +20,31 @@ use Rattle.measure_pass.proofs.measuring.+measure.Given as goal
 
 -- one round from a view to its child goes through these functions
 abbrev pub decreases-measure : goal.decreases-measure
-decreases-measure l = 9 * count_of (first_tree (part_from l.view l.tree.now.tree)) + 7
+decreases-measure l = 11 * count_of (first_tree (part_from l.view l.tree.now.tree)) + 9
 
 abbrev pub decreases-measure_anew : goal.decreases-measure_anew
-decreases-measure_anew l = 9 * count_of (first_tree (part_from l.view l.tree.now.tree)) + 6
+decreases-measure_anew l = 11 * count_of (first_tree (part_from l.view l.tree.now.tree)) + 8
 
 abbrev pub decreases-measure_below : goal.decreases-measure_below
-decreases-measure_below l = 9 * count_of (first_tree (part_from l.view l.tree.now.tree)) + 5
+decreases-measure_below l = 11 * count_of (first_tree (part_from l.view l.tree.now.tree)) + 7
 
 abbrev pub decreases-measure_frame : goal.decreases-measure_frame
-decreases-measure_frame l = 9 * count_of (first_tree (part_from l.view l.tree.now.tree)) + 4
+decreases-measure_frame l = 11 * count_of (first_tree (part_from l.view l.tree.now.tree)) + 6
 
 abbrev pub decreases-measure_linear : goal.decreases-measure_linear
-decreases-measure_linear l = 9 * count_of (first_tree (part_from l.view l.tree.now.tree)) + 4
+decreases-measure_linear l = 11 * count_of (first_tree (part_from l.view l.tree.now.tree)) + 6
 
 abbrev pub decreases-measure_scroll : goal.decreases-measure_scroll
-decreases-measure_scroll l = 9 * count_of (first_tree (part_from l.view l.tree.now.tree)) + 4
+decreases-measure_scroll l = 11 * count_of (first_tree (part_from l.view l.tree.now.tree)) + 6
 
 abbrev pub decreases-measure_siblings : goal.decreases-measure_siblings
-decreases-measure_siblings l = 9 * count_of (first_tree (part_from l.view l.tree.now.tree)) + 3
+decreases-measure_siblings l = 11 * count_of (first_tree (part_from l.view l.tree.now.tree)) + 6
 
 abbrev pub decreases-measure_turns : goal.decreases-measure_turns
-decreases-measure_turns l = 9 * count_of (first_tree (part_from l.view l.tree.now.tree))
+decreases-measure_turns l = 11 * count_of (first_tree (part_from l.view l.tree.now.tree))
 
 abbrev pub decreases-measure_in_turn : goal.decreases-measure_in_turn
-decreases-measure_in_turn l = 9 * count_of (first_tree (part_from l.kid l.tree.now.tree)) + 8
+decreases-measure_in_turn l = 11 * count_of (first_tree (part_from l.kid l.tree.now.tree)) + 10
 
 abbrev pub invariant-measure_turns-loop-turn : goal.invariant-measure_turns-loop-turn
 invariant-measure_turns-loop-turn l =
@@ -66,13 +66,16 @@ invariant-measure_turns-loop-turn l =
     }
 
 abbrev pub decreases-frame_kid : goal.decreases-frame_kid
-decreases-frame_kid l = 9 * count_of (first_tree (part_from l.kid l.tree.now.tree)) + 8
+decreases-frame_kid l = 11 * count_of (first_tree (part_from l.kid l.tree.now.tree)) + 10
 
 abbrev pub decreases-frame_phases : goal.decreases-frame_phases
-decreases-frame_phases l = 9 * count_of (first_tree (part_from l.view l.tree.now.tree)) + 1 + l.left
+decreases-frame_phases l = 11 * count_of (first_tree (part_from l.view l.tree.now.tree)) + 1 + 2 * l.left
+
+abbrev pub decreases-frame_more : goal.decreases-frame_more
+decreases-frame_more l = 11 * count_of (first_tree (part_from l.view l.tree.now.tree)) + 2 + 2 * l.left
 
 abbrev pub decreases-frame_kids : goal.decreases-frame_kids
-decreases-frame_kids l = 9 * count_of (first_tree (part_from l.view l.tree.now.tree))
+decreases-frame_kids l = 11 * count_of (first_tree (part_from l.view l.tree.now.tree))
 
 abbrev pub invariant-frame_kids-loop-next : goal.invariant-frame_kids-loop-next
 invariant-frame_kids-loop-next l =
@@ -94,13 +97,16 @@ abbrev pub decreases-frame_kids-loop-next : goal.decreases-frame_kids-loop-next
 decreases-frame_kids-loop-next l = count_of (rest_from l.next l.tree.tree)
 
 abbrev pub decreases-linear_kid : goal.decreases-linear_kid
-decreases-linear_kid l = 9 * count_of (first_tree (part_from l.kid l.tree.now.tree)) + 8
+decreases-linear_kid l = 11 * count_of (first_tree (part_from l.kid l.tree.now.tree)) + 10
 
 abbrev pub decreases-linear_phases : goal.decreases-linear_phases
-decreases-linear_phases l = 9 * count_of (first_tree (part_from l.view l.tree.now.tree)) + 1 + l.left
+decreases-linear_phases l = 11 * count_of (first_tree (part_from l.view l.tree.now.tree)) + 1 + 2 * l.left
+
+abbrev pub decreases-linear_more : goal.decreases-linear_more
+decreases-linear_more l = 11 * count_of (first_tree (part_from l.view l.tree.now.tree)) + 2 + 2 * l.left
 
 abbrev pub decreases-linear_kids : goal.decreases-linear_kids
-decreases-linear_kids l = 9 * count_of (first_tree (part_from l.view l.tree.now.tree))
+decreases-linear_kids l = 11 * count_of (first_tree (part_from l.view l.tree.now.tree))
 
 abbrev pub invariant-linear_kids-loop-next : goal.invariant-linear_kids-loop-next
 invariant-linear_kids-loop-next l =
@@ -122,13 +128,16 @@ abbrev pub decreases-linear_kids-loop-next : goal.decreases-linear_kids-loop-nex
 decreases-linear_kids-loop-next l = count_of (rest_from l.next l.tree.tree)
 
 abbrev pub decreases-scroll_kid : goal.decreases-scroll_kid
-decreases-scroll_kid l = 9 * count_of (first_tree (part_from l.kid l.tree.now.tree)) + 8
+decreases-scroll_kid l = 11 * count_of (first_tree (part_from l.kid l.tree.now.tree)) + 10
 
 abbrev pub decreases-scroll_phases : goal.decreases-scroll_phases
-decreases-scroll_phases l = 9 * count_of (first_tree (part_from l.view l.tree.now.tree)) + 1 + l.left
+decreases-scroll_phases l = 11 * count_of (first_tree (part_from l.view l.tree.now.tree)) + 1 + 2 * l.left
+
+abbrev pub decreases-scroll_more : goal.decreases-scroll_more
+decreases-scroll_more l = 11 * count_of (first_tree (part_from l.view l.tree.now.tree)) + 2 + 2 * l.left
 
 abbrev pub decreases-scroll_kids : goal.decreases-scroll_kids
-decreases-scroll_kids l = 9 * count_of (first_tree (part_from l.view l.tree.now.tree))
+decreases-scroll_kids l = 11 * count_of (first_tree (part_from l.view l.tree.now.tree))
 
 abbrev pub invariant-scroll_kids-loop-next : goal.invariant-scroll_kids-loop-next
 invariant-scroll_kids-loop-next l =

@@ -9,6 +9,9 @@ use Rattle.kept_views.specs.Passes.{settled_at}
 use Rattle.kept_views.proofs.LaidFrames.{Fit-along, Fit-first, differ-along}
 use Rattle.kept_views.proofs.LaidRows.{moved_is}
 use Rattle.view_model.specs.declared.limits.TheConstants.{MAX_VIEWS}
+use Rattle.view_model.specs.declared.facts.Facts.{Facts}
+use Rattle.view_model.specs.declared.kinds.Class.{Class}
+use Rattle.view_model.specs.declared.kinds.Class.TheVariants.{View, TextView, FrameLayout, LinearLayout, ScrollView, RelativeLayout}
 use Rattle.view_model.specs.Facts.{is_shown, layout_facts}
 use Rattle.view_model.specs.Forest.{count_of}
 use Rattle.view_model.specs.Layout.{place_in, places_backwards}
@@ -101,7 +104,7 @@ lay_forwards-lay_kid-requires t c =
               (Fit-along (held_of c.args.tree.now) (held_of c.loop-next.tree) (part_from c.in-Some.kid tree) walk.walked.still walk.fit),
           (
             λ shown.
-                next_narrow tree (children_of_first (part_from c.args.view tree)) c.loop-next.placer (spot_of (part_from c.args.view tree) (held_of c.args.tree.now c.args.view) c.args.size)
+                next_narrow tree (children_of_first (part_from c.args.view tree)) c.loop-next.placer (spot_of (part_from c.args.view tree) (held_of c.args.tree.now c.args.view) c.args.inside.now.size)
                 (held_of c.args.tree.now) c.args.work.now.measured c.args.tree.now.counts.laid c.in-Some.kid (held_of c.loop-next.tree) c.loop-next.work.measured c.loop-next.tree.counts.laid walk shown,
             c.requires.near,
           ),
@@ -118,15 +121,15 @@ pub lay_forwards-loop-next-init : goal.lay_forwards-loop-next-init
 lay_forwards-loop-next-init t c =
     let tree = c.args.tree.now.tree in
     let first = c.first-next.ensures in
-    let spot = spot_of (part_from c.args.view tree) (held_of c.args.tree.now c.args.view) c.args.size in
+    let spot = spot_of (part_from c.args.view tree) (held_of c.args.tree.now c.args.view) c.args.inside.now.size in
     record {
       same = record { tree = refl; orders = refl; next = refl };
       counted = record { by = 0; work = omega arith; tree = omega arith; painted = refl };
       grew = λ x y h. h;
-      sight = walks_start c.args.canvas c.args.damage.now.rect tree (children_of_first (part_from c.args.view tree)) (held_of c.args.tree.now) c.first-next.result first.part;
-      cover = covers_start c.args.canvas c.args.damage.now.rect tree (children_of_first (part_from c.args.view tree)) (held_of c.args.tree.now) c.first-next.result first.part;
+      sight = walks_start c.args.inside.now.canvas c.args.damage.now.rect tree (children_of_first (part_from c.args.view tree)) (held_of c.args.tree.now) c.first-next.result first.part;
+      cover = covers_start c.args.inside.now.canvas c.args.damage.now.rect tree (children_of_first (part_from c.args.view tree)) (held_of c.args.tree.now) c.first-next.result first.part;
       walked =
-          laid_start tree (children_of_first (part_from c.args.view tree)) c.start-placer.result spot (held_of c.args.tree.now) c.args.work.now.measured c.args.tree.now.counts.laid c.first-next.result c.start-placer.ensures.places
+          laid_start tree (children_of_first (part_from c.args.view tree)) c.args.placer.now spot (held_of c.args.tree.now) c.args.work.now.measured c.args.tree.now.counts.laid c.first-next.result c.requires.places
           (count_few c.args.view tree c.requires.live first.is_tree.few) first.is_tree.keys first.part first.live c.requires.fit c.requires.narrow;
     }
 
@@ -135,7 +138,7 @@ lay_forwards-loop-next-preserved t c =
     let tree = c.args.tree.now.tree in
     let before = c.loop-next.invariant in
     let kid = c.lay_kid.ensures in
-    let spot = spot_of (part_from c.args.view tree) (held_of c.args.tree.now c.args.view) c.args.size in
+    let spot = spot_of (part_from c.args.view tree) (held_of c.args.tree.now c.args.view) c.args.inside.now.size in
     let walk = rw c.in-Some.is at before.walked in
     let alone_few = count_alone (part_from c.in-Some.kid tree) in
     let short = walk.short in
@@ -147,11 +150,11 @@ lay_forwards-loop-next-preserved t c =
       counted = counted_then before.counted kid.counted;
       grew = λ x y h. kid.grew x y (before.grew x y h);
       sight =
-          walks_on c.args.canvas c.loop-next.damage.rect c.lay_kid.new.damage.rect tree (children_of_first (part_from c.args.view tree)) (held_of c.args.tree.now) c.in-Some.kid
+          walks_on c.args.inside.now.canvas c.loop-next.damage.rect c.lay_kid.new.damage.rect tree (children_of_first (part_from c.args.view tree)) (held_of c.args.tree.now) c.in-Some.kid
           (held_of c.loop-next.tree) (held_of c.lay_kid.new.tree) c.next-next.result walk.walked (rw c.in-Some.is at before.sight) kid.grew
           (rw before.same.tree at kid.others) (rw before.same.tree at kid.sight) (rw (kid.same.tree, before.same.tree) at c.next-next.ensures.part);
       cover =
-          covers_on c.args.canvas c.args.damage.now.rect c.loop-next.damage.rect c.lay_kid.new.damage.rect tree (children_of_first (part_from c.args.view tree)) (held_of c.args.tree.now) c.in-Some.kid
+          covers_on c.args.inside.now.canvas c.args.damage.now.rect c.loop-next.damage.rect c.lay_kid.new.damage.rect tree (children_of_first (part_from c.args.view tree)) (held_of c.args.tree.now) c.in-Some.kid
           (held_of c.loop-next.tree) (held_of c.lay_kid.new.tree) c.next-next.result walk.walked (rw c.in-Some.is at before.cover)
           (rw before.same.tree at kid.others) (rw before.same.tree at kid.within) (rw (kid.same.tree, before.same.tree) at c.next-next.ensures.part);
       walked =
@@ -185,12 +188,12 @@ lay_forwards-returns-clause-caches t c =
 
 pub lay_forwards-returns-clause-sight : goal.lay_forwards-returns-clause-sight
 lay_forwards-returns-clause-sight t c =
-    walks_end c.args.canvas c.loop-next.damage.rect c.args.tree.now.tree (children_of_first (part_from c.args.view c.args.tree.now.tree)) (held_of c.args.tree.now) (held_of c.loop-next.tree)
+    walks_end c.args.inside.now.canvas c.loop-next.damage.rect c.args.tree.now.tree (children_of_first (part_from c.args.view c.args.tree.now.tree)) (held_of c.args.tree.now) (held_of c.loop-next.tree)
     (rw c.in_default.is at c.loop-next.invariant.sight)
 
 pub lay_forwards-returns-clause-within : goal.lay_forwards-returns-clause-within
 lay_forwards-returns-clause-within t c =
-    covers_end c.args.canvas c.args.damage.now.rect c.loop-next.damage.rect c.args.tree.now.tree (children_of_first (part_from c.args.view c.args.tree.now.tree)) (held_of c.args.tree.now) (held_of c.loop-next.tree)
+    covers_end c.args.inside.now.canvas c.args.damage.now.rect c.loop-next.damage.rect c.args.tree.now.tree (children_of_first (part_from c.args.view c.args.tree.now.tree)) (held_of c.args.tree.now) (held_of c.loop-next.tree)
     (rw c.in_default.is at c.loop-next.invariant.cover)
 
 -- lay_backwards
@@ -199,43 +202,43 @@ pub lay_backwards-lay_kid-requires : goal.lay_backwards-lay_kid-requires
 lay_backwards-lay_kid-requires t c =
     let tree = c.args.tree.now.tree in
     let list = children_of_first (part_from c.args.view tree) in
-    let spot = spot_of (part_from c.args.view tree) (held_of c.args.tree.now c.args.view) c.args.size in
+    let spot = spot_of (part_from c.args.view tree) (held_of c.args.tree.now c.args.view) c.args.inside.now.size in
     let start = stage_of c.args.tree.now c.args.damage.now.rect c.args.work.now in
     let now = stage_of c.loop-next.tree c.loop-next.damage.rect c.loop-next.work in
     let walk = rw c.in-Some.is at c.loop-next.invariant.walked in
-    let keys = c.start-placer.ensures.is_tree.keys in
+    let keys = c.in_line-placer.ensures.is_tree.keys in
     let fewer = fewer_back tree c.args.view c.in-Some.kid c.requires.live walk.kid in
     rw c.loop-next.invariant.same.tree (
       omega arith,
       (
         walk.kid.live,
         (
-          back_fit tree list c.loop-next.placer spot c.args.canvas start c.in-Some.kid now keys walk c.requires.fit,
-          (back_narrow tree list c.loop-next.placer spot c.args.canvas start c.in-Some.kid now keys walk c.requires.narrow, c.requires.near),
+          back_fit tree list c.loop-next.placer spot c.args.inside.now.canvas start c.in-Some.kid now keys walk c.requires.fit,
+          (back_narrow tree list c.loop-next.placer spot c.args.inside.now.canvas start c.in-Some.kid now keys walk c.requires.narrow, c.requires.near),
         ),
       ),
     )
 
 stepped : (t : ℕ) (c : goal.lay_backwards-After-previous-next t)
-    → (let spot = spot_of (part_from c.args.view c.args.tree.now.tree) (held_of c.args.tree.now c.args.view) c.args.size in
-    WalkTo c.args.tree.now.tree c.args.view c.lay_kid.new.placer spot c.args.canvas (stage_of c.args.tree.now c.args.damage.now.rect c.args.work.now)
+    → (let spot = spot_of (part_from c.args.view c.args.tree.now.tree) (held_of c.args.tree.now c.args.view) c.args.inside.now.size in
+    WalkTo c.args.tree.now.tree c.args.view c.lay_kid.new.placer spot c.args.inside.now.canvas (stage_of c.args.tree.now c.args.damage.now.rect c.args.work.now)
     (stage_of c.lay_kid.new.tree c.lay_kid.new.damage.rect c.lay_kid.new.work) c.in-Some.kid c.previous-next.result)
 stepped t c =
     let tree = c.args.tree.now.tree in
     let list = children_of_first (part_from c.args.view tree) in
     let before = c.loop-next.invariant in
     let kid = c.lay_kid.ensures in
-    let is_tree = c.start-placer.ensures.is_tree in
-    let spot = spot_of (part_from c.args.view tree) (held_of c.args.tree.now c.args.view) c.args.size in
+    let is_tree = c.in_line-placer.ensures.is_tree in
+    let spot = spot_of (part_from c.args.view tree) (held_of c.args.tree.now c.args.view) c.args.inside.now.size in
     let start = stage_of c.args.tree.now c.args.damage.now.rect c.args.work.now in
     let old = stage_of c.loop-next.tree c.loop-next.damage.rect c.loop-next.work in
     let mid = stage_of c.lay_kid.new.tree c.lay_kid.new.damage.rect c.lay_kid.new.work in
     let walk = rw c.in-Some.is at before.walked in
-    let few = back_few tree list c.loop-next.placer spot c.args.canvas start c.in-Some.kid old is_tree.keys walk (count_few c.args.view tree c.requires.live is_tree.few) in
+    let few = back_few tree list c.loop-next.placer spot c.args.inside.now.canvas start c.in-Some.kid old is_tree.keys walk (count_few c.args.view tree c.requires.live is_tree.few) in
     let sizes = sizes_back (held_of c.args.tree.now) (later_siblings (part_from c.in-Some.kid tree)) in
     let laid : LaidKids c.lay_kid.new.placer spot sizes (held_of c.loop-next.tree) (held_of c.lay_kid.new.tree) (first_tree (part_from c.in-Some.kid tree)) =
     (rw before.same.tree at (kid.quiet spot sizes walk.places)) few in
-    let done : IsDone c.args.canvas old mid (first_tree (part_from c.in-Some.kid c.loop-next.tree.tree)) = record {
+    let done : IsDone c.args.inside.now.canvas old mid (first_tree (part_from c.in-Some.kid c.loop-next.tree.tree)) = record {
       others = kid.others;
       measures = kid.measured;
       moves = kid.laid;
@@ -244,7 +247,7 @@ stepped t c =
       sight = kid.sight;
       within = kid.within;
     } in
-    back_on tree c.args.view c.loop-next.placer c.lay_kid.new.placer spot c.args.canvas start c.in-Some.kid old mid c.previous-next.result
+    back_on tree c.args.view c.loop-next.placer c.lay_kid.new.placer spot c.args.inside.now.canvas start c.in-Some.kid old mid c.previous-next.result
     is_tree.keys c.requires.live walk laid (rw before.same.tree at done) (rw (kid.same.tree, before.same.tree) at c.previous-next.ensures.key)
 
 pub lay_backwards-loop-next-smaller : goal.lay_backwards-loop-next-smaller
@@ -254,13 +257,13 @@ lay_backwards-loop-next-smaller t c =
 pub lay_backwards-loop-next-init : goal.lay_backwards-loop-next-init
 lay_backwards-loop-next-init t c =
     let tree = c.args.tree.now.tree in
-    let spot = spot_of (part_from c.args.view tree) (held_of c.args.tree.now c.args.view) c.args.size in
+    let spot = spot_of (part_from c.args.view tree) (held_of c.args.tree.now c.args.view) c.args.inside.now.size in
     record {
       same = record { tree = refl; orders = refl; next = refl };
       counted = record { by = 0; work = omega arith; tree = omega arith; painted = refl };
       walked =
-          back_start tree c.args.view c.start-placer.result spot c.args.canvas (stage_of c.args.tree.now c.args.damage.now.rect c.args.work.now) c.last-next.result
-          c.start-placer.ensures.is_tree.keys c.requires.live c.last-next.ensures.key c.start-placer.ensures.places;
+          back_start tree c.args.view c.in_line-placer.result spot c.args.inside.now.canvas (stage_of c.args.tree.now c.args.damage.now.rect c.args.work.now) c.last-next.result
+          c.in_line-placer.ensures.is_tree.keys c.requires.live c.last-next.ensures.key c.in_line-placer.ensures.places;
     }
 
 pub lay_backwards-loop-next-preserved : goal.lay_backwards-loop-next-preserved
@@ -318,7 +321,7 @@ lay_backwards-returns-clause-within t c =
 pub lay_kids-returns-then-is_none-clause-quiet : goal.lay_kids-returns-then-is_none-clause-quiet
 lay_kids-returns-then-is_none-clause-quiet t c =
     let tree = c.args.tree.now.tree in
-    let spot = spot_of (part_from c.args.view tree) (held_of c.args.tree.now c.args.view) c.args.size in
+    let spot = spot_of (part_from c.args.view tree) (held_of c.args.tree.now c.args.view) c.args.inside.now.size in
     quiet_none (held_of c.args.tree.now) (held_of c.args.tree.now) spot (children_of_first (part_from c.args.view tree)) c.first.result c.is_none.result c.is_none.ensures c.if-is_none.true c.first.ensures.key
 
 pub lay_kids-returns-then-is_none-clause-caches : goal.lay_kids-returns-then-is_none-clause-caches
@@ -329,7 +332,7 @@ lay_kids-returns-then-is_none-clause-caches t c =
 pub lay_kids-returns-then-is_none-clause-sight : goal.lay_kids-returns-then-is_none-clause-sight
 lay_kids-returns-then-is_none-clause-sight t c =
     let list = children_of_first (part_from c.args.view c.args.tree.now.tree) in
-    sight_same c.args.canvas c.args.damage.now.rect (held_of c.args.tree.now) (held_of c.args.tree.now) list (λ key here. (refl, refl))
+    sight_same c.args.inside.now.canvas c.args.damage.now.rect (held_of c.args.tree.now) (held_of c.args.tree.now) list (λ key here. (refl, refl))
 
 pub lay_kids-returns-then-is_none-clause-within : goal.lay_kids-returns-then-is_none-clause-within
 lay_kids-returns-then-is_none-clause-within t c = λ box lies covered. lies
@@ -341,12 +344,39 @@ lay_kids-returns-then-places_backwards-clause-quiet t c =
     let back : places_backwards class (layout_facts facts) ≡ true = sym (backwards_is class facts) ∙ sym c.places_backwards.ensures ∙ c.if-places_backwards.true in
     rw back c.lay_backwards.ensures.quiet
 
-pub lay_kids-returns-clause-quiet : goal.lay_kids-returns-clause-quiet
-lay_kids-returns-clause-quiet t c =
+is_in_line : (class : Class) (facts : Facts) → places_backwards class facts ≡ true → class ≡ LinearLayout
+is_in_line View facts e = absurd (cc)
+is_in_line TextView facts e = absurd (cc)
+is_in_line FrameLayout facts e = absurd (cc)
+is_in_line LinearLayout facts e = refl
+is_in_line ScrollView facts e = absurd (cc)
+is_in_line RelativeLayout facts e = absurd (cc)
+
+pub lay_kids-lay_backwards-requires : goal.lay_kids-lay_backwards-requires
+lay_kids-lay_backwards-requires t c =
+    let class = is_in_line (class_of c.args.tree.now c.args.view) (facts_of c.args.tree.now c.args.view) (sym c.places_backwards.ensures ∙ c.if-places_backwards.true) in
+    (omega arith, (c.requires.live, (class, (c.requires.fit, (c.requires.narrow, c.requires.near)))))
+
+pub lay_kids-returns-in-View-clause-quiet : goal.lay_kids-returns-in-View-clause-quiet
+lay_kids-returns-in-View-clause-quiet t c =
     let class = class_of c.args.tree.now c.args.view in
     let facts = facts_of c.args.tree.now c.args.view in
     let on : places_backwards class (layout_facts facts) ≡ false = sym (backwards_is class facts) ∙ sym c.places_backwards.ensures ∙ c.if-places_backwards.false in
-    rw on c.lay_forwards.ensures.quiet
+    rw on c.lay_over.ensures.quiet
+
+pub lay_kids-returns-in-LinearLayout-clause-quiet : goal.lay_kids-returns-in-LinearLayout-clause-quiet
+lay_kids-returns-in-LinearLayout-clause-quiet t c =
+    let class = class_of c.args.tree.now c.args.view in
+    let facts = facts_of c.args.tree.now c.args.view in
+    let on : places_backwards class (layout_facts facts) ≡ false = sym (backwards_is class facts) ∙ sym c.places_backwards.ensures ∙ c.if-places_backwards.false in
+    rw on c.lay_in_line.ensures.quiet
+
+pub lay_kids-returns-in-RelativeLayout-clause-quiet : goal.lay_kids-returns-in-RelativeLayout-clause-quiet
+lay_kids-returns-in-RelativeLayout-clause-quiet t c =
+    let class = class_of c.args.tree.now c.args.view in
+    let facts = facts_of c.args.tree.now c.args.view in
+    let on : places_backwards class (layout_facts facts) ≡ false = sym (backwards_is class facts) ∙ sym c.places_backwards.ensures ∙ c.if-places_backwards.false in
+    rw on c.lay_between.ensures.quiet
 
 -- lay_open
 
@@ -382,7 +412,7 @@ lay_open-returns-then-is_calm-clause-sight t c =
     let list = first_tree (part_from c.args.view c.args.tree.now.tree) in
     let calm = calm_of c.move_to-moved.result c.state-state.result.forced c.state-state.result.layout_needed (sym c.is_calm.ensures ∙ c.if-is_calm.true) in
     let keeps = c.make_fit.ensures.keeps in
-    sight_same c.args.canvas c.args.damage.now.rect (held_of c.args.tree.now) (held_of c.move_to-moved.new.tree) list
+    sight_same c.args.canvas.now c.args.damage.now.rect (held_of c.args.tree.now) (held_of c.move_to-moved.new.tree) list
     (subst (λ (views : Views). SamePlaces (held_of c.args.tree.now) (held_of views) list) (sym (c.move_to-moved.ensures.still calm.0)) (λ key here. (keeps.bounds key, keeps.offsets key)))
 
 pub lay_open-returns-then-is_calm-clause-within : goal.lay_open-returns-then-is_calm-clause-within
@@ -400,7 +430,7 @@ lay_open-lay_kids-requires t c =
     let there = moved_is (a view) (b view) c.args.rect c.move_to-moved.result f.moved f.held in
     let under = below_at tree view a b (moved_to (a view) c.args.rect) c.make_fit.ensures.is_tree.keys r.live r.shown c.make_fit.ensures.fit c.make_fit.ensures.unmarked.first
     (record { at = there; others = f.others }) in
-    rw same (omega arith, (r.live, (under.fit, (under.narrow, c.follow-inner.ensures.near))))
+    rw same (omega arith, (r.live, (under.fit, (under.narrow, c.follow_in-inner.ensures.near))))
 
 pub lay_open-returns-clause-put : goal.lay_open-returns-clause-put
 lay_open-returns-clause-put t c =
@@ -420,7 +450,7 @@ lay_open-returns-clause-put t c =
     (record { at = rw all at c.bring.ensures.held; others = c.bring.ensures.others })
 
 pub lay_open-returns-clause-grew : goal.lay_open-returns-clause-grew
-lay_open-returns-clause-grew t c = λ x y h. c.bring.ensures.grew x y (c.lay_kids.ensures.grew x y (c.follow-inner.ensures.grew x y h))
+lay_open-returns-clause-grew t c = λ x y h. c.bring.ensures.grew x y (c.lay_kids.ensures.grew x y (c.follow_in-inner.ensures.grew x y h))
 
 pub lay_open-returns-clause-sight : goal.lay_open-returns-clause-sight
 lay_open-returns-clause-sight t c =
@@ -438,8 +468,8 @@ lay_open-returns-clause-sight t c =
     let steps = steps_by view c.args.rect (children_of_first (part_from view tree)) old a b l n g.keeps.bounds g.keeps.offsets (record { at = there; others = f.others })
     (rw same at c.lay_kids.ensures.others) (ap (λ (h : Held). h.state.bounds) c.bring.ensures.held) c.bring.ensures.others in
     let was : (old view).state.bounds ≡ c.state-before.result.bounds = sym (ap (λ (state : State). state.bounds) c.state-before.ensures.value ∙ g.keeps.bounds view) in
-    sight_at tree view c.args.rect old b l n c.args.canvas c.follow-inner.result c.follow-inner.new.damage.rect c.lay_kids.new.damage.rect c.bring.new.damage.rect c.state-before.result.bounds c.facts.result.now
-    c.requires.fit.live g.is_tree.keys steps was (rw same at c.facts.ensures.value) c.follow-inner.ensures.follows c.lay_kids.ensures.grew c.bring.ensures.grew (rw same at c.lay_kids.ensures.sight) c.bring.ensures.seen
+    sight_at tree view c.args.rect old b l n c.args.canvas.now c.follow_in-inner.result c.follow_in-inner.new.damage.rect c.lay_kids.new.damage.rect c.bring.new.damage.rect c.state-before.result.bounds c.facts.result.now
+    c.requires.fit.live g.is_tree.keys steps was (rw same at c.facts.ensures.value) c.follow_in-inner.ensures.follows c.lay_kids.ensures.grew c.bring.ensures.grew (rw same at c.lay_kids.ensures.sight) c.bring.ensures.seen
 
 pub lay_open-returns-clause-within : goal.lay_open-returns-clause-within
 lay_open-returns-clause-within t c =
@@ -457,9 +487,9 @@ lay_open-returns-clause-within t c =
     let steps = steps_by view c.args.rect (children_of_first (part_from view tree)) old a b l n g.keeps.bounds g.keeps.offsets (record { at = there; others = f.others })
     (rw same at c.lay_kids.ensures.others) (ap (λ (h : Held). h.state.bounds) c.bring.ensures.held) c.bring.ensures.others in
     let was : (old view).state.bounds ≡ c.state-before.result.bounds = sym (ap (λ (state : State). state.bounds) c.state-before.ensures.value ∙ g.keeps.bounds view) in
-    covers_at tree view c.args.rect old b l n c.args.canvas c.follow-inner.result c.follow-inner.new.damage.rect c.lay_kids.new.damage.rect c.bring.new.damage.rect c.state-before.result.bounds c.facts.result.now
+    covers_at tree view c.args.rect old b l n c.args.canvas.now c.follow_in-inner.result c.follow_in-inner.new.damage.rect c.lay_kids.new.damage.rect c.bring.new.damage.rect c.state-before.result.bounds c.facts.result.now
     c.requires.fit.live g.is_tree.keys steps was (rw same at c.facts.ensures.value) c.args.damage.now.rect
-    c.follow-inner.ensures.within c.follow-inner.ensures.unfollowed c.follow-inner.ensures.stays (rw same at c.lay_kids.ensures.within) c.bring.ensures.within
+    c.follow_in-inner.ensures.within c.follow_in-inner.ensures.unfollowed c.follow_in-inner.ensures.stays (rw same at c.lay_kids.ensures.within) c.bring.ensures.within
 
 pub lay_open-returns-clause-others : goal.lay_open-returns-clause-others
 lay_open-returns-clause-others t c = λ key none.
@@ -592,7 +622,7 @@ lay-returns-clause-sight t c =
     let mid = held_of c.lay_open.new.tree in
     let new = held_of c.settle.new.tree in
     let list = first_tree (part_from c.args.view c.args.tree.now.tree) in
-    sight_along c.args.canvas c.lay_open.new.damage.rect old old mid new list (λ key here. (refl, refl)) (settled_places c.args.view mid new list c.settle.ensures.held c.settle.ensures.others) c.lay_open.ensures.sight
+    sight_along c.args.canvas.now c.lay_open.new.damage.rect old old mid new list (λ key here. (refl, refl)) (settled_places c.args.view mid new list c.settle.ensures.held c.settle.ensures.others) c.lay_open.ensures.sight
 
 pub lay-returns-clause-within : goal.lay-returns-clause-within
 lay-returns-clause-within t c = λ box lies covered.
@@ -601,7 +631,7 @@ lay-returns-clause-within t c = λ box lies covered.
     let new = held_of c.settle.new.tree in
     let list = first_tree (part_from c.args.view c.args.tree.now.tree) in
     let same = settled_places c.args.view mid new list c.settle.ensures.held c.settle.ensures.others in
-    c.lay_open.ensures.within box lies (covers_along c.args.canvas box old old new mid list (λ key here. (refl, refl)) (λ key here. let s = same key here in (sym s.0, sym s.1)) covered)
+    c.lay_open.ensures.within box lies (covers_along c.args.canvas.now box old old new mid list (λ key here. (refl, refl)) (λ key here. let s = same key here in (sym s.0, sym s.1)) covered)
 
 pub lay-returns-clause-others : goal.lay-returns-clause-others
 lay-returns-clause-others t c = λ key none.

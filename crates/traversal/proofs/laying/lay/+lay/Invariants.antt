@@ -12,31 +12,40 @@ use Rattle.traversal.proofs.LaidWalk.{LaidWalk}
 use Rattle.traversal.proofs.laying.lay.+lay.Given as goal
 
 abbrev pub decreases-lay : goal.decreases-lay
-decreases-lay l = 5 * count_of (first_tree (part_from l.view l.tree.now.tree)) + 3
+decreases-lay l = 6 * count_of (first_tree (part_from l.view l.tree.now.tree)) + 4
 
 abbrev pub decreases-lay_open : goal.decreases-lay_open
-decreases-lay_open l = 5 * count_of (first_tree (part_from l.view l.tree.now.tree)) + 2
+decreases-lay_open l = 6 * count_of (first_tree (part_from l.view l.tree.now.tree)) + 3
 
 abbrev pub decreases-lay_kid : goal.decreases-lay_kid
-decreases-lay_kid l = 5 * count_of (first_tree (part_from l.kid l.tree.now.tree)) + 4
+decreases-lay_kid l = 6 * count_of (first_tree (part_from l.kid l.tree.now.tree)) + 5
 
 abbrev pub decreases-lay_kids : goal.decreases-lay_kids
-decreases-lay_kids l = 5 * count_of (first_tree (part_from l.view l.tree.now.tree)) + 1
+decreases-lay_kids l = 6 * count_of (first_tree (part_from l.view l.tree.now.tree)) + 2
 
 abbrev pub decreases-lay_forwards : goal.decreases-lay_forwards
-decreases-lay_forwards l = 5 * count_of (first_tree (part_from l.view l.tree.now.tree))
+decreases-lay_forwards l = 6 * count_of (first_tree (part_from l.view l.tree.now.tree))
 
 abbrev pub decreases-lay_backwards : goal.decreases-lay_backwards
-decreases-lay_backwards l = 5 * count_of (first_tree (part_from l.view l.tree.now.tree))
+decreases-lay_backwards l = 6 * count_of (first_tree (part_from l.view l.tree.now.tree)) + 1
+
+abbrev pub decreases-lay_over : goal.decreases-lay_over
+decreases-lay_over l = 6 * count_of (first_tree (part_from l.view l.tree.now.tree)) + 1
+
+abbrev pub decreases-lay_in_line : goal.decreases-lay_in_line
+decreases-lay_in_line l = 6 * count_of (first_tree (part_from l.view l.tree.now.tree)) + 1
+
+abbrev pub decreases-lay_between : goal.decreases-lay_between
+decreases-lay_between l = 6 * count_of (first_tree (part_from l.view l.tree.now.tree)) + 1
 
 abbrev pub invariant-lay_forwards-loop-next : goal.invariant-lay_forwards-loop-next
 invariant-lay_forwards-loop-next l = let tree = l.fn.tree.tree in record {
   same : SameTree l.fn.tree l.tree;
   counted : IsCounted l.fn.tree l.tree l.fn.work l.work;
   grew : LiesIn l.fn.damage.rect l.damage.rect;
-  sight : Walks l.canvas l.damage.rect tree (children_of_first (part_from l.view tree)) (held_of l.fn.tree) l.next (held_of l.tree);
-  cover : CoverWalks l.canvas l.fn.damage.rect l.damage.rect tree (children_of_first (part_from l.view tree)) (held_of l.fn.tree) l.next (held_of l.tree);
-  walked : LaidWalk tree (children_of_first (part_from l.view tree)) l.placer (spot_of (part_from l.view tree) (held_of l.fn.tree l.view) l.fn.size) (held_of l.fn.tree)
+  sight : Walks l.inside.canvas l.damage.rect tree (children_of_first (part_from l.view tree)) (held_of l.fn.tree) l.next (held_of l.tree);
+  cover : CoverWalks l.inside.canvas l.fn.damage.rect l.damage.rect tree (children_of_first (part_from l.view tree)) (held_of l.fn.tree) l.next (held_of l.tree);
+  walked : LaidWalk tree (children_of_first (part_from l.view tree)) l.placer (spot_of (part_from l.view tree) (held_of l.fn.tree l.view) l.inside.size) (held_of l.fn.tree)
       l.fn.work.measured l.fn.tree.counts.laid l.next (held_of l.tree) l.work.measured l.tree.counts.laid;
 }
 
@@ -47,7 +56,7 @@ abbrev pub invariant-lay_backwards-loop-next : goal.invariant-lay_backwards-loop
 invariant-lay_backwards-loop-next l = let tree = l.fn.tree.tree in record {
   same : SameTree l.fn.tree l.tree;
   counted : IsCounted l.fn.tree l.tree l.fn.work l.work;
-  walked : BackWalk tree (children_of_first (part_from l.view tree)) l.placer (spot_of (part_from l.view tree) (held_of l.fn.tree l.view) l.fn.size) l.canvas
+  walked : BackWalk tree (children_of_first (part_from l.view tree)) l.placer (spot_of (part_from l.view tree) (held_of l.fn.tree l.view) l.inside.size) l.inside.canvas
       (stage_of l.fn.tree l.fn.damage.rect l.fn.work) l.next (stage_of l.tree l.damage.rect l.work);
 }
 

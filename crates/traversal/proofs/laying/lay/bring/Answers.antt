@@ -9,7 +9,7 @@ use Rattle.traversal.proofs.laying.lay.bring.Goals as goal
 
 pub returns-then-not-bring_one-clause-seen : goal.returns-then-not-bring_one-clause-seen
 returns-then-not-bring_one-clause-seen c =
-    unscrolled_in c.args.canvas c.args.rect c.args.damage.now.rect (offset_of c.args.tree.now c.args.view) (offset_of c.bring_one.new.tree c.args.view)
+    unscrolled_in c.args.canvas.now c.args.rect c.args.damage.now.rect (offset_of c.args.tree.now c.args.view) (offset_of c.bring_one.new.tree c.args.view)
     (ap (λ (views : Views). offset_of views c.args.view) (c.bring_one.ensures.still c.if-not-bring_one.true))
 
 pub returns-clause-grew : goal.returns-clause-grew
