@@ -195,8 +195,7 @@ fn finish(tree: &mut ViewTree, view: Key, ws: Spec, hs: Spec, outcome: Outcome, 
     tree.remember(view, ws, hs, outcome.size);
 }
 
-/// Measures what is below a view that is measured under these specs, and returns the result. A view without children
-/// has its size at once. It has no frame of its own on the stack.
+/// Measures what is below a view under these specs. A view without children has its size at once.
 #[cycle(measure)]
 #[inline(always)]
 fn measure_below(tree: &mut ViewTree, view: Key, ws: Spec, hs: Spec, work: &mut Work) -> Outcome
@@ -295,8 +294,7 @@ fn measure_scroll(tree: &mut ViewTree, view: Key, ws: Spec, hs: Spec, work: &mut
     }
 }
 
-/// Measures what is below a relative layout under these specs: each child on the horizontal axis and then each on the
-/// vertical one, in the orders of their rules.
+/// The same of a relative layout: each child on the horizontal axis and then each on the vertical one, in their orders.
 #[cycle(measure)]
 #[inline(never)]
 fn measure_siblings(tree: &mut ViewTree, view: Key, ws: Spec, hs: Spec, work: &mut Work) -> Outcome
