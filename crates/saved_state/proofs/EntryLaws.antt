@@ -82,17 +82,19 @@ module _ (version : ℕ) (entries : List StateEntry) (rises : RisesFrom version 
   one_place : (place other : ℕ) → place < length entries → (entry_at entries place).0 ≡ id → other < length entries → (entry_at entries other).0 ≡ id → other ≡ place
   one_place place other there is here same = grind (arith, ids_rise version 0 entries place other rises, ids_rise version 0 entries other place rises)
 
+  -- an entry that has the id is the only one
+  pub entry_here : (place : ℕ) → place < length entries → (entry_at entries place).0 ≡ id → IsEntry entries id place
+  entry_here place there is = record {
+    there = there;
+    id_is = is;
+    value = value_present entries id place there is (λ j lower same. let below = ids_rise version 0 entries j place rises lower there in absurd (omega arith));
+    alone = λ other here same. one_place place other there is here same;
+  }
+
   -- a binary search by id ends at the entry of the id, or there is none
   pub searched : (r : Result ℕ ℕ) → IsSearchInRange r (length entries) → IsBinarySearchResult (λ (entry : StateEntry). nat_cmp entry.0 id) entries r
       → MatchResult r (IsEntry entries id) (λ _. value_for entries id ≡ None)
-  searched (Ok place) there equal =
-      let is : (entry_at entries place).0 ≡ id = ranked _ id _ (sym (equal (0, Offset 0))) in
-      record {
-        there = there;
-        id_is = is;
-        value = value_present entries id place there is (λ j lower same. let below = ids_rise version 0 entries j place rises lower there in absurd (omega arith));
-        alone = λ other here same. one_place place other there is here same;
-      }
+  searched (Ok place) there equal = entry_here place there (ranked _ id _ (sym (equal (0, Offset 0))))
   searched (Err place) there parted =
       value_absent entries id (λ j here same. elim (cases_lt j place) [
         | inl lower ↦ let below : (entry_at entries j).0 < id = ranked _ id _ (sym ((parted comparisons_rise).0 j (0, Offset 0) (omega arith) lower)) in absurd (omega arith)

@@ -1,6 +1,6 @@
 //! A saved state that was read.
-ghost use Rattle.std.specs.Prelude.{◌≡◌, ◌<◌, ◌≤◌, [], length};
-ghost use Rattle.saved_state.specs.Restoring.{FindsEntry, entry_at};
+ghost use Rattle.std.specs.Prelude.{◌≡◌, ◌<◌, ◌≤◌, [], IfSome, length};
+ghost use Rattle.saved_state.specs.Restoring.{FindsEntry, IsEntry, entry_at};
 ghost use Rattle.saved_state.specs.State.{IsState, IsValue};
 ghost use Rattle.saved_state.specs.declared.format.TheConstants.{MAX_ENTRIES, VERSION};
 
@@ -64,7 +64,22 @@ impl States {
         if id == 0 {
             return None;
         }
-        self.place_in(id)
+        match self.place_by_distance(id) {
+            Some(place) => Some(place),
+            None => self.place_in(id),
+        }
+    }
+
+    /// The place of the entry of an id, if it is as far from the first as their ids are: no id is left out in between.
+    fn place_by_distance(&self, id: u32) -> Option<usize>
+        ensures { IfSome result (IsEntry self.now id) }
+    {
+        let first = self.entries.first()?.0;
+        let place = id.wrapping_sub(first) as usize;
+        if place < self.entries.len() && self.entries[place].0 == id {
+            return Some(place);
+        }
+        None
     }
 
     /// The place of the entry of an id, found in as many steps as their number has bits.

@@ -212,8 +212,19 @@ fn no_marks() -> Marks
     }
 }
 
-/// The marks of a view, or those of one that has none.
+/// The marks of a view, or those of one that has none. As long as no view was closed, they are at the view's number less
+/// one, so they are looked for there first.
 fn marks_of(marks: &IndexMap<u64, Marks>, view: u64) -> Marks
+    ensures { result ≡ marks_or (get_key nat_eq marks.now view) }
+{
+    match marks.get_index(view.saturating_sub(1) as usize) {
+        Some((number, marks)) if *number == view => *marks,
+        _ => searched_marks(marks, view),
+    }
+}
+
+/// The same by a search.
+fn searched_marks(marks: &IndexMap<u64, Marks>, view: u64) -> Marks
     ensures { result ≡ marks_or (get_key nat_eq marks.now view) }
 {
     match marks.get(&view) {

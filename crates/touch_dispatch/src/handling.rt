@@ -18,15 +18,14 @@ pub fn note(log: &mut Log, view: u64, kind: Kind, event: &Event, yes: bool)
     ensures noted { log.new.entries.items ≡ log.old.entries.items ++ record { view = view; kind = kind; event = event.now; yes = yes; offset = pos 0 } ∷ [] }
     ensures room { room_of log.new ≡ room_of log.old }
 {
-    let mut entry = Entry {
+    log.note(Entry {
         view,
         kind,
         event: cancel_event(),
         yes,
         offset: 0,
-    };
-    entry.event.set(event);
-    log.note(entry);
+    });
+    log.set_event(event);
 }
 
 /// Whether a group takes an event away from its children.

@@ -38,6 +38,9 @@ pub struct Log {
 }
 
 impl Log {
+    ghost use Rattle.std.specs.Prelude.{List};
+    ghost use Rattle.touch_dispatch.specs.declared.log.Entry.{Entry as EntryHere};
+
     pub fn new(alloc: Global) -> Log
         ensures { result.entries.items ≡ [] }
     {
@@ -76,5 +79,17 @@ impl Log {
         ensures room { room_of self.new ≡ room_of self.old }
     {
         self.entries.push_reserved(entry);
+    }
+
+    /// Gives the last entry this event.
+    pub(crate) fn set_event(&mut self, event: &Event)
+        ensures entries { (before : List EntryHere) (entry : EntryHere)
+            → self.old.entries.items ≡ before ++ entry ∷ []
+            → self.new.entries.items ≡ before ++ record entry { event = event.now } ∷ [] }
+        ensures room { room_of self.new ≡ room_of self.old }
+    {
+        if let Some(entry) = self.entries.last_mut() {
+            entry.event.set(event);
+        }
     }
 }

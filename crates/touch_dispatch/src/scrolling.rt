@@ -127,15 +127,14 @@ fn move_child(
     }
     let offset = facts.offset;
     set_offset(tree, view, facts);
-    let mut entry = Entry {
+    log.note(Entry {
         view: own.number,
         kind: Kind::Scroll,
         event: cancel_event(),
         yes: true,
         offset,
-    };
-    entry.event.set(event);
-    log.note(entry);
+    });
+    log.set_event(event);
 }
 
 /// The facts of a scroll view, with its child this much further up, within its range.

@@ -1,9 +1,11 @@
 //! The pool of targets.
 ghost use Rattle.std.specs.Prelude.{◌≡◌, ◌≢◌, ◌==◌, ◌<◌, ◌&&◌, ◌||◌, not, true, false, ℕ, if◌then◌else◌, List, [], Some, None, OnErr, OnOk, is_some, nat_eq};
 ghost use Rattle.indexmap.specs.IndexMap.{get as get_key, insert_entry, spare, swap_remove_entry};
+ghost use Rattle.slab.specs.Slab.{get};
 ghost use Rattle.touch_event.specs.PointerSets.{has_id};
 ghost use Rattle.touch_targets.specs.Captures.{drop_pointers, first_child, first_ids, from_child, is_target, older, put_target, targets_from, without_child};
 ghost use Rattle.touch_targets.specs.Seats.{Seat, is_open, targets_of, with_seat};
+ghost use Rattle.touch_targets.specs.declared.node.Node.{Node};
 
 use crate::links;
 use crate::node::Node;
@@ -83,7 +85,7 @@ impl Targets {
         ensures child { result ≡ first_child (targets_of self.now group) }
         ensures part { targets_from result (targets_of self.now group) ≡ targets_of self.now group }
     {
-        let place = place_of(&self.places, group)?;
+        let place = place_of(&self.nodes, &self.places, group)?;
         let newest = self.nodes[place].newest.key()?;
         Some(self.nodes[newest].view)
     }
@@ -94,7 +96,7 @@ impl Targets {
         ensures part { (group : ℕ) → is_target child (targets_of self.now group) ≡ true → targets_from result (targets_of self.now group) ≡ older (from_child child (targets_of self.now group)) }
         ensures free { ((group : ℕ) → is_target child (targets_of self.now group) ≡ false) → result ≡ None }
     {
-        let place = place_of(&self.places, child)?;
+        let place = place_of(&self.nodes, &self.places, child)?;
         let next = self.nodes[place].next.key()?;
         Some(self.nodes[next].view)
     }
@@ -104,7 +106,7 @@ impl Targets {
         ensures ids { (group : ℕ) → is_target child (targets_of self.now group) ≡ true → has_id result ≡ first_ids (from_child child (targets_of self.now group)) }
         ensures free { ((group : ℕ) → is_target child (targets_of self.now group) ≡ false) → result ≡ 0 }
     {
-        match place_of(&self.places, child) {
+        match place_of(&self.nodes, &self.places, child) {
             None => 0,
             Some(place) => self.nodes[place].ids,
         }
@@ -120,8 +122,8 @@ impl Targets {
         ensures opened { (view : ℕ) → is_open self.new view ≡ is_open self.old view }
         ensures targets { (other : ℕ) → targets_of self.new other ≡ (if other == group then put_target child (has_id ids) (targets_of self.old other) else targets_of self.old other) }
     {
-        let at = open_place(&self.places, group);
-        let place = open_place(&self.places, child);
+        let at = open_place(&self.nodes, &self.places, group);
+        let place = open_place(&self.nodes, &self.places, child);
         links::put(&mut self.nodes, at, place, ids);
     }
 
@@ -131,7 +133,7 @@ impl Targets {
         ensures targets { (other : ℕ) → targets_of self.new other ≡ (if other == group then drop_pointers (has_id ids) (targets_of self.old other) else targets_of self.old other) }
         ensures same { targets_of self.old group ≡ [] → self.new ≡ self.old }
     {
-        if let Some(place) = place_of(&self.places, group) {
+        if let Some(place) = place_of(&self.nodes, &self.places, group) {
             links::drop_ids(&mut self.nodes, place, ids);
         }
     }
@@ -142,7 +144,7 @@ impl Targets {
         ensures targets { (group : ℕ) → targets_of self.new group ≡ without_child child (targets_of self.old group) }
         ensures same { ((group : ℕ) → is_target child (targets_of self.old group) ≡ false) → self.new ≡ self.old }
     {
-        if let Some(place) = place_of(&self.places, child) {
+        if let Some(place) = place_of(&self.nodes, &self.places, child) {
             links::remove(&mut self.nodes, place);
         }
     }
@@ -157,19 +159,30 @@ impl Targets {
     }
 }
 
-/// The place of an open view's node.
-fn place_of(places: &IndexMap<u64, usize>, view: u64) -> Option<usize>
+/// The place of an open view's node. As long as none was closed, that is the view's number less one, so it is looked for
+/// there first.
+fn place_of(nodes: &Slab<Node>, places: &IndexMap<u64, usize>, view: u64) -> Option<usize>
+    requires { (place : ℕ) (node : Node)
+        → get nodes.now place ≡ Some node
+        → get_key nat_eq places.now node.view ≡ Some place }
     ensures { result ≡ get_key nat_eq places.now view }
 {
-    places.get(&view).copied()
+    let first = view.saturating_sub(1) as usize;
+    match nodes.get(first) {
+        Some(node) if node.view == view => Some(first),
+        _ => places.get(&view).copied(),
+    }
 }
 
 /// The place of the node of a view that is open.
-fn open_place(places: &IndexMap<u64, usize>, view: u64) -> usize
-    requires { is_some (get_key nat_eq places.now view) ≡ true }
+fn open_place(nodes: &Slab<Node>, places: &IndexMap<u64, usize>, view: u64) -> usize
+    requires open { is_some (get_key nat_eq places.now view) ≡ true }
+    requires found { (place : ℕ) (node : Node)
+        → get nodes.now place ≡ Some node
+        → get_key nat_eq places.now node.view ≡ Some place }
     ensures { get_key nat_eq places.now view ≡ Some result }
 {
-    match place_of(places, view) {
+    match place_of(nodes, places, view) {
         Some(place) => place,
         None => unreachable!(),
     }

@@ -24,6 +24,17 @@ pub fn note_key(keys: &mut IndexMap<u64, usize>, number: u64, key: usize)
     }
 }
 
+/// The key of a number. As long as no view was removed, the number's entry comes right after those of all numbers from 1
+/// on below it, so it is looked for there first.
+pub fn find_key(keys: &IndexMap<u64, usize>, number: u64) -> Option<usize>
+    ensures { result ≡ key_of nat_eq keys.now number }
+{
+    match keys.get_index(number.saturating_sub(1) as usize) {
+        Some((found, key)) if *found == number => Some(*key),
+        _ => keys.get(&number).copied(),
+    }
+}
+
 /// Removes a number and its key.
 pub fn drop_key(keys: &mut IndexMap<u64, usize>, number: u64)
     ensures { (n : ℕ) → key_of nat_eq keys.new n ≡ (if nat_eq number n then None else key_of nat_eq keys.old n) }

@@ -15,18 +15,22 @@ pub fn is_pressed(points: &[Point], id: u8) -> bool
     points.iter().any(|point| point.id == id)
 }
 
-/// The points of the pointers that are down, with this one in place of its pointer's.
-pub fn with_point(points: &[Point], point: Point) -> ArrayVec<Point, MAX_POINTERS>
+/// The event of a pointer that is at this point now, while these are down, or were.
+pub fn event_at(action: Action, point: Point, points: &[Point]) -> Event
     requires down { AreDown points.now }
     requires id { point.id < MAX_POINTERS }
-    ensures points { result.items ≡ with_point point points.now }
-    ensures down { AreDown result.items }
+    ensures event { result ≡ event_of action point.id (with_point point points.now) }
+    ensures down { AreDown result.points.items }
 {
-    let mut all = ArrayVec::new();
-    put_below(&mut all, points, point.id);
-    all.push(point);
-    put_above(&mut all, points, point.id);
-    all
+    let mut event = Event {
+        action,
+        pointer: point.id,
+        points: ArrayVec::new(),
+    };
+    put_below(&mut event.points, points, point.id);
+    event.points.push(point);
+    put_above(&mut event.points, points, point.id);
+    event
 }
 
 /// Adds the points whose ids are below this one.
@@ -80,6 +84,18 @@ pub fn event_of(action: Action, pointer: u8, points: &[Point]) -> Event
     };
     match event.points.try_extend_from_slice(points) {
         Ok(()) => event,
+        Err(_) => unreachable!(),
+    }
+}
+
+/// Replaces points by others.
+pub fn set_points(all: &mut ArrayVec<Point, MAX_POINTERS>, points: &[Point])
+    requires { length points.now ≤ MAX_POINTERS }
+    ensures { all.new.items ≡ points.now }
+{
+    all.clear();
+    match all.try_extend_from_slice(points) {
+        Ok(()) => (),
         Err(_) => unreachable!(),
     }
 }

@@ -139,39 +139,39 @@ impl Screen {
     pub fn line<K: Sink, F: Shelf>(
         &mut self,
         alloc: Global,
-        command: Command<'_>,
+        command: &Command<'_>,
         shelf: &mut F,
         sink: &mut K,
         work: &mut Work,
     ) -> Result<(), StepFault>
         requires numbers { self.old.views.next < NUMBERS_END }
-        requires bounds { IsInBounds (plain_command command) }
-        requires short { text_length (plain_command command) < 2 ^ 31 }
+        requires bounds { IsInBounds (plain_command command.now) }
+        requires short { text_length (plain_command command.now) < 2 ^ 31 }
         ensures carried { (files : Files)
-            → AreAtHand files (F.files shelf.old) (asked_file (world_of self.old) (plain_command command.entry))
-            → WritesReply (step files (world_of self.old) (plain_command command.entry)) (world_of self.new) (K.state sink.old) (K.state sink.new) result }
+            → AreAtHand files (F.files shelf.old) (asked_file (world_of self.old) (plain_command command.now))
+            → WritesReply (step files (world_of self.old) (plain_command command.now)) (world_of self.new) (K.state sink.old) (K.state sink.new) result }
         ensures unchanged { IsDone result ⊎ ((self.new ≡ self.old) × (sink.new ≡ sink.old)) }
         ensures reports { IsDone result → Reports self.new (K.state sink.old) (K.state sink.new) result }
         ensures silent { (files : Files) (world : PlainWorld)
-            → AreAtHand files (F.files shelf.old) (asked_file (world_of self.old) (plain_command command.entry))
-            → step files (world_of self.old) (plain_command command.entry) ≡ Done world []
+            → AreAtHand files (F.files shelf.old) (asked_file (world_of self.old) (plain_command command.now))
+            → step files (world_of self.old) (plain_command command.now) ≡ Done world []
             → sink.new ≡ sink.old }
         ensures files_stay { F.files shelf.new ≡ F.files shelf.old }
-        ensures unasked { asked_file (world_of self.old) (plain_command command.entry) ≡ None → shelf.new ≡ shelf.old }
+        ensures unasked { asked_file (world_of self.old) (plain_command command.now) ≡ None → shelf.new ≡ shelf.old }
         ensures shelf_failed { CountsShelf (F.faults shelf.old) (F.faults shelf.new) result }
-        ensures asked { result ≡ Err StepFault.Shelf → asked_file (world_of self.old) (plain_command command.entry) ≢ None }
-        ensures fetched { F.fetches shelf.new ≡ fetches_after (asked_file (world_of self.old) (plain_command command.entry)) (F.fetches shelf.old) }
-        ensures memory { result ≡ Err StepFault.NoMemory → MayWantMemory (plain_command command.entry) }
+        ensures asked { result ≡ Err StepFault.Shelf → asked_file (world_of self.old) (plain_command command.now) ≢ None }
+        ensures fetched { F.fetches shelf.new ≡ fetches_after (asked_file (world_of self.old) (plain_command command.now)) (F.fetches shelf.old) }
+        ensures memory { result ≡ Err StepFault.NoMemory → MayWantMemory (plain_command command.now) }
         ensures numbers { self.new.views.next ≤ self.old.views.next + MAX_VIEWS }
-        ensures work { plain_command command.entry ≢ Frame → work.new ≡ work.old }
+        ensures work { plain_command command.now ≢ Frame → work.new ≡ work.old }
         ensures idle { IsDone result ⊎ (work.new ≡ work.old) }
-        ensures still { plain_command command.entry ≡ Frame → IsShown self.old → work.new ≡ work.old }
-        ensures framed { plain_command command.entry ≡ Frame → IsDone result → IsFrameDone self.old self.new work.old work.new }
-        ensures keeps { plain_command command.entry ≢ Frame → IsDone result → KeepsLine (plain_command command.entry) self.old self.new }
+        ensures still { plain_command command.now ≡ Frame → IsShown self.old → work.new ≡ work.old }
+        ensures framed { plain_command command.now ≡ Frame → IsDone result → IsFrameDone self.old self.new work.old work.new }
+        ensures keeps { plain_command command.now ≢ Frame → IsDone result → KeepsLine (plain_command command.now) self.old self.new }
         ensures painted { RisesWithin (paint_bound (world_of self.old)) work.old.painted work.new.painted }
         ensures sink_failed { (K.state sink.new).faults ≡ faults_after_line result (K.state sink.old).faults }
     {
-        match inflation_of(&command) {
+        match inflation_of(command) {
             Some((name, into)) => self.inflate_line(alloc, name, into, shelf, sink),
             None => self.command(alloc, command, sink, work),
         }
@@ -205,25 +205,25 @@ impl Screen {
     fn command<K: Sink>(
         &mut self,
         alloc: Global,
-        command: Command<'_>,
+        command: &Command<'_>,
         sink: &mut K,
         work: &mut Work,
     ) -> Result<(), StepFault>
-        requires alone { inflation_of (plain_command command) ≡ None }
+        requires alone { inflation_of (plain_command command.now) ≡ None }
         requires numbers { self.old.views.next < NUMBERS_END }
-        requires bounds { IsInBounds (plain_command command) }
-        requires short { text_length (plain_command command) < 2 ^ 31 }
-        ensures carried { WritesReply (step [] (world_of self.old) (plain_command command.entry)) (world_of self.new) (K.state sink.old) (K.state sink.new) result }
+        requires bounds { IsInBounds (plain_command command.now) }
+        requires short { text_length (plain_command command.now) < 2 ^ 31 }
+        ensures carried { WritesReply (step [] (world_of self.old) (plain_command command.now)) (world_of self.new) (K.state sink.old) (K.state sink.new) result }
         ensures unchanged { IsDone result ⊎ ((self.new ≡ self.old) × (sink.new ≡ sink.old)) }
         ensures reports { IsDone result → Reports self.new (K.state sink.old) (K.state sink.new) result }
-        ensures silent { (world : PlainWorld) → step [] (world_of self.old) (plain_command command.entry) ≡ Done world [] → sink.new ≡ sink.old }
-        ensures memory { result ≡ Err StepFault.NoMemory → MayWantMemory (plain_command command.entry) }
+        ensures silent { (world : PlainWorld) → step [] (world_of self.old) (plain_command command.now) ≡ Done world [] → sink.new ≡ sink.old }
+        ensures memory { result ≡ Err StepFault.NoMemory → MayWantMemory (plain_command command.now) }
         ensures numbers { self.new.views.next ≤ self.old.views.next + 1 }
-        ensures work { plain_command command.entry ≢ Frame → work.new ≡ work.old }
+        ensures work { plain_command command.now ≢ Frame → work.new ≡ work.old }
         ensures idle { IsDone result ⊎ (work.new ≡ work.old) }
-        ensures still { plain_command command.entry ≡ Frame → IsShown self.old → work.new ≡ work.old }
-        ensures framed { plain_command command.entry ≡ Frame → IsDone result → IsFrameDone self.old self.new work.old work.new }
-        ensures keeps { plain_command command.entry ≢ Frame → IsDone result → KeepsLine (plain_command command.entry) self.old self.new }
+        ensures still { plain_command command.now ≡ Frame → IsShown self.old → work.new ≡ work.old }
+        ensures framed { plain_command command.now ≡ Frame → IsDone result → IsFrameDone self.old self.new work.old work.new }
+        ensures keeps { plain_command command.now ≢ Frame → IsDone result → KeepsLine (plain_command command.now) self.old self.new }
         ensures painted { RisesWithin (paint_bound (world_of self.old)) work.old.painted work.new.painted }
         ensures sink_failed { (K.state sink.new).faults ≡ faults_after_line result (K.state sink.old).faults }
         ensures no_shelf { result ≢ Err StepFault.Shelf }
@@ -316,25 +316,25 @@ impl Screen {
     fn carry_out(
         &mut self,
         alloc: Global,
-        command: Command<'_>,
+        command: &Command<'_>,
         work: &mut Work,
     ) -> Result<Response, StepFault>
-        requires alone { inflation_of (plain_command command) ≡ None }
+        requires alone { inflation_of (plain_command command.now) ≡ None }
         requires numbers { self.old.views.next < NUMBERS_END }
-        requires bounds { IsInBounds (plain_command command) }
-        requires short { text_length (plain_command command) < 2 ^ 31 }
-        ensures changed { CarriesOut (step [] (world_of self.old) (plain_command command.entry)) self.new result }
+        requires bounds { IsInBounds (plain_command command.now) }
+        requires short { text_length (plain_command command.now) < 2 ^ 31 }
+        ensures changed { CarriesOut (step [] (world_of self.old) (plain_command command.now)) self.new result }
         ensures unchanged { OnErr result (self.new ≡ self.old) }
-        ensures memory { result ≡ Err StepFault.NoMemory → MayWantMemory (plain_command command.entry) }
+        ensures memory { result ≡ Err StepFault.NoMemory → MayWantMemory (plain_command command.now) }
         ensures numbers { self.new.views.next ≤ self.old.views.next + 1 }
-        ensures work { plain_command command.entry ≢ Frame → work.new ≡ work.old }
+        ensures work { plain_command command.now ≢ Frame → work.new ≡ work.old }
         ensures idle { OnErr result (work.new ≡ work.old) }
-        ensures still { plain_command command.entry ≡ Frame → IsShown self.old → work.new ≡ work.old }
-        ensures framed { plain_command command.entry ≡ Frame → OnOk result (IsFrameDone self.old self.new work.old work.new) }
-        ensures keeps { plain_command command.entry ≢ Frame → OnOk result (KeepsLine (plain_command command.entry) self.old self.new) }
+        ensures still { plain_command command.now ≡ Frame → IsShown self.old → work.new ≡ work.old }
+        ensures framed { plain_command command.now ≡ Frame → OnOk result (IsFrameDone self.old self.new work.old work.new) }
+        ensures keeps { plain_command command.now ≢ Frame → OnOk result (KeepsLine (plain_command command.now) self.old self.new) }
         ensures painted { RisesWithin (paint_bound (world_of self.old)) work.old.painted work.new.painted }
     {
-        match command {
+        match *command {
             Command::Window { w, h } => self.open(Size { w, h }),
             Command::Dpi(dpi) => self.set_dpi(dpi),
             Command::Res { id, value } => self.define(alloc, id, value),
@@ -350,7 +350,11 @@ impl Screen {
             Command::Act { view, act } => self.act(alloc, view, act),
             Command::Text { view, text } => self.set_text(alloc, view, text),
             Command::Disallow { view, on } => self.disallow(view, on),
-            Command::Hook { view, edits, bad } => self.hook(view, &edits, bad),
+            Command::Hook {
+                view,
+                ref edits,
+                bad,
+            } => self.hook(view, edits, bad),
             Command::Down { p, x, y } => self.down(p, x, y),
             Command::Move { p, x, y } => self.drag(p, x, y),
             Command::Up(p) => self.up(p),

@@ -15,15 +15,16 @@ ghost use Rattle.view_world.specs.declared.stage.Stage.TheVariants.{Settled};
 use super::Screen;
 use crate::fault::StepFault;
 use crate::naming::resolve;
-use crate::pointers::{down_action, event_of, is_pressed, up_action, with_point, without_point};
+use crate::pointers::{
+    down_action, event_at, event_of, is_pressed, set_points, up_action, without_point,
+};
 use crate::response::Response;
 use crate::stage::Stage;
 use crate::touching::{disallow_from, slop_at};
-use arrayvec::ArrayVec;
 use script_lines::Name;
 use seen_edits::note_scrolled;
 use touch_dispatch::dispatch;
-use touch_event::{Action, Event, MAX_POINTERS, Point};
+use touch_event::{Action, Event, Point};
 use view_model::Refusal;
 use view_model::refusals::{NO_FRAME, NO_ROOT, NO_WINDOW, UNSETTLED, WRONG_CLASS, WRONG_POINTER};
 
@@ -43,9 +44,8 @@ impl Screen {
             return Err(StepFault::Refused(Refusal::plain(WRONG_POINTER)));
         }
         let action = down_action(self.pointers.as_slice());
-        let pointers = with_point(self.pointers.as_slice(), Point { id, x, y });
-        let event = event_of(action, id, pointers.as_slice());
-        Ok(self.hand(&event, pointers))
+        let event = event_at(action, Point { id, x, y }, self.pointers.as_slice());
+        Ok(self.hand(&event, event.points.as_slice()))
     }
 
     /// A pointer moves.
@@ -62,9 +62,8 @@ impl Screen {
         if !is_pressed(self.pointers.as_slice(), id) {
             return Err(StepFault::Refused(Refusal::plain(WRONG_POINTER)));
         }
-        let pointers = with_point(self.pointers.as_slice(), Point { id, x, y });
-        let event = event_of(Action::Move, id, pointers.as_slice());
-        Ok(self.hand(&event, pointers))
+        let event = event_at(Action::Move, Point { id, x, y }, self.pointers.as_slice());
+        Ok(self.hand(&event, event.points.as_slice()))
     }
 
     /// A pointer goes up. The event still has it.
@@ -84,7 +83,7 @@ impl Screen {
         let others = without_point(self.pointers.as_slice(), id);
         let action = up_action(others.as_slice());
         let event = event_of(action, id, self.pointers.as_slice());
-        Ok(self.hand(&event, others))
+        Ok(self.hand(&event, others.as_slice()))
     }
 
     /// All pointers that are down are taken away.
@@ -101,7 +100,7 @@ impl Screen {
             return Err(StepFault::Refused(Refusal::plain(WRONG_POINTER)));
         }
         let event = event_of(Action::Cancel, 0, &[]);
-        Ok(self.hand(&event, ArrayVec::new()))
+        Ok(self.hand(&event, &[]))
     }
 
     /// Whether views can be touched: the last frame has settled, and its tree is there.
@@ -124,11 +123,11 @@ impl Screen {
     }
 
     /// Sends an event to the root. These pointers are down then.
-    fn hand(&mut self, event: &Event, pointers: ArrayVec<Point, MAX_POINTERS>) -> Response
+    fn hand(&mut self, event: &Event, pointers: &[Point]) -> Response
         requires settled { self.old.stage ≡ Settled }
         requires pointer { event.now.pointer < MAX_POINTERS }
-        requires down { AreDown pointers.items }
-        ensures changed { CarriesOut (after_event (world_of self.old) event.now pointers.items) self.new (Ok result) }
+        requires down { AreDown pointers.now }
+        ensures changed { CarriesOut (after_event (world_of self.old) event.now pointers.now) self.new (Ok result) }
         ensures numbers { self.new.views.next ≡ self.old.views.next }
         ensures keeps { KeepsBut Touches [] [] (scrolled_in (deliveries_of (world_of self.old) event.now)) self.old self.new }
     {
@@ -141,7 +140,7 @@ impl Screen {
             &mut self.log,
         );
         note_scrolled(&self.tree, self.surface.size(), &self.log, &mut self.damage);
-        self.pointers = pointers;
+        set_points(&mut self.pointers, pointers);
         Response::Deliveries(Some(yes))
     }
 

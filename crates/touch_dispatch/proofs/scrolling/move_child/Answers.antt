@@ -11,7 +11,6 @@ use Rattle.touch_dispatch.specs.Gestures.{at_number, no_gesture}
 use Rattle.touch_dispatch.specs.Handling.{is_same_offset, noted_with, offset_after}
 use Rattle.touch_dispatch.specs.TreeEvents.{offsets_in, own_range, progress_by}
 use Rattle.touch_dispatch.specs.declared.log.Kind.TheVariants.{Scroll}
-use Rattle.touch_event.specs.declared.event.Event.{Event}
 use Rattle.view_model.specs.declared.facts.Facts.{Facts}
 use Rattle.touch_dispatch.proofs.scrolling.move_child.Goals as goal
 
@@ -67,8 +66,7 @@ returns-clause-moved c = λ g.
     ∙ ap (is_same_offset c.facts.result.now.offset) (sym new)
     ∙ ap (λ o. is_same_offset o c.moved_facts-facts.result.offset) (ap (λ (f : Facts). f.offset) (c.facts.ensures.value ∙ sym c.facts-2.ensures.value))
     ∙ sym c.is_same_offset.ensures ∙ c.if-is_same_offset.false in
-    ap (λ o. progress_by o g c.note.new.self.entries.items) (c.set_offset.ensures.offsets ∙ ap (λ n. at_number n c.moved_facts-facts.result.offset (offsets_in views)) (sym c.requires.number))
-    ∙ ap (progress_by (at_number own.number c.moved_facts-facts.result.offset (offsets_in views)) g) c.note.ensures.entries
-    ∙ ap (λ (o : ℤ). noted_with o own.number Scroll c.set.new.self true (progress_by (at_number own.number c.moved_facts-facts.result.offset (offsets_in views)) g c.args.log.now.entries.items)) (to_z-of_z w32 c.moved_facts-facts.result.offset offset_fits)
-    ∙ ap (λ (e : Event). noted_with c.moved_facts-facts.result.offset own.number Scroll e true (progress_by (at_number own.number c.moved_facts-facts.result.offset (offsets_in views)) g c.args.log.now.entries.items)) c.set.ensures
+    ap (λ o. progress_by o g c.set_event.new.self.entries.items) (c.set_offset.ensures.offsets ∙ ap (λ n. at_number n c.moved_facts-facts.result.offset (offsets_in views)) (sym c.requires.number))
+    ∙ ap (progress_by (at_number own.number c.moved_facts-facts.result.offset (offsets_in views)) g) (c.set_event.ensures.entries _ _ c.note.ensures.entries)
+    ∙ ap (λ (o : ℤ). noted_with o own.number Scroll c.args.event.now true (progress_by (at_number own.number c.moved_facts-facts.result.offset (offsets_in views)) g c.args.log.now.entries.items)) (to_z-of_z w32 c.moved_facts-facts.result.offset offset_fits)
     ∙ moved_other own c.args.event.now (progress_by (offsets_in views) g c.args.log.now.entries.items) c.args.by c.in-Some.way c.moved_facts-facts.result.offset c.in-Some.is new other

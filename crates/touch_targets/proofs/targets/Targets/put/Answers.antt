@@ -11,11 +11,11 @@ use Rattle.touch_targets.proofs.Chains.{some_is}
 use Rattle.touch_targets.proofs.SeatLaws.{changed_targets, node_of, open_is, place_in, same_open, target_where}
 use Rattle.touch_targets.proofs.targets.Targets.put.Goals as goal
 
-pub open_place-at-requires : goal.open_place-at-requires
-open_place-at-requires c = sym (open_is c.self.inside c.args.self.now c.self.view_is c.args.group) ∙ c.requires.group
+pub open_place-at-requires-clause-open : goal.open_place-at-requires-clause-open
+open_place-at-requires-clause-open c = sym (open_is c.self.inside c.args.self.now c.self.view_is c.args.group) ∙ c.requires.group
 
-pub open_place-place-requires : goal.open_place-place-requires
-open_place-place-requires c = sym (open_is c.self.inside c.args.self.now c.self.view_is c.args.child) ∙ c.requires.child
+pub open_place-place-requires-clause-open : goal.open_place-place-requires-clause-open
+open_place-place-requires-clause-open c = sym (open_is c.self.inside c.args.self.now c.self.view_is c.args.child) ∙ c.requires.child
 
 pub put-requires-clause-group : goal.put-requires-clause-group
 put-requires-clause-group c = rw (node_of c.self.inside c.self.invariant c.args.group c.open_place-at.result c.open_place-at.ensures).is refl

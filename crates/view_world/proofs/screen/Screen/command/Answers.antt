@@ -21,7 +21,7 @@ returns-in_err-response-clause-reports g c done =
     let p = err_from_is_err_and c.from_residual.result c.from_residual.ensures.1 in
     let e : c.from_residual.result ≡ Err c.in_err-response.field-0.0 = cc (p.1, p.2) in
     absurd (undone c.in_err-response.field-0.0 c.from_residual.result e
-    (sinkless (step [] (world_of c.args.self.now) (plain_command c.args.command)) c.carry_out.new.self c.in_err-response.field-0.0 c.in_err-response.ensures.changed) done)
+    (sinkless (step [] (world_of c.args.self.now) (plain_command c.args.command.now)) c.carry_out.new.self c.in_err-response.field-0.0 c.in_err-response.ensures.changed) done)
 
 pub returns-clause-reports : goal.returns-clause-reports
 returns-clause-reports g c done =

@@ -1,6 +1,7 @@
 use Rattle.std.proofs.Common.{◌≡◌, true, sym, ◌∙◌, ap}
 use Rattle.std.proofs.lemmas.Int.{to_z-of_z}
 use Rattle.touch_event.specs.declared.event.Action.TheVariants.{Move}
+use Rattle.touch_event.specs.declared.event.Event.{Event}
 use Rattle.touch_event.specs.declared.event.Point.{Point}
 use Rattle.view_world.specs.KeyedScreen.{KeyedScreen}
 use Rattle.view_world.specs.Pointers.{event_of, is_pressed, with_point}
@@ -14,10 +15,12 @@ returns-clause-changed c =
     let point : Point = record { id = c.args.id; x = c.args.x; y = c.args.y } in
     let held : c.self.inside.pointers.items ≡ now.pointers = ap (λ (w : KeyedScreen). w.pointers) c.self.view_is in
     let pressed : is_pressed c.args.id now.pointers ≡ true = sym (sym c.if-not-is_pressed.false ∙ c.is_pressed.ensures ∙ ap (is_pressed c.args.id) (c.as_slice.ensures.value ∙ held)) in
-    let points = simp (to_z-of_z, c.ranges.x, c.ranges.y) at c.with_point-pointers.ensures.points in
-    Changed-move now c.hand.new.self point c.with_point-pointers.result.items c.event_of-event.result c.hand.result c.in_ok-touchable.ensures.1 pressed
-    (points ∙ ap (with_point point) (c.as_slice-2.ensures.value ∙ held))
-    (c.event_of-event.ensures ∙ ap (event_of Move c.args.id) c.as_slice-3.ensures.value)
+    let made = simp (to_z-of_z, c.ranges.x, c.ranges.y) at c.event_at-event.ensures.event in
+    let event : c.event_at-event.result ≡ event_of Move c.args.id (with_point point now.pointers) =
+    made ∙ ap (λ points. event_of Move c.args.id (with_point point points)) (c.as_slice-2.ensures.value ∙ held) in
+    let points : c.as_slice-3.result.now ≡ with_point point now.pointers = c.as_slice-3.ensures.value ∙ ap (λ (e : Event). e.points.items) event in
+    Changed-move now c.hand.new.self point c.as_slice-3.result.now c.event_at-event.result c.hand.result c.in_ok-touchable.ensures.1 pressed points
+    (event ∙ ap (event_of Move c.args.id) (sym points))
     c.hand.ensures.changed
 
 pub returns-clause-keeps : goal.returns-clause-keeps
@@ -25,7 +28,7 @@ returns-clause-keeps c =
     let now = c.args.self.now in
     let point : Point = record { id = c.args.id; x = c.args.x; y = c.args.y } in
     let held : c.self.inside.pointers.items ≡ now.pointers = ap (λ (w : KeyedScreen). w.pointers) c.self.view_is in
-    let points = simp (to_z-of_z, c.ranges.x, c.ranges.y) at c.with_point-pointers.ensures.points in
-    touch_keeps now c.hand.new.self c.event_of-event.result _
-    (c.event_of-event.ensures ∙ ap (event_of Move c.args.id) (c.as_slice-3.ensures.value ∙ points ∙ ap (with_point point) (c.as_slice-2.ensures.value ∙ held)))
-    c.hand.ensures.keeps
+    let made = simp (to_z-of_z, c.ranges.x, c.ranges.y) at c.event_at-event.ensures.event in
+    let event : c.event_at-event.result ≡ event_of Move c.args.id (with_point point now.pointers) =
+    made ∙ ap (λ points. event_of Move c.args.id (with_point point points)) (c.as_slice-2.ensures.value ∙ held) in
+    touch_keeps now c.hand.new.self c.event_at-event.result _ event c.hand.ensures.keeps

@@ -3,6 +3,7 @@ use Rattle.std.specs.Prelude.{Some, Ok, FitsSigned}
 use Rattle.std.proofs.lemmas.Int.{to_z-of_z}
 use mir.Syntax.{w32}
 use Rattle.pixel_raster.specs.Raster.{size_of}
+use Rattle.touch_event.specs.declared.event.Point.{Point}
 use Rattle.seen_edits.proofs.ScrolledLaws.{shown_scrolled, logs_by}
 use Rattle.seen_edits.proofs.ShownLaws.{shows_on}
 use Rattle.view_world.specs.Changed.{CarriesOut}
@@ -14,6 +15,7 @@ use Rattle.view_world.proofs.EventLaws.{delivered, handed, room_cleared, sound_s
 use Rattle.view_world.proofs.SeenLaws.{scrolled_seen}
 use Rattle.view_world.specs.Seen.{deliveries_of, scrolled_in}
 use Rattle.view_world.proofs.OffsetLaws.{offsets_scrolled}
+use Rattle.view_world.proofs.PointerLaws.{few}
 use Rattle.view_world.proofs.RestLaws.{scrolls_keep}
 use Rattle.view_world.specs.Resting.{AreSeenIn, KeepsBut}
 use Rattle.view_world.specs.declared.marks.Effect.TheVariants.{Touches}
@@ -23,10 +25,13 @@ pub dispatch-yes-requires-clause-room : goal.dispatch-yes-requires-clause-room
 dispatch-yes-requires-clause-room c =
     room_cleared c.self.inside.log c.clear.new.self _ c.clear.ensures.entries c.clear.ensures.room c.self.invariant.room
 
+pub set_points-requires : goal.set_points-requires
+set_points-requires c = few c.args.pointers.now c.requires.down
+
 pub invariant_of-self : goal.invariant_of-self
 invariant_of-self c =
     sound_scrolled c.self.inside _ c.self.invariant c.dispatch-yes.ensures.scrolls c.dispatch-yes.ensures.caught c.dispatch-yes.ensures.opened
-    (c.dispatch-yes.ensures.room ∙ c.clear.ensures.room) c.requires.down
+    (c.dispatch-yes.ensures.room ∙ c.clear.ensures.room) (rw c.set_points.ensures c.requires.down)
     (offsets_scrolled c.self.inside.tree c.dispatch-yes.new.tree c.dispatch-yes.ensures.scrolls c.self.invariant.offsets)
     (shows_on c.self.inside.surface c.self.inside.damage.rect c.note_scrolled.new.damage.rect c.self.inside.tree c.dispatch-yes.new.tree c.self.invariant.shows
     (shown_scrolled (size_of c.self.inside.surface) c.self.inside.damage.rect c.note_scrolled.new.damage.rect c.self.inside.tree c.dispatch-yes.new.tree c.self.inside.gesture c.dispatch-yes.new.gesture
@@ -42,13 +47,14 @@ returns-clause-changed c =
       views = c.dispatch-yes.new.tree;
       damage = c.note_scrolled.new.damage.rect;
       gesture = c.dispatch-yes.new.gesture;
-      pointers = c.args.pointers.items;
+      pointers = c.set_points.new.all.items;
       told = c.dispatch-yes.new.log.entries.items;
     } in
-    subst (λ (w : KeyedScreen). CarriesOut (after_event (world_of w) c.args.event.now c.args.pointers.items) now (Ok (response.Deliveries (Some c.dispatch-yes.result)))) c.self.view_is
-    (handed old c.dispatch-yes.new.tree c.dispatch-yes.new.gesture c.clear.new.self c.dispatch-yes.new.log _ c.args.event.now c.args.pointers.items c.dispatch-yes.result
+    subst (λ (points : List Point). CarriesOut (after_event (world_of c.args.self.now) c.args.event.now points) now (Ok (response.Deliveries (Some c.dispatch-yes.result)))) c.set_points.ensures
+    (subst (λ (w : KeyedScreen). CarriesOut (after_event (world_of w) c.args.event.now c.set_points.new.all.items) now (Ok (response.Deliveries (Some c.dispatch-yes.result)))) c.self.view_is
+    (handed old c.dispatch-yes.new.tree c.dispatch-yes.new.gesture c.clear.new.self c.dispatch-yes.new.log _ c.args.event.now c.set_points.new.all.items c.dispatch-yes.result
     c.dispatch-yes.ensures.is_tree (ap (λ (w : KeyedScreen). w.stage) c.self.view_is ∙ c.requires.settled) (to_z-of_z w32 c.slop_at.result fits ∙ c.slop_at.ensures) c.clear.ensures.entries
-    c.dispatch-yes.ensures.dispatched c.dispatch-yes.ensures.scrolls)
+    c.dispatch-yes.ensures.dispatched c.dispatch-yes.ensures.scrolls))
 
 pub returns-clause-keeps : goal.returns-clause-keeps
 returns-clause-keeps c =
@@ -58,7 +64,7 @@ returns-clause-keeps c =
       views = c.dispatch-yes.new.tree;
       damage = c.note_scrolled.new.damage.rect;
       gesture = c.dispatch-yes.new.gesture;
-      pointers = c.args.pointers.items;
+      pointers = c.set_points.new.all.items;
       told = c.dispatch-yes.new.log.entries.items;
     } in
     let event = c.args.event.now in

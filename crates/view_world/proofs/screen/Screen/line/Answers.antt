@@ -9,26 +9,26 @@ use Rattle.view_world.proofs.screen.Screen.line.Goals as goal
 
 pub returns-in-Some-clause-carried : goal.returns-in-Some-clause-carried
 returns-in-Some-clause-carried g c files at =
-    let e : inflation_of (plain_command c.args.command) ≡ Some (c.in-Some.name.now, c.in-Some.into) = rw c.in-Some.is at (sym c.inflation_of.ensures) in
-    rw (inflates files (world_of c.args.self.now) (plain_command c.args.command) (c.in-Some.name.now, c.in-Some.into) e) (c.inflate_line.ensures.carried files (rw e at at))
+    let e : inflation_of (plain_command c.args.command.now) ≡ Some (c.in-Some.name.now, c.in-Some.into) = rw c.in-Some.is at (sym c.inflation_of.ensures) in
+    rw (inflates files (world_of c.args.self.now) (plain_command c.args.command.now) (c.in-Some.name.now, c.in-Some.into) e) (c.inflate_line.ensures.carried files (rw e at at))
 
 pub returns-in-None-clause-carried : goal.returns-in-None-clause-carried
 returns-in-None-clause-carried g c files at =
-    let e : inflation_of (plain_command c.args.command) ≡ None = rw c.in-None.is at (sym c.inflation_of.ensures) in
-    rw (unaided files (world_of c.args.self.now) (plain_command c.args.command) e) c.command.ensures.carried
+    let e : inflation_of (plain_command c.args.command.now) ≡ None = rw c.in-None.is at (sym c.inflation_of.ensures) in
+    rw (unaided files (world_of c.args.self.now) (plain_command c.args.command.now) e) c.command.ensures.carried
 
 pub returns-in-Some-clause-silent : goal.returns-in-Some-clause-silent
 returns-in-Some-clause-silent g c files world at e =
-    let file : inflation_of (plain_command c.args.command) ≡ Some (c.in-Some.name.now, c.in-Some.into) = rw c.in-Some.is at (sym c.inflation_of.ensures) in
+    let file : inflation_of (plain_command c.args.command.now) ≡ Some (c.in-Some.name.now, c.in-Some.into) = rw c.in-Some.is at (sym c.inflation_of.ensures) in
     absurd (inflation_tells files (world_of c.args.self.now) world c.in-Some.name.now c.in-Some.into
-    (sym (inflates files (world_of c.args.self.now) (plain_command c.args.command) (c.in-Some.name.now, c.in-Some.into) file) ∙ e))
+    (sym (inflates files (world_of c.args.self.now) (plain_command c.args.command.now) (c.in-Some.name.now, c.in-Some.into) file) ∙ e))
 
 pub returns-in-Some-clause-fetched : goal.returns-in-Some-clause-fetched
 returns-in-Some-clause-fetched g c =
-    let e : inflation_of (plain_command c.args.command) ≡ Some (c.in-Some.name.now, c.in-Some.into) = rw c.in-Some.is at (sym c.inflation_of.ensures) in
+    let e : inflation_of (plain_command c.args.command.now) ≡ Some (c.in-Some.name.now, c.in-Some.into) = rw c.in-Some.is at (sym c.inflation_of.ensures) in
     rw e c.inflate_line.ensures.fetched
 
 pub returns-in-None-clause-fetched : goal.returns-in-None-clause-fetched
 returns-in-None-clause-fetched g c =
-    let e : inflation_of (plain_command c.args.command) ≡ None = rw c.in-None.is at (sym c.inflation_of.ensures) in
+    let e : inflation_of (plain_command c.args.command.now) ≡ None = rw c.in-None.is at (sym c.inflation_of.ensures) in
     rw e refl

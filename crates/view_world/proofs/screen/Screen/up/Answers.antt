@@ -15,4 +15,4 @@ returns-clause-changed c =
     Changed-up now c.hand.new.self c.args.id others c.event_of-event.result c.hand.result c.in_ok-touchable.ensures.1 pressed
     (c.without_point-others.ensures.points ∙ ap (without_point c.args.id) (c.as_slice-2.ensures.value ∙ held))
     (c.event_of-event.ensures ∙ ap (λ (action : Action). event_of action c.args.id c.as_slice-4.result.now) action ∙ ap (event_of (up_action others) c.args.id) (c.as_slice-4.ensures.value ∙ held))
-    c.hand.ensures.changed
+    (rw c.as_slice-5.ensures.value at c.hand.ensures.changed)

@@ -22,11 +22,11 @@ use Rattle.view_world.specs.KeyedWorld.{KeyedWorld, world_of}
 use Rattle.view_world.specs.Marks.{marks_after, measure_bound}
 use Rattle.view_world.specs.Resting.{CountsMeasures, LaysOut}
 use Rattle.view_world.specs.declared.world.World.TheInside.{Inside}
-use Rattle.view_world.proofs.world.World.line.Goals as goal
+use Rattle.view_world.proofs.world.World.carry.Goals as goal
 
 pub invariant_of-self : goal.invariant_of-self
 invariant_of-self g c =
-    let line = plain_command c.args.command in
+    let line = plain_command c.args.command.now in
     let new : Inside = record { screen = c.line-outcome.new.self; marks = c.marks_after-self-inside.result } in
     marks_line line c.line-outcome.result c.self.inside new c.args.work.now c.line-outcome.new.work
     (unchanged_all c.line-outcome.result c.self.inside.screen c.line-outcome.new.self c.args.sink.now c.line-outcome.new.sink c.line-outcome.ensures.unchanged)
@@ -54,12 +54,12 @@ returns-clause-reports g c done = c.line-outcome.ensures.reports done
 
 pub returns-clause-fetched : goal.returns-clause-fetched
 returns-clause-fetched g c =
-    subst (λ (w : KeyedWorld). g.F.Shelf.fetches c.line-outcome.new.shelf ≡ fetches_after (asked_file (world_of w) (plain_command c.args.command)) (g.F.Shelf.fetches c.args.shelf.now)) c.self.view_is
+    subst (λ (w : KeyedWorld). g.F.Shelf.fetches c.line-outcome.new.shelf ≡ fetches_after (asked_file (world_of w) (plain_command c.args.command.now)) (g.F.Shelf.fetches c.args.shelf.now)) c.self.view_is
     c.line-outcome.ensures.fetched
 
 pub returns-clause-marks : goal.returns-clause-marks
 returns-clause-marks g c is =
-    let line = plain_command c.args.command in
+    let line = plain_command c.args.command.now in
     subst (λ (w : KeyedWorld). c.marks_after-self-inside.result ≡ marks_after (world_of w) line (world_on c.line-outcome.new.self) w.marks) c.self.view_is
     (c.marks_after-self-inside.ensures.done is
     ∙ marks_are line c.effect_of-effect.result c.self.inside.marks c.self.inside.screen c.line-outcome.new.self c.has_settled-settled.result c.has_scrolled-scrolled.result c.effect_of-effect.ensures c.has_settled-settled.ensures
@@ -72,14 +72,14 @@ returns-clause-measured g c frame is =
 
 pub returns-clause-leaves : goal.returns-clause-leaves
 returns-clause-leaves g c ne =
-    let line = plain_command c.args.command in
+    let line = plain_command c.args.command.now in
     subst (λ (w : KeyedWorld). LeavesUnasked (world_of w) line w.screen.views c.line-outcome.new.self.views) c.self.view_is
     (leaves_all line c.line-outcome.result c.self.inside.screen c.line-outcome.new.self
     (unchanged_all c.line-outcome.result c.self.inside.screen c.line-outcome.new.self c.args.sink.now c.line-outcome.new.sink c.line-outcome.ensures.unchanged) (λ is. c.line-outcome.ensures.keeps ne is))
 
 pub returns-clause-measures : goal.returns-clause-measures
 returns-clause-measures g c ne =
-    let line = plain_command c.args.command in
+    let line = plain_command c.args.command.now in
     subst (λ (w : KeyedWorld). c.line-outcome.new.self.views.counts.measures ≡ w.screen.views.counts.measures) c.self.view_is
     (measures_same line c.line-outcome.result c.self.inside.screen c.line-outcome.new.self
     (unchanged_all c.line-outcome.result c.self.inside.screen c.line-outcome.new.self c.args.sink.now c.line-outcome.new.sink c.line-outcome.ensures.unchanged) (λ is. c.line-outcome.ensures.keeps ne is))
@@ -94,24 +94,24 @@ returns-clause-laid g c frame is =
 
 pub returns-clause-carried : goal.returns-clause-carried
 returns-clause-carried g c =
-    let line = plain_command c.args.command in
+    let line = plain_command c.args.command.now in
     subst (λ (w : KeyedWorld). (files : Files) → AreAtHand files (g.F.Shelf.files c.args.shelf.now) (asked_file (world_of w) line)
     → WritesReply (step files (world_of w) line) (world_on c.line-outcome.new.self) (g.K.Sink.state c.args.sink.now) (g.K.Sink.state c.line-outcome.new.sink) c.line-outcome.result)
     c.self.view_is c.line-outcome.ensures.carried
 
 pub returns-clause-silent : goal.returns-clause-silent
 returns-clause-silent g c =
-    let line = plain_command c.args.command in
+    let line = plain_command c.args.command.now in
     subst (λ (w : KeyedWorld). (files : Files) (world : World) → AreAtHand files (g.F.Shelf.files c.args.shelf.now) (asked_file (world_of w) line)
     → step files (world_of w) line ≡ Done world [] → c.line-outcome.new.sink ≡ c.args.sink.now) c.self.view_is c.line-outcome.ensures.silent
 
 pub returns-clause-unasked : goal.returns-clause-unasked
 returns-clause-unasked g c =
-    subst (λ (w : KeyedWorld). asked_file (world_of w) (plain_command c.args.command) ≡ None → c.line-outcome.new.shelf ≡ c.args.shelf.now) c.self.view_is c.line-outcome.ensures.unasked
+    subst (λ (w : KeyedWorld). asked_file (world_of w) (plain_command c.args.command.now) ≡ None → c.line-outcome.new.shelf ≡ c.args.shelf.now) c.self.view_is c.line-outcome.ensures.unasked
 
 pub returns-clause-watched : goal.returns-clause-watched
 returns-clause-watched g c is box has =
-    let line = plain_command c.args.command in
+    let line = plain_command c.args.command.now in
     let old = keyed c.self.inside in
     let new : KeyedWorld = record { screen = c.line-outcome.new.self; marks = c.marks_after-self-inside.result } in
     let ens = c.line-outcome.ensures in
@@ -127,7 +127,7 @@ returns-clause-watched g c is box has =
 
 pub returns-clause-worth : goal.returns-clause-worth
 returns-clause-worth g c is box has =
-    let line = plain_command c.args.command in
+    let line = plain_command c.args.command.now in
     let old = keyed c.self.inside in
     let ens = c.line-outcome.ensures in
     let before = c.args.work.now in
