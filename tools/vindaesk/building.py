@@ -24,7 +24,7 @@ PROGRAM = "view_tool"
 OUT = os.path.join(TOP, "crates", PROGRAM, "out")
 BEGUN = os.path.join(OUT, "launcher.begun")
 # how many processes a proof gains by
-MAX_JOBS = 4
+MAX_JOBS = 8
 # the statuses of rt where a process was killed, as for memory: its own, a shell's, and that of Python's exit
 KILLED = (-signal.SIGKILL, 128 + signal.SIGKILL, 256 - signal.SIGKILL)
 # what the toolchain prints where all is well, and how many of the other lines are shown where a build fails
@@ -160,9 +160,15 @@ class Build:
         if idle <= 0 or has_company:
             return 0
         free = self.memory - sum(it.memory for it in self.running)
-        most = 1 if name in self.killed else max(1, min(MAX_JOBS, idle // ready))
+        most = 1 if name in self.killed else min(MAX_JOBS, self.processors, max(idle // ready, self.share(name)))
         # what needs more than there is runs with nothing beside it
         return max([it for it in range(1, most + 1) if self.needs(name, it) <= free] or [0 if self.running else 1])
+
+    def share(self, name: str) -> int:
+        """How many of the processors a crate is to have, so that the chain of those that wait for it does not come last
+        of all: for a while more processes may run than there are processors."""
+        rest = sum(crates.time(self.known[it]) for it in (*self.left, *(it.crate.name for it in self.running)))
+        return max(1, round(self.processors * self.chains[name] / rest))
 
     def needs(self, name: str, jobs: int) -> float:
         """How many GB the build of a crate by as many processes takes."""

@@ -74,4 +74,4 @@ def memory(known: Dict[str, Crate], name: str, jobs: int = 1) -> float:
     """How many GB a proof by as many processes takes at most."""
     crate = known[name]
     libraries = sum(known[it].code + known[it].proofs for it in below(known, name))
-    return (0.8 + crate.code / 1000 + crate.proofs / 5000 + libraries / 30000) * (1 + 0.6 * (jobs - 1))
+    return (0.9 + crate.code / 2000 + crate.proofs / 10000 + libraries / 60000) * (0.7 + 0.3 * jobs)
