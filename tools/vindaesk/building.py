@@ -62,6 +62,7 @@ class Running:
 
     def __init__(self, crate: Crate, folder: str, jobs: int, memory: float):
         self.crate, self.jobs, self.memory, self.far, self.place = crate, jobs, memory, "", 0
+        self.top = os.path.dirname(os.path.dirname(folder))
         words = ["run", "--jobs", str(jobs), "--", "run"] if crate.name == PROGRAM else ["lib", "--jobs", str(jobs)]
         self.log = tempfile.TemporaryFile()
         self.process = subprocess.Popen(
@@ -183,7 +184,8 @@ class Build:
     def end(self, it: Running) -> None:
         """Takes the end of a build."""
         name, status = it.crate.name, it.process.returncode
-        self.rooms.leave(name)
+        if name != PROGRAM:
+            self.rooms.leave(name)
         if status == 0:
             self.done.append(name)
         elif status in KILLED and name not in self.killed:
@@ -192,7 +194,7 @@ class Build:
             self.left.append(name)
         else:
             self.line.clear()
-            raise failure(it, self.rooms)
+            raise failure(it)
 
     def stop(self) -> None:
         """Ends what is still being built. What the toolchain has kept of it stays."""
@@ -220,9 +222,9 @@ class Build:
             say(line)
 
 
-def failure(it: Running, rooms: Rooms) -> Failure:
+def failure(it: Running) -> Failure:
     """Prints what the toolchain said of a crate whose build failed, less what went well."""
-    lines = [line.replace(rooms.room(it.crate.name), TOP) for line in it.printed() if not WELL.match(line)]
+    lines = [line.replace(it.top, TOP) for line in it.printed() if not WELL.match(line)]
     print(*lines[-SHOWN:], sep="\n", file=sys.stderr)
     words = "run" if it.crate.name == PROGRAM else "lib"
     folder = os.path.join(TOP, "crates", it.crate.name)

@@ -1,16 +1,18 @@
-"""Rooms: folders in which single crates are built, side by side.
+"""Rooms: folders in which crates are built side by side.
 
 The toolchain's `rt` locks the folders of a crate and of all that it uses, so that in one checkout crates that use the
-same one are built in turn. A room is a small checkout for one crate: the sources of it and of all that it uses, their
-libraries, and the crate's own out/, which is put back when it has been built.
+same one are built in turn. A room is a checkout in which one crate is built at a time: the sources of it and of all that
+it uses, their libraries, and the crate's own out/, which is put back when it has been built. Rooms are used again, since
+most of what a crate uses others use too.
 """
 import contextlib
 import fcntl
 import hashlib
 import os
 import shutil
+import subprocess
 import tempfile
-from typing import Callable, Iterable, Iterator, List
+from typing import Callable, Dict, Iterable, Iterator, List
 
 from .calling import NOT_BUILT, Failure, say
 from .crates import READ, Crate
@@ -18,13 +20,23 @@ from .crates import READ, Crate
 LIBRARY = os.path.join("out", "rlib")
 
 
-def link(source: str, target: str) -> str:
-    """Gives a file a second name, or copies it where that cannot be: the toolchain writes into no file that is there."""
-    try:
-        os.link(source, target)
-    except OSError:
-        shutil.copy2(source, target)
-    return target
+def link(parts: List[str], source: str, target: str) -> None:
+    """Gives the files below some folders a second name in another folder, or copies them where that cannot be: the
+    toolchain writes into no file that is there."""
+    for how in ("-al", "-a") if parts else ():
+        words = ["cp", how, "--parents", "--", *parts, target]
+        ended = subprocess.run(words, cwd=source, stderr=subprocess.PIPE)
+        if ended.returncode == 0:
+            return
+        for it in parts:
+            remove(os.path.join(target, it))
+    if parts:
+        raise Failure("the sources cannot be copied: %s" % ended.stderr.decode("utf-8", "replace").strip(), NOT_BUILT)
+
+
+def remove(folder: str) -> None:
+    """Removes a folder with all that is in it."""
+    subprocess.run(["rm", "-rf", "--", folder], stderr=subprocess.DEVNULL)
 
 
 def lock(folder: str, handle: int, pause: Callable[[], None]) -> None:
@@ -70,6 +82,9 @@ class Rooms:
 
     def __init__(self, top: str):
         self.top, self.place = top, place_for(top)
+        # those in which nothing is built, and those of the crates that are being built
+        self.empty: List[str] = []
+        self.taken: Dict[str, str] = {}
 
     def __enter__(self) -> "Rooms":
         os.makedirs(self.place, 0o700, exist_ok=True)
@@ -80,34 +95,39 @@ class Rooms:
 
     def __exit__(self, *_: object) -> None:
         self.clear()
-        shutil.rmtree(self.place, ignore_errors=True)
+        remove(self.place)
 
     def clear(self) -> None:
-        """Leaves all rooms."""
-        for name in os.listdir(self.place):
-            self.leave(name)
-
-    def room(self, name: str) -> str:
-        """The room of a crate."""
-        return os.path.join(self.place, name)
+        """Puts back what was being built, also by a build that was killed, and removes all rooms."""
+        for room in os.listdir(self.place):
+            crates = os.path.join(self.place, room, "crates")
+            for name in os.listdir(crates) if os.path.isdir(crates) else []:
+                move(name, os.path.join(self.place, room), self.top)
+            remove(os.path.join(self.place, room))
 
     def enter(self, crate: Crate, used: List[Crate]) -> str:
-        """Makes the room for a crate over the libraries of all that it uses, and returns the folder to build it in."""
-        room = self.room(crate.name)
-        for it in [*used, crate]:
-            for part in READ if it is crate else (*READ, LIBRARY):
-                source, target = (os.path.join(top, "crates", it.name, part) for top in (self.top, room))
-                if os.path.isdir(source):
-                    shutil.copytree(source, target, copy_function=link)
+        """Makes a room ready for a crate and the libraries of all that it uses, and returns the folder to build it in."""
+        if not self.empty:
+            self.empty.append(tempfile.mkdtemp(dir=self.place))
+        room = self.taken[crate.name] = self.empty.pop()
+        parts = [os.path.join("crates", it.name, part) for it in [*used, crate] for part in READ]
+        parts += [os.path.join("crates", it.name, LIBRARY) for it in used]
+        link([it for it in parts if is_lacking(it, self.top, room)], self.top, room)
         with open(os.path.join(room, "crates.txt"), "w") as file:
             file.write("".join(it.row + "\n" for it in [*used, crate]))
         move(crate.name, self.top, room)
         return os.path.join(room, "crates", crate.name)
 
     def leave(self, name: str) -> None:
-        """Puts what was built of a crate into the checkout, and removes its room."""
-        move(name, self.room(name), self.top)
-        shutil.rmtree(self.room(name), ignore_errors=True)
+        """Puts what was built of a crate into the checkout."""
+        room = self.taken.pop(name)
+        move(name, room, self.top)
+        self.empty.append(room)
+
+
+def is_lacking(part: str, top: str, room: str) -> bool:
+    """Whether a folder of a checkout is not yet in a room."""
+    return os.path.isdir(os.path.join(top, part)) and not os.path.lexists(os.path.join(room, part))
 
 
 def move(name: str, source: str, target: str) -> None:
