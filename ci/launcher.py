@@ -373,9 +373,15 @@ def proof_fails():
         ended = it.call(["run"], proof="1", build='echo "fn f: proved"; echo "$PWD/src/lib.rt:1:1: error: no"')
         if (ended.status, ended.out) != (126, b"") or "low could not be built" not in ended.said:
             return "status %d, '%s'" % (ended.status, ended.said)
-        if "\n%s/crates/low/src/lib.rt:1:1: error: no\n" % os.path.realpath(it.folder) not in ended.said or "proved" in ended.said:
-            return "it prints '%s'" % ended.said
-        return "temporary files stay" if it.leavings() else ""
+        shown = "\n%s/crates/low/src/lib.rt:1:1: error: no\n" % os.path.realpath(it.folder)
+        if shown not in ended.said or "proved" in ended.said or it.leavings():
+            return "it prints '%s', and leaves %s" % (ended.said, it.leavings())
+    with repository(is_built=False) as it:
+        it.add("b", "")
+        it.add("a", "")
+        ended = it.call(["run"], build="sleep 0.5; exit 1", jobs="3")
+        is_right = ended.status == 126 and ended.said.count("could not be built") == 1 and not it.leavings()
+        return "" if is_right else "of three at once: status %d, '%s'" % (ended.status, ended.said)
 
 
 def passes_statuses():

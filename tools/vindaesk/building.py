@@ -70,18 +70,19 @@ class Running:
             start_new_session=True
         )
 
-    def printed(self) -> List[str]:
-        """All that the toolchain has printed."""
-        return os.pread(self.log.fileno(), 1 << 26, 0).decode("utf-8", "replace").splitlines()
+    def printed(self, start: int = 0) -> bytes:
+        """What the toolchain has printed after that many bytes."""
+        handle = self.log.fileno()
+        return os.pread(handle, os.fstat(handle).st_size - start, start)
 
     def waits(self) -> List[str]:
         """What it waits for, where it has said so since the last call. Notes how many functions are proved, too."""
-        text = os.pread(self.log.fileno(), 1 << 26, self.place)
+        text = self.printed(self.place)
         text = text[: text.rfind(b"\n") + 1]
         self.place += len(text)
         lines = text.decode("utf-8", "replace").splitlines()
-        for line in filter(FAR.match, lines):
-            self.far = ", " + FAR.match(line)[1]
+        for found in filter(None, map(FAR.match, lines)):
+            self.far = ", " + found[1]
         return [line[len("rt: ") :] for line in lines if line.startswith("rt: ") and "waiting" in line]
 
 
@@ -199,7 +200,9 @@ class Build:
     def stop(self) -> None:
         """Ends what is still being built. What the toolchain has kept of it stays."""
         for it in self.running:
-            os.killpg(it.process.pid, signal.SIGKILL)
+            # one may have ended by itself
+            with contextlib.suppress(ProcessLookupError):
+                os.killpg(it.process.pid, signal.SIGKILL)
             it.process.wait()
         self.line.clear()
 
@@ -224,7 +227,8 @@ class Build:
 
 def failure(it: Running) -> Failure:
     """Prints what the toolchain said of a crate whose build failed, less what went well."""
-    lines = [line.replace(it.top, TOP) for line in it.printed() if not WELL.match(line)]
+    lines = it.printed().decode("utf-8", "replace").replace(it.top, TOP).splitlines()
+    lines = [line for line in lines if not WELL.match(line)]
     print(*lines[-SHOWN:], sep="\n", file=sys.stderr)
     words = "run" if it.crate.name == PROGRAM else "lib"
     folder = os.path.join(TOP, "crates", it.crate.name)
@@ -255,23 +259,31 @@ def build() -> None:
     made.say("all %d crates are proved, and the program is built" % len(order))
 
 
-def main(_: object) -> int:
-    """Builds the program, and notes when that began, so that it is known which sources are newer."""
-    sys.argv[0] = "vindaesk"
+@contextlib.contextmanager
+def noted() -> Iterator[None]:
+    """Notes when a build began that went well, so that it is known which sources are newer."""
     os.makedirs(OUT, exist_ok=True)
     with open(BEGUN, "w"):
         pass
     try:
-        build()
-        if not os.access(os.path.join(OUT, PROGRAM), os.X_OK):
-            raise Failure("rt run left no program at %s" % os.path.join(OUT, PROGRAM), NOT_BUILT)
+        yield
         os.replace(BEGUN, os.path.join(OUT, "launcher.stamp"))
-    except Interrupted as it:
-        signal.signal(it.number, signal.SIG_DFL)
-        os.kill(os.getpid(), it.number)
     finally:
         if os.path.exists(BEGUN):
             os.unlink(BEGUN)
+
+
+def main(_: object) -> int:
+    """Builds the program."""
+    sys.argv[0] = "vindaesk"
+    try:
+        with noted():
+            build()
+            if not os.access(os.path.join(OUT, PROGRAM), os.X_OK):
+                raise Failure("rt run left no program at %s" % os.path.join(OUT, PROGRAM), NOT_BUILT)
+    except Interrupted as it:
+        signal.signal(it.number, signal.SIG_DFL)
+        os.kill(os.getpid(), it.number)
     return 0
 
 
