@@ -41,6 +41,7 @@ BROKEN = {
     "<View>": "this is no XML: no element found",
     "<View></view>": "this is no XML: mismatched tag",
     '<android:View a="1"/>': "this is no XML: unbound prefix",
+    "\3\0\x08\0": "this is no XML: it is compiled; --text makes a source of it",
     '<!DOCTYPE a [<!ENTITY b "c">]><View a="&b;"/>': "a layout has no document type",
 }
 

@@ -2,6 +2,7 @@
 variable says.
 """
 import contextlib
+import fcntl
 import os
 import pty
 import re
@@ -13,13 +14,18 @@ import time
 
 from running import SECONDS, TOP, run
 
-# the toolchain's stand-in: it records each call, and "builds" a program that does what the variable ACT says
+# the toolchain's stand-in: it records each call, locks the folders of crates as the toolchain does, and "builds" a
+# program that does what the variable ACT says
 TOOLCHAIN = r"""#!/usr/bin/env bash
+[[ $1 == version ]] && echo "kit of the checks" && exit
+for folder in ../*/; do
+    exec {lock}< "$folder" && flock "$lock"
+done
 echo "${PWD##*/} $*" >> "$CALLS"
+mkdir -p out
 case $1 in
-    version) echo "kit of the checks" ;;
     lib) echo "so far: 1 of 2 functions checked; the verdict comes last"; eval "${BUILD-}"; exit "${PROOF:-0}" ;;
-    run) mkdir -p out && printf '%s\n' '#!/usr/bin/env bash' 'eval "$ACT"' > out/view_tool && chmod +x out/view_tool ;;
+    run) printf '%s\n' '#!/usr/bin/env bash' 'eval "$ACT"' > out/view_tool && chmod +x out/view_tool ;;
 esac
 """
 SENTENCES = {3: "read", 4: "written", 5: "memory", 6: "file", 7: "16777216 bytes"}
@@ -51,24 +57,26 @@ class Repository:
     def __init__(self, folder):
         self.folder = folder
         self.calls = os.path.join(folder, "calls")
-        for name in ("tools", "temporary", "crates/low/src", "crates/view_tool/src"):
+        for name in ("kit", "temporary", "crates/low/src", "crates/view_tool/src"):
             os.makedirs(os.path.join(folder, name))
         shutil.copy(os.path.join(TOP, "vindaesk"), folder)
-        shutil.copytree(os.path.join(TOP, "docs"), os.path.join(folder, "docs"))
+        for name in ("docs", "tools/vindaesk"):
+            shutil.copytree(os.path.join(TOP, name), os.path.join(folder, name))
         for name, text in (("crates.txt", "low:\nview_tool: low\n"), ("HANDLES", ""), ("calls", ""),
                            ("VERSION", "1.2.3\n"),
-                           ("tools/rt", TOOLCHAIN), ("crates/low/src/lib.rt", ""),
+                           ("kit/rt", TOOLCHAIN), ("crates/low/src/lib.rt", ""),
                            ("crates/view_tool/src/main.rt", "")):
             with open(os.path.join(folder, name), "w") as file:
                 file.write(text)
-        os.chmod(os.path.join(folder, "tools/rt"), 0o755)
+        os.chmod(os.path.join(folder, "kit/rt"), 0o755)
 
     def start(self, words, has_toolchain=True, **how):
         act = how.pop("act", "")
         kept = [it for it in os.environ["PATH"].split(":") if not os.path.exists(os.path.join(it, "rt"))]
-        own = {"PATH": ":".join([os.path.join(self.folder, "tools")] * has_toolchain + kept), "CALLS": self.calls,
+        own = {"PATH": ":".join([os.path.join(self.folder, "kit")] * has_toolchain + kept), "CALLS": self.calls,
                "ACT": act, "TMPDIR": os.path.join(self.folder, "temporary"), "PROOF": how.pop("proof", "0"),
-               "BUILD": how.pop("build", ""), "VINDAESK_JOBS": how.pop("jobs", "2")}
+               "BUILD": how.pop("build", ""), "VINDAESK_JOBS": how.pop("jobs", "2"),
+               "VINDAESK_MEMORY": how.pop("memory", "20")}
         pipes = {"stdin": subprocess.PIPE, "stdout": subprocess.PIPE, "stderr": subprocess.PIPE, **how}
         return subprocess.Popen(["./vindaesk", *words], cwd=self.folder, env={**os.environ, **own}, **pipes)
 
@@ -77,18 +85,28 @@ class Repository:
         out, said = started.communicate(given, timeout=SECONDS)
         return Ended(started.returncode, out, (said or b"").decode())
 
-    def add(self, name, needed):
-        """Another crate, which uses others and is used by the program."""
+    def add(self, name, needed, is_needed=True):
+        """Another crate, which uses others and may be used by the program."""
         os.makedirs(os.path.join(self.folder, "crates", name, "src"))
-        with open(os.path.join(self.folder, "crates.txt")) as file:
-            text = file.read()
+        rows = ["%s: %s" % (name, needed), self.read("crates.txt").rstrip("\n") + (" " + name) * is_needed]
         with open(os.path.join(self.folder, "crates.txt"), "w") as file:
-            file.write("%s: %s\n%s %s\n" % (name, needed, text.rstrip("\n"), name))
+            file.write("".join(row + "\n" for row in rows))
+
+    def has(self, name):
+        """Whether a file is there."""
+        return os.path.exists(os.path.join(self.folder, name))
+
+    def read(self, name):
+        with open(os.path.join(self.folder, name)) as file:
+            return file.read()
+
+    def leavings(self):
+        """The temporary files that are there."""
+        return os.listdir(os.path.join(self.folder, "temporary"))
 
     def builds(self):
         """The toolchain's calls so far."""
-        with open(self.calls) as file:
-            return file.read().split("\n")[:-1]
+        return self.read("calls").splitlines()
 
 
 @contextlib.contextmanager
@@ -194,66 +212,151 @@ def lacks_toolchain():
 
 def builds():
     with repository(is_built=False) as it:
+        it.add("other", "low", is_needed=False)
         ended = it.call(["run"], act="echo answer")
         if (ended.status, ended.out) != (0, b"answer\n"):
-            return "status %d, and it writes '%s'" % (ended.status, ended.out.decode())
-        for part in ("about 35 minutes", "proving low, 0 of 2 crates done\n", "proving view_tool, 1 of 2 crates"):
+            return "status %d, and it writes '%s': %s" % (ended.status, ended.out.decode(), ended.said)
+        for part in ("from nothing about", "proving low, 0 of 2 crates done\n", "proving view_tool, 1 of 2 crates"):
             if part not in ended.said:
                 return "'%s' is not in '%s'" % (part, ended.said)
         it.call(["run"])
-        if it.builds() != ["low lib", "view_tool run -- run"]:
+        if it.builds() != ["low lib --jobs 2", "view_tool run --jobs 2 -- run"]:
             return "calls: %s" % it.builds()
         os.remove(os.path.join(it.folder, "crates/low/src/lib.rt"))
         it.call(["run"])
         if len(it.builds()) != 4:
             return "a source that is gone is not seen"
-        return "temporary files stay" if os.listdir(os.path.join(it.folder, "temporary")) else ""
+        return "temporary files stay" if it.leavings() else ""
 
 
 def builds_side_by_side():
-    """Two crates that wait for one another as they are built, and one that uses both."""
-    waits = ('touch "../${PWD##*/}.begun"; '
-             "for k in {1..600}; do [[ -e ../a.begun && -e ../b.begun ]] && exit 0; sleep 0.1; done; exit 1")
+    """Two crates that wait for one another as they are built, both over the same one, and one that uses both."""
+    build = """
+        mkdir -p out/rlib && touch "out/rlib/${PWD##*/}" out/kept
+        case ${PWD##*/} in
+            a | b) [[ -e ../low/out/rlib/low && ! -e ../low/out/kept && ! -e ../both ]] || exit 1
+                touch "$TMPDIR/../${PWD##*/}.begun"
+                for k in {1..600}; do [[ -e $TMPDIR/../a.begun && -e $TMPDIR/../b.begun ]] && exit 0; sleep 0.1; done
+                exit 1 ;;
+            both) [[ -e ../a/out/rlib/a && -e ../b/out/rlib/b && -e ../low/out/rlib/low ]] ;;
+        esac"""
     with repository(is_built=False) as it:
-        it.add("b", "")
-        it.add("a", "")
+        it.add("b", "low")
+        it.add("a", "low")
         it.add("both", "a b")
-        build = 'case ${PWD##*/} in a | b) %s ;; esac' % waits
-        it.call(["run"], build=build, act="true", jobs="4")
+        ended = it.call(["run"], build=build, act="true", jobs="4")
         order = [call.split(" ")[0] for call in it.builds()]
-        places = [order.index(name) for name in ("a", "b", "both", "view_tool")] if len(order) == 5 else []
-        is_right = places and max(places[:2]) < places[2] < places[3] == 4
-        return "" if is_right else "calls: %s" % it.builds()
+        if ended.status or order[:1] + sorted(order[1:3]) + order[3:] != ["low", "a", "b", "both", "view_tool"]:
+            return "status %d, calls: %s, '%s'" % (ended.status, it.builds(), ended.said)
+        lost = [name for name in ("low", "a", "b", "both") if not it.has("crates/%s/out/rlib/%s" % (name, name))]
+        return "what is built of %s is not in the checkout" % lost if lost else ""
+
+
+def builds_within_memory():
+    """Three crates that do not use each other: side by side, and in turn where memory is short."""
+    build = 'echo begun >> "$TMPDIR/../begun.log"; sleep 0.3; echo ended >> "$TMPDIR/../begun.log"'
+    for size, is_in_turn in (("20", False), ("1", True)):
+        with repository(is_built=False) as it:
+            it.add("b", "")
+            it.add("a", "")
+            ended = it.call(["run"], build=build, act="true", jobs="3", memory=size)
+            words = it.read("begun.log").split()
+            if ended.status or (words == ["begun", "ended"] * 3) != is_in_turn:
+                return "with %s GB: status %d, %s" % (size, ended.status, words)
+    with repository(is_built=False) as it:
+        ended = it.call(["run"], memory="much")
+        is_said = "VINDAESK_MEMORY is 'much', and no number" in ended.said
+        return "" if ended.status == 126 and is_said else "'much': status %d, '%s'" % (ended.status, ended.said)
+
+
+def started_builds(it, **how):
+    """The launcher, and the process of the toolchain that it has started, which waits."""
+    started = it.start(["run"], build='mkdir -p out/rlib; touch out/kept; echo $$ > "$TMPDIR/pid"; exec sleep 60', **how)
+    path = os.path.join(it.folder, "temporary", "pid")
+    until = time.monotonic() + SECONDS
+    while not (os.path.exists(path) and os.path.getsize(path)) and time.monotonic() < until:
+        time.sleep(0.01)
+    with open(path) as file:
+        pid = int(file.read())
+    os.unlink(path)
+    return started, pid
+
+
+def goes_on(pid):
+    """Whether a process is still there after some seconds."""
+    for _ in range(500):
+        with contextlib.suppress(OSError), open("/proc/%d/stat" % pid) as file:
+            if file.read().rpartition(") ")[2][0] != "Z":
+                time.sleep(0.01)
+                continue
+        return False
+    return True
 
 
 def build_can_be_ended():
-    for name in (signal.SIGINT, signal.SIGTERM):
+    for name in (signal.SIGINT, signal.SIGTERM, signal.SIGHUP):
         with repository(is_built=False) as it:
-            started = it.start(["run"], build='echo $$ > "$TMPDIR/pid"; exec sleep 60')
-            path = os.path.join(it.folder, "temporary", "pid")
-            until = time.monotonic() + SECONDS
-            while not (os.path.exists(path) and os.path.getsize(path)) and time.monotonic() < until:
-                time.sleep(0.01)
+            started, pid = started_builds(it)
             started.send_signal(name)
             started.communicate(timeout=SECONDS)
-            with open(path) as file:
-                pid = int(file.read())
-            for _ in range(500):
-                if not os.path.exists("/proc/%d" % pid):
-                    break
-                time.sleep(0.01)
-            else:
-                return "%s: the toolchain goes on" % name.name
-            if os.listdir(os.path.join(it.folder, "temporary")) != ["pid"]:
-                return "%s: temporary files stay" % name.name
+            if started.returncode != -name or goes_on(pid):
+                return "%s: status %d, or the toolchain goes on" % (name.name, started.returncode)
+            if it.leavings() or not it.has("crates/low/out/kept"):
+                return "%s: temporary files stay, or what was kept is lost" % name.name
     return ""
 
 
-def lost_build_fails():
+def build_goes_on_after_a_kill():
+    """What a build that was killed has kept is there in the next."""
     with repository(is_built=False) as it:
-        ended = it.call(["run"], build="kill -9 0")
-        is_right = ended.status == 126 and "low could not be built" in ended.said
-        return "" if is_right else "status %d, '%s'" % (ended.status, ended.said)
+        started, pid = started_builds(it, start_new_session=True)
+        os.killpg(started.pid, signal.SIGKILL)
+        os.kill(pid, signal.SIGKILL)
+        started.communicate(timeout=SECONDS)
+        if it.has("crates/low/out/kept"):
+            return "it was not built in a room"
+        ended = it.call(["run"], build="[[ -e out/kept ]]", act="true")
+        if ended.status or it.leavings():
+            return "status %d, temporary files: %s, '%s'" % (ended.status, it.leavings(), ended.said)
+        return ""
+
+
+def lost_build_is_tried_again():
+    killed = 'echo "${PWD##*/}" >> "$TMPDIR/../tried.log"; [[ $(wc -l < "$TMPDIR/../tried.log") -gt %d ]] || kill -9 0'
+    for times, status, text in ((1, 0, "low was killed, most likely for memory"), (2, 126, "low could not be built")):
+        with repository(is_built=False) as it:
+            ended = it.call(["run"], build=killed % times, act="true")
+            if (ended.status, text in ended.said) != (status, True):
+                return "killed %d times: status %d, '%s'" % (times, ended.status, ended.said)
+            if it.builds()[:2] != ["low lib --jobs 2", "low lib --jobs 1"]:
+                return "calls: %s" % it.builds()
+    return ""
+
+
+def waits_for_the_toolchain():
+    """Another call of the toolchain is in the folder of a crate."""
+    with repository(is_built=False) as it:
+        handle = os.open(os.path.join(it.folder, "crates/low"), os.O_RDONLY)
+        fcntl.flock(handle, fcntl.LOCK_EX)
+        started = it.start(["run"], act="true")
+        line = started.stderr.readline() + started.stderr.readline()
+        has_begun = bool(it.builds())
+        os.close(handle)
+        started.communicate(timeout=SECONDS)
+        is_right = b"waiting for another rt to finish in" in line and not has_begun and started.returncode == 0
+        return "" if is_right else "status %d, '%s'" % (started.returncode, line.decode())
+
+
+def builds_once_for_two():
+    with repository(is_built=False) as it:
+        first, pid = started_builds(it)
+        second = it.start(["run"], act="echo second")
+        said = second.stderr.readline()
+        os.kill(pid, signal.SIGTERM)
+        first.communicate(timeout=SECONDS)
+        out, _ = second.communicate(timeout=SECONDS)
+        is_right = b"another call builds the program" in said and (second.returncode, out) == (0, b"second\n")
+        return "" if is_right and first.returncode == 126 else "status %d and %d" % (first.returncode, second.returncode)
 
 
 def circle_fails():
@@ -267,10 +370,18 @@ def circle_fails():
 
 def proof_fails():
     with repository(is_built=False) as it:
-        ended = it.call(["run"], proof="1")
+        ended = it.call(["run"], proof="1", build='echo "fn f: proved"; echo "$PWD/src/lib.rt:1:1: error: no"')
         if (ended.status, ended.out) != (126, b"") or "low could not be built" not in ended.said:
             return "status %d, '%s'" % (ended.status, ended.said)
-        return "temporary files stay" if os.listdir(os.path.join(it.folder, "temporary")) else ""
+        shown = "\n%s/crates/low/src/lib.rt:1:1: error: no\n" % os.path.realpath(it.folder)
+        if shown not in ended.said or "proved" in ended.said or it.leavings():
+            return "it prints '%s', and leaves %s" % (ended.said, it.leavings())
+    with repository(is_built=False) as it:
+        it.add("b", "")
+        it.add("a", "")
+        ended = it.call(["run"], build="sleep 0.5; exit 1", jobs="3")
+        is_right = ended.status == 126 and ended.said.count("could not be built") == 1 and not it.leavings()
+        return "" if is_right else "of three at once: status %d, '%s'" % (ended.status, ended.said)
 
 
 def passes_statuses():
@@ -330,7 +441,7 @@ def passes_streams():
 def on_terminal(it, words, typed, act):
     """What a terminal shows that is the launcher's standard input and standard error."""
     mine, theirs = pty.openpty()
-    started = it.start(words, stdin=theirs, stderr=theirs, act=act)
+    started = it.start(words, stdin=theirs, stderr=theirs, act=act, build="sleep 0.5")
     os.close(theirs)
     os.write(mine, typed)
     out = started.communicate(timeout=SECONDS)[0]
@@ -361,6 +472,7 @@ def talks_to_a_terminal():
 
 def checks():
     for check in (asks_for_help, hints, example_of_help, explains, prints_version, lacks_toolchain, builds,
-                  builds_side_by_side, build_can_be_ended, lost_build_fails, circle_fails, proof_fails,
+                  builds_side_by_side, builds_within_memory, build_can_be_ended, build_goes_on_after_a_kill,
+                  lost_build_is_tried_again, waits_for_the_toolchain, builds_once_for_two, circle_fails, proof_fails,
                   passes_statuses, passes_signals, passes_streams, talks_to_a_terminal):
         yield "the launcher: " + check.__name__.replace("_", " "), check

@@ -3,6 +3,8 @@ import contextlib
 import io
 import json
 import os
+import pty
+import re
 import runpy
 import shutil
 import signal
@@ -103,11 +105,11 @@ class Place:
         os.chmod(os.path.join(self.folder, "program"), 0o755)
         return {"VINDAESK_PROGRAM": os.path.join(self.folder, "program")}
 
-    def start(self, *command, **variables):
+    def start(self, *command, stderr=subprocess.PIPE, **variables):
         """A tool, or another program of the repository, as a process of its own."""
         return subprocess.Popen(
             [os.path.join(TOP, command[0]), *command[1:]], cwd=self.folder, env={**os.environ, **variables},
-            stdin=subprocess.PIPE, stdout=subprocess.PIPE, stderr=subprocess.PIPE
+            stdin=subprocess.PIPE, stdout=subprocess.PIPE, stderr=stderr
         )
 
     def call(self, tool, *words, given="", **variables):
@@ -249,6 +251,7 @@ def lacks_files():
             ("runall", "folder"): "there is no script in folder",
             ("runall", ".", "--shard", "2/2"): "nothing falls to shard 2 of 2",
             ("runall", ".", "--shard", "3/2"): "I is 1 to N",
+            ("install", ""): "PREFIX is empty",
         }
         why = first(unlike(it.call(*words), 2, b"", said) for words, said in calls.items())
         return why or ("" if it.names() == ["a.script", "folder"] else "files: %s" % it.names())
@@ -285,18 +288,38 @@ def ends_with_the_program():
         return "" if it.names() == ["folder", "program"] else "files: %s" % it.names()
 
 
+def ended_by(it, words, number):
+    """The end of a tool to which a signal comes while the program runs, and whether the program ends too."""
+    act = "cd '%s' && echo $$ > begun && mv begun started && exec sleep 60" % it.folder
+    started = it.start("tools/" + words[0], *words[1:], **it.stand_in(act))
+    until = time.monotonic() + SECONDS
+    while "started" not in it.names() and time.monotonic() < until:
+        time.sleep(0.01)
+    program = it.read("started").decode().strip()
+    os.unlink(os.path.join(it.folder, "started"))
+    # by then the tool has taken note of it
+    time.sleep(0.5)
+    started.send_signal(number)
+    out, said = started.communicate(timeout=SECONDS)
+    # a process that has ended stays until it is waited for, and has no command then
+    with contextlib.suppress(OSError), open("/proc/%s/cmdline" % program) as file:
+        said += b"the program goes on" if file.read() else b""
+    return started.returncode, out, said.decode()
+
+
 def can_be_interrupted():
+    ends = ((signal.SIGINT, 130, "interrupted"), (signal.SIGTERM, 143, "ended by the signal SIGTERM"))
     with place() as it:
         it.put("a.script", RED)
-        variables = it.stand_in("touch started; exec sleep 60")
-        started = it.start("tools/screenshot", "a.script", "a.png", **variables)
-        until = time.monotonic() + SECONDS
-        while "started" not in it.names() and time.monotonic() < until:
-            time.sleep(0.01)
-        started.send_signal(signal.SIGINT)
-        out, said = started.communicate(timeout=SECONDS)
-        why = unlike((started.returncode, out, said.decode()), 130, b"", "screenshot: interrupted\n")
-        return why or ("" if "a.png" not in it.names() else "a picture is written")
+        it.put("a.answer", "")
+        for words in (("screenshot", "a.script", "a.png"), ("check", "a.script"), ("page", "a.script", "a.html"),
+                      ("runall", ".", "--accept"), ("unpack", os.path.join(EXAMPLES, "inbox/inbox.apk"), "made")):
+            for number, status, said in ends:
+                found = ended_by(it, words, number)
+                if found != (status, b"", "%s: %s\n" % (words[0], said)):
+                    return "%s: %s" % (words, found)
+        is_right = it.names() == ["a.answer", "a.script", "program"] and it.read("a.answer") == b""
+        return "" if is_right else "files: %s" % it.names()
 
 
 def follows_views():
@@ -309,7 +332,33 @@ def follows_views():
         wanted = {"number": 3, "parent": 2, "depth": 3, "class": "TextView", "id": None, "text": "é\n\\ z",
                   "bounds": [0, 0, 50, 100], "window": [0, -30, 50, 70], "scroll": None, "visibility": "invisible",
                   "background": "#00000000"}
-        return "" if (whole["window"], whole["views"][2]) == ([100, 100], wanted) else "JSON: %s" % whole
+        if (whole["window"], whole["views"][2]) != ([100, 100], wanted):
+            return "JSON: %s" % whole
+        with open(os.path.join(TOP, "docs", "tree.schema.json")) as file:
+            schema = json.load(file)
+        return unfit(whole, schema) or ("" if unfit({**whole, "window": [9]}, schema) else "the schema takes anything")
+
+
+# how a schema names the types
+TYPES = {"object": dict, "array": list, "string": str, "integer": int, "null": type(None)}
+
+
+def unfit(value, schema):
+    """Where a value is not of the form that a JSON Schema says, by the words that docs/tree.schema.json has."""
+    of = schema.get("type", [])
+    size = value if isinstance(value, int) else len(value) if isinstance(value, list) else 0
+    fits = [
+        not of or any(isinstance(value, TYPES[it]) for it in ([of] if isinstance(of, str) else of)),
+        value in schema.get("enum", [value]), value is None or size >= schema.get("minimum", size),
+        not isinstance(value, list) or schema.get("minItems", 0) <= size <= schema.get("maxItems", size),
+        not isinstance(value, str) or re.search(schema.get("pattern", ""), value) is not None,
+        not isinstance(value, dict) or set(schema["required"]) == set(schema["properties"]) == set(value),
+    ]
+    if not all(fits):
+        return "%r does not fit %r" % (value, schema)
+    inner = [(it, schema["items"]) for it in value] if isinstance(value, list) else []
+    inner += [(value[it], schema["properties"][it]) for it in schema.get("properties", {})]
+    return first(unfit(*it) for it in inner)
 
 
 def follows_files():
@@ -440,7 +489,27 @@ def runs_all_that_break():
         slow = b"failed: ./a.script\nit takes more than 1 seconds\n0 passed, 1 failed\n"
         why = why or unlike(it.call("runall", ".", "--timeout", "1", **it.stand_in("exec sleep 9")), 1, slow, "")
         ended = b"failed: ./a.script\nthe program was ended by the signal SIGKILL\n0 passed, 1 failed\n"
-        return why or unlike(it.call("runall", ".", "--accept", **it.stand_in("kill -9 $$")), 1, ended, "")
+        for words in ((), ("--accept",)):
+            why = why or unlike(it.call("runall", ".", *words, **it.stand_in("echo v1; kill -9 $$")), 1, ended, "")
+        return why
+
+
+def shows_progress():
+    """What a terminal shows that is the standard error of runall."""
+    with place() as it:
+        for name in ("a", "b"):
+            it.put(name + ".script", RED)
+            it.put(name + ".answer", "v1\nsettled 0\n" if name == "b" else "x")
+        mine, theirs = pty.openpty()
+        started = it.start("tools/runall", ".", "--jobs", "1", stderr=theirs)
+        os.close(theirs)
+        out, _ = started.communicate(timeout=SECONDS)
+        shown = os.read(mine, 4096).decode()
+        os.close(mine)
+        for part in ("\r\x1b[K[%s] 0 of 2" % ("." * 30), "\r\x1b[K[%s] 2 of 2, 1 failed\r\x1b[K" % ("#" * 30)):
+            if part not in shown:
+                return "%r is not in %r" % (part, shown)
+        return "" if out.endswith(b"1 passed, 1 failed\n") and b"of 2" not in out else "it writes %r" % out
 
 
 def unknown_words():
@@ -459,5 +528,5 @@ def unknown_words():
 def checks():
     for check in (helps, lacks_program, takes_pictures, reports_refused_lines, lacks_pictures, lacks_files,
                   takes_frames, ends_with_the_program, can_be_interrupted, follows_views, follows_files, reads_png,
-                  refuses_broken_pictures, compares_pictures, runs_all, runs_all_that_break, unknown_words):
+                  refuses_broken_pictures, compares_pictures, runs_all, runs_all_that_break, shows_progress, unknown_words):
         yield "the tools: " + check.__name__.replace("_", " "), check

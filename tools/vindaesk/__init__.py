@@ -22,6 +22,7 @@ views and pictures comes from what the program writes.
     manual.py      their manual page
     cases.py       stored scripts with their answers
     junit.py       a report of these for servers that run tests
+    moving.py      a line of progress on a terminal
     grammar.py     the forms of lines, and where a line does not fit them
     refusals.py    what refusals mean, and which words they are about
     checking.py    the refused lines of a script
@@ -34,6 +35,9 @@ views and pictures comes from what the program writes.
     compiling.py   the bytes of a document
     archives.py    ZIP archives, with limits
     unpacking.py   the layouts of an app, and the values that they name
+    crates.py      the crates of a checkout
+    rooms.py       folders in which single crates are built, side by side
+    building.py    proves and builds the program, for the launcher
     files.py       files are read and written whole, or not at all
     calling.py     the call of a tool: arguments, sentences, statuses
 """

@@ -1,8 +1,10 @@
 """The call of a tool: its arguments, what it says on standard error, and its status."""
 import argparse
+import contextlib
 import os
+import signal
 import sys
-from typing import Callable, List, Optional, Sequence
+from typing import Callable, Iterator, List, Optional, Sequence
 
 # the folder around tools/
 TOP = os.path.dirname(os.path.dirname(os.path.dirname(os.path.realpath(__file__))))
@@ -12,6 +14,14 @@ NOT_RUN = 2
 NOT_WRITTEN = 4
 NOT_BUILT = 126
 INTERRUPTED = 130
+
+
+class Ended(BaseException):
+    """A signal came that ends the tool: its number."""
+
+    def __init__(self, number: int):
+        super().__init__()
+        self.number = number
 
 
 class Failure(Exception):
@@ -84,10 +94,31 @@ def end_quietly() -> None:
     os.dup2(os.open(os.devnull, os.O_WRONLY), sys.stdout.fileno())
 
 
+def end(number: int, _: object) -> None:
+    """Takes a signal."""
+    raise Ended(number)
+
+
+@contextlib.contextmanager
+def ended_by_signals() -> Iterator[None]:
+    """Has the signals by which others end a process end a tool as an interrupt does: what it runs ends too, and no file
+    is left half written."""
+    before = {it: signal.getsignal(it) for it in (signal.SIGTERM, signal.SIGHUP)}
+    taken = [it for it in before if before[it] is signal.SIG_DFL]
+    for it in taken:
+        signal.signal(it, end)
+    try:
+        yield
+    finally:
+        for it in taken:
+            signal.signal(it, signal.SIG_DFL)
+
+
 def call(main: Callable[[Optional[Sequence[str]]], int]) -> None:
     """Ends the process with the status of `main`; what goes wrong is one sentence."""
     try:
-        status = main(None)
+        with ended_by_signals():
+            status = main(None)
         sys.stdout.flush()
     except Failure as failure:
         say(str(failure))
@@ -99,6 +130,9 @@ def call(main: Callable[[Optional[Sequence[str]]], int]) -> None:
     except KeyboardInterrupt:
         say("interrupted")
         status = INTERRUPTED
+    except Ended as it:
+        say("ended by the signal %s" % signal.Signals(it.number).name)
+        status = 128 + it.number
     except MemoryError:
         say("out of memory")
         status = 5

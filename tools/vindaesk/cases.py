@@ -124,6 +124,8 @@ def problem(case: Case, seconds: float) -> str:
     if not case.has(".answer"):
         return "it has no %s; --accept writes one" % os.path.basename(case.file(".answer"))
     wanted, wanted_status = files.read(case.file(".answer")), written_status(case)
+    if status not in (*ENDED, wanted_status):
+        return str(program.failed(status))
     if written != wanted:
         return diff(wanted, written, case.file(".answer"))
     if status != wanted_status:

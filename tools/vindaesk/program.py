@@ -1,9 +1,11 @@
 """Finds the built program and runs it, without the launcher: whether sources have changed since is not looked at."""
+import contextlib
 import os
 import signal
 import subprocess
 import tempfile
-from typing import Iterator, List, Optional, Tuple
+import threading
+from typing import Iterator, List, Optional, Set, Tuple
 
 from .calling import NOT_BUILT, TOP, Failure
 
@@ -19,6 +21,13 @@ SENTENCES = {
     6: "a layout file could not be read",
     7: "the script has more than %d bytes" % MAX_SCRIPT,
 }
+# what `ran` runs, and whether it is to run no more
+RUNNING: Set["subprocess.Popen[bytes]"] = set()
+STOPPED = threading.Event()
+
+
+class Stopped(BaseException):
+    """The program was ended, since the tool ends."""
 
 
 def path() -> str:
@@ -39,10 +48,31 @@ def failed(status: int) -> Failure:
 
 def ran(words: List[str], given: bytes, folder: str, seconds: Optional[float] = None) -> Tuple[bytes, int]:
     """What the program writes over a script, and its status: below 0 for a signal, as `subprocess` has it."""
-    ended = subprocess.run(
-        [path(), *words], input=given, stdout=subprocess.PIPE, stderr=subprocess.DEVNULL, cwd=folder, timeout=seconds
-    )
-    return ended.stdout, ended.returncode
+    with subprocess.Popen(
+        [path(), *words], stdin=subprocess.PIPE, stdout=subprocess.PIPE, stderr=subprocess.DEVNULL, cwd=folder
+    ) as started:
+        RUNNING.add(started)
+        try:
+            written, _ = started.communicate(given, timeout=0 if STOPPED.is_set() else seconds)
+        finally:
+            started.kill()
+            RUNNING.remove(started)
+    if STOPPED.is_set():
+        raise Stopped
+    return written, started.returncode
+
+
+@contextlib.contextmanager
+def stopping() -> Iterator[None]:
+    """Where an exception leaves this, the programs that other threads run by `ran` end, and they run no others."""
+    STOPPED.clear()
+    try:
+        yield
+    except BaseException:
+        STOPPED.set()
+        for it in list(RUNNING):
+            it.kill()
+        raise
 
 
 def lines_of(script: bytes, folder: str) -> Iterator[bytes]:

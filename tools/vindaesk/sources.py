@@ -15,6 +15,8 @@ FOR_TOOLS = "http://schemas.android.com/tools"
 # parts the address of a namespace from a name
 BETWEEN = "\n"
 BLANK = " \t\r\n"
+# how a compiled layout begins
+COMPILED = b"\x03\0\x08\0"
 
 
 def parted(whole: str) -> Tuple[str, str]:
@@ -109,6 +111,8 @@ class Reader:
 
 def read(source: bytes, file: str, names: Names) -> Tuple[List[Node], List[str]]:
     """The nodes of a source, and in a sentence each what does not fit in it."""
+    if source.startswith(COMPILED):
+        raise Failure("%s:1:1: this is no XML: it is compiled; --text makes a source of it" % file, WRONG)
     reader = Reader(file, names)
     try:
         reader.parser.Parse(source, True)
