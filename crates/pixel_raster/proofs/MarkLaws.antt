@@ -8,9 +8,10 @@ use Rattle.std.proofs.lemmas.List.FromFn.{get_or-map-range_with_len, length-map-
 use Rattle.geom_core.specs.Color.{alpha_of}
 use Rattle.geom_core.specs.declared.color.Argb.{Argb}
 use Rattle.geom_core.specs.declared.color.TheConstants.{BLACK}
-use Rattle.pixel_raster.specs.Marks.{mark_of, seen_at, seen_of, seen_pixels}
+use Rattle.pixel_raster.specs.Marks.{AreWritten, mark_of, seen_at, seen_of, seen_pixels}
 use Rattle.pixel_raster.specs.Raster.{pixel_at}
 use Rattle.pixel_raster.proofs.BlackLaws.{black-pixel}
+use Rattle.pixel_raster.proofs.TestLaws.{between_from}
 
 -- a pixel of a row whose first one is opaque
 pub seen_of-opaque : (first pixel : Argb) → alpha_of first ≡ 255 → seen_of first pixel ≡ pixel
@@ -47,6 +48,34 @@ seen_of-written first pixel = either (alpha_of first == 0) refl
         then record { 0 = (if t then record { 0 = first.0 + 0xff00_0000 } else first).0 + 0xff00_0000 } else pixel) ≡ pixel
     either true is = rw (written-mark first (zero_of (alpha_of first) is)) refl
     either false is = rw is refl
+
+-- a pixel of a row that isn't marked
+pub seen_of-unmarked : (first pixel : Argb) → (alpha_of first == 0) ≡ false → seen_of first pixel ≡ pixel
+unfolding seen_of
+seen_of-unmarked first pixel is = rw is refl
+
+-- a band without a row
+pub unmarked-none : (width : ℕ) (pixels : List Argb) → AreWritten width (record { top = 0; bottom = 0 }) pixels
+unmarked-none width pixels y is = let between = between_from 0 0 y is in absurd (omega (arith, between.1))
+
+-- a row that was written out isn't marked
+pub unmarked-written : (first : Argb) → (alpha_of (seen_of first first) == 0) ≡ false
+unfolding seen_of
+unmarked-written first = either (alpha_of first == 0) refl
+  where
+    zero_of : (n : ℕ) → (n == 0) ≡ true → n ≡ 0
+    zero_of n is = grind (arith, nat_tests)
+
+    either : (t : Bool) → (alpha_of first == 0) ≡ t
+        → (alpha_of (if t then record { 0 = first.0 + 0xff00_0000 } else first) == 0) ≡ false
+    either true is = rw (written-mark first (zero_of (alpha_of first) is)) refl
+    either false is = is
+
+-- nor is it once its first pixel was changed
+pub unmarked-changed : (f : Argb → Argb) (here : Bool) (first now : Argb) → ((under : Argb) → alpha_of (f under) ≡ 255)
+    → now ≡ (if here then f first else first) → (alpha_of first == 0) ≡ false → (alpha_of now == 0) ≡ false
+unmarked-changed f true first now opaque e was = rw (e, opaque first) refl
+unmarked-changed f false first now opaque e was = rw e was
 
 -- what is seen of a pixel once a row was written out and some of its pixels were changed
 pub seen_of-changed : (f : Argb → Argb) (within here first_here : Bool) (first pixel head now : Argb) → ((under : Argb) → alpha_of (f under) ≡ 255)

@@ -1,10 +1,12 @@
 -- Rows of one colour, of which a surface keeps no more than a mark in the place of their first pixel.
-use Rattle.std.specs.Prelude.{ℕ, ◌+◌, ◌*◌, ◌/◌, ◌%◌, ◌==◌, List, length, map, slice_index_or, if◌then◌else◌}
+use Rattle.std.specs.Prelude.{ℕ, ◌≡◌, true, false, ◌+◌, ◌*◌, ◌/◌, ◌%◌, ◌==◌, List, length, map, slice_index_or, if◌then◌else◌}
 use Rattle.std.specs.List.{range_with_len}
 use Rattle.geom_core.specs.Color.{alpha_of}
 use Rattle.geom_core.specs.declared.color.Argb.{Argb}
 use Rattle.geom_core.specs.declared.color.TheConstants.{BLACK}
+use Rattle.pixel_raster.specs.Cuts.{is_between}
 use Rattle.pixel_raster.specs.Raster.{pixel_at}
+use Rattle.pixel_raster.specs.declared.marks.Band.{Band}
 
 -- the mark of a row of an opaque colour: the colour without its alpha, which no pixel has
 unfoldable pub mark_of : Argb → Argb
@@ -22,3 +24,8 @@ seen_at width pixels x y = seen_of (pixel_at width pixels 0 y) (pixel_at width p
 unfoldable pub seen_pixels : ℕ → List Argb → List Argb
 seen_pixels width pixels =
     map (λ place. seen_of (slice_index_or pixels (place / width * width) BLACK) (slice_index_or pixels place BLACK)) (range_with_len 0 (length pixels))
+
+-- none of the rows of a band is marked
+abbrev pub AreWritten : ℕ → Band → List Argb → Type 0
+AreWritten width band pixels =
+    (y : ℕ) → is_between band.top band.bottom y ≡ true → (alpha_of (pixel_at width pixels 0 y) == 0) ≡ false

@@ -4,11 +4,18 @@ ghost use Rattle.std.specs.Prelude.{◌≡◌, ◌<◌, ◌≤◌, ◌*◌, ℕ,
 ghost use Rattle.geom_core.specs.Color.{alpha_of};
 ghost use Rattle.geom_core.specs.declared.color.TheConstants.{BLACK};
 ghost use Rattle.pixel_raster.specs.Cuts.{is_between};
-ghost use Rattle.pixel_raster.specs.Marks.{mark_of, seen_at, seen_of};
+ghost use Rattle.pixel_raster.specs.Marks.{AreWritten, mark_of, seen_at, seen_of};
 ghost use Rattle.pixel_raster.specs.Raster.{pixel_at};
 
 use crate::runs::cover_run;
 use geom_core::Argb;
+
+/// The rows of a picture from `top` on and before `bottom`.
+#[derive(Clone, Copy)]
+pub struct Band {
+    pub top: usize,
+    pub bottom: usize,
+}
 
 /// The colour that is seen of a pixel in a row that begins with this one.
 #[inline(always)]
@@ -48,6 +55,26 @@ pub fn write_rows(pixels: &mut [Argb], width: usize, top: usize, bottom: usize)
     for y in top..bottom {
         write_row(&mut pixels[y * width..(y + 1) * width]);
     }
+}
+
+/// Writes out the marked rows of a band, unless it lies in another one, where none is. Returns a band where none is
+/// marked then.
+pub fn write_band(pixels: &mut [Argb], width: usize, band: Band, written: Band) -> Band
+    requires across { 0 < width }
+    requires down { band.top ≤ band.bottom }
+    requires rows { band.bottom * width ≤ length pixels.old }
+    requires unmarked { AreWritten width written pixels.old }
+    ensures seen { (x y : ℕ) → x < width
+        → pixel_at width pixels.new x y ≡ (if is_between band.top band.bottom y
+        then seen_at width pixels.old x y
+        else pixel_at width pixels.old x y) }
+    ensures unmarked { AreWritten width result pixels.new }
+{
+    if written.top <= band.top && band.bottom <= written.bottom {
+        return written;
+    }
+    write_rows(pixels, width, band.top, band.bottom);
+    band
 }
 
 /// Writes out a row if it is marked.

@@ -2,12 +2,12 @@
 ghost use Rattle.std.specs.Prelude.{◌≡◌, ◌<◌, ◌≤◌, ◌+◌, ◌-◌, ◌*◌, ℕ, length, if◌then◌else◌};
 ghost use Rattle.geom_core.specs.Color.{blend_of};
 ghost use Rattle.view_model.specs.Glyphs.{has_bit};
-ghost use Rattle.pixel_raster.specs.Marks.{seen_at};
+ghost use Rattle.pixel_raster.specs.Marks.{AreWritten, seen_at};
 ghost use Rattle.pixel_raster.specs.Raster.{pixel_at};
 ghost use Rattle.pixel_raster.specs.Strips.{is_set, set_bits};
 
 use crate::blending::blend;
-use crate::marks::write_rows;
+use crate::marks::{Band, write_band};
 use geom_core::Argb;
 
 /// The pixels of a column from its row `top` on and before its row `bottom`.
@@ -16,6 +16,13 @@ pub struct Strip {
     pub column: usize,
     pub top: usize,
     pub bottom: usize,
+}
+
+/// A colour, and a bit for each pixel of a strip over which it may be blended; the lowest bit is that of its top row.
+#[derive(Clone, Copy)]
+pub struct Ink {
+    pub bits: u8,
+    pub color: Argb,
 }
 
 /// Whether a bit is set, the lowest being the bit 0.
@@ -51,20 +58,32 @@ fn inked(set: bool, color: Argb, under: Argb) -> Argb
 }
 
 /// Blends a colour over the set pixels of a strip of a picture whose rows have this many pixels. Returns how many they
-/// are.
-pub fn ink_strip(pixels: &mut [Argb], width: usize, strip: Strip, bits: u8, color: Argb) -> u64
+/// are. `written` are rows that aren't marked: afterwards those of the strip are among them.
+pub fn ink_strip(
+    pixels: &mut [Argb],
+    width: usize,
+    strip: Strip,
+    ink: Ink,
+    written: &mut Band,
+) -> u64
     requires column { strip.column < width }
     requires down { strip.top ≤ strip.bottom }
     requires rows { strip.bottom * width ≤ length pixels.old }
     requires few { strip.bottom ≤ strip.top + 8 }
-    ensures count { result ≡ set_bits bits (strip.bottom - strip.top) }
+    requires unmarked { AreWritten width written.old pixels.old }
+    ensures count { result ≡ set_bits ink.bits (strip.bottom - strip.top) }
     ensures colors { (x y : ℕ) → x < width
-        → seen_at width pixels.new x y ≡ (if is_set strip bits x y
-        then blend_of color (seen_at width pixels.old x y)
+        → seen_at width pixels.new x y ≡ (if is_set strip ink.bits x y
+        then blend_of ink.color (seen_at width pixels.old x y)
         else seen_at width pixels.old x y) }
+    ensures unmarked { AreWritten width written.new pixels.new }
 {
-    write_rows(pixels, width, strip.top, strip.bottom);
-    ink_written(pixels, width, strip, bits, color)
+    let band = Band {
+        top: strip.top,
+        bottom: strip.bottom,
+    };
+    *written = write_band(pixels, width, band, *written);
+    ink_written(pixels, width, strip, ink.bits, ink.color)
 }
 
 /// The same of a strip whose rows are not marked.

@@ -8,9 +8,9 @@ ghost use Rattle.pixel_raster.specs.Strips.{InksStrip, set_bits};
 
 use crate::cut::{Cut, from_zero};
 use crate::digest::digest_of;
-use crate::marks::seen_of;
+use crate::marks::{Band, seen_of};
 use crate::rows::{cover_black, fill_part};
-use crate::strip::{Strip, ink_strip};
+use crate::strip::{Ink, Strip, ink_strip};
 use geom_core::{Argb, BLACK, Rect, Size};
 use std::alloc::{AllocError, Global};
 use std::marker::Model;
@@ -24,6 +24,8 @@ pub struct Surface {
     height: usize,
     /// Row by row, from the top.
     pixels: Vec<Argb>,
+    /// Rows that aren't marked: those of the last strip, if nothing was filled since.
+    written: Band,
     filled: u64,
     /// The digest of the pixels, if it was taken since the last of them was painted.
     digest: Option<[u8; 32]>,
@@ -69,6 +71,7 @@ impl Surface {
             width: 0,
             height: 0,
             pixels: Vec::new(alloc),
+            written: Band { top: 0, bottom: 0 },
             filled: 0,
             digest: None,
             black: true,
@@ -92,6 +95,7 @@ impl Surface {
         }
         self.width = width;
         self.height = height;
+        self.written = Band { top: 0, bottom: 0 };
         self.filled = 0;
         Ok(())
     }
@@ -154,6 +158,7 @@ impl Surface {
         }
         self.digest = None;
         self.black = false;
+        self.written = Band { top: 0, bottom: 0 };
         fill_part(&mut self.pixels, self.width, cut, color);
     }
 
@@ -171,7 +176,8 @@ impl Surface {
     {
         self.digest = None;
         self.black = false;
-        let count = ink_strip(&mut self.pixels, self.width, strip, bits, color);
+        let ink = Ink { bits, color };
+        let count = ink_strip(&mut self.pixels, self.width, strip, ink, &mut self.written);
         self.filled = self.filled.saturating_add(count);
         work.painted = work.painted.saturating_add(count);
     }

@@ -12,13 +12,25 @@ use seen_parts::Canvas;
 use view_model::Work;
 use view_model::limits::CELL_HEIGHT;
 
-/// The columns and the rows of a picture between these edges; right and bottom are exclusive.
+/// The columns of a picture between these edges; right is exclusive.
 #[derive(Clone, Copy)]
 struct Edges {
     left: usize,
-    top: usize,
     right: usize,
-    bottom: usize,
+}
+
+/// The rows of a picture between these edges; bottom is exclusive.
+#[derive(Clone, Copy)]
+pub struct Rows {
+    pub top: usize,
+    pub bottom: usize,
+}
+
+/// Where a column of a cell is painted: its corner is the origin of the canvas, and it is seen in these rows.
+#[derive(Clone, Copy)]
+pub struct Place {
+    pub canvas: Canvas,
+    pub rows: Rows,
 }
 
 /// The left edge of a column of a cell at the origin of a canvas.
@@ -61,20 +73,29 @@ fn row_end(canvas: Canvas) -> Length
 fn column_edges(surface: &Surface, canvas: Canvas) -> Edges
     requires { IsCanvas (2 ^ 37) canvas }
     ensures left { result.left ≡ column_at surface.now canvas.clip canvas.left }
-    ensures top { result.top ≡ row_at surface.now canvas.clip canvas.top }
     ensures right { result.right ≡ column_at surface.now canvas.clip (canvas.left +ℤ pos 1) }
-    ensures bottom { result.bottom ≡ row_at surface.now canvas.clip (canvas.top +ℤ pos 8) }
     ensures across { result.right ≤ surface.now.width }
-    ensures down { result.bottom ≤ surface.now.height }
-    ensures bound { result.bottom < 2 ^ 31 }
 {
     let columns = surface.columns();
-    let rows = surface.rows();
     let clip = canvas.clip;
     Edges {
         left: edge_at(columns, clip.left, clip.right, column_begin(canvas)),
-        top: edge_at(rows, clip.top, clip.bottom, row_begin(canvas)),
         right: edge_at(columns, clip.left, clip.right, column_end(canvas)),
+    }
+}
+
+/// The rows of the part of a cell that is seen. Its corner is the origin of the canvas.
+pub fn seen_rows(surface: &Surface, canvas: Canvas) -> Rows
+    requires { IsCanvas (2 ^ 37) canvas }
+    ensures top { result.top ≡ row_at surface.now canvas.clip canvas.top }
+    ensures bottom { result.bottom ≡ row_at surface.now canvas.clip (canvas.top +ℤ pos 8) }
+    ensures down { result.bottom ≤ surface.now.height }
+    ensures bound { result.bottom < 2 ^ 31 }
+{
+    let rows = surface.rows();
+    let clip = canvas.clip;
+    Rows {
+        top: edge_at(rows, clip.top, clip.bottom, row_begin(canvas)),
         bottom: edge_at(rows, clip.top, clip.bottom, row_end(canvas)),
     }
 }
@@ -90,26 +111,32 @@ fn rows_above(row: usize, canvas: Canvas) -> u8
     (row as i64 - canvas.top) as u8
 }
 
-/// Blends ink over the set pixels of a column of a cell. Its corner is the origin of the canvas.
-pub fn ink_column(bits: u8, surface: &mut Surface, canvas: Canvas, ink: Argb, work: &mut Work)
-    requires { IsCanvas (2 ^ 37) canvas }
-    ensures painted { PaintedIn canvas (column_ink ink bits 0) surface.old surface.new }
-    ensures counted { IsCounted (area_between surface.old canvas.clip canvas.left canvas.top (canvas.left +ℤ pos 1) (canvas.top +ℤ pos 8)) surface.old surface.new work.old work.new }
+/// Blends ink over the set pixels of a column of a cell.
+pub fn ink_column(bits: u8, surface: &mut Surface, place: Place, ink: Argb, work: &mut Work)
+    requires canvas { IsCanvas (2 ^ 37) place.canvas }
+    requires top { place.rows.top ≡ row_at surface.old place.canvas.clip place.canvas.top }
+    requires bottom { place.rows.bottom ≡ row_at surface.old place.canvas.clip (place.canvas.top +ℤ pos 8) }
+    requires down { place.rows.bottom ≤ surface.old.height }
+    requires bound { place.rows.bottom < 2 ^ 31 }
+    ensures painted { PaintedIn place.canvas (column_ink ink bits 0) surface.old surface.new }
+    ensures counted { IsCounted (area_between surface.old place.canvas.clip place.canvas.left place.canvas.top
+        (place.canvas.left +ℤ pos 1) (place.canvas.top +ℤ pos 8)) surface.old surface.new work.old work.new }
 {
     if bits == 0 {
         return;
     }
-    let seen = column_edges(surface, canvas);
+    let seen = column_edges(surface, place.canvas);
     if seen.right <= seen.left {
         return;
     }
-    if seen.bottom <= seen.top {
+    let rows = place.rows;
+    if rows.bottom <= rows.top {
         return;
     }
     let strip = Strip {
         column: seen.left,
-        top: seen.top,
-        bottom: seen.bottom,
+        top: rows.top,
+        bottom: rows.bottom,
     };
-    surface.ink(strip, bits >> rows_above(seen.top, canvas), ink, work);
+    surface.ink(strip, bits >> rows_above(rows.top, place.canvas), ink, work);
 }

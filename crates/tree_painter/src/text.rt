@@ -7,7 +7,7 @@ ghost use Rattle.tree_painter.specs.Inks.{line_ink, text_ink};
 ghost use Rattle.tree_painter.specs.Painted.{IsCounted, PaintedIn, area_in};
 
 use crate::edges::{Length, from_zero};
-use crate::ink::ink_column;
+use crate::ink::{Place, ink_column, seen_rows};
 use cell_text::{first_line, glyph};
 use geom_core::Argb;
 use pixel_raster::Surface;
@@ -78,10 +78,15 @@ fn ink_line(line: &[char], surface: &mut Surface, canvas: Canvas, ink: Argb, wor
     }
     let columns = CELL_WIDTH as usize * line.len();
     let seen = seen_columns(canvas, columns);
+    let rows = seen_rows(surface, canvas);
     let mut x = seen.from;
     while x < seen.to {
         let bits = glyph(line[x / 6], (x % 6) as u8);
-        ink_column(bits, surface, right_by(canvas, x), ink, work);
+        let place = Place {
+            canvas: right_by(canvas, x),
+            rows,
+        };
+        ink_column(bits, surface, place, ink, work);
         x += 1;
     }
 }

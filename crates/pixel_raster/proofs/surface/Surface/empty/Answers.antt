@@ -3,7 +3,7 @@ use Rattle.geom_core.specs.declared.color.Argb.{Argb}
 use Rattle.pixel_raster.specs.Marks.{seen_pixels}
 use Rattle.pixel_raster.specs.Raster.{Raster}
 use Rattle.pixel_raster.proofs.BlackLaws.{black-is_raster}
-use Rattle.pixel_raster.proofs.MarkLaws.{seen_pixels-black}
+use Rattle.pixel_raster.proofs.MarkLaws.{seen_pixels-black, unmarked-none}
 use Rattle.pixel_raster.proofs.surface.Surface.empty.Goals as goal
 
 pub invariant_of-result : goal.invariant_of-result
@@ -12,6 +12,7 @@ invariant_of-result c =
     record {
       size = rw c.new.ensures.items (omega arith);
       raster = black-is_raster 0 0 (seen_pixels 0 c.new.result.items) seen (omega arith) (omega arith);
+      unmarked = unmarked-none _ _;
       digest = tt;
       black = λ _. c.new.ensures.items;
     }

@@ -10,6 +10,7 @@ use Rattle.pixel_raster.specs.Raster.{Raster, pixel_at}
 use Rattle.geom_core.specs.declared.color.TheConstants.{BLACK}
 use Rattle.pixel_raster.proofs.BlackLaws.{black-pixel, blend_of-black}
 use Rattle.pixel_raster.proofs.CutLaws.{by_rect, by_rect-none}
+use Rattle.pixel_raster.proofs.MarkLaws.{unmarked-none}
 use Rattle.pixel_raster.proofs.SeenLaws.{is_raster-changed, pixel_at-changed}
 use Rattle.pixel_raster.proofs.surface.Surface.fill.Goals as goal
 
@@ -85,6 +86,7 @@ invariant_of-self-2 c =
       raster = rw items (is_raster-changed (blend_of c.args.color) (has_pixel c.of-cut.result) inside.width inside.height inside.pixels.items c.fill_part.new.pixels
           c.self.invariant.size size (rw c.deref_mut.ensures.value at c.fill_part.ensures.colors) inside.filled c.saturating_add-self-inside.result
           (λ under. alpha_of-blend_of c.args.color under fits.fits) c.self.invariant.raster);
+      unmarked = unmarked-none _ _;
       digest = tt;
       black = λ is. absurd (cc);
     }

@@ -20,6 +20,7 @@ invariant_of-self c =
       raster = rw items (is_raster-changed (blend_of c.args.color) (is_set c.args.strip c.args.bits) inside.width inside.height inside.pixels.items c.ink_strip-count.new.pixels
           c.self.invariant.size size (rw c.deref_mut.ensures.value at c.ink_strip-count.ensures.colors) inside.filled c.saturating_add-self-inside.result
           (λ under. alpha_of-blend_of c.args.color under fits.fits) c.self.invariant.raster);
+      unmarked = rw items c.ink_strip-count.ensures.unmarked;
       digest = tt;
       black = λ is. absurd (cc);
     }

@@ -6,11 +6,11 @@ use Rattle.pixel_raster.specs.Raster.{Raster}
 use Rattle.pixel_raster.specs.declared.surface.Surface.TheInside.{Inside}
 use Rattle.std.proofs.lemmas.List.{length-replicate}
 use Rattle.pixel_raster.proofs.BlackLaws.{black-is_raster}
-use Rattle.pixel_raster.proofs.MarkLaws.{seen_pixels-black}
+use Rattle.pixel_raster.proofs.MarkLaws.{seen_pixels-black, unmarked-none}
 use Rattle.pixel_raster.proofs.surface.Surface.reset.Goals.{then-not-is_black+in_ok-cover_black, else-not-is_black}
 use Rattle.pixel_raster.proofs.surface.Surface.reset.Goals as goal
 
-items : (c : goal.After-self-4-1) → c.if-not-is_black.self-inside.pixels.items ≡ replicate (c.from_zero-width.result * c.from_zero-height.result) BLACK
+items : (c : goal.After-self-5-1) → c.if-not-is_black.self-inside.pixels.items ≡ replicate (c.from_zero-width.result * c.from_zero-height.result) BLACK
 items c =
     elim c.if-not-is_black.branch [
       | then-not-is_black+in_ok-cover_black w ↦ rw w.self-inside-is (search rules)
@@ -27,6 +27,7 @@ invariant_of-self-2 c =
     record {
       size = rw black (length-replicate (c.from_zero-width.result * c.from_zero-height.result) BLACK);
       raster = black-is_raster _ _ _ seen (omega arith) (omega arith);
+      unmarked = unmarked-none _ _;
       digest = elim c.if-not-is_black.branch [
         | then-not-is_black+in_ok-cover_black w ↦ rw w.self-inside-is tt
         | else-not-is_black w ↦ (let same = c.is_black.ensures w.if-not-is_black.false in
