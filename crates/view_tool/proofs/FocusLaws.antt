@@ -13,6 +13,7 @@ use Rattle.view_model.specs.Forest.{Forest, Nothing, Branch}
 use Rattle.view_model.specs.PlainTree.{PlainView, view_in}
 use Rattle.view_model.specs.declared.refusals.TheConstants.{NO_FRAME, NO_ROOT, NO_VIEW, NO_WINDOW, UNSETTLED}
 use Rattle.view_model.specs.declared.work.Work.{Work}
+use Rattle.view_tool.specs.Carried.{Alone, world_in}
 use Rattle.view_tool.specs.declared.focusing.Question.{Question}
 use Rattle.view_tool.specs.declared.run.Stop.TheVariants as stop
 use Rattle.view_tool.specs.declared.script.End.{End}
@@ -34,7 +35,7 @@ use Rattle.view_world.specs.KeyedScreen.{KeyedScreen, stage_of, window_of, world
 use Rattle.view_world.specs.Naming.{named}
 use Rattle.view_world.specs.Step.{bounds_asked, bounds_in, bounds_told, with_named}
 use Rattle.view_world.specs.Watched.{IsWorth}
-use Rattle.view_world.specs.World.{World}
+use Rattle.view_world.specs.World.{World, empty_world}
 use Rattle.view_world.specs.World as plain
 use Rattle.view_world.specs.declared.stage.Stage.{Stage}
 use Rattle.view_world.specs.declared.stage.Stage.TheVariants as early
@@ -107,7 +108,7 @@ answer-view world question window number some found =
 
 -- the script ended, and the answer was written
 pub asks_answered : (files : Files) (script : List ℕ) (question : Question) (left : Option (List ℕ)) (first mid : Trace) (gone : Option (List ℕ)) (refused unanswered : Bool) (answer : Result (Option ℕ) ℕ) (world : World)
-    → RunsTo files script left first mid (Ok refused) → world ≡ (after_lines files (lines_of script)).world → answer ≡ answer_of world question → unanswered ≡ is_err answer
+    → RunsTo (Alone empty_world) files script left first mid (Ok refused) → world ≡ world_in (after_lines files (lines_of script)).carried → answer ≡ answer_of world question → unanswered ≡ is_err answer
     → Appends mid.gone gone (answer_text answer) → AsksTo files script question left first (record { gone = gone; work = mid.work }) (Ok (refused || unanswered))
 asks_answered files script question left first mid gone refused unanswered answer world runs same is failed sent =
     let answered : answer ≡ script_answer script files question = is ∙ ap (λ (world : World). answer_of world question) same in (
@@ -122,7 +123,7 @@ asks_answered files script question left first mid gone refused unanswered answe
 
 -- the same where the write failed
 pub asks_cut : (files : Files) (script : List ℕ) (question : Question) (left : Option (List ℕ)) (first mid : Trace) (gone : Option (List ℕ)) (refused : Bool) (answer : Result (Option ℕ) ℕ) (world : World)
-    → RunsTo files script left first mid (Ok refused) → world ≡ (after_lines files (lines_of script)).world → answer ≡ answer_of world question
+    → RunsTo (Alone empty_world) files script left first mid (Ok refused) → world ≡ world_in (after_lines files (lines_of script)).carried → answer ≡ answer_of world question
     → AppendsPrefix mid.gone gone (answer_text answer) → AsksTo files script question left first (record { gone = gone; work = mid.work }) (Err (ends.Stopped stop.Sink))
 asks_cut files script question left first mid gone refused answer world runs same is part =
     let answered : answer ≡ script_answer script files question = is ∙ ap (λ (world : World). answer_of world question) same in
@@ -137,7 +138,7 @@ asks_cut files script question left first mid gone refused answer world runs sam
       },
     )
 
-whole_part : (files : Files) (script : List ℕ) (old new : Work) → length script ≤ max_script → IsWorth (costs_of_script script files) old new → WorksPart files old new (carried_lines script)
+whole_part : (files : Files) (script : List ℕ) (old new : Work) → length script ≤ max_script → IsWorth (costs_of_script script files) old new → WorksPart (Alone empty_world) files old new (carried_lines script)
 whole_part files script old new short worth = record {
   done = lines_of script;
   left = [];
@@ -167,8 +168,8 @@ unended (ends.Stopped stop.Sink) = omega arith
 unended (ends.Stopped stop.NoMemory) = omega arith
 unended (ends.Stopped stop.Shelf) = omega arith
 
-asks_unended : (files : Files) (script : List ℕ) (question : Question) (left : Option (List ℕ)) (first last : Trace) (status : ℕ) → 2 ≤ status → RunsWith files script left first.gone last.gone status
-    → WorksWith files script left first last status → AsksWith files script question left first last status
+asks_unended : (files : Files) (script : List ℕ) (question : Question) (left : Option (List ℕ)) (first last : Trace) (status : ℕ) → 2 ≤ status → RunsWith (Alone empty_world) files script left first.gone last.gone status
+    → WorksWith (Alone empty_world) files script left first last status → AsksWith files script question left first last status
 asks_unended files script question left first last status big runs works = record {
   writes = λ short. record {
     whole = λ ended. absurd (not_ended status big ended);
@@ -206,7 +207,7 @@ pub asks_with : (files : Files) (script : List ℕ) (question : Question) (left 
 asks_with files script question left first last (Ok true) asks = asks_ended files script question left first last 1 (omega arith) asks.0 (ap (λ b. cond b 1 0) asks.1)
 asks_with files script question left first last (Ok false) asks = asks_ended files script question left first last 0 (omega arith) asks.0 (ap (λ b. cond b 1 0) asks.1)
 asks_with files script question left first last (Err end) (inl runs) =
-    asks_unended files script question left first last (status_of (Err end)) (unended end) (runs_with files script left first last (Err end) runs) (works_with files script left first last (Err end) runs)
+    asks_unended files script question left first last (status_of (Err end)) (unended end) (runs_with (Alone empty_world) files script left first last (Err end) runs) (works_with (Alone empty_world) files script left first last (Err end) runs)
 asks_with files script question left first last (Err end) (inr cuts) =
     subst (λ (end : End). AsksWith files script question left first last (status_of (Err end))) (sym cuts.0) (asks_cut_off files script question left first last cuts.1)
 

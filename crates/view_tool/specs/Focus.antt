@@ -10,6 +10,7 @@ use Rattle.script_lines.specs.PlainCommands as command
 use Rattle.text_lines.specs.Joined.{◌⧺◌}
 use Rattle.text_lines.specs.Prefix.{AppendsPrefix}
 use Rattle.tool_io.specs.Fetched.{Files}
+use Rattle.view_tool.specs.Carried.{Alone, world_in}
 use Rattle.view_tool.specs.declared.focusing.Question.{Question}
 use Rattle.view_tool.specs.declared.run.Stop.TheVariants as stop
 use Rattle.view_tool.specs.declared.script.End.{End}
@@ -24,7 +25,7 @@ use Rattle.view_tool.specs.Works.{Trace, Works, WorksBefore, WorksPart, WorksToF
 use Rattle.view_world.specs.Naming.{named}
 use Rattle.view_world.specs.Step.{Reply, Done, Refused, step}
 use Rattle.view_world.specs.Watched.{IsWorth}
-use Rattle.view_world.specs.World.{World}
+use Rattle.view_world.specs.World.{World, empty_world}
 
 -- the view that gets the focus next in a window of this size, from the view of this number
 abbrev pub next_in : World → Side → Option Size → Option ℕ → Option ℕ
@@ -59,7 +60,7 @@ IsNamed number = (1 ≤ number) × (number ≤ 43)
 
 -- the answer to a question that is asked after a script, with these files at hand
 abbrev pub script_answer : List ℕ → Files → Question → Result (Option ℕ) ℕ
-script_answer script files question = answer_of (after_lines files (lines_of script)).world question
+script_answer script files question = answer_of (world_in (after_lines files (lines_of script)).carried) question
 
 -- the transcript of a script, and then the answer
 abbrev pub focus_page : List ℕ → Files → Question → List ℕ
@@ -96,7 +97,7 @@ abbrev pub AsksTo : Files → List ℕ → Question → Option (List ℕ) → Tr
 AsksTo files script question left first last (Ok refused) =
     Answers files script question first last × (refused ≡ refuses_focus script files question)
 AsksTo files script question left first last (Err end) =
-    RunsTo files script left first last (Err end) ⊎ ((end ≡ ends.Stopped stop.Sink) × CutsAnswer files script question first last)
+    RunsTo (Alone empty_world) files script left first last (Err end) ⊎ ((end ≡ ends.Stopped stop.Sink) × CutsAnswer files script question first last)
 
 -- the same of a source, from its first bytes to its end
 pub record AsksFrom (shelf : Option Files) (question : Question) (before after : Option (List ℕ)) (first last : Trace) (outcome : Result Bool End) : Type 0 where
@@ -111,10 +112,10 @@ pub record AsksWith (files : Files) (script : List ℕ) (question : Question) (l
   pub writes : length script ≤ max_script → Writes status first.gone last.gone (focus_page script files question)
   -- where the script is too long, no question is answered
   pub cut : max_script < length script → AppendsPrefix first.gone last.gone (cut_transcript script files)
-  pub part : WorksPart files first.work last.work (carried_lines script)
+  pub part : WorksPart (Alone empty_world) files first.work last.work (carried_lines script)
   pub ended : IsComplete status → Answers files script question first last × (status ≡ (if refuses_focus script files question then 1 else 0))
-  pub taken : status ≡ 3 → WorksTaken files script left first last
-  pub failed_write : status ≡ 4 → WorksToWrite files first last (carried_lines script) ⊎ CutsAnswer files script question first last
-  pub no_memory : status ≡ 5 → WorksBefore files first last (carried_lines script)
-  pub failed_fetch : status ≡ 6 → WorksToFetch files first last (carried_lines script)
-  pub long : status ≡ 7 → (max_script < length script) × Works files first last (carried_lines script)
+  pub taken : status ≡ 3 → WorksTaken (Alone empty_world) files script left first last
+  pub failed_write : status ≡ 4 → WorksToWrite (Alone empty_world) files first last (carried_lines script) ⊎ CutsAnswer files script question first last
+  pub no_memory : status ≡ 5 → WorksBefore (Alone empty_world) files first last (carried_lines script)
+  pub failed_fetch : status ≡ 6 → WorksToFetch (Alone empty_world) files first last (carried_lines script)
+  pub long : status ≡ 7 → (max_script < length script) × Works (Alone empty_world) files first last (carried_lines script)

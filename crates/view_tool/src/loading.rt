@@ -8,15 +8,18 @@ ghost use Rattle.sha2.specs.Sha256.{sha256};
 ghost use Rattle.text_lines.specs.BufferedText.{Sends};
 ghost use Rattle.text_lines.specs.Delivered.{Delivered};
 ghost use Rattle.tool_io.specs.Counts.{raised};
+ghost use Rattle.view_tool.specs.Carried.{Alone};
 ghost use Rattle.view_tool.specs.Dump.{Dumps};
 ghost use Rattle.view_tool.specs.Gen.{gen_outcome, gen_page, outcome_text};
 ghost use Rattle.view_tool.specs.Run.{HasCarriedOut};
-ghost use Rattle.view_tool.specs.Tally.{costs_of_script, tally_of};
+ghost use Rattle.view_tool.specs.Tally.{costs_of_script, tally_from};
 ghost use Rattle.view_tool.specs.Tool.{IsOneOf};
 ghost use Rattle.view_tool.specs.Transcript.{after_lines, max_script};
 ghost use Rattle.view_tool.specs.Works.{WorksPart};
 ghost use Rattle.view_world.specs.Watched.{IsWorth};
+ghost use Rattle.view_world.specs.World.{empty_world};
 
+use crate::carrier::Carrier;
 use crate::dump::status_of;
 use crate::run::{Run, Stop};
 use crate::status::{ACCEPTED, NO_MEMORY};
@@ -47,7 +50,7 @@ pub fn run_load<K: Sink>(alloc: Global, n: u32, sink: &mut K, work: &mut Work) -
     ensures dumps { Dumps (gen_page n) false (K.state sink.old) (K.state sink.new) result }
     ensures known { IsOneOf result (0 ∷ 4 ∷ 5 ∷ []) }
     ensures worth { result ≢ 5 → IsWorth (costs_of_script (load n) []) work.old work.new }
-    ensures works { WorksPart [] work.old work.new (lines_of (load n)) }
+    ensures works { WorksPart (Alone empty_world) [] work.old work.new (lines_of (load n)) }
     ensures nothing_written { result ≡ 5 → sink.new ≡ sink.old }
     ensures sink_failed { (K.state sink.new).faults
         ≡ (if result == 4 then raised (K.state sink.old).faults else (K.state sink.old).faults) }
@@ -65,7 +68,7 @@ fn load_outcome(alloc: Global, n: u32, work: &mut Work) -> Option<Outcome>
     requires { n ≤ 100 }
     ensures value { IfSome result (λ outcome. outcome ≡ gen_outcome n) }
     ensures worth { IfSome result (λ outcome. IsWorth (costs_of_script (load n) []) work.old work.new) }
-    ensures works { WorksPart [] work.old work.new (lines_of (load n)) }
+    ensures works { WorksPart (Alone empty_world) [] work.old work.new (lines_of (load n)) }
     ensures painted { work.old.painted ≤ work.new.painted }
     ensures measured { min work.old.measured (2 ^ 64 - 1) ≤ work.new.measured }
 {
@@ -87,13 +90,13 @@ fn carried_out(
     work: &mut Work,
 ) -> Result<Run, Stop>
     requires short { length script.now ≤ max_script }
-    ensures stopped { IfErr result (λ stop. WorksPart [] work.old work.new (lines_of script.now)) }
-    ensures runs { IfOk result (λ run. HasCarriedOut (record { gone = Some page.old.gone; work = work.old }) (record { gone = Some page.new.gone; work = work.new }) run.runner (after_lines [] (lines_of script.now)) (tally_of [] (lines_of script.now))) }
+    ensures stopped { IfErr result (λ stop. WorksPart (Alone empty_world) [] work.old work.new (lines_of script.now)) }
+    ensures runs { IfOk result (λ run. HasCarriedOut (record { gone = Some page.old.gone; work = work.old }) (record { gone = Some page.new.gone; work = work.new }) run.runner (after_lines [] (lines_of script.now)) (tally_from (Alone empty_world) [] (lines_of script.now))) }
     ensures painted { work.old.painted ≤ work.new.painted }
     ensures measured { min work.old.measured (2 ^ 64 - 1) ≤ work.new.measured }
 {
     let mut shelf = SteadyShelf::new(Vec::new(alloc));
-    let mut run = Run::new(alloc);
+    let mut run = Run::new(Carrier::alone(alloc));
     run.piece(alloc, script, &mut shelf, page, work)?;
     run.finish(alloc, &mut shelf, page, work)?;
     Ok(run)

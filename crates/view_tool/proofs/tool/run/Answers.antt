@@ -1,24 +1,26 @@
 use Rattle.std.proofs.Common.{sym, subst, ◌∙◌}
+use Rattle.view_tool.specs.Carried.{Alone}
 use Rattle.view_tool.specs.Tool.{RunsWith}
 use Rattle.view_tool.specs.Works.{trace}
 use Rattle.view_tool.specs.WorksWith.{WorksWith}
 use Rattle.view_tool.proofs.CostLaws.{works_with}
 use Rattle.view_tool.proofs.ToolLaws.{ends_whole, runs_with, shelf_by_status, shelf_later, sink_by_status, source_by_status}
+use Rattle.view_world.specs.World.{empty_world}
 use Rattle.view_tool.proofs.tool.run.Goals as goal
 
 pub returns-clause-runs : goal.returns-clause-runs
 returns-clause-runs g c files script at_hand told =
     let first = trace (g.K.Sink.state c.args.sink.now) c.args.work.now in
     let last = trace (g.K.Sink.state c.run_source.new.sink) c.run_source.new.work in
-    subst (RunsWith files script (g.S.Source.left c.run_source.new.source) first.gone last.gone) (sym c.status.ensures)
-    (runs_with files script _ first last c.run_source.result (c.run_source.ensures.runs.runs files script at_hand told))
+    subst (RunsWith (Alone empty_world) files script (g.S.Source.left c.run_source.new.source) first.gone last.gone) (sym c.status.ensures)
+    (runs_with (Alone empty_world) files script _ first last c.run_source.result ((rw c.alone-carrier.ensures.start at c.run_source.ensures.runs).runs files script at_hand told))
 
 pub returns-clause-works : goal.returns-clause-works
 returns-clause-works g c files script at_hand told =
     let first = trace (g.K.Sink.state c.args.sink.now) c.args.work.now in
     let last = trace (g.K.Sink.state c.run_source.new.sink) c.run_source.new.work in
-    subst (WorksWith files script (g.S.Source.left c.run_source.new.source) first last) (sym c.status.ensures)
-    (works_with files script _ first last c.run_source.result (c.run_source.ensures.runs.runs files script at_hand told))
+    subst (WorksWith (Alone empty_world) files script (g.S.Source.left c.run_source.new.source) first last) (sym c.status.ensures)
+    (works_with (Alone empty_world) files script _ first last c.run_source.result ((rw c.alone-carrier.ensures.start at c.run_source.ensures.runs).runs files script at_hand told))
 
 pub returns-clause-source_failed : goal.returns-clause-source_failed
 returns-clause-source_failed g c =

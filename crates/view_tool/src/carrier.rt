@@ -1,0 +1,135 @@
+//! What carries out the lines of a script: a world, or a stack of windows.
+
+ghost use Rattle.std.specs.Prelude.{◌≡◌, ◌≢◌, ◌⊎◌, ◌+◌, ◌-◌, ◌<◌, ◌≤◌, ◌^◌, ℕ, Err, None, Some, length, min};
+ghost use Rattle.script_lines.specs.Lines.{max_line};
+ghost use Rattle.stack_worlds.specs.KeptStack.{stack_of};
+ghost use Rattle.stack_worlds.specs.PlainStack.{empty_stack};
+ghost use Rattle.tool_io.specs.Fetched.{Files};
+ghost use Rattle.view_model.specs.Refusals.{plain_refusal};
+ghost use Rattle.view_model.specs.declared.limits.TheConstants.{MAX_VIEWS, NUMBERS_END};
+ghost use Rattle.view_model.specs.declared.work.Work.{Work};
+ghost use Rattle.view_tool.specs.Carried.{Alone, Stacked, BytesWant, asked_by_bytes, fault_refusal, reply_to_bytes};
+ghost use Rattle.view_tool.specs.Carrier.{IsFirst, WritesLine, carried_of, greatest_next};
+ghost use Rattle.view_tool.specs.Run.{HasTallied};
+ghost use Rattle.view_tool.specs.Tally.{Tally, after_bytes};
+ghost use Rattle.view_tool.specs.declared.carrier.Carrier.TheVariants as made;
+ghost use Rattle.view_world.specs.Carried.{CountsShelf, IsDone, faults_after_line};
+ghost use Rattle.view_world.specs.KeyedWorld.{world_of};
+ghost use Rattle.view_world.specs.World.{empty_world};
+
+use script_lines::{LineFault, line};
+use stack_worlds::Stack;
+use std::alloc::Global;
+use tool_io::{Shelf, Sink};
+use view_model::refusals::{OUT_OF_RANGE, SYNTAX};
+use view_model::{Refusal, Work};
+use view_world::{StepFault, World};
+use window_stack::stack_line;
+
+/// What carries out the lines of a script.
+#[derive(Drop)]
+pub enum Carrier {
+    Alone(World),
+    Stacked(Stack),
+}
+
+impl Carrier {
+    /// An empty world.
+    pub fn alone(alloc: Global) -> Carrier
+        ensures start { carried_of result ≡ Alone empty_world }
+        ensures first { IsFirst result }
+    {
+        Carrier::Alone(World::new(alloc))
+    }
+
+    /// A stack without a window.
+    pub fn stacked() -> Carrier
+        ensures start { carried_of result ≡ Stacked empty_stack }
+        ensures first { IsFirst result }
+    {
+        Carrier::Stacked(Stack::new())
+    }
+}
+
+/// Carries out a line that is not passed over, and writes its text; of one that is refused nothing is written.
+pub fn line_of_world<K: Sink, F: Shelf>(
+    world: &mut World,
+    alloc: Global,
+    bytes: &[u8],
+    shelf: &mut F,
+    sink: &mut K,
+    work: &mut Work,
+) -> Result<(), StepFault>
+    requires numbered { world.old.screen.views.next < NUMBERS_END }
+    requires short { length bytes.now ≤ max_line }
+    ensures carried { (files : Files)
+        → F.files shelf.old ≡ Some files
+        → WritesLine (reply_to_bytes files (Alone (world_of world.old)) bytes.now) (Alone (world_of world.new)) (K.state sink.old) (K.state sink.new) result }
+    ensures unchanged { IsDone result ⊎ ((world.new ≡ world.old) × (sink.new ≡ sink.old)) }
+    ensures tallied { (files : Files) (tally : Tally) (first : Work)
+        → F.files shelf.old ≡ Some files
+        → HasTallied first work.old (made.Alone world.old) tally
+        → IsDone result
+        → HasTallied first work.new (made.Alone world.new) (after_bytes files tally.costs tally.watched bytes.now) }
+    ensures idle { IsDone result ⊎ (work.new ≡ work.old) }
+    ensures memory { result ≡ Err StepFault.NoMemory → BytesWant (Alone (world_of world.old)) bytes.now }
+    ensures numbers { world.new.screen.views.next ≤ world.old.screen.views.next + MAX_VIEWS }
+    ensures sink_failed { (K.state sink.new).faults ≡ faults_after_line result (K.state sink.old).faults }
+    ensures files_stay { F.files shelf.new ≡ F.files shelf.old }
+    ensures shelf_failed { CountsShelf (F.faults shelf.old) (F.faults shelf.new) result }
+    ensures asked { result ≡ Err StepFault.Shelf → asked_by_bytes (Alone (world_of world.old)) bytes.now ≢ None }
+    ensures painted { work.old.painted ≤ work.new.painted }
+    ensures measured { min work.old.measured (2 ^ 64 - 1) ≤ work.new.measured }
+{
+    match line(bytes) {
+        Ok(command) => world.line(alloc, command, shelf, sink, work),
+        Err(fault) => Err(StepFault::Refused(refusal_of(fault))),
+    }
+}
+
+/// Carries out a line that is not passed over in a stack of windows, and writes its text; of one that is refused
+/// nothing is written.
+pub fn line_of_stack<K: Sink, F: Shelf>(
+    stack: &mut Stack,
+    alloc: Global,
+    bytes: &[u8],
+    shelf: &mut F,
+    sink: &mut K,
+    work: &mut Work,
+) -> Result<(), StepFault>
+    requires numbered { greatest_next stack.old.worlds < NUMBERS_END }
+    requires short { length bytes.now ≤ max_line }
+    ensures carried { (files : Files)
+        → F.files shelf.old ≡ Some files
+        → WritesLine (reply_to_bytes files (Stacked (stack_of stack.old)) bytes.now) (Stacked (stack_of stack.new)) (K.state sink.old) (K.state sink.new) result }
+    ensures unchanged { IsDone result ⊎ ((stack.new ≡ stack.old) × (sink.new ≡ sink.old)) }
+    ensures tallied { (files : Files) (tally : Tally) (first : Work)
+        → F.files shelf.old ≡ Some files
+        → HasTallied first work.old (made.Stacked stack.old) tally
+        → IsDone result
+        → HasTallied first work.new (made.Stacked stack.new) (after_bytes files tally.costs tally.watched bytes.now) }
+    ensures idle { IsDone result ⊎ (work.new ≡ work.old) }
+    ensures memory { result ≡ Err StepFault.NoMemory → BytesWant (Stacked (stack_of stack.old)) bytes.now }
+    ensures numbers { greatest_next stack.new.worlds ≤ greatest_next stack.old.worlds + MAX_VIEWS }
+    ensures sink_failed { (K.state sink.new).faults ≡ faults_after_line result (K.state sink.old).faults }
+    ensures files_stay { F.files shelf.new ≡ F.files shelf.old }
+    ensures shelf_failed { CountsShelf (F.faults shelf.old) (F.faults shelf.new) result }
+    ensures asked { result ≡ Err StepFault.Shelf → asked_by_bytes (Stacked (stack_of stack.old)) bytes.now ≢ None }
+    ensures painted { work.old.painted ≤ work.new.painted }
+    ensures measured { min work.old.measured (2 ^ 64 - 1) ≤ work.new.measured }
+{
+    match stack_line(bytes) {
+        Ok(line) => stack.line(alloc, line, shelf, sink, work),
+        Err(fault) => Err(StepFault::Refused(refusal_of(fault))),
+    }
+}
+
+/// The refusal of a line that asks for nothing.
+fn refusal_of(fault: LineFault) -> Refusal
+    ensures { plain_refusal result ≡ fault_refusal fault }
+{
+    match fault {
+        LineFault::Syntax => Refusal::plain(SYNTAX),
+        LineFault::Range => Refusal::plain(OUT_OF_RANGE),
+    }
+}
