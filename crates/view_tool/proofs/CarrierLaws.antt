@@ -1,6 +1,6 @@
 -- What carries out the lines of a script, and what is watched of it.
-use Rattle.std.proofs.Common.{◌≡◌, ◌≤◌, ◌<◌, ◌+◌, ℕ, List, ap, arith, refl, subst, sym, true, false}
-use Rattle.std.specs.Prelude.{IfSome, Option, Some, None, Result, Ok, Err, slice_index_or}
+use Rattle.std.proofs.Common.{◌≡◌, ◌≤◌, ◌<◌, ◌+◌, ◌∙◌, ℕ, List, ap, arith, inl, inr, refl, subst, sym, true, false}
+use Rattle.std.specs.Prelude.{◌⊎◌, IfSome, Option, Some, None, Result, Ok, Err, slice_index_or}
 use Rattle.stack_worlds.specs.KeptStack.{KeyedStack}
 use Rattle.stack_worlds.specs.PlainStack.{PlainStack, StackReply}
 use Rattle.stack_worlds.specs.StackCarried.{WritesStack}
@@ -13,7 +13,7 @@ use Rattle.view_tool.specs.Carrier.{IsFirst, IsWatching, WritesLine, carried_of,
 use Rattle.view_tool.specs.Tally.{Watching, WatchedWorld, WatchedWindows, carried_in, watching_first}
 use Rattle.view_tool.specs.declared.carrier.Carrier.{Carrier}
 use Rattle.view_tool.specs.declared.carrier.Carrier.TheVariants as carrier
-use Rattle.view_world.specs.Carried.{WritesReply}
+use Rattle.view_world.specs.Carried.{IsDone, WritesReply}
 use Rattle.view_world.specs.KeyedWorld.{KeyedWorld}
 use Rattle.view_world.specs.Step.{Reply}
 use Rattle.view_world.specs.Watched.{Watched}
@@ -70,3 +70,15 @@ writes_stack reply new before after (Err (fault.Refused refusal)) w = ap of_stac
 writes_stack reply new before after (Err fault.NoMemory) w = tt
 writes_stack reply new before after (Err fault.Sink) w = (w.0, ap of_stack w.1, w.2, w.3)
 writes_stack reply new before after (Err fault.Shelf) w = tt
+
+-- a line that was not carried out leaves what carries out lines as it was
+
+pub same_world : {S : Type 0} (result : Result (Unit {0}) StepFault) (whole : Carrier) (old new : KeyedWorld) (before after : S) → whole ≡ carrier.Alone old
+    → IsDone result ⊎ ((new ≡ old) × (after ≡ before)) → IsDone result ⊎ ((carrier.Alone new ≡ whole) × (after ≡ before))
+same_world result whole old new before after is (inl done) = inl done
+same_world result whole old new before after is (inr same) = inr (ap carrier.Alone same.0 ∙ sym is, same.1)
+
+pub same_stack : {S : Type 0} (result : Result (Unit {0}) StepFault) (whole : Carrier) (old new : KeyedStack) (before after : S) → whole ≡ carrier.Stacked old
+    → IsDone result ⊎ ((new ≡ old) × (after ≡ before)) → IsDone result ⊎ ((carrier.Stacked new ≡ whole) × (after ≡ before))
+same_stack result whole old new before after is (inl done) = inl done
+same_stack result whole old new before after is (inr same) = inr (ap carrier.Stacked same.0 ∙ sym is, same.1)

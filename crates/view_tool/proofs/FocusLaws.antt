@@ -24,8 +24,8 @@ use Rattle.view_tool.specs.Tally.{costs_of_script}
 use Rattle.view_tool.specs.Tool.{RunsWith, status_of}
 use Rattle.view_tool.specs.Transcript.{after_lines, carried_lines, has_refusal, max_script, transcript}
 use Rattle.view_tool.specs.Usage.{Usage, Focus}
-use Rattle.view_tool.specs.Works.{Trace, WorksPart}
-use Rattle.view_tool.specs.WorksWith.{WorksWith}
+use Rattle.view_tool.specs.Works.{Trace, WorksPartFrom}
+use Rattle.view_tool.specs.WorksWith.{WorksWithFrom}
 use Rattle.view_tool.proofs.CostLaws.{works_with}
 use Rattle.view_tool.proofs.LongScriptLaws.{carried_long, carried_short}
 use Rattle.view_tool.proofs.ToolLaws.{not_ended, runs_with, whole_prefix}
@@ -138,7 +138,7 @@ asks_cut files script question left first mid gone refused answer world runs sam
       },
     )
 
-whole_part : (files : Files) (script : List ℕ) (old new : Work) → length script ≤ max_script → IsWorth (costs_of_script script files) old new → WorksPart (Alone empty_world) files old new (carried_lines script)
+whole_part : (files : Files) (script : List ℕ) (old new : Work) → length script ≤ max_script → IsWorth (costs_of_script script files) old new → WorksPartFrom (Alone empty_world) files old new (carried_lines script)
 whole_part files script old new short worth = record {
   done = lines_of script;
   left = [];
@@ -169,7 +169,7 @@ unended (ends.Stopped stop.NoMemory) = omega arith
 unended (ends.Stopped stop.Shelf) = omega arith
 
 asks_unended : (files : Files) (script : List ℕ) (question : Question) (left : Option (List ℕ)) (first last : Trace) (status : ℕ) → 2 ≤ status → RunsWith (Alone empty_world) files script left first.gone last.gone status
-    → WorksWith (Alone empty_world) files script left first last status → AsksWith files script question left first last status
+    → WorksWithFrom (Alone empty_world) files script left first last status → AsksWith files script question left first last status
 asks_unended files script question left first last status big runs works = record {
   writes = λ short. record {
     whole = λ ended. absurd (not_ended status big ended);

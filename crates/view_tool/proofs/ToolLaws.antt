@@ -13,8 +13,8 @@ use Rattle.view_tool.specs.Carried.{Carried}
 use Rattle.view_tool.specs.declared.run.Stop.TheVariants as stop
 use Rattle.view_tool.specs.declared.script.End.{End}
 use Rattle.view_tool.specs.declared.script.End.TheVariants as end
-use Rattle.view_tool.specs.Run.{StopsAtFetch, StopsBefore}
-use Rattle.view_tool.specs.Script.{CountsEnd, RunsTo, WorksTaken, WritesTaken, ends_counted, reads_counted}
+use Rattle.view_tool.specs.Run.{StopsAtFetchFrom, StopsBeforeFrom}
+use Rattle.view_tool.specs.Script.{CountsEnd, RunsTo, WorksTaken, WritesTakenFrom, ends_counted, reads_counted}
 use Rattle.view_tool.specs.Tool.{IsComplete, IsOneOf, RunsWith, status_of}
 use Rattle.tool_io.specs.Counts.{raised}
 use Rattle.tool_io.specs.Fetched.{CountsFetch, Files}
@@ -49,27 +49,27 @@ ended_with start files script left first last status small ended short gone told
       long = λ e. absurd (omega (arith, small, e));
     }
 
-taken_prefix : (start : Carried) (files : Files) (script : List ℕ) (left first last : Option (List ℕ)) → WritesTaken start files script left first last → AppendsPrefix first last (after_from start files (carried_lines script)).text
+taken_prefix : (start : Carried) (files : Files) (script : List ℕ) (left first last : Option (List ℕ)) → WritesTakenFrom start files script left first last → AppendsPrefix first last (after_from start files (carried_lines script)).text
 taken_prefix start files script left first last t =
     let more = carried_front script t.taken t.takes.rest t.takes.front t.within in
     prefix_lines start files first last (cut_of t.taken).lines more.0 (carried_lines script) more.1 (whole_prefix first last (after_from start files (cut_of t.taken).lines).text t.text)
 
-stopped_prefix : (start : Carried) (files : Files) (lines : List Line) (first last : Option (List ℕ)) → StopsBefore start files first last lines → AppendsPrefix first last (after_from start files lines).text
+stopped_prefix : (start : Carried) (files : Files) (lines : List Line) (first last : Option (List ℕ)) → StopsBeforeFrom start files first last lines → AppendsPrefix first last (after_from start files lines).text
 stopped_prefix start files lines first last s = prefix_lines start files first last s.done (s.line ∷ s.left) lines s.all (whole_prefix first last (after_from start files s.done).text s.gone)
 
-fetch_prefix : (start : Carried) (files : Files) (lines : List Line) (first last : Option (List ℕ)) → StopsAtFetch start files first last lines → AppendsPrefix first last (after_from start files lines).text
+fetch_prefix : (start : Carried) (files : Files) (lines : List Line) (first last : Option (List ℕ)) → StopsAtFetchFrom start files first last lines → AppendsPrefix first last (after_from start files lines).text
 fetch_prefix start files lines first last s =
     prefix_lines start files first last s.done (s.line ∷ s.left) lines s.all (whole_prefix first last (after_from start files s.done).text s.gone)
 
 -- what was written in a run, by what was also counted in it
 
-written_taken : (start : Carried) (files : Files) (script : List ℕ) (left : Option (List ℕ)) (first last : Trace) → WorksTaken start files script left first last → WritesTaken start files script left first.gone last.gone
+written_taken : (start : Carried) (files : Files) (script : List ℕ) (left : Option (List ℕ)) (first last : Trace) → WorksTaken start files script left first last → WritesTakenFrom start files script left first.gone last.gone
 written_taken start files script left first last w = record { taken = w.taken; takes = w.takes; within = w.within; text = w.works.gone }
 
-written_before : (start : Carried) (files : Files) (lines : List Line) (first last : Trace) → WorksBefore start files first last lines → StopsBefore start files first.gone last.gone lines
+written_before : (start : Carried) (files : Files) (lines : List Line) (first last : Trace) → WorksBefore start files first last lines → StopsBeforeFrom start files first.gone last.gone lines
 written_before start files lines first last w = record { done = w.done; line = w.line; left = w.left; all = w.all; wants = w.wants; gone = w.works.gone }
 
-written_to_fetch : (start : Carried) (files : Files) (lines : List Line) (first last : Trace) → WorksToFetch start files first last lines → StopsAtFetch start files first.gone last.gone lines
+written_to_fetch : (start : Carried) (files : Files) (lines : List Line) (first last : Trace) → WorksToFetch start files first last lines → StopsAtFetchFrom start files first.gone last.gone lines
 written_to_fetch start files lines first last w = record { done = w.done; line = w.line; left = w.left; all = w.all; asks = w.asks; gone = w.works.gone }
 
 written_part : (start : Carried) (files : Files) (lines : List Line) (first last : Trace) → WorksToWrite start files first last lines → AppendsPrefix first.gone last.gone (after_from start files lines).text

@@ -112,7 +112,7 @@ pub record AsksWith (files : Files) (script : List ℕ) (question : Question) (l
   pub writes : length script ≤ max_script → Writes status first.gone last.gone (focus_page script files question)
   -- where the script is too long, no question is answered
   pub cut : max_script < length script → AppendsPrefix first.gone last.gone (cut_transcript script files)
-  pub part : WorksPart (Alone empty_world) files first.work last.work (carried_lines script)
+  pub part : WorksPart files first.work last.work (carried_lines script)
   pub ended : IsComplete status → Answers files script question first last × (status ≡ (if refuses_focus script files question then 1 else 0))
   pub taken : status ≡ 3 → WorksTaken (Alone empty_world) files script left first last
   pub failed_write : status ≡ 4 → WorksToWrite (Alone empty_world) files first last (carried_lines script) ⊎ CutsAnswer files script question first last

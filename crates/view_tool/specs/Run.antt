@@ -7,7 +7,7 @@ use Rattle.script_lines.specs.Lines.{Line, Text, LongLine, cut_of, max_line}
 use Rattle.tool_io.specs.Counts.{raised}
 use Rattle.tool_io.specs.Fetched.{Files}
 use Rattle.view_model.specs.declared.work.Work.{Work}
-use Rattle.view_tool.specs.Carried.{Carried}
+use Rattle.view_tool.specs.Carried.{Carried, Alone}
 use Rattle.view_tool.specs.Carrier.{IsWatching, carried_of}
 use Rattle.view_tool.specs.declared.carrier.Carrier.{Carrier}
 use Rattle.view_tool.specs.declared.run.LineRunner.{LineRunner}
@@ -18,6 +18,7 @@ use Rattle.view_tool.specs.Tally.{Tally, tally_from}
 use Rattle.view_tool.specs.Transcript.{Asks, MayWant, Progress, after_from}
 use Rattle.view_tool.specs.Works.{Trace, WorksBefore, WorksToFetch, WorksToWrite}
 use Rattle.view_world.specs.Watched.{IsWorth}
+use Rattle.view_world.specs.World.{empty_world}
 
 -- a line as the code has it: it is not too long
 abbrev pub line_now : Option (Bor (List ℕ)) → Line
@@ -57,7 +58,7 @@ pub record HasReadUpTo (start : Carried) (shelf : Option Files) (first now : Tra
   pub runner : WithFiles shelf (λ files. HasCarriedOut first now run.runner (after_from start files (cut_of bytes).lines) (tally_from start files (cut_of bytes).lines))
 
 -- the texts of the lines before one of these, which may run out of memory, were written
-pub record StopsBefore (start : Carried) (files : Files) (first now : Option (List ℕ)) (lines : List Line) : Type 0 where
+pub record StopsBeforeFrom (start : Carried) (files : Files) (first now : Option (List ℕ)) (lines : List Line) : Type 0 where
   pub done : List Line
   pub line : Line
   pub left : List Line
@@ -66,13 +67,21 @@ pub record StopsBefore (start : Carried) (files : Files) (first now : Option (Li
   pub gone : Appends first now (after_from start files done).text
 
 -- the texts of the lines before one of these, which asks the shelf for a file, were written
-pub record StopsAtFetch (start : Carried) (files : Files) (first now : Option (List ℕ)) (lines : List Line) : Type 0 where
+pub record StopsAtFetchFrom (start : Carried) (files : Files) (first now : Option (List ℕ)) (lines : List Line) : Type 0 where
   pub done : List Line
   pub line : Line
   pub left : List Line
   pub all : done ++ line ∷ left ≡ lines
   pub asks : Asks (after_from start files done).carried line
   pub gone : Appends first now (after_from start files done).text
+
+-- the same of a run that began with the empty world
+
+abbrev pub StopsBefore : Files → Option (List ℕ) → Option (List ℕ) → List Line → Type 0
+StopsBefore files first now lines = StopsBeforeFrom (Alone empty_world) files first now lines
+
+abbrev pub StopsAtFetch : Files → Option (List ℕ) → Option (List ℕ) → List Line → Type 0
+StopsAtFetch files first now lines = StopsAtFetchFrom (Alone empty_world) files first now lines
 
 -- a run stopped in these lines: a write failed, there was no memory, or a fetch failed
 abbrev pub StopsIn : Carried → Files → Trace → Trace → List Line → Stop → Type 0

@@ -4,13 +4,14 @@ use Rattle.std.specs.Io.KnownBytes.{Appends, Consumes, IsAtEnd}
 use Rattle.script_lines.specs.Lines.{cut_of, lines_of}
 use Rattle.tool_io.specs.Counts.{raised}
 use Rattle.tool_io.specs.Fetched.{Files}
-use Rattle.view_tool.specs.Carried.{Carried}
+use Rattle.view_tool.specs.Carried.{Carried, Alone}
 use Rattle.view_tool.specs.declared.run.Run.{Run}
 use Rattle.view_tool.specs.declared.script.End.{End}
 use Rattle.view_tool.specs.declared.script.End.TheVariants as ends
 use Rattle.view_tool.specs.Run.{CountsStop, HasReadUpTo, StopsIn, WithFiles, stop_counted}
 use Rattle.view_tool.specs.Transcript.{after_from, carried_lines, max_script}
 use Rattle.view_tool.specs.Works.{Trace, Works}
+use Rattle.view_world.specs.World.{empty_world}
 
 -- the bytes that were taken of a script are at its front, and the rest is left
 pub record Takes (script : List ℕ) (now : Option (List ℕ)) (taken : List ℕ) : Type 0 where
@@ -19,13 +20,17 @@ pub record Takes (script : List ℕ) (now : Option (List ℕ)) (taken : List ℕ
   pub left : now ≡ Some rest
 
 -- what was written is the transcript of the lines whose line feed was taken
-pub record WritesTaken (start : Carried) (files : Files) (script : List ℕ) (left old new : Option (List ℕ)) : Type 0 where
+pub record WritesTakenFrom (start : Carried) (files : Files) (script : List ℕ) (left old new : Option (List ℕ)) : Type 0 where
   pub taken : List ℕ
   pub takes : Takes script left taken
   pub within : length taken ≤ max_script
   pub text : Appends old new (after_from start files (cut_of taken).lines).text
 
--- and these lines were carried out
+-- the same of a run that began with the empty world
+abbrev pub WritesTaken : Files → List ℕ → Option (List ℕ) → Option (List ℕ) → Option (List ℕ) → Type 0
+WritesTaken files script left old new = WritesTakenFrom (Alone empty_world) files script left old new
+
+-- the lines whose line feed was taken were carried out
 pub record WorksTaken (start : Carried) (files : Files) (script : List ℕ) (left : Option (List ℕ)) (first now : Trace) : Type 0 where
   pub taken : List ℕ
   pub takes : Takes script left taken

@@ -9,8 +9,8 @@ use Rattle.view_tool.specs.declared.run.Stop.TheVariants as stop
 use Rattle.view_tool.specs.declared.script.End.{End}
 use Rattle.view_tool.specs.declared.script.End.TheVariants as ends
 use Rattle.tool_io.specs.Fetched.{Files}
-use Rattle.view_tool.specs.Run.{StopsAtFetch, StopsBefore}
-use Rattle.view_tool.specs.Script.{WritesTaken}
+use Rattle.view_tool.specs.Run.{StopsAtFetchFrom, StopsBeforeFrom}
+use Rattle.view_tool.specs.Script.{WritesTakenFrom}
 use Rattle.view_tool.specs.Transcript.{after_from, carried_lines, max_script}
 use Rattle.view_tool.specs.Usage.{Usage, Run, Stack, Dump, Lookup}
 
@@ -63,7 +63,7 @@ pub record Writes (status : ℕ) (old new : Option (List ℕ)) (text : List ℕ)
 pub record RunsWith (start : Carried) (files : Files) (script : List ℕ) (left first last : Option (List ℕ)) (status : ℕ) : Type 0 where
   pub writes : Writes status first last (after_from start files (carried_lines script)).text
   pub ended : IsComplete status → (length script ≤ max_script) × (status ≡ (if nat_lt 0 (after_from start files (lines_of script)).refused then 1 else 0))
-  pub taken : status ≡ 3 → WritesTaken start files script left first last
-  pub no_memory : status ≡ 5 → StopsBefore start files first last (carried_lines script)
-  pub failed_fetch : status ≡ 6 → StopsAtFetch start files first last (carried_lines script)
+  pub taken : status ≡ 3 → WritesTakenFrom start files script left first last
+  pub no_memory : status ≡ 5 → StopsBeforeFrom start files first last (carried_lines script)
+  pub failed_fetch : status ≡ 6 → StopsAtFetchFrom start files first last (carried_lines script)
   pub long : status ≡ 7 → (max_script < length script) × Appends first last (after_from start files (carried_lines script)).text

@@ -6,10 +6,11 @@ use Rattle.text_lines.specs.Prefix.{AppendsPrefix}
 use Rattle.tool_io.specs.Fetched.{Files}
 use Rattle.tool_io.specs.SinkState.{SinkState}
 use Rattle.view_model.specs.declared.work.Work.{Work}
-use Rattle.view_tool.specs.Carried.{Carried}
+use Rattle.view_tool.specs.Carried.{Carried, Alone}
 use Rattle.view_tool.specs.Tally.{costs_from}
 use Rattle.view_tool.specs.Transcript.{Asks, MayWant, after_from, line_text}
 use Rattle.view_world.specs.Watched.{IsWorth}
+use Rattle.view_world.specs.World.{empty_world}
 
 -- what is known of a run at a moment: the bytes that were written, if the sink makes them visible, and what was counted
 pub record Trace : Type 0 where
@@ -55,8 +56,12 @@ pub record WorksToWrite (start : Carried) (files : Files) (first now : Trace) (l
   pub worth : IsWorth (costs_from start files (done ++ line ∷ [])) first.work now.work
 
 -- the first of these lines were carried out, all, some or none, and what was counted is worth what they cost
-pub record WorksPart (start : Carried) (files : Files) (old new : Work) (lines : List Line) : Type 0 where
+pub record WorksPartFrom (start : Carried) (files : Files) (old new : Work) (lines : List Line) : Type 0 where
   pub done : List Line
   pub left : List Line
   pub all : done ++ left ≡ lines
   pub worth : IsWorth (costs_from start files done) old new
+
+-- the same of a run that began with the empty world
+abbrev pub WorksPart : Files → Work → Work → List Line → Type 0
+WorksPart files old new lines = WorksPartFrom (Alone empty_world) files old new lines

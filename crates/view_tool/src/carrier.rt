@@ -1,20 +1,17 @@
 //! What carries out the lines of a script: a world, or a stack of windows.
 
-ghost use Rattle.std.specs.Prelude.{◌≡◌, ◌≢◌, ◌⊎◌, ◌+◌, ◌-◌, ◌<◌, ◌≤◌, ◌^◌, ℕ, Err, None, Some, length, min};
+ghost use Rattle.std.specs.Prelude.{◌≡◌, ◌≢◌, ◌⊎◌, ◌+◌, ◌-◌, ◌<◌, ◌≤◌, ◌^◌, Err, None, Some, length, min};
 ghost use Rattle.script_lines.specs.Lines.{max_line};
-ghost use Rattle.stack_worlds.specs.KeptStack.{stack_of};
 ghost use Rattle.stack_worlds.specs.PlainStack.{empty_stack};
 ghost use Rattle.tool_io.specs.Fetched.{Files};
 ghost use Rattle.view_model.specs.Refusals.{plain_refusal};
 ghost use Rattle.view_model.specs.declared.limits.TheConstants.{MAX_VIEWS, NUMBERS_END};
 ghost use Rattle.view_model.specs.declared.work.Work.{Work};
 ghost use Rattle.view_tool.specs.Carried.{Alone, Stacked, BytesWant, asked_by_bytes, fault_refusal, reply_to_bytes};
-ghost use Rattle.view_tool.specs.Carrier.{IsFirst, WritesLine, carried_of, greatest_next};
+ghost use Rattle.view_tool.specs.Carrier.{IsFirst, WritesLine, carried_of, next_of};
 ghost use Rattle.view_tool.specs.Run.{HasTallied};
 ghost use Rattle.view_tool.specs.Tally.{Tally, after_bytes};
-ghost use Rattle.view_tool.specs.declared.carrier.Carrier.TheVariants as made;
 ghost use Rattle.view_world.specs.Carried.{CountsShelf, IsDone, faults_after_line};
-ghost use Rattle.view_world.specs.KeyedWorld.{world_of};
 ghost use Rattle.view_world.specs.World.{empty_world};
 
 use script_lines::{LineFault, line};
@@ -49,78 +46,48 @@ impl Carrier {
     {
         Carrier::Stacked(Stack::new())
     }
-}
 
-/// Carries out a line that is not passed over, and writes its text; of one that is refused nothing is written.
-pub fn line_of_world<K: Sink, F: Shelf>(
-    world: &mut World,
-    alloc: Global,
-    bytes: &[u8],
-    shelf: &mut F,
-    sink: &mut K,
-    work: &mut Work,
-) -> Result<(), StepFault>
-    requires numbered { world.old.screen.views.next < NUMBERS_END }
-    requires short { length bytes.now ≤ max_line }
-    ensures carried { (files : Files)
-        → F.files shelf.old ≡ Some files
-        → WritesLine (reply_to_bytes files (Alone (world_of world.old)) bytes.now) (Alone (world_of world.new)) (K.state sink.old) (K.state sink.new) result }
-    ensures unchanged { IsDone result ⊎ ((world.new ≡ world.old) × (sink.new ≡ sink.old)) }
-    ensures tallied { (files : Files) (tally : Tally) (first : Work)
-        → F.files shelf.old ≡ Some files
-        → HasTallied first work.old (made.Alone world.old) tally
-        → IsDone result
-        → HasTallied first work.new (made.Alone world.new) (after_bytes files tally.costs tally.watched bytes.now) }
-    ensures idle { IsDone result ⊎ (work.new ≡ work.old) }
-    ensures memory { result ≡ Err StepFault.NoMemory → BytesWant (Alone (world_of world.old)) bytes.now }
-    ensures numbers { world.new.screen.views.next ≤ world.old.screen.views.next + MAX_VIEWS }
-    ensures sink_failed { (K.state sink.new).faults ≡ faults_after_line result (K.state sink.old).faults }
-    ensures files_stay { F.files shelf.new ≡ F.files shelf.old }
-    ensures shelf_failed { CountsShelf (F.faults shelf.old) (F.faults shelf.new) result }
-    ensures asked { result ≡ Err StepFault.Shelf → asked_by_bytes (Alone (world_of world.old)) bytes.now ≢ None }
-    ensures painted { work.old.painted ≤ work.new.painted }
-    ensures measured { min work.old.measured (2 ^ 64 - 1) ≤ work.new.measured }
-{
-    match line(bytes) {
-        Ok(command) => world.line(alloc, command, shelf, sink, work),
-        Err(fault) => Err(StepFault::Refused(refusal_of(fault))),
-    }
-}
-
-/// Carries out a line that is not passed over in a stack of windows, and writes its text; of one that is refused
-/// nothing is written.
-pub fn line_of_stack<K: Sink, F: Shelf>(
-    stack: &mut Stack,
-    alloc: Global,
-    bytes: &[u8],
-    shelf: &mut F,
-    sink: &mut K,
-    work: &mut Work,
-) -> Result<(), StepFault>
-    requires numbered { greatest_next stack.old.worlds < NUMBERS_END }
-    requires short { length bytes.now ≤ max_line }
-    ensures carried { (files : Files)
-        → F.files shelf.old ≡ Some files
-        → WritesLine (reply_to_bytes files (Stacked (stack_of stack.old)) bytes.now) (Stacked (stack_of stack.new)) (K.state sink.old) (K.state sink.new) result }
-    ensures unchanged { IsDone result ⊎ ((stack.new ≡ stack.old) × (sink.new ≡ sink.old)) }
-    ensures tallied { (files : Files) (tally : Tally) (first : Work)
-        → F.files shelf.old ≡ Some files
-        → HasTallied first work.old (made.Stacked stack.old) tally
-        → IsDone result
-        → HasTallied first work.new (made.Stacked stack.new) (after_bytes files tally.costs tally.watched bytes.now) }
-    ensures idle { IsDone result ⊎ (work.new ≡ work.old) }
-    ensures memory { result ≡ Err StepFault.NoMemory → BytesWant (Stacked (stack_of stack.old)) bytes.now }
-    ensures numbers { greatest_next stack.new.worlds ≤ greatest_next stack.old.worlds + MAX_VIEWS }
-    ensures sink_failed { (K.state sink.new).faults ≡ faults_after_line result (K.state sink.old).faults }
-    ensures files_stay { F.files shelf.new ≡ F.files shelf.old }
-    ensures shelf_failed { CountsShelf (F.faults shelf.old) (F.faults shelf.new) result }
-    ensures asked { result ≡ Err StepFault.Shelf → asked_by_bytes (Stacked (stack_of stack.old)) bytes.now ≢ None }
-    ensures painted { work.old.painted ≤ work.new.painted }
-    ensures measured { min work.old.measured (2 ^ 64 - 1) ≤ work.new.measured }
-{
-    match stack_line(bytes) {
-        Ok(line) => stack.line(alloc, line, shelf, sink, work),
-        Err(fault) => Err(StepFault::Refused(refusal_of(fault))),
+    /// Carries out a line that is not passed over, and writes its text; of one that is refused nothing is written.
+    pub fn line<K: Sink, F: Shelf>(
+        &mut self,
+        alloc: Global,
+        bytes: &[u8],
+        shelf: &mut F,
+        sink: &mut K,
+        work: &mut Work,
+    ) -> Result<(), StepFault>
+        requires numbered { next_of self.old < NUMBERS_END }
+        requires short { length bytes.now ≤ max_line }
+        ensures carried { (files : Files)
+            → F.files shelf.old ≡ Some files
+            → WritesLine (reply_to_bytes files (carried_of self.old) bytes.now) (carried_of self.new)
+            (K.state sink.old) (K.state sink.new) result }
+        ensures unchanged { IsDone result ⊎ ((self.new ≡ self.old) × (sink.new ≡ sink.old)) }
+        ensures tallied { (files : Files) (tally : Tally) (first : Work)
+            → F.files shelf.old ≡ Some files
+            → HasTallied first work.old self.old tally
+            → IsDone result
+            → HasTallied first work.new self.new (after_bytes files tally.costs tally.watched bytes.now) }
+        ensures idle { IsDone result ⊎ (work.new ≡ work.old) }
+        ensures memory { result ≡ Err StepFault.NoMemory → BytesWant (carried_of self.old) bytes.now }
+        ensures numbers { next_of self.new ≤ next_of self.old + MAX_VIEWS }
+        ensures sink_failed { (K.state sink.new).faults ≡ faults_after_line result (K.state sink.old).faults }
+        ensures files_stay { F.files shelf.new ≡ F.files shelf.old }
+        ensures shelf_failed { CountsShelf (F.faults shelf.old) (F.faults shelf.new) result }
+        ensures asked { result ≡ Err StepFault.Shelf → asked_by_bytes (carried_of self.old) bytes.now ≢ None }
+        ensures painted { work.old.painted ≤ work.new.painted }
+        ensures measured { min work.old.measured (2 ^ 64 - 1) ≤ work.new.measured }
+    {
+        match self {
+            Carrier::Alone(world) => match line(bytes) {
+                Ok(command) => world.line(alloc, command, shelf, sink, work),
+                Err(fault) => Err(StepFault::Refused(refusal_of(fault))),
+            },
+            Carrier::Stacked(stack) => match stack_line(bytes) {
+                Ok(line) => stack.line(alloc, line, shelf, sink, work),
+                Err(fault) => Err(StepFault::Refused(refusal_of(fault))),
+            },
+        }
     }
 }
 

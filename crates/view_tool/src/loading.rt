@@ -50,7 +50,7 @@ pub fn run_load<K: Sink>(alloc: Global, n: u32, sink: &mut K, work: &mut Work) -
     ensures dumps { Dumps (gen_page n) false (K.state sink.old) (K.state sink.new) result }
     ensures known { IsOneOf result (0 ∷ 4 ∷ 5 ∷ []) }
     ensures worth { result ≢ 5 → IsWorth (costs_of_script (load n) []) work.old work.new }
-    ensures works { WorksPart (Alone empty_world) [] work.old work.new (lines_of (load n)) }
+    ensures works { WorksPart [] work.old work.new (lines_of (load n)) }
     ensures nothing_written { result ≡ 5 → sink.new ≡ sink.old }
     ensures sink_failed { (K.state sink.new).faults
         ≡ (if result == 4 then raised (K.state sink.old).faults else (K.state sink.old).faults) }
@@ -68,7 +68,7 @@ fn load_outcome(alloc: Global, n: u32, work: &mut Work) -> Option<Outcome>
     requires { n ≤ 100 }
     ensures value { IfSome result (λ outcome. outcome ≡ gen_outcome n) }
     ensures worth { IfSome result (λ outcome. IsWorth (costs_of_script (load n) []) work.old work.new) }
-    ensures works { WorksPart (Alone empty_world) [] work.old work.new (lines_of (load n)) }
+    ensures works { WorksPart [] work.old work.new (lines_of (load n)) }
     ensures painted { work.old.painted ≤ work.new.painted }
     ensures measured { min work.old.measured (2 ^ 64 - 1) ≤ work.new.measured }
 {
@@ -90,7 +90,7 @@ fn carried_out(
     work: &mut Work,
 ) -> Result<Run, Stop>
     requires short { length script.now ≤ max_script }
-    ensures stopped { IfErr result (λ stop. WorksPart (Alone empty_world) [] work.old work.new (lines_of script.now)) }
+    ensures stopped { IfErr result (λ stop. WorksPart [] work.old work.new (lines_of script.now)) }
     ensures runs { IfOk result (λ run. HasCarriedOut (record { gone = Some page.old.gone; work = work.old }) (record { gone = Some page.new.gone; work = work.new }) run.runner (after_lines [] (lines_of script.now)) (tally_from (Alone empty_world) [] (lines_of script.now))) }
     ensures painted { work.old.painted ≤ work.new.painted }
     ensures measured { min work.old.measured (2 ^ 64 - 1) ≤ work.new.measured }

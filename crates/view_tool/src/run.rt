@@ -14,7 +14,7 @@ ghost use Rattle.view_tool.specs.Transcript.{Asks, MayWant, Progress, after_line
 ghost use Rattle.view_tool.specs.Works.{Trace, trace};
 ghost use Rattle.view_world.specs.Carried.{CountsShelf, IsDone, faults_after_line};
 
-use crate::carrier::{Carrier, line_of_stack, line_of_world};
+use crate::carrier::Carrier;
 use crate::refusals::write_refusal;
 use script_lines::{Ended, LinePlace, Lines, passes_over};
 use std::alloc::Global;
@@ -143,10 +143,7 @@ fn carry_out<K: Sink, F: Shelf>(
     let Some(bytes) = bytes else {
         return Err(StepFault::Refused(Refusal::plain(LONG_LINE)));
     };
-    match carrier {
-        Carrier::Alone(world) => line_of_world(world, alloc, bytes, shelf, sink, work),
-        Carrier::Stacked(stack) => line_of_stack(stack, alloc, bytes, shelf, sink, work),
-    }
+    carrier.line(alloc, bytes, shelf, sink, work)
 }
 
 /// The line that has ended, if one has: one in a piece, or the one that is held. `None` in it is a line that is too
@@ -177,7 +174,8 @@ impl Run {
     /// A run of no lines yet.
     pub fn new(carrier: Carrier) -> Run
         requires { IsFirst carrier }
-        ensures behind { (shelf : Option Files) (first : Trace) → HasReadUpTo (carried_of result.runner.carrier) shelf first first result [] }
+        ensures behind { (shelf : Option Files) (first : Trace)
+            → HasReadUpTo (carried_of result.runner.carrier) shelf first first result [] }
         ensures carrier { result.runner.carrier ≡ carrier }
         ensures numbers { next_of result.runner.carrier ≡ 1 }
     {

@@ -6,13 +6,12 @@ ghost use Rattle.script_lines.specs.Lines.{lines_of};
 ghost use Rattle.tool_io.specs.Fetched.{Files};
 ghost use Rattle.view_model.specs.declared.limits.TheConstants.{MAX_VIEWS, NUMBERS_END};
 ghost use Rattle.view_tool.specs.Carried.{Carried};
-ghost use Rattle.view_tool.specs.Carrier.{IsFirst, carried_of, next_of};
+ghost use Rattle.view_tool.specs.Carrier.{carried_of, next_of};
 ghost use Rattle.view_tool.specs.Run.{HasReadUpTo};
 ghost use Rattle.view_tool.specs.Script.{Comes, CountsEnd, ReadsPiece, RunsFrom, ends_counted, reads_counted};
 ghost use Rattle.view_tool.specs.Transcript.{after_from};
 ghost use Rattle.view_tool.specs.Works.{Trace, trace};
 
-use crate::carrier::Carrier;
 use crate::run::{Run, Stop};
 use std::alloc::Global;
 use tool_io::{Shelf, Sink, Source};
@@ -115,7 +114,8 @@ fn read_piece<S: Source, K: Sink, F: Shelf>(
     }
 }
 
-/// Carries out the script on a source by a run that has not begun. Answers whether a line was refused.
+/// Carries out the script on a source by a run that has not begun, reading on only after each line whose line feed has
+/// come was carried out. Returns whether a line was refused.
 pub fn run_to_end<S: Source, K: Sink, F: Shelf>(
     run: &mut Run,
     alloc: Global,
@@ -159,27 +159,4 @@ pub fn run_to_end<S: Source, K: Sink, F: Shelf>(
     }
     run.finish(alloc, shelf, sink, work)?;
     Ok(run.refused())
-}
-
-/// Carries out the script on a source, reading on only after each line whose line feed has come was carried out.
-/// Returns whether a line was refused.
-pub fn run_source<S: Source, K: Sink, F: Shelf>(
-    alloc: Global,
-    carrier: Carrier,
-    source: &mut S,
-    shelf: &mut F,
-    sink: &mut K,
-    work: &mut Work,
-) -> Result<bool, End>
-    requires { IsFirst carrier }
-    ensures runs { RunsFrom (carried_of carrier) (F.files shelf.old) (S.left source.old) (S.left source.new) (trace (K.state sink.old) work.old) (trace (K.state sink.new) work.new) result }
-    ensures files_stay { F.files shelf.new ≡ F.files shelf.old }
-    ensures shelf_failed { CountsEnd (F.faults shelf.old) (F.faults shelf.new) result }
-    ensures painted { work.old.painted ≤ work.new.painted }
-    ensures measured { min work.old.measured (2 ^ 64 - 1) ≤ work.new.measured }
-    ensures source_failed { S.faults source.new ≡ reads_counted result (S.faults source.old) }
-    ensures sink_failed { (K.state sink.new).faults ≡ ends_counted result (K.state sink.old).faults }
-{
-    let mut run = Run::new(carrier);
-    run_to_end(&mut run, alloc, source, shelf, sink, work)
 }

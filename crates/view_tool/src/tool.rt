@@ -16,7 +16,7 @@ ghost use Rattle.view_tool.specs.Run.{StopsAtFetch, StopsBefore};
 ghost use Rattle.view_tool.specs.StackPage.{IsPageIsolated};
 ghost use Rattle.view_tool.specs.Tally.{costs_of_script, costs_of_stack};
 ghost use Rattle.view_tool.specs.Works.{WorksPart, trace};
-ghost use Rattle.view_tool.specs.WorksWith.{WorksWith};
+ghost use Rattle.view_tool.specs.WorksWith.{WorksWith, WorksWithFrom};
 ghost use Rattle.view_world.specs.Watched.{IsWorth};
 ghost use Rattle.view_world.specs.World.{empty_world};
 ghost use Rattle.view_tool.specs.Script.{WritesTaken};
@@ -31,7 +31,7 @@ use crate::focusing::{Question, focus_source};
 use crate::loading::run_load;
 use crate::lookup::lookup;
 use crate::run::Stop;
-use crate::script::{End, run_source};
+use crate::script::{End, run_to_end};
 use crate::status::{
     ACCEPTED, LONG_SCRIPT, NO_MEMORY, REFUSED, SHELF_FAILED, SINK_FAILED, SOURCE_FAILED, USAGE,
 };
@@ -91,11 +91,11 @@ pub fn tool<S: Source, K: Sink, F: Shelf>(
     ensures lines_taken { (script : List ℕ) (files : Files)
         → IsRunOf (usage words.now) (S.left source.old) (F.files shelf.old) script files
         → result ≡ 3
-        → WritesTaken (Alone empty_world) files script (S.left source.new) (K.state sink.old).gone (K.state sink.new).gone }
+        → WritesTaken files script (S.left source.new) (K.state sink.old).gone (K.state sink.new).gone }
     ensures failed_fetch { (script : List ℕ) (files : Files)
         → IsRunOf (usage words.now) (S.left source.old) (F.files shelf.old) script files
         → result ≡ 6
-        → StopsAtFetch (Alone empty_world) files (K.state sink.old).gone (K.state sink.new).gone (carried_lines script) }
+        → StopsAtFetch files (K.state sink.old).gone (K.state sink.new).gone (carried_lines script) }
     ensures dump_failed_fetch { (name : List ℕ) → usage words.now ≡ Dump name → result ≡ 6 → sink.new ≡ sink.old }
 
     // The call that failed is the one that the status reports, and after it nothing more is asked of that object: its
@@ -112,7 +112,7 @@ pub fn tool<S: Source, K: Sink, F: Shelf>(
     ensures no_memory { (script : List ℕ) (files : Files)
         → IsRunOf (usage words.now) (S.left source.old) (F.files shelf.old) script files
         → result ≡ 5
-        → StopsBefore (Alone empty_world) files (K.state sink.old).gone (K.state sink.new).gone (carried_lines script) }
+        → StopsBefore files (K.state sink.old).gone (K.state sink.new).gone (carried_lines script) }
     ensures dump_no_memory { (name : List ℕ)
         → usage words.now ≡ Dump name
         → result ≡ 5
@@ -160,17 +160,17 @@ pub fn tool<S: Source, K: Sink, F: Shelf>(
     // The work of a run, in whatever way it ends: of the frames that were carried out it measures at most as many views, and
     // paints at least and at most as many pixels, as they cost in the plain world. All lines of the script were carried out
     // where the run ended by itself, and else the first ones: the very lines whose texts were written. The work of a load
-    // is that of its script. Of a script with a question after it `focus_ends` says the same, of one for
-    // a stack of windows `stack_works`, and nothing else is counted.
+    // is that of its script. Of a script with a question after it `focus_ends` says the same, of one for a stack of windows
+    // `stack_works`, and nothing else is counted.
     ensures worth { (script : List ℕ) (files : Files)
         → IsRunOf (usage words.now) (S.left source.old) (F.files shelf.old) script files
         → IsComplete result
         → IsWorth (costs_of_script script files) work.old work.new }
     ensures works { (script : List ℕ) (files : Files)
         → IsRunOf (usage words.now) (S.left source.old) (F.files shelf.old) script files
-        → WorksWith (Alone empty_world) files script (S.left source.new) (trace (K.state sink.old) work.old) (trace (K.state sink.new) work.new) result }
+        → WorksWith files script (S.left source.new) (trace (K.state sink.old) work.old) (trace (K.state sink.new) work.new) result }
     ensures gen_worth { (n : ℕ) → usage words.now ≡ Gen n → result ≢ 5 → IsWorth (costs_of_script (load n) []) work.old work.new }
-    ensures gen_works { (n : ℕ) → usage words.now ≡ Gen n → WorksPart (Alone empty_world) [] work.old work.new (lines_of (load n)) }
+    ensures gen_works { (n : ℕ) → usage words.now ≡ Gen n → WorksPart [] work.old work.new (lines_of (load n)) }
     ensures uncounted { usage words.now ≢ Run
         → usage words.now ≢ Stack
         → ((n : ℕ) → usage words.now ≢ Gen n)
@@ -258,10 +258,12 @@ pub fn tool<S: Source, K: Sink, F: Shelf>(
     ensures stack_read_to_end { usage words.now ≡ Stack → IsComplete result → IsAtEnd (S.left source.new) }
     ensures stack_ends { (script : List ℕ) (files : Files)
         → IsStackOf (usage words.now) (S.left source.old) (F.files shelf.old) script files
-        → RunsWith (Stacked empty_stack) files script (S.left source.new) (K.state sink.old).gone (K.state sink.new).gone result }
+        → RunsWith (Stacked empty_stack) files script (S.left source.new)
+        (K.state sink.old).gone (K.state sink.new).gone result }
     ensures stack_works { (script : List ℕ) (files : Files)
         → IsStackOf (usage words.now) (S.left source.old) (F.files shelf.old) script files
-        → WorksWith (Stacked empty_stack) files script (S.left source.new) (trace (K.state sink.old) work.old) (trace (K.state sink.new) work.new) result }
+        → WorksWithFrom (Stacked empty_stack) files script (S.left source.new)
+        (trace (K.state sink.old) work.old) (trace (K.state sink.new) work.new) result }
     ensures stack_worth { (script : List ℕ) (files : Files)
         → IsStackOf (usage words.now) (S.left source.old) (F.files shelf.old) script files
         → IsComplete result
@@ -304,7 +306,7 @@ fn run<S: Source, K: Sink, F: Shelf>(
     ensures works { (files : Files) (script : List ℕ)
         → F.files shelf.old ≡ Some files
         → S.left source.old ≡ Some script
-        → WorksWith (Alone empty_world) files script (S.left source.new) (trace (K.state sink.old) work.old) (trace (K.state sink.new) work.new) result }
+        → WorksWith files script (S.left source.new) (trace (K.state sink.old) work.old) (trace (K.state sink.new) work.new) result }
     ensures known { IsOneOf result (0 ∷ 1 ∷ 3 ∷ 4 ∷ 5 ∷ 6 ∷ 7 ∷ []) }
     ensures whole { result ≢ 3 → result ≢ 4 → result ≢ 6 → result ≢ 7 → IsComplete result ⊎ (result ≡ 5) }
     ensures read_to_end { IsComplete result → IsAtEnd (S.left source.new) }
@@ -321,8 +323,8 @@ fn run<S: Source, K: Sink, F: Shelf>(
     ensures painted { work.old.painted ≤ work.new.painted }
     ensures measured { min work.old.measured (2 ^ 64 - 1) ≤ work.new.measured }
 {
-    let carrier = Carrier::alone(alloc);
-    status(run_source(alloc, carrier, source, shelf, sink, work))
+    let mut run = crate::run::Run::new(Carrier::alone(alloc));
+    status(run_to_end(&mut run, alloc, source, shelf, sink, work))
 }
 
 /// Carries out a script for a stack of windows.
@@ -336,18 +338,21 @@ fn stack<S: Source, K: Sink, F: Shelf>(
     ensures runs { (files : Files) (script : List ℕ)
         → F.files shelf.old ≡ Some files
         → S.left source.old ≡ Some script
-        → RunsWith (Stacked empty_stack) files script (S.left source.new) (K.state sink.old).gone (K.state sink.new).gone result }
+        → RunsWith (Stacked empty_stack) files script (S.left source.new)
+        (K.state sink.old).gone (K.state sink.new).gone result }
     ensures works { (files : Files) (script : List ℕ)
         → F.files shelf.old ≡ Some files
         → S.left source.old ≡ Some script
-        → WorksWith (Stacked empty_stack) files script (S.left source.new) (trace (K.state sink.old) work.old) (trace (K.state sink.new) work.new) result }
+        → WorksWithFrom (Stacked empty_stack) files script (S.left source.new)
+        (trace (K.state sink.old) work.old) (trace (K.state sink.new) work.new) result }
     ensures known { IsOneOf result (0 ∷ 1 ∷ 3 ∷ 4 ∷ 5 ∷ 6 ∷ 7 ∷ []) }
     ensures whole { result ≢ 3 → result ≢ 4 → result ≢ 6 → result ≢ 7 → IsComplete result ⊎ (result ≡ 5) }
     ensures read_to_end { IsComplete result → IsAtEnd (S.left source.new) }
     ensures taken { (taken : List ℕ)
         × Consumes (S.left source.old) (S.left source.new) taken
         × (length taken ≤ max_script + 1) }
-    ensures source_failed { S.faults source.new ≡ (if result == 3 then raised (S.faults source.old) else S.faults source.old) }
+    ensures source_failed { S.faults source.new
+        ≡ (if result == 3 then raised (S.faults source.old) else S.faults source.old) }
     ensures sink_failed { (K.state sink.new).faults
         ≡ (if result == 4 then raised (K.state sink.old).faults else (K.state sink.old).faults) }
     ensures shelf_failed { result ≢ 5
@@ -357,8 +362,8 @@ fn stack<S: Source, K: Sink, F: Shelf>(
     ensures painted { work.old.painted ≤ work.new.painted }
     ensures measured { min work.old.measured (2 ^ 64 - 1) ≤ work.new.measured }
 {
-    let carrier = Carrier::stacked();
-    status(run_source(alloc, carrier, source, shelf, sink, work))
+    let mut run = crate::run::Run::new(Carrier::stacked());
+    status(run_to_end(&mut run, alloc, source, shelf, sink, work))
 }
 
 /// Carries out the script on a source, and then answers a question.
