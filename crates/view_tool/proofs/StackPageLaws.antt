@@ -7,7 +7,7 @@ use Rattle.script_lines.specs.Lines.{Line, Text, LongLine, is_passed_over, lines
 use Rattle.script_lines.specs.declared.fault.LineFault.{LineFault}
 use Rattle.stack_worlds.specs.Isolation.{Shared, after_shared, nothing_shared, stack_or}
 use Rattle.stack_worlds.specs.PlainStack.{PlainStack, StackReply, Done, Refused, empty_stack, stack_step}
-use Rattle.stack_worlds.proofs.IsolationLaws.{isolated}
+use Rattle.stack_worlds.proofs.IsolationLaws.{depends_on_share, isolated}
 use Rattle.tool_io.specs.Fetched.{Files}
 use Rattle.view_tool.specs.Carried.{Carried, Stacked, LineReply, of_stack, reply_to_read}
 use Rattle.view_tool.specs.Carried as reply
@@ -66,4 +66,5 @@ page_isolated script files k =
     record {
       made = lines_stack files (at_start (Stacked empty_stack)) empty_stack lines refl ∙ ap Stacked (sym (shared_stack files k nothing_shared (all_asked lines)));
       alone = isolated files k (all_asked lines);
+      depends = λ other. depends_on_share files k (all_asked lines) (all_asked (lines_of other));
     }
