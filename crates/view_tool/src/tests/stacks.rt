@@ -44,7 +44,7 @@ const STRAYING: &[u8] =
     smove 0 1048576 1\nsmove 0 1048575 1\nscancel\n";
 
 const STRAYED: &[u8] = b"v1\nsettled 0\nv1 touch DOWN 0:2,1 no\ndone no\nline 6: refused 30 Range\n\
-    v1 touch MOVE 0:1048576,1 no\ndone no\n";
+    v1 touch MOVE 0:1048576,1 no\ndone no\nv1 touch CANCEL no\ndone no\n";
 
 /// A script of a stack, the numbers of the reads and of the writes that fail, and how its run ends.
 struct Run {
