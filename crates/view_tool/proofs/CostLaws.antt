@@ -37,8 +37,8 @@ works_further start files old new lines more all e w = record { done = w.done; l
 -- those of a run that has stopped
 pub works_stopped : (start : Carried) (files : Files) (first last : Trace) (lines : List Line) (stop : Stop) → StopsIn start files first last lines stop → WorksPartFrom start files first.work last.work lines
 works_stopped start files first last lines stop.Sink w = record { done = w.done ++ w.line ∷ []; left = w.left; all = append_assoc w.done (w.line ∷ []) w.left ∙ w.all; worth = w.worth }
-works_stopped start files first last lines stop.NoMemory w = record { done = w.done; left = w.line ∷ w.left; all = w.all; worth = w.works.worth }
-works_stopped start files first last lines stop.Shelf w = record { done = w.done; left = w.line ∷ w.left; all = w.all; worth = w.works.worth }
+works_stopped start files first last lines stop.NoMemory w = record { done = w.done; left = w.line ∷ w.left; all = w.all; worth = w.worth }
+works_stopped start files first last lines stop.Shelf w = record { done = w.done; left = w.line ∷ w.left; all = w.all; worth = w.worth }
 
 works_ended : (start : Carried) (files : Files) (script : List ℕ) (left : Option (List ℕ)) (first last : Trace) (status : ℕ) → status ≤ 1 → length script ≤ max_script → Works start files first last (lines_of script)
     → WorksWithFrom start files script left first last status

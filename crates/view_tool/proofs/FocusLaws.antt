@@ -109,7 +109,7 @@ answer-view world question window number some found =
 -- the script ended, and the answer was written
 pub asks_answered : (files : Files) (script : List ℕ) (question : Question) (left : Option (List ℕ)) (first mid : Trace) (gone : Option (List ℕ)) (refused unanswered : Bool) (answer : Result (Option ℕ) ℕ) (world : World)
     → RunsTo (Alone empty_world) files script left first mid (Ok refused) → world ≡ world_in (after_lines files (lines_of script)).carried → answer ≡ answer_of world question → unanswered ≡ is_err answer
-    → Appends mid.gone gone (answer_text answer) → AsksTo files script question left first (record { gone = gone; work = mid.work }) (Ok (refused || unanswered))
+    → Appends mid.gone gone (answer_text answer) → AsksTo files script question left first (record mid { gone = gone }) (Ok (refused || unanswered))
 asks_answered files script question left first mid gone refused unanswered answer world runs same is failed sent =
     let answered : answer ≡ script_answer script files question = is ∙ ap (λ (world : World). answer_of world question) same in (
       record {
@@ -117,6 +117,7 @@ asks_answered files script question left first mid gone refused unanswered answe
         gone = appends_both first.gone mid.gone gone (transcript script files) (answer_text (script_answer script files question)) runs.1.gone
             (subst (λ (answer : Result (Option ℕ) ℕ). Appends mid.gone gone (answer_text answer)) answered sent);
         worth = runs.1.worth;
+        fetched = runs.1.fetched;
       },
       ap (λ (refused : Bool). refused || unanswered) runs.2 ∙ ap (λ (unanswered : Bool). has_refusal script files || unanswered) (failed ∙ ap is_err answered),
     )
@@ -124,7 +125,7 @@ asks_answered files script question left first mid gone refused unanswered answe
 -- the same where the write failed
 pub asks_cut : (files : Files) (script : List ℕ) (question : Question) (left : Option (List ℕ)) (first mid : Trace) (gone : Option (List ℕ)) (refused : Bool) (answer : Result (Option ℕ) ℕ) (world : World)
     → RunsTo (Alone empty_world) files script left first mid (Ok refused) → world ≡ world_in (after_lines files (lines_of script)).carried → answer ≡ answer_of world question
-    → AppendsPrefix mid.gone gone (answer_text answer) → AsksTo files script question left first (record { gone = gone; work = mid.work }) (Err (ends.Stopped stop.Sink))
+    → AppendsPrefix mid.gone gone (answer_text answer) → AsksTo files script question left first (record mid { gone = gone }) (Err (ends.Stopped stop.Sink))
 asks_cut files script question left first mid gone refused answer world runs same is part =
     let answered : answer ≡ script_answer script files question = is ∙ ap (λ (world : World). answer_of world question) same in
     inr (
@@ -135,6 +136,7 @@ asks_cut files script question left first mid gone refused answer world runs sam
         gone = runs.1.gone;
         part = subst (λ (answer : Result (Option ℕ) ℕ). AppendsPrefix mid.gone gone (answer_text answer)) answered part;
         worth = runs.1.worth;
+        fetched = runs.1.fetched;
       },
     )
 

@@ -1,6 +1,6 @@
 -- The results of lines, one after another, and where a run stops in them.
 use Rattle.std.proofs.Common.{◌≡◌, ℕ, ◌+◌, ◌<◌, suc, true, length, take, drop, List, [], ◌∷◌, ◌++◌, refl, ap, sym, subst, ◌∙◌, arith, append_assoc, inl, inr, Err}
-use Rattle.std.specs.Prelude.{◌⊎◌, Option, false, fold}
+use Rattle.std.specs.Prelude.{◌⊎◌, Option, Some, None, false, fold}
 use Rattle.std.specs.Io.KnownBytes.{Appends}
 use Rattle.std.proofs.lemmas.Grind.{fold-append}
 use Rattle.std.proofs.lemmas.List.{append-nil, take-append-drop}
@@ -19,15 +19,15 @@ use Rattle.view_tool.specs.declared.run.Stop.TheVariants as stop
 use Rattle.view_tool.specs.Refusals.{refused_line}
 use Rattle.view_tool.specs.Run.{HasCarriedOut, HasReadUpTo, HasTallied, StopsIn, WithFiles}
 use Rattle.view_tool.specs.Tally.{Tally, carried_in, tally_from, with_cost}
-use Rattle.view_tool.specs.Transcript.{Progress, after_line, after_from, after_reply, asked_by_line, at_start, is_idle, line_text, reply_text, reply_to_line}
-use Rattle.view_tool.specs.Works.{Trace, Works, WorksToWrite}
+use Rattle.view_tool.specs.Transcript.{Asks, MayWant, Progress, after_asked, after_line, after_from, after_reply, asked_by_line, at_start, is_idle, line_text, reply_text, reply_to_line}
+use Rattle.view_tool.specs.Works.{HasFetched, Trace, Works, WorksBefore, WorksToFetch, WorksToWrite, raised_by}
 use Rattle.tool_io.specs.Counts.{raised}
 use Rattle.tool_io.specs.SinkState.{SinkState}
 use Rattle.view_model.specs.declared.refusal.Refusal.{Refusal}
 use Rattle.view_model.specs.Refusals.{PlainRefusal, plain_refusal}
 use Rattle.view_world.specs.declared.fault.StepFault.{StepFault}
 use Rattle.view_world.specs.declared.fault.StepFault.TheVariants as step
-use Rattle.view_world.specs.Carried.{IsDone}
+use Rattle.view_world.specs.Carried.{IsDone, fetches_after}
 use Rattle.view_world.specs.Watched.{IsWorth}
 use Rattle.view_tool.proofs.CarrierLaws.{watching_same}
 use Rattle.view_tool.proofs.SumLaws.{worth_same}
@@ -101,6 +101,7 @@ stops_further start files first now lines more all stop.Sink e stops = record {
   gone = stops.gone;
   part = stops.part;
   worth = stops.worth;
+  fetched = stops.fetched;
 }
 stops_further start files first now lines more all stop.Shelf e stops = record {
   done = stops.done;
@@ -108,7 +109,9 @@ stops_further start files first now lines more all stop.Shelf e stops = record {
   left = stops.left ++ more;
   all = sym (append_assoc stops.done (stops.line ∷ stops.left) more) ∙ ap (λ (l : List Line). l ++ more) stops.all ∙ e;
   asks = stops.asks;
-  works = stops.works;
+  gone = stops.gone;
+  worth = stops.worth;
+  fetched = stops.fetched;
 }
 stops_further start files first now lines more all stop.NoMemory e stops = record {
   done = stops.done;
@@ -116,10 +119,39 @@ stops_further start files first now lines more all stop.NoMemory e stops = recor
   left = stops.left ++ more;
   all = sym (append_assoc stops.done (stops.line ∷ stops.left) more) ∙ ap (λ (l : List Line). l ++ more) stops.all ∙ e;
   wants = stops.wants;
-  works = stops.works;
+  gone = stops.gone;
+  worth = stops.worth;
+  fetched = stops.fetched;
 }
 
+-- how often the shelf was asked
+
+raised_more : (asked : ℕ) (name : Option (List ℕ)) (calls : Option ℕ) → fetches_after name (raised_by asked calls) ≡ raised_by (after_asked asked name) calls
+unfolding raised_by
+raised_more asked None calls = refl
+raised_more asked (Some name) calls = refl
+
+-- once a line was carried out, by what the code has
+fetched_at : (files : Files) (first mid now : Trace) (runner : LineRunner) (progress : Progress) (tally : Tally) (line : Line) → HasCarriedOut first mid runner progress tally
+    → now.fetches ≡ fetches_after (asked_by_line (carried_of runner.carrier) line) mid.fetches → now.fetches ≡ raised_by (after_line files progress line).asked first.fetches
+fetched_at files first mid now runner progress tally line at fetched =
+    fetched
+    ∙ ap (λ (c : Carried). fetches_after (asked_by_line c line) mid.fetches) at.carried
+    ∙ ap (fetches_after (asked_by_line progress.carried line)) at.fetched
+    ∙ raised_more progress.asked (asked_by_line progress.carried line) first.fetches
+
+fetched_in : (start : Carried) (files : Files) (first mid now : Trace) (runner : LineRunner) (lines : List Line) (line : Line) → HasCarriedOut first mid runner (after_from start files lines) (tally_from start files lines)
+    → now.fetches ≡ fetches_after (asked_by_line (carried_of runner.carrier) line) mid.fetches → HasFetched start files (lines ++ line ∷ []) first now
+fetched_in start files first mid now runner lines line at fetched =
+    fetched_at files first mid now runner (after_from start files lines) (tally_from start files lines) line at fetched
+    ∙ ap (λ (p : Progress). raised_by p.asked first.fetches) (sym (after_from-push start files lines line))
+
 -- a line that is passed over
+passed_asked : (carried : Carried) (line : Line) → is_idle line ≡ true → asked_by_line carried line ≡ None
+unfolding asked_by_line
+passed_asked carried LongLine e = refl
+passed_asked carried (Text bytes) e = rw e refl
+
 passed_reply : (files : Files) (carried : Carried) (line : Line) → is_idle line ≡ true → reply_to_line files carried line ≡ Done carried []
 unfolding reply_to_line
 passed_reply files carried LongLine e = absurd (cc)
@@ -129,13 +161,14 @@ pub passed_line : (files : Files) (first now : Trace) (runner : LineRunner) (pro
     → HasCarriedOut first now runner progress tally → HasCarriedOut first now (record runner { lines = number }) (after_line files progress line) (with_cost files tally line)
 passed_line files first now runner progress tally line number passed counted at =
     let reply = passed_reply files progress.carried line passed in
-    rw (reply, passed_cost files tally line passed) (record {
+    rw (reply, passed_cost files tally line passed, passed_asked progress.carried line passed) (record {
       lines = counted;
       carried = at.carried;
       refused = at.refused;
       few = omega (arith, at.few);
       gone = subst (Appends first.gone now.gone) (sym (append-nil progress.text)) at.gone;
       tallied = at.tallied;
+      fetched = at.fetched;
     })
 
 -- a line that is not passed over does what its bytes do
@@ -178,8 +211,8 @@ tally_reply_at files first mid runner progress tally line reply at told = ap (λ
 -- a line was refused, and to write that failed
 pub refused_part : (start : Carried) (files : Files) (first mid now : Trace) (runner : LineRunner) (lines : List Line) (line : Line) (number : ℕ) (refusal : PlainRefusal)
     → HasCarriedOut first mid runner (after_from start files lines) (tally_from start files lines) → reply_to_line files (carried_of runner.carrier) line ≡ Refused refusal → number ≡ (after_from start files lines).lines + 1
-    → now.work ≡ mid.work → AppendsPrefix mid.gone now.gone (refused_line number refusal) → WorksToWrite start files first now (lines ++ line ∷ [])
-refused_part start files first mid now runner lines line number refusal at refused counted same part =
+    → now.work ≡ mid.work → now.fetches ≡ fetches_after (asked_by_line (carried_of runner.carrier) line) mid.fetches → AppendsPrefix mid.gone now.gone (refused_line number refusal) → WorksToWrite start files first now (lines ++ line ∷ [])
+refused_part start files first mid now runner lines line number refusal at refused counted same fetched part =
     let so_far = after_from start files lines in
     let cost = tally_from-push start files lines line ∙ refused_cost files (tally_from start files lines) refusal line (tally_reply_at files first mid runner so_far (tally_from start files lines) line (Refused refusal) at refused) in
     let text : line_text files so_far line ≡ refused_line number refusal =
@@ -193,14 +226,15 @@ refused_part start files first mid now runner lines line number refusal at refus
       gone = at.gone;
       part = subst (AppendsPrefix mid.gone now.gone) (sym text) part;
       worth = worth_same (tally_from start files (lines ++ line ∷ [])).costs first.work mid.work now.work same (subst (λ (t : Tally). IsWorth t.costs first.work mid.work) (sym cost) at.tallied.worth);
+      fetched = fetched_in start files first mid now runner lines line at fetched;
     }
 
 -- a line was refused, and that was written
 pub refused_at : (files : Files) (first mid now : Trace) (runner : LineRunner) (carrier : Carrier) (text : BufferedText) (progress : Progress) (tally : Tally) (line : Line) (number count : ℕ) (refusal : PlainRefusal)
-    → HasCarriedOut first mid runner progress tally → carrier ≡ runner.carrier → now.work ≡ mid.work → reply_to_line files (carried_of runner.carrier) line ≡ Refused refusal → number ≡ progress.lines + 1
+    → HasCarriedOut first mid runner progress tally → carrier ≡ runner.carrier → now.work ≡ mid.work → now.fetches ≡ fetches_after (asked_by_line (carried_of runner.carrier) line) mid.fetches → reply_to_line files (carried_of runner.carrier) line ≡ Refused refusal → number ≡ progress.lines + 1
     → count ≡ progress.refused + 1 → Appends mid.gone now.gone (refused_line number refusal)
     → HasCarriedOut first now (record { carrier = carrier; lines = number; refused = count; text = text }) (after_line files progress line) (with_cost files tally line)
-refused_at files first mid now runner carrier text progress tally line number count refusal at same idle refused counted told gone =
+refused_at files first mid now runner carrier text progress tally line number count refusal at same idle fetched refused counted told gone =
     let reply = reply_at files first mid runner progress tally line (Refused refusal) at refused in
     let cost = refused_cost files tally refusal line (tally_reply_at files first mid runner progress tally line (Refused refusal) at refused) in
     rw (reply, cost) (record {
@@ -213,13 +247,14 @@ refused_at files first mid now runner carrier text progress tally line number co
         watched = subst (λ (c : Carrier). IsWatching c tally.watched) (sym same) at.tallied.watched;
         worth = worth_same tally.costs first.work mid.work now.work idle at.tallied.worth;
       };
+      fetched = fetched_at files first mid now runner progress tally line at fetched;
     })
 
 -- a line was carried out, and its text was written
 pub done_at : (files : Files) (first mid now : Trace) (runner : LineRunner) (carrier : Carrier) (progress : Progress) (tally : Tally) (line : Line) (number : ℕ) (text : List ℕ) → HasCarriedOut first mid runner progress tally
     → reply_to_line files (carried_of runner.carrier) line ≡ Done (carried_of carrier) text → number ≡ progress.lines + 1 → Appends mid.gone now.gone text → HasTallied first.work now.work carrier (with_cost files tally line)
-    → HasCarriedOut first now (record runner { carrier = carrier; lines = number }) (after_line files progress line) (with_cost files tally line)
-done_at files first mid now runner carrier progress tally line number text at done counted gone tallied =
+    → now.fetches ≡ fetches_after (asked_by_line (carried_of runner.carrier) line) mid.fetches → HasCarriedOut first now (record runner { carrier = carrier; lines = number }) (after_line files progress line) (with_cost files tally line)
+done_at files first mid now runner carrier progress tally line number text at done counted gone tallied fetched =
     let reply = reply_at files first mid runner progress tally line (Done (carried_of carrier) text) at done in
     rw reply (record {
       lines = counted;
@@ -228,13 +263,15 @@ done_at files first mid now runner carrier progress tally line number text at do
       few = omega (arith, at.few);
       gone = appends_both first.gone mid.gone now.gone progress.text text at.gone gone;
       tallied = tallied;
+      fetched = fetched_at files first mid now runner progress tally line at fetched;
     })
 
 -- a line was carried out, and to write its text failed
 pub done_part : (start : Carried) (files : Files) (first mid now : Trace) (runner : LineRunner) (lines : List Line) (line : Line) (carrier : Carrier) (text : List ℕ)
     → HasCarriedOut first mid runner (after_from start files lines) (tally_from start files lines) → reply_to_line files (carried_of runner.carrier) line ≡ Done (carried_of carrier) text → AppendsPrefix mid.gone now.gone text
-    → HasTallied first.work now.work carrier (with_cost files (tally_from start files lines) line) → WorksToWrite start files first now (lines ++ line ∷ [])
-done_part start files first mid now runner lines line carrier text at done part tallied =
+    → HasTallied first.work now.work carrier (with_cost files (tally_from start files lines) line) → now.fetches ≡ fetches_after (asked_by_line (carried_of runner.carrier) line) mid.fetches
+    → WorksToWrite start files first now (lines ++ line ∷ [])
+done_part start files first mid now runner lines line carrier text at done part tallied fetched =
     let so_far = after_from start files lines in
     let told : line_text files so_far line ≡ text = ap (reply_text so_far) (reply_at files first mid runner so_far (tally_from start files lines) line (Done (carried_of carrier) text) at done) in
     record {
@@ -246,14 +283,37 @@ done_part start files first mid now runner lines line carrier text at done part 
       gone = at.gone;
       part = subst (AppendsPrefix mid.gone now.gone) (sym told) part;
       worth = subst (λ (t : Tally). IsWorth t.costs first.work now.work) (sym (tally_from-push start files lines line)) tallied.worth;
+      fetched = fetched_in start files first mid now runner lines line at fetched;
     }
 
 -- a line was not carried out: what was written and counted for the lines before it stays
-pub works_same : (start : Carried) (files : Files) (first mid now : Trace) (runner : LineRunner) (lines : List Line) → HasCarriedOut first mid runner (after_from start files lines) (tally_from start files lines) → now.gone ≡ mid.gone → now.work ≡ mid.work
-    → Works start files first now lines
-works_same start files first mid now runner lines at gone work = record {
+
+pub works_before : (start : Carried) (files : Files) (first mid now : Trace) (runner : LineRunner) (lines : List Line) (line : Line) → HasCarriedOut first mid runner (after_from start files lines) (tally_from start files lines)
+    → MayWant (carried_of runner.carrier) line → now.gone ≡ mid.gone → now.work ≡ mid.work → now.fetches ≡ fetches_after (asked_by_line (carried_of runner.carrier) line) mid.fetches
+    → WorksBefore start files first now (lines ++ line ∷ [])
+works_before start files first mid now runner lines line at wants gone work fetched = record {
+  done = lines;
+  line = line;
+  left = [];
+  all = refl;
+  wants = subst (λ (c : Carried). MayWant c line) at.carried wants;
   gone = subst (λ (g : Option (List ℕ)). Appends first.gone g (after_from start files lines).text) (sym gone) at.gone;
   worth = worth_same (tally_from start files lines).costs first.work mid.work now.work work at.tallied.worth;
+  fetched = fetched_in start files first mid now runner lines line at fetched;
+}
+
+pub works_to_fetch : (start : Carried) (files : Files) (first mid now : Trace) (runner : LineRunner) (lines : List Line) (line : Line) → HasCarriedOut first mid runner (after_from start files lines) (tally_from start files lines)
+    → Asks (carried_of runner.carrier) line → now.gone ≡ mid.gone → now.work ≡ mid.work → now.fetches ≡ fetches_after (asked_by_line (carried_of runner.carrier) line) mid.fetches
+    → WorksToFetch start files first now (lines ++ line ∷ [])
+works_to_fetch start files first mid now runner lines line at asks gone work fetched = record {
+  done = lines;
+  line = line;
+  left = [];
+  all = refl;
+  asks = subst (λ (c : Carried). Asks c line) at.carried asks;
+  gone = subst (λ (g : Option (List ℕ)). Appends first.gone g (after_from start files lines).text) (sym gone) at.gone;
+  worth = worth_same (tally_from start files lines).costs first.work mid.work now.work work at.tallied.worth;
+  fetched = fetched_in start files first mid now runner lines line at fetched;
 }
 
 -- a run that stopped in the line that a part of a piece ended stopped in the lines of the piece
@@ -295,4 +355,4 @@ last_one script line e = ap (λ l. (cut_of script).lines ++ l) e
 
 -- what was written and counted in a run so far
 pub works_of : (start : Carried) (files : Files) (first now : Trace) (runner : LineRunner) (lines : List Line) → HasCarriedOut first now runner (after_from start files lines) (tally_from start files lines) → Works start files first now lines
-works_of start files first now runner lines at = record { gone = at.gone; worth = at.tallied.worth }
+works_of start files first now runner lines at = record { gone = at.gone; worth = at.tallied.worth; fetched = at.fetched }

@@ -132,6 +132,6 @@ pub ends_well : (start : Carried) (files : Files) (first last : Trace) (old new 
 ends_well start files first last old new script taken runner told lost end short at =
     let all = taken_by_end old new script taken told lost end in (
       subst (λ (l : List ℕ). length l ≤ max_script) all short,
-      subst (λ (l : List ℕ). Works start files first last (lines_of l)) all (record { gone = at.gone; worth = at.tallied.worth }),
+      subst (λ (l : List ℕ). Works start files first last (lines_of l)) all (record { gone = at.gone; worth = at.tallied.worth; fetched = at.fetched }),
       ap (nat_lt 0) (at.refused ∙ ap (λ (l : List ℕ). (after_from start files (lines_of l)).refused) all),
     )

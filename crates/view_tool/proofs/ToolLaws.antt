@@ -67,10 +67,10 @@ written_taken : (start : Carried) (files : Files) (script : List ℕ) (left : Op
 written_taken start files script left first last w = record { taken = w.taken; takes = w.takes; within = w.within; text = w.works.gone }
 
 written_before : (start : Carried) (files : Files) (lines : List Line) (first last : Trace) → WorksBefore start files first last lines → StopsBeforeFrom start files first.gone last.gone lines
-written_before start files lines first last w = record { done = w.done; line = w.line; left = w.left; all = w.all; wants = w.wants; gone = w.works.gone }
+written_before start files lines first last w = record { done = w.done; line = w.line; left = w.left; all = w.all; wants = w.wants; gone = w.gone }
 
 written_to_fetch : (start : Carried) (files : Files) (lines : List Line) (first last : Trace) → WorksToFetch start files first last lines → StopsAtFetchFrom start files first.gone last.gone lines
-written_to_fetch start files lines first last w = record { done = w.done; line = w.line; left = w.left; all = w.all; asks = w.asks; gone = w.works.gone }
+written_to_fetch start files lines first last w = record { done = w.done; line = w.line; left = w.left; all = w.all; asks = w.asks; gone = w.gone }
 
 written_part : (start : Carried) (files : Files) (lines : List Line) (first last : Trace) → WorksToWrite start files first last lines → AppendsPrefix first.gone last.gone (after_from start files lines).text
 written_part start files lines first last w =

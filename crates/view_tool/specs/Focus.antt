@@ -21,7 +21,7 @@ use Rattle.view_tool.specs.Tally.{costs_of_script}
 use Rattle.view_tool.specs.Tool.{IsComplete, Writes}
 use Rattle.view_tool.specs.Transcript.{after_lines, carried_lines, cut_transcript, has_refusal, max_script, transcript}
 use Rattle.view_tool.specs.Usage.{Usage, Focus}
-use Rattle.view_tool.specs.Works.{Trace, Works, WorksBefore, WorksPart, WorksToFetch, WorksToWrite}
+use Rattle.view_tool.specs.Works.{HasFetched, Trace, Works, WorksBefore, WorksPart, WorksToFetch, WorksToWrite}
 use Rattle.view_world.specs.Naming.{named}
 use Rattle.view_world.specs.Step.{Reply, Done, Refused, step}
 use Rattle.view_world.specs.Watched.{IsWorth}
@@ -81,6 +81,7 @@ pub record Answers (files : Files) (script : List ℕ) (question : Question) (fi
   pub short : length script ≤ max_script
   pub gone : Appends first.gone last.gone (focus_page script files question)
   pub worth : IsWorth (costs_of_script script files) first.work last.work
+  pub fetched : HasFetched (Alone empty_world) files (lines_of script) first last
 
 -- all lines were carried out, and only a prefix of the answer was written
 pub record CutsAnswer (files : Files) (script : List ℕ) (question : Question) (first last : Trace) : Type 0 where
@@ -90,6 +91,7 @@ pub record CutsAnswer (files : Files) (script : List ℕ) (question : Question) 
   pub gone : Appends first.gone between (transcript script files)
   pub part : AppendsPrefix between last.gone (answer_text (script_answer script files question))
   pub worth : IsWorth (costs_of_script script files) first.work last.work
+  pub fetched : HasFetched (Alone empty_world) files (lines_of script) first last
 
 -- how the run of a script with a question after it ended: with the answer, as the run alone would, or by a failed write of
 -- the answer

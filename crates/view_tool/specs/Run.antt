@@ -16,7 +16,7 @@ use Rattle.view_tool.specs.declared.run.Stop.{Stop}
 use Rattle.view_tool.specs.declared.run.Stop.TheVariants as stop
 use Rattle.view_tool.specs.Tally.{Tally, tally_from}
 use Rattle.view_tool.specs.Transcript.{Asks, MayWant, Progress, after_from}
-use Rattle.view_tool.specs.Works.{Trace, WorksBefore, WorksToFetch, WorksToWrite}
+use Rattle.view_tool.specs.Works.{Trace, raised_by, WorksBefore, WorksToFetch, WorksToWrite}
 use Rattle.view_world.specs.Watched.{IsWorth}
 use Rattle.view_world.specs.World.{empty_world}
 
@@ -39,7 +39,8 @@ pub record HasTallied (first now : Work) (carrier : Carrier) (tally : Tally) : T
   pub watched : IsWatching carrier tally.watched
   pub worth : IsWorth tally.costs first now
 
--- the state of a run so far: since its start its text was written, and what was counted is worth what its lines cost
+-- the state of a run so far: since its start its text was written, what was counted is worth what its lines cost, and
+-- the shelf was asked as often as its lines ask
 pub record HasCarriedOut (first now : Trace) (runner : LineRunner) (progress : Progress) (tally : Tally) : Type 0 where
   pub lines : runner.lines ≡ progress.lines
   pub carried : carried_of runner.carrier ≡ progress.carried
@@ -47,6 +48,7 @@ pub record HasCarriedOut (first now : Trace) (runner : LineRunner) (progress : P
   pub few : progress.refused ≤ progress.lines
   pub gone : Appends first.gone now.gone progress.text
   pub tallied : HasTallied first.work now.work runner.carrier tally
+  pub fetched : now.fetches ≡ raised_by progress.asked first.fetches
 
 -- what holds with the files of a shelf, if it makes them visible
 abbrev pub WithFiles : Option Files → (Files → Type 0) → Type 0

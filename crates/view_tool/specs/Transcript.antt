@@ -1,5 +1,5 @@
 -- What the tool writes for a script: the texts of its lines, one after another, from the empty world or from no window.
-use Rattle.std.specs.Prelude.{◌≢◌, ℕ, ◌+◌, Bool, false, nat_lt, if◌then◌else◌, length, List, [], ◌++◌, Option, None, fold, take}
+use Rattle.std.specs.Prelude.{◌≢◌, ℕ, suc, ◌+◌, Bool, false, nat_lt, if◌then◌else◌, length, List, [], ◌++◌, Option, Some, None, fold, take}
 use Rattle.script_lines.specs.Lines.{Line, Text, LongLine, cut_of, is_passed_over, lines_of}
 use Rattle.stack_worlds.specs.PlainStack.{empty_stack}
 use Rattle.tool_io.specs.Fetched.{Files}
@@ -28,21 +28,28 @@ asked_by_line carried (Text bytes) = if is_passed_over bytes then None else aske
 abbrev pub Asks : Carried → Line → Type 0
 Asks carried line = asked_by_line carried line ≢ None
 
--- the lines so far: how many they are, what they made, what was written for them, and how many were refused
+-- the lines so far: how many they are, what they made, what was written for them, how many were refused, and how many
+-- asked the shelf for a file
 pub record Progress : Type 0 where
   pub lines : ℕ
   pub carried : Carried
   pub text : List ℕ
   pub refused : ℕ
+  pub asked : ℕ
 
 abbrev pub at_start : Carried → Progress
-at_start start = record { lines = 0; carried = start; text = []; refused = 0 }
+at_start start = record { lines = 0; carried = start; text = []; refused = 0; asked = 0 }
 
 -- a refused line leaves everything as it was
 abbrev pub after_reply : Progress → LineReply → Progress
-after_reply progress (Done carried text) = record { lines = progress.lines + 1; carried = carried; text = progress.text ++ text; refused = progress.refused }
+after_reply progress (Done carried text) = record progress { lines = progress.lines + 1; carried = carried; text = progress.text ++ text }
 after_reply progress (Refused refusal) =
-    record { lines = progress.lines + 1; carried = progress.carried; text = progress.text ++ refused_line (progress.lines + 1) refusal; refused = progress.refused + 1 }
+    record progress { lines = progress.lines + 1; text = progress.text ++ refused_line (progress.lines + 1) refusal; refused = progress.refused + 1 }
+
+-- a line that asks for a file asks once, whatever comes of it
+abbrev pub after_asked : ℕ → Option (List ℕ) → ℕ
+after_asked asked None = asked
+after_asked asked (Some name) = suc asked
 
 -- the text of a reply to the next line
 abbrev pub reply_text : Progress → LineReply → List ℕ
@@ -54,7 +61,9 @@ abbrev pub line_text : Files → Progress → Line → List ℕ
 line_text files progress line = reply_text progress (reply_to_line files progress.carried line)
 
 abbrev pub after_line : Files → Progress → Line → Progress
-after_line files progress line = after_reply progress (reply_to_line files progress.carried line)
+after_line files progress line =
+    let next = after_reply progress (reply_to_line files progress.carried line) in
+    record next { asked = after_asked progress.asked (asked_by_line progress.carried line) }
 
 -- after these lines, from this start
 unfoldable pub after_from : Carried → Files → List Line → Progress

@@ -11,7 +11,7 @@ ghost use Rattle.view_tool.specs.Carried.{Alone, Stacked, BytesWant, asked_by_by
 ghost use Rattle.view_tool.specs.Carrier.{IsFirst, WritesLine, carried_of, next_of};
 ghost use Rattle.view_tool.specs.Run.{HasTallied};
 ghost use Rattle.view_tool.specs.Tally.{Tally, after_bytes};
-ghost use Rattle.view_world.specs.Carried.{CountsShelf, IsDone, faults_after_line};
+ghost use Rattle.view_world.specs.Carried.{CountsShelf, IsDone, faults_after_line, fetches_after};
 ghost use Rattle.view_world.specs.World.{empty_world};
 
 use script_lines::{LineFault, line};
@@ -75,6 +75,8 @@ impl Carrier {
         ensures files_stay { F.files shelf.new ≡ F.files shelf.old }
         ensures shelf_failed { CountsShelf (F.faults shelf.old) (F.faults shelf.new) result }
         ensures asked { result ≡ Err StepFault.Shelf → asked_by_bytes (carried_of self.old) bytes.now ≢ None }
+        ensures fetched { F.fetches shelf.new
+            ≡ fetches_after (asked_by_bytes (carried_of self.old) bytes.now) (F.fetches shelf.old) }
         ensures painted { work.old.painted ≤ work.new.painted }
         ensures measured { min work.old.measured (2 ^ 64 - 1) ≤ work.new.measured }
     {

@@ -1,6 +1,6 @@
 //! The load, run in a world of its own.
 
-ghost use Rattle.std.specs.Prelude.{◌≡◌, ◌≢◌, ◌≤◌, ◌^◌, ◌==◌, ◌⊎◌, min, false, ◌-◌, [], ◌∷◌, Some, IfOk, IfErr, IfSome, length, if◌then◌else◌};
+ghost use Rattle.std.specs.Prelude.{◌≡◌, ◌≢◌, ◌≤◌, ◌^◌, ◌==◌, ◌⊎◌, min, false, ◌-◌, [], ◌∷◌, None, Some, IfOk, IfErr, IfSome, length, if◌then◌else◌};
 ghost use Rattle.hex.specs.Hex.{encode_lower};
 ghost use Rattle.load_maker.specs.Load.{load};
 ghost use Rattle.script_lines.specs.Lines.{lines_of};
@@ -91,7 +91,7 @@ fn carried_out(
 ) -> Result<Run, Stop>
     requires short { length script.now ≤ max_script }
     ensures stopped { IfErr result (λ stop. WorksPart [] work.old work.new (lines_of script.now)) }
-    ensures runs { IfOk result (λ run. HasCarriedOut (record { gone = Some page.old.gone; work = work.old }) (record { gone = Some page.new.gone; work = work.new }) run.runner (after_lines [] (lines_of script.now)) (tally_from (Alone empty_world) [] (lines_of script.now))) }
+    ensures runs { IfOk result (λ run. HasCarriedOut (record { gone = Some page.old.gone; work = work.old; fetches = None }) (record { gone = Some page.new.gone; work = work.new; fetches = None }) run.runner (after_lines [] (lines_of script.now)) (tally_from (Alone empty_world) [] (lines_of script.now))) }
     ensures painted { work.old.painted ≤ work.new.painted }
     ensures measured { min work.old.measured (2 ^ 64 - 1) ≤ work.new.measured }
 {

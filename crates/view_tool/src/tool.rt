@@ -5,7 +5,7 @@ ghost use Rattle.std.specs.Io.KnownBytes.{Appends, Consumes, IsAtEnd};
 ghost use Rattle.load_maker.specs.Load.{load};
 ghost use Rattle.script_lines.specs.Lines.{lines_of};
 ghost use Rattle.stack_worlds.specs.PlainStack.{empty_stack};
-ghost use Rattle.tool_io.specs.Counts.{Rose, raised};
+ghost use Rattle.tool_io.specs.Counts.{Rose, one_more, raised};
 ghost use Rattle.tool_io.specs.Fetched.{Files};
 ghost use Rattle.view_tool.specs.Carried.{Alone, Stacked};
 ghost use Rattle.view_tool.specs.Dump.{dump_page, refuses_file};
@@ -15,7 +15,7 @@ ghost use Rattle.view_tool.specs.Lookup.{lookup_page, refuses_table};
 ghost use Rattle.view_tool.specs.Run.{StopsAtFetch, StopsBefore};
 ghost use Rattle.view_tool.specs.StackPage.{IsPageIsolated};
 ghost use Rattle.view_tool.specs.Tally.{costs_of_script, costs_of_stack};
-ghost use Rattle.view_tool.specs.Works.{WorksPart, trace};
+ghost use Rattle.view_tool.specs.Works.{WorksPart, fetches_from, raised_by, trace};
 ghost use Rattle.view_tool.specs.WorksWith.{WorksWith, WorksWithFrom};
 ghost use Rattle.view_world.specs.Watched.{IsWorth};
 ghost use Rattle.view_world.specs.World.{empty_world};
@@ -168,7 +168,7 @@ pub fn tool<S: Source, K: Sink, F: Shelf>(
         → IsWorth (costs_of_script script files) work.old work.new }
     ensures works { (script : List ℕ) (files : Files)
         → IsRunOf (usage words.now) (S.left source.old) (F.files shelf.old) script files
-        → WorksWith files script (S.left source.new) (trace (K.state sink.old) work.old) (trace (K.state sink.new) work.new) result }
+        → WorksWith files script (S.left source.new) (trace (K.state sink.old) work.old (F.fetches shelf.old)) (trace (K.state sink.new) work.new (F.fetches shelf.new)) result }
     ensures gen_worth { (n : ℕ) → usage words.now ≡ Gen n → result ≢ 5 → IsWorth (costs_of_script (load n) []) work.old work.new }
     ensures gen_works { (n : ℕ) → usage words.now ≡ Gen n → WorksPart [] work.old work.new (lines_of (load n)) }
     ensures uncounted { usage words.now ≢ Run
@@ -228,7 +228,7 @@ pub fn tool<S: Source, K: Sink, F: Shelf>(
     ensures focus_read_to_end { (question : Question) → usage words.now ≡ Focus question → IsComplete result → IsAtEnd (S.left source.new) }
     ensures focus_ends { (script : List ℕ) (files : Files) (question : Question)
         → IsFocusOf (usage words.now) (S.left source.old) (F.files shelf.old) script files question
-        → AsksWith files script question (S.left source.new) (trace (K.state sink.old) work.old) (trace (K.state sink.new) work.new) result }
+        → AsksWith files script question (S.left source.new) (trace (K.state sink.old) work.old (F.fetches shelf.old)) (trace (K.state sink.new) work.new (F.fetches shelf.new)) result }
     ensures focus_worth { (script : List ℕ) (files : Files) (question : Question)
         → IsFocusOf (usage words.now) (S.left source.old) (F.files shelf.old) script files question
         → IsComplete result
@@ -263,7 +263,8 @@ pub fn tool<S: Source, K: Sink, F: Shelf>(
     ensures stack_works { (script : List ℕ) (files : Files)
         → IsStackOf (usage words.now) (S.left source.old) (F.files shelf.old) script files
         → WorksWithFrom (Stacked empty_stack) files script (S.left source.new)
-        (trace (K.state sink.old) work.old) (trace (K.state sink.new) work.new) result }
+        (trace (K.state sink.old) work.old (F.fetches shelf.old))
+        (trace (K.state sink.new) work.new (F.fetches shelf.new)) result }
     ensures stack_worth { (script : List ℕ) (files : Files)
         → IsStackOf (usage words.now) (S.left source.old) (F.files shelf.old) script files
         → IsComplete result
@@ -279,6 +280,24 @@ pub fn tool<S: Source, K: Sink, F: Shelf>(
         → (Rose (K.state sink.old).faults (K.state sink.new).faults → ⊥)
         → (Rose (F.faults shelf.old) (F.faults shelf.new) → ⊥)
         → IsComplete result ⊎ (result ≡ 5) }
+
+    // How often the shelf is asked, if it counts that: by a run once for each line that is carried out and asks for a file,
+    // whatever comes of it, by a print or a look-up once, and by a load not at all. Of a run that stopped `works` says it,
+    // and of the others `focus_ends` and `stack_works`: the line in which it stopped has asked too, if it asks.
+    ensures fetched { (script : List ℕ) (files : Files)
+        → IsRunOf (usage words.now) (S.left source.old) (F.files shelf.old) script files
+        → IsComplete result
+        → F.fetches shelf.new ≡ raised_by (fetches_from (Alone empty_world) files (lines_of script)) (F.fetches shelf.old) }
+    ensures stack_fetched { (script : List ℕ) (files : Files)
+        → IsStackOf (usage words.now) (S.left source.old) (F.files shelf.old) script files
+        → IsComplete result
+        → F.fetches shelf.new ≡ raised_by (fetches_from (Stacked empty_stack) files (lines_of script)) (F.fetches shelf.old) }
+    ensures dump_fetched { (name : List ℕ)
+        → usage words.now ≡ Dump name
+        → F.fetches shelf.new ≡ one_more (F.fetches shelf.old) }
+    ensures lookup_fetched { (name ids : List ℕ)
+        → usage words.now ≡ Lookup name ids
+        → F.fetches shelf.new ≡ one_more (F.fetches shelf.old) }
 {
     match form_of(words) {
         Some(Form::Run) => run(alloc, shelf, source, sink, work),
@@ -306,7 +325,7 @@ fn run<S: Source, K: Sink, F: Shelf>(
     ensures works { (files : Files) (script : List ℕ)
         → F.files shelf.old ≡ Some files
         → S.left source.old ≡ Some script
-        → WorksWith files script (S.left source.new) (trace (K.state sink.old) work.old) (trace (K.state sink.new) work.new) result }
+        → WorksWith files script (S.left source.new) (trace (K.state sink.old) work.old (F.fetches shelf.old)) (trace (K.state sink.new) work.new (F.fetches shelf.new)) result }
     ensures known { IsOneOf result (0 ∷ 1 ∷ 3 ∷ 4 ∷ 5 ∷ 6 ∷ 7 ∷ []) }
     ensures whole { result ≢ 3 → result ≢ 4 → result ≢ 6 → result ≢ 7 → IsComplete result ⊎ (result ≡ 5) }
     ensures read_to_end { IsComplete result → IsAtEnd (S.left source.new) }
@@ -344,7 +363,8 @@ fn stack<S: Source, K: Sink, F: Shelf>(
         → F.files shelf.old ≡ Some files
         → S.left source.old ≡ Some script
         → WorksWithFrom (Stacked empty_stack) files script (S.left source.new)
-        (trace (K.state sink.old) work.old) (trace (K.state sink.new) work.new) result }
+        (trace (K.state sink.old) work.old (F.fetches shelf.old))
+        (trace (K.state sink.new) work.new (F.fetches shelf.new)) result }
     ensures known { IsOneOf result (0 ∷ 1 ∷ 3 ∷ 4 ∷ 5 ∷ 6 ∷ 7 ∷ []) }
     ensures whole { result ≢ 3 → result ≢ 4 → result ≢ 6 → result ≢ 7 → IsComplete result ⊎ (result ≡ 5) }
     ensures read_to_end { IsComplete result → IsAtEnd (S.left source.new) }
@@ -378,7 +398,7 @@ fn focus<S: Source, K: Sink, F: Shelf>(
     ensures asks { (files : Files) (script : List ℕ)
         → F.files shelf.old ≡ Some files
         → S.left source.old ≡ Some script
-        → AsksWith files script question (S.left source.new) (trace (K.state sink.old) work.old) (trace (K.state sink.new) work.new) result }
+        → AsksWith files script question (S.left source.new) (trace (K.state sink.old) work.old (F.fetches shelf.old)) (trace (K.state sink.new) work.new (F.fetches shelf.new)) result }
     ensures known { IsOneOf result (0 ∷ 1 ∷ 3 ∷ 4 ∷ 5 ∷ 6 ∷ 7 ∷ []) }
     ensures whole { result ≢ 3 → result ≢ 4 → result ≢ 6 → result ≢ 7 → IsComplete result ⊎ (result ≡ 5) }
     ensures read_to_end { IsComplete result → IsAtEnd (S.left source.new) }

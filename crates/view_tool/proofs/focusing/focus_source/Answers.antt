@@ -47,8 +47,8 @@ returns-in-Ok-clause-asks g c =
     let from : carried_of c.new-run.result.runner.carrier ≡ Alone empty_world = ap carried_of c.new-run.ensures.carrier ∙ c.alone.ensures.start in
     let runs = rw from at c.in_ok-refused.ensures.runs in
     let made = rw from at c.in_ok-refused.ensures.world in
-    let first = trace (g.K.Sink.state c.args.sink.now) c.args.work.now in
-    let mid = trace (g.K.Sink.state c.run_to_end.new.sink) c.run_to_end.new.work in
+    let first = trace (g.K.Sink.state c.args.sink.now) c.args.work.now (g.F.Shelf.fetches c.args.shelf.now) in
+    let mid = trace (g.K.Sink.state c.run_to_end.new.sink) c.run_to_end.new.work (g.F.Shelf.fetches c.run_to_end.new.shelf) in
     let left = g.S.Source.left c.run_to_end.new.source in
     record {
       asks = λ files script at_hand told.
@@ -68,8 +68,8 @@ returns-clause-asks g c =
     let from : carried_of c.new-run.result.runner.carrier ≡ Alone empty_world = ap carried_of c.new-run.ensures.carrier ∙ c.alone.ensures.start in
     let runs = rw from at c.in_ok-refused.ensures.runs in
     let made = rw from at c.in_ok-refused.ensures.world in
-    let first = trace (g.K.Sink.state c.args.sink.now) c.args.work.now in
-    let mid = trace (g.K.Sink.state c.run_to_end.new.sink) c.run_to_end.new.work in
+    let first = trace (g.K.Sink.state c.args.sink.now) c.args.work.now (g.F.Shelf.fetches c.args.shelf.now) in
+    let mid = trace (g.K.Sink.state c.run_to_end.new.sink) c.run_to_end.new.work (g.F.Shelf.fetches c.run_to_end.new.shelf) in
     let left = g.S.Source.left c.run_to_end.new.source in
     record {
       asks = λ files script at_hand told.

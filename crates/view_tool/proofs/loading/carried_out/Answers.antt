@@ -1,5 +1,5 @@
 use Rattle.std.proofs.Common.{◌≡◌, ◌<◌, ◌^◌, [], length, ap, sym, subst, ◌∙◌, arith}
-use Rattle.std.specs.Prelude.{Err, Option, Some}
+use Rattle.std.specs.Prelude.{Err, None, Option, Some}
 use Rattle.std.proofs.lemmas.List.{append-nil}
 use Rattle.std.proofs.lemmas.Result.{err_from_is_err_and}
 use Rattle.script_lines.specs.Lines.{cut_of, lines_of}
@@ -17,8 +17,8 @@ use Rattle.view_tool.proofs.loading.carried_out.Goals as goal
 pub returns-clause-runs : goal.returns-clause-runs
 returns-clause-runs c =
     let script = c.args.script.now in
-    let first : Trace = record { gone = Some c.args.page.now.gone; work = c.args.work.now } in
-    let mid : Trace = record { gone = Some c.piece.new.sink.gone; work = c.piece.new.work } in
+    let first : Trace = record { gone = Some c.args.page.now.gone; work = c.args.work.now; fetches = None } in
+    let mid : Trace = record { gone = Some c.piece.new.sink.gone; work = c.piece.new.work; fetches = None } in
     let short : length script < 2 ^ 63 = omega (arith, c.requires.short) in
     let from : carried_of c.new-run.result.runner.carrier ≡ Alone empty_world = ap carried_of c.new-run.ensures.carrier ∙ c.alone.ensures.start in
     let none : c.new-shelf.result ≡ [] = c.new-shelf.ensures ∙ ap named_files c.new.ensures.items in
@@ -32,8 +32,8 @@ returns-in_err-piece-clause-stopped c =
     let p = err_from_is_err_and c.from_residual.result c.from_residual.ensures.1 in
     let e : c.from_residual.result ≡ Err c.in_err-piece.field-0.0 = cc (p.1, p.2) in
     let script = c.args.script.now in
-    let first : Trace = record { gone = Some c.args.page.now.gone; work = c.args.work.now } in
-    let mid : Trace = record { gone = Some c.piece.new.sink.gone; work = c.piece.new.work } in
+    let first : Trace = record { gone = Some c.args.page.now.gone; work = c.args.work.now; fetches = None } in
+    let mid : Trace = record { gone = Some c.piece.new.sink.gone; work = c.piece.new.work; fetches = None } in
     let short : length script < 2 ^ 63 = omega (arith, c.requires.short) in
     let from : carried_of c.new-run.result.runner.carrier ≡ Alone empty_world = ap carried_of c.new-run.ensures.carrier ∙ c.alone.ensures.start in
     let none : c.new-shelf.result ≡ [] = c.new-shelf.ensures ∙ ap named_files c.new.ensures.items in
@@ -47,9 +47,9 @@ returns-in_err-finish-clause-stopped c =
     let p = err_from_is_err_and c.from_residual-in_err-finish.result c.from_residual-in_err-finish.ensures.1 in
     let e : c.from_residual-in_err-finish.result ≡ Err c.in_err-finish.field-0.0 = cc (p.1, p.2) in
     let script = c.args.script.now in
-    let first : Trace = record { gone = Some c.args.page.now.gone; work = c.args.work.now } in
-    let mid : Trace = record { gone = Some c.piece.new.sink.gone; work = c.piece.new.work } in
-    let last : Trace = record { gone = Some c.finish.new.sink.gone; work = c.finish.new.work } in
+    let first : Trace = record { gone = Some c.args.page.now.gone; work = c.args.work.now; fetches = None } in
+    let mid : Trace = record { gone = Some c.piece.new.sink.gone; work = c.piece.new.work; fetches = None } in
+    let last : Trace = record { gone = Some c.finish.new.sink.gone; work = c.finish.new.work; fetches = None } in
     let short : length script < 2 ^ 63 = omega (arith, c.requires.short) in
     let from : carried_of c.new-run.result.runner.carrier ≡ Alone empty_world = ap carried_of c.new-run.ensures.carrier ∙ c.alone.ensures.start in
     let none : c.new-shelf.result ≡ [] = c.new-shelf.ensures ∙ ap named_files c.new.ensures.items in

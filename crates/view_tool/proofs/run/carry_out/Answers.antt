@@ -22,3 +22,8 @@ returns-clause-asked g c failed none =
     let read = rw c.in-Some.is at c.requires.counts in
     let bytes = c.in-Some.bytes.now in
     c.line.ensures.asked failed (sym (bytes_line-asked (carried_of c.args.carrier.now) bytes read) ∙ (rw c.in-Some.is at none))
+
+pub returns-clause-fetched : goal.returns-clause-fetched
+returns-clause-fetched g c =
+    let read = rw c.in-Some.is at c.requires.counts in
+    rw (c.in-Some.is, bytes_line-asked (carried_of c.args.carrier.now) c.in-Some.bytes.now read) c.line.ensures.fetched

@@ -30,7 +30,7 @@ returns-in_err-piece-2-clause-comes g c start first before count behind =
     let piece = c.args.piece.now in
     let short : length (before ++ piece) < 2 ^ 63 = omega (arith, length-append before piece, count, c.if-piece-left.false) in
     let all : take c.args.left piece ≡ piece = take_all c.args.left piece (omega (arith, c.if-piece-left.false)) in
-    rw e (λ files told. subst (λ (bytes : List ℕ). StopsIn start files first (trace (g.K.Sink.state c.piece-2.new.sink) c.piece-2.new.work) (cut_of (before ++ bytes)).lines c.in_err-piece-2.field-0.0) (sym all)
+    rw e (λ files told. subst (λ (bytes : List ℕ). StopsIn start files first (trace (g.K.Sink.state c.piece-2.new.sink) c.piece-2.new.work (g.F.Shelf.fetches c.piece-2.new.shelf)) (cut_of (before ++ bytes)).lines c.in_err-piece-2.field-0.0) (sym all)
     (c.in_err-piece-2.ensures.stopped start first before short behind files told))
 
 pub returns-clause-comes : goal.returns-clause-comes

@@ -14,7 +14,7 @@ pub loop-n-init : goal.loop-n-init
 loop-n-init g c = record {
   bound = omega arith;
   numbers = omega (arith, c.requires.numbers);
-  taken = record { bytes = []; consumed = Consumes-nil (g.S.Source.left c.args.source.now); count = refl; behind = c.requires.behind (g.F.Shelf.files c.args.shelf.now) (trace (g.K.Sink.state c.args.sink.now) c.args.work.now) };
+  taken = record { bytes = []; consumed = Consumes-nil (g.S.Source.left c.args.source.now); count = refl; behind = c.requires.behind (g.F.Shelf.files c.args.shelf.now) (trace (g.K.Sink.state c.args.sink.now) c.args.work.now (g.F.Shelf.fetches c.args.shelf.now)) };
   files = refl;
   fetches = refl;
   painted = omega arith;
@@ -117,7 +117,7 @@ returns-clause-runs g c =
     let ended = c.in_ok-n.ensures.end (ap Ok none) in
     rw c.refused.ensures (record {
       runs = λ files script at_hand told. ends_well _ files _ _ _ _ script (t.bytes ++ q.bytes) c.finish.new.self.runner told lost ended fits
-          (c.in_ok-finish.ensures.done _ files (trace (g.K.Sink.state c.args.sink.now) c.args.work.now) (t.bytes ++ q.bytes) (c.read_piece.ensures.files_stay ∙ c.loop-n.invariant.files ∙ at_hand) (omega (arith, fits)) (rw c.read_piece.ensures.files_stay q.comes));
+          (c.in_ok-finish.ensures.done _ files (trace (g.K.Sink.state c.args.sink.now) c.args.work.now (g.F.Shelf.fetches c.args.shelf.now)) (t.bytes ++ q.bytes) (c.read_piece.ensures.files_stay ∙ c.loop-n.invariant.files ∙ at_hand) (omega (arith, fits)) (rw c.read_piece.ensures.files_stay q.comes));
       end = ended;
       taken = t.bytes ++ q.bytes;
       consumed = lost;
@@ -132,7 +132,7 @@ returns-clause-world g c files script at_hand told =
     let fits : length (t.bytes ++ q.bytes) ≤ max_script = omega (arith, length-append t.bytes q.bytes, t.count, q.count, none) in
     let lost = Consumes-Consumes _ _ _ t.bytes q.bytes t.consumed q.consumed in
     let all = taken_by_end _ _ script (t.bytes ++ q.bytes) told lost (c.in_ok-n.ensures.end (ap Ok none)) in
-    (c.in_ok-finish.ensures.done _ files (trace (g.K.Sink.state c.args.sink.now) c.args.work.now) (t.bytes ++ q.bytes) (c.read_piece.ensures.files_stay ∙ c.loop-n.invariant.files ∙ at_hand) (omega (arith, fits)) (rw c.read_piece.ensures.files_stay q.comes)).carried
+    (c.in_ok-finish.ensures.done _ files (trace (g.K.Sink.state c.args.sink.now) c.args.work.now (g.F.Shelf.fetches c.args.shelf.now)) (t.bytes ++ q.bytes) (c.read_piece.ensures.files_stay ∙ c.loop-n.invariant.files ∙ at_hand) (omega (arith, fits)) (rw c.read_piece.ensures.files_stay q.comes)).carried
     ∙ ap (λ (bytes : List ℕ). (after_from (carried_of c.args.run.now.runner.carrier) files (lines_of bytes)).carried) all
 
 pub returns-clause-source_failed : goal.returns-clause-source_failed

@@ -106,3 +106,9 @@ returns-in-Some-Stack-clause-stack_complete g c = λ script files run short no_r
     (λ e. no_write (let failed = rw e at c.stack.ensures.sink_failed in omega (arith, failed)))
     (λ e. no_fetch (let failed = rw e at c.stack.ensures.shelf_failed (λ five. omega (arith, five)) in omega (arith, failed)))
     (λ e. (let long = (runs.long e).0 in omega (arith, short, long)))
+
+pub returns-in-Some-Run-clause-fetched : goal.returns-in-Some-Run-clause-fetched
+returns-in-Some-Run-clause-fetched g c = λ script files run ended. ((c.run.ensures.works files script run.shelf run.source).ended ended).fetched
+
+pub returns-in-Some-Stack-clause-stack_fetched : goal.returns-in-Some-Stack-clause-stack_fetched
+returns-in-Some-Stack-clause-stack_fetched g c = λ script files run ended. ((c.stack.ensures.works files script run.shelf run.source).ended ended).fetched

@@ -1,4 +1,4 @@
-use Rattle.std.proofs.Common.{◌≡◌, ap, arith, sym, subst, ◌∙◌, inl}
+use Rattle.std.proofs.Common.{◌≡◌, ap, arith, refl, sym, subst, ◌∙◌, inl}
 use Rattle.std.specs.Prelude.{None}
 use Rattle.script_lines.specs.PlainCommands.{plain_command}
 use Rattle.script_lines.specs.Words.{map_ok}
@@ -128,3 +128,25 @@ returns-in-Ok-stack_line-clause-asked g c failed none =
 
 pub returns-in-Ok-stack_line-clause-numbers : goal.returns-in-Ok-stack_line-clause-numbers
 returns-in-Ok-stack_line-clause-numbers g c = rw c.in-Stacked.is (numbers_after c.in-Stacked.stack.worlds c.line-in-Ok-stack_line.new.self.worlds c.line-in-Ok-stack_line.ensures.numbers)
+
+-- how often the shelf was asked
+
+pub returns-in-Ok-clause-fetched : goal.returns-in-Ok-clause-fetched
+returns-in-Ok-clause-fetched g c =
+    let read = sym c.line.ensures.value ∙ ap (map_ok plain_command) c.in-Ok.is in
+    rw (c.in-Alone.is, read) c.line-in-Ok.ensures.fetched
+
+pub returns-in-Err-clause-fetched : goal.returns-in-Err-clause-fetched
+returns-in-Err-clause-fetched g c =
+    let read = sym c.line.ensures.value ∙ ap (map_ok plain_command) c.in-Err.is in
+    rw (c.in-Alone.is, read) refl
+
+pub returns-in-Ok-stack_line-clause-fetched : goal.returns-in-Ok-stack_line-clause-fetched
+returns-in-Ok-stack_line-clause-fetched g c =
+    let read = sym c.stack_line.ensures.value ∙ ap (map_ok plain_line) c.in-Ok-stack_line.is in
+    rw (c.in-Stacked.is, read) c.line-in-Ok-stack_line.ensures.fetched
+
+pub returns-in-Err-stack_line-clause-fetched : goal.returns-in-Err-stack_line-clause-fetched
+returns-in-Err-stack_line-clause-fetched g c =
+    let read = sym c.stack_line.ensures.value ∙ ap (map_ok plain_line) c.in-Err-stack_line.is in
+    rw (c.in-Stacked.is, read) refl
