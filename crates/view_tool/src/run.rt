@@ -109,7 +109,7 @@ fn is_passed(line: Option<&[u8]>) -> bool
 /// Carries out a line, and writes its text; of one that is refused nothing is written. `None` is a line that is too
 /// long.
 #[inline(never)]
-#[tactic(auto, unfolding(crate::specs::Transcript::reply_to_line))]
+#[tactic(auto, unfolding(crate::specs::Transcript::asked_by_line, crate::specs::Transcript::reply_to_line))]
 fn carry_out<K: Sink, F: Shelf>(
     carrier: &mut Carrier,
     alloc: Global,
