@@ -181,7 +181,7 @@ pub bytes_line-asked : (carried : Carried) (bytes : List ℕ) → is_passed_over
 unfolding asked_by_line
 bytes_line-asked carried bytes passed = rw passed refl
 
--- what a line leaves that was refused, or that ran out of memory
+-- what a line leaves that was refused, that ran out of memory, or whose fetch failed
 pub not_done : {X : Type 0} (fault : StepFault) (refusal : Refusal) → fault ≡ step.Refused refusal → IsDone (Err fault) ⊎ X → X
 not_done fault refusal e (inl done) = absurd (subst (λ (f : StepFault). IsDone (Err f)) e done)
 not_done fault refusal e (inr same) = same
@@ -189,6 +189,10 @@ not_done fault refusal e (inr same) = same
 pub not_done_memory : {X : Type 0} (fault : StepFault) → fault ≡ step.NoMemory → IsDone (Err fault) ⊎ X → X
 not_done_memory fault e (inl done) = absurd (subst (λ (f : StepFault). IsDone (Err f)) e done)
 not_done_memory fault e (inr same) = same
+
+pub not_done_fetch : {X : Type 0} (fault : StepFault) → fault ≡ step.Shelf → IsDone (Err fault) ⊎ X → X
+not_done_fetch fault e (inl done) = absurd (subst (λ (f : StepFault). IsDone (Err f)) e done)
+not_done_fetch fault e (inr same) = same
 
 pub carried_refused : (reply : LineReply) (new : Carried) (before after : SinkState) (fault : StepFault) (refusal : Refusal) → fault ≡ step.Refused refusal
     → WritesLine reply new before after (Err fault) → reply ≡ Refused (plain_refusal refusal)

@@ -18,8 +18,8 @@ use Rattle.view_tool.proofs.carrier.Carrier.line.Goals as goal
 
 -- a world
 
-pub line-requires-in-Ok-clause-numbered : goal.line-requires-in-Ok-clause-numbered
-line-requires-in-Ok-clause-numbered g c = rw c.in-Alone.is at c.requires.numbered
+pub line-requires-in-Ok-clause-numbers : goal.line-requires-in-Ok-clause-numbers
+line-requires-in-Ok-clause-numbers g c = rw c.in-Alone.is at c.requires.numbered
 
 pub line-requires-in-Ok-clause-short : goal.line-requires-in-Ok-clause-short
 line-requires-in-Ok-clause-short g c =
@@ -99,7 +99,7 @@ returns-in-Ok-stack_line-clause-carried g c files told =
 pub returns-in-Err-stack_line-clause-carried : goal.returns-in-Err-stack_line-clause-carried
 returns-in-Err-stack_line-clause-carried g c files told =
     let read = sym c.stack_line.ensures.value ∙ ap (map_ok plain_line) c.in-Err-stack_line.is in
-    rw (c.in-Stacked.is, read) (ap Refused (sym c.refusal_of-stack_line.ensures))
+    rw (c.in-Stacked.is, read) (ap Refused (sym c.refusal_of-in-Err-stack_line.ensures))
 
 pub returns-in-Ok-stack_line-clause-unchanged : goal.returns-in-Ok-stack_line-clause-unchanged
 returns-in-Ok-stack_line-clause-unchanged g c = same_stack c.line-in-Ok-stack_line.result c.args.self.now _ _ _ _ c.in-Stacked.is c.line-in-Ok-stack_line.ensures.unchanged

@@ -9,7 +9,7 @@ use Rattle.view_tool.specs.Run.{line_now}
 use Rattle.view_tool.specs.Transcript.{MayWant}
 use Rattle.view_tool.specs.Works.{trace}
 use Rattle.view_tool.specs.Tally.{tally_from}
-use Rattle.view_tool.proofs.RunLaws.{after_from-lines, carried_refused, carried_sink, done_at, done_part, not_done, not_done_memory, passed_line, refused_at, refused_part, works_before}
+use Rattle.view_tool.proofs.RunLaws.{after_from-lines, carried_refused, carried_sink, done_at, done_part, not_done, not_done_fetch, not_done_memory, passed_line, refused_at, refused_part, works_before, works_to_fetch}
 use Rattle.view_tool.proofs.TallyLaws.{is_done_sink}
 use Rattle.view_tool.proofs.run.LineRunner.line.Goals as goal
 
@@ -64,3 +64,11 @@ returns-in-Err-NoMemory-clause-stopped g c start files first lines told short at
     works_before start files first (trace (g.K.Sink.state c.args.sink.now) c.args.work.now (g.F.Shelf.fetches c.args.shelf.now))
     (trace (g.K.Sink.state c.carry_out.new.sink) c.carry_out.new.work (g.F.Shelf.fetches c.carry_out.new.shelf)) c.args.self.now lines (line_now c.args.line) at
     (c.in-Err-NoMemory.ensures.memory (ap Err c.in-Err-NoMemory.field-0-is)) (ap (λ sink. (g.K.Sink.state sink).gone) same.1) idle c.carry_out.ensures.fetched
+
+pub returns-clause-stopped : goal.returns-clause-stopped
+returns-clause-stopped g c start files first lines told short at =
+    let same = not_done_fetch c.in-Err-Shelf.field-0 c.in-Err-Shelf.field-0-is c.in-Err-Shelf.ensures.unchanged in
+    let idle = not_done_fetch c.in-Err-Shelf.field-0 c.in-Err-Shelf.field-0-is c.in-Err-Shelf.ensures.idle in
+    works_to_fetch start files first (trace (g.K.Sink.state c.args.sink.now) c.args.work.now (g.F.Shelf.fetches c.args.shelf.now))
+    (trace (g.K.Sink.state c.carry_out.new.sink) c.carry_out.new.work (g.F.Shelf.fetches c.carry_out.new.shelf)) c.args.self.now lines (line_now c.args.line) at
+    (c.in-Err-Shelf.ensures.asked (ap Err c.in-Err-Shelf.field-0-is)) (ap (λ sink. (g.K.Sink.state sink).gone) same.1) idle c.carry_out.ensures.fetched
