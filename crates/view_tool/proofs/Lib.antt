@@ -10,6 +10,7 @@ mod RefusalExamples
 pub mod RunLaws
 pub mod ScriptLaws
 pub mod StackPageLaws
+pub mod StatusLaws
 pub mod SumLaws
 pub mod TallyLaws
 pub mod ToolLaws

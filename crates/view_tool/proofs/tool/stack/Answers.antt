@@ -6,6 +6,7 @@ use Rattle.view_tool.specs.Tool.{RunsWith}
 use Rattle.view_tool.specs.Works.{trace}
 use Rattle.view_tool.specs.WorksWith.{WorksWithFrom}
 use Rattle.view_tool.proofs.CostLaws.{works_with}
+use Rattle.view_tool.proofs.StatusLaws.{ends_known, ends_read}
 use Rattle.view_tool.proofs.ToolLaws.{ends_whole, runs_with, shelf_by_status, shelf_later, sink_by_status, source_by_status}
 use Rattle.view_tool.proofs.tool.stack.Goals as goal
 
@@ -48,3 +49,9 @@ returns-clause-shelf_later g c = shelf_later c.run_to_end.result _ _ c.run_to_en
 
 pub returns-clause-whole : goal.returns-clause-whole
 returns-clause-whole g c = rw c.status.ensures (ends_whole c.run_to_end.result)
+
+pub returns-clause-known : goal.returns-clause-known
+returns-clause-known g c = rw c.status.ensures (ends_known c.run_to_end.result)
+
+pub returns-clause-read_to_end : goal.returns-clause-read_to_end
+returns-clause-read_to_end g c = rw c.status.ensures (ends_read c.run_to_end.result (g.S.Source.left c.run_to_end.new.source) c.run_to_end.ensures.runs.end)
