@@ -35,7 +35,7 @@ WRONG = [[], ["gen"], ["gen", "0"], ["gen", "101"], ["gen", "01"], ["gen", "1", 
          ["lookup", "a", "7f0500000"], ["lookup", ".a", "7f050000"], ["lookup", "a", *["7f050000"] * 65],
          ["lookup", "a", "7f050000", ""], ["focus"], ["focus", "left"], ["focus", "left", "v1", "x"], ["focus", "Left", "v1"],
          ["focus", "left", "v01"], ["focus", "left", "v12345678901"], ["focus", "up", "@"], ["focus", "up", "@123456789"],
-         ["focus", "up", "root"], ["--help", "x"], ["explain", "x"], ["explain", "31", "x"], ["explain", ""]]
+         ["focus", "up", "root"], ["stack", "x"], ["stacks"], ["--help", "x"], ["explain", "x"], ["explain", "31", "x"], ["explain", ""]]
 # words that are explained, and what is said of them
 EXPLAINED = {
     "NoView": "28 NoView: no view has the number or the id.\nIt comes at any line that names a view, and at focus SIDE V.\n",

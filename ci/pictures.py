@@ -1,4 +1,5 @@
-"""The pictures of examples/: each has the digest that the program writes of the last frame of its script."""
+"""The pictures of examples/: each has the digest that the program writes of the last frame of its script. A picture with a
+file NAME.stack, which is a script for a stack of windows, has the colours that the program composes."""
 import glob
 import hashlib
 import os
@@ -6,6 +7,16 @@ from functools import partial
 
 from running import PROGRAM, TOP, run
 from vindaesk import files, png
+
+
+def stacked(path):
+    """Why a picture of a stack fails, or nothing."""
+    wanted = png.read(files.read(path), path)
+    script = files.read(path[: -len("png")] + "stack")
+    line = b"\ncompose 0 0 %d %d\n" % (wanted.width, wanted.height)
+    written, _ = run([PROGRAM, "stack"], script + line, os.path.dirname(path))
+    rows = [bytes.fromhex(row.decode()) for row in written.split(b"\n")[-1 - wanted.height : -1]]
+    return "" if rows == wanted.rows else "its colours are others than those of the script"
 
 
 def picture(path):
@@ -19,4 +30,5 @@ def picture(path):
 
 def checks():
     for path in sorted(glob.glob(os.path.join(TOP, "examples", "*.png"))):
-        yield os.path.relpath(path, TOP), partial(picture, path)
+        check = stacked if os.path.exists(path[: -len("png")] + "stack") else picture
+        yield os.path.relpath(path, TOP), partial(check, path)

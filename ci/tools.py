@@ -200,6 +200,18 @@ def takes_pictures():
         return why or ("" if png.parsed(it.read("a.png")) == red else "a scaled picture is wrong")
 
 
+def composes_windows():
+    """A red window, and a blue one above its right half; a refused line is reported by its number in the script."""
+    with place() as it:
+        red = "".join("in 0 %s\n" % line for line in RED.splitlines())
+        blue = red.replace("in 0", "in 1").replace("ff0000", "0000ff")
+        text = "at 0 0 0\n%sat 1 1 0\nin 2 frame\n%s" % (red, blue)
+        found = it.call("screenshot", "-", "a.png", "--stack", "3x2", given=text)
+        why = unlike(found, 1, b"", "screenshot: line 7: refused 43 NoPane: in 2 frame\n")
+        wanted = png.Picture(3, 2, [b"\xff\0\0" + b"\0\0\xff" * 2] * 2)
+        return why or ("" if png.parsed(it.read("a.png")) == wanted else "the picture of the windows is wrong")
+
+
 def reports_refused_lines():
     with place() as it:
         text = "# one\nad root View 1 1\n" + RED + "frame" + " " * 1020 + "\n\nbounds\nré\x07t"
@@ -240,6 +252,8 @@ def lacks_files():
             ("screenshot", "a.script", "--frames", "a.script"): "a.script: File exists",
             ("screenshot", "a.script"): "OUT.png or --frames DIR is needed",
             ("screenshot", "a.script", "a.png", "--scale", "0"): "'0' is no number from 1 to 8",
+            ("screenshot", "a.script", "a.png", "--stack", "9"): "'9' is no size, as 320x180",
+            ("screenshot", "a.script", "--frames", "made", "--stack", "9x9"): "--stack takes OUT.png, and no --frames",
             ("tree", "no.script"): "no.script cannot be read: No such file",
             ("check", "no.script"): "no.script cannot be read: No such file",
             ("check", "folder"): "folder cannot be read: Is a directory",
@@ -526,7 +540,7 @@ def unknown_words():
 
 
 def checks():
-    for check in (helps, lacks_program, takes_pictures, reports_refused_lines, lacks_pictures, lacks_files,
+    for check in (helps, lacks_program, takes_pictures, composes_windows, reports_refused_lines, lacks_pictures, lacks_files,
                   takes_frames, ends_with_the_program, can_be_interrupted, follows_views, follows_files, reads_png,
                   refuses_broken_pictures, compares_pictures, runs_all, runs_all_that_break, shows_progress, unknown_words):
         yield "the tools: " + check.__name__.replace("_", " "), check

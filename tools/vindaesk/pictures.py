@@ -27,12 +27,12 @@ class Frame(NamedTuple):
     is_new: bool
 
 
-def asked(window: Optional[Window]) -> List[bytes]:
-    """The lines that ask for a whole picture, row after row; without a window, one that is refused."""
+def asked(window: Optional[Window], word: bytes = b"pixels") -> List[bytes]:
+    """The lines that ask for a whole picture by this word, row after row; without a window, one that is refused."""
     width, height = window or (1, 1)
     rows = MOST // width
     tops = range(0, height, rows)
-    return [b"pixels 0 %d %d %d" % (top, width, min(rows, height - top)) for top in tops]
+    return [b"%s 0 %d %d %d" % (word, top, width, min(rows, height - top)) for top in tops]
 
 
 def parts_of(lines: List[bytes], each_frame: bool) -> List[Part]:
@@ -71,3 +71,12 @@ def picture_of(frame: Frame) -> Picture:
     if frame.picture is None:
         raise Failure("there is no picture: " + REASONS.get(frame.why, "refusal %d" % frame.why))
     return frame.picture
+
+
+def composed(made: Script, refused: Refused, size: Window) -> Picture:
+    """The picture of this size, from the point 0 0 on, that the windows of a stack make after a script. Refused lines are
+    reported."""
+    parts = [Part(made.lines, 1), Part(asked(size, b"compose"))]
+    (part, answer), (_, last) = replies.answers(parts, made.folder, "stack")
+    refused.add_all(part, answer)
+    return Picture(*size, [bytes.fromhex(row.decode()) for row in last.replies])

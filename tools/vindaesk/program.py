@@ -75,13 +75,14 @@ def stopping() -> Iterator[None]:
         raise
 
 
-def lines_of(script: bytes, folder: str) -> Iterator[bytes]:
-    """Each line that the program writes over a script, as it comes; a run that does not reach its end is a failure."""
+def lines_of(script: bytes, folder: str, form: str = "run") -> Iterator[bytes]:
+    """Each line that the program writes over a script, as it comes; a run that does not reach its end is a failure. The
+    form is `run`, or `stack` for a script of windows."""
     with tempfile.TemporaryFile() as given:
         given.write(script)
         given.seek(0)
         started = subprocess.Popen(
-            [path(), "run"], stdin=given, stdout=subprocess.PIPE, stderr=subprocess.DEVNULL, cwd=folder
+            [path(), form], stdin=given, stdout=subprocess.PIPE, stderr=subprocess.DEVNULL, cwd=folder
         )
     try:
         for line in started.stdout:

@@ -70,13 +70,13 @@ class Refused:
         return WRONG if self.count else 0
 
 
-def answers(parts: Sequence[Part], folder: str) -> Iterator[Tuple[Part, Answer]]:
-    """Each part with its answer, as it comes."""
+def answers(parts: Sequence[Part], folder: str, form: str = "run") -> Iterator[Tuple[Part, Answer]]:
+    """Each part with its answer, as it comes, of a script that the program runs in this form."""
     whole = script.joined([line for part in parts for line in (*part.lines, MARK)])
     left = iter(parts)
     part = next(left, None)
     answer, before = Answer([], {}), 0
-    for text in program.lines_of(whole, folder):
+    for text in program.lines_of(whole, folder, form):
         refused = REFUSED.fullmatch(text)
         place = int(refused[1]) - before - 1 if refused else 0
         if not refused:

@@ -10,7 +10,7 @@ ghost use Rattle.stack_worlds.specs.StackCarried.{IsGivenSound, IsOwnSound, IsRe
 ghost use Rattle.stack_worlds.specs.WindowLines.{WorksBy, next_at, worlds_after};
 ghost use Rattle.script_lines.specs.PlainCommands.{Frame};
 ghost use Rattle.view_model.specs.declared.limits.TheConstants.{MAX_VIEWS};
-ghost use Rattle.view_world.specs.Carried.{AreAtHand, CountsShelf, IsDone, faults_after_line};
+ghost use Rattle.view_world.specs.Carried.{AreAtHand, CountsShelf, IsDone, faults_after_line, fetches_after};
 ghost use Rattle.view_world.specs.KeyedWorld.{KeyedWorld, world_of};
 ghost use Rattle.window_stack.specs.PlainPanes.{is_open};
 ghost use Rattle.window_stack.specs.StackLines.{In, IsLineInBounds, plain_line, text_length_in};
@@ -93,6 +93,8 @@ impl Stack {
             → sink.new ≡ sink.old }
         ensures files_stay { F.files shelf.new ≡ F.files shelf.old }
         ensures unasked { asked_by (stack_of self.old) (plain_line line.entry) ≡ None → shelf.new ≡ shelf.old }
+        ensures fetched { F.fetches shelf.new
+            ≡ fetches_after (asked_by (stack_of self.old) (plain_line line.entry)) (F.fetches shelf.old) }
         ensures shelf_failed { CountsShelf (F.faults shelf.old) (F.faults shelf.new) result }
         ensures asked { result ≡ Err StepFault.Shelf → asked_by (stack_of self.old) (plain_line line.entry) ≢ None }
         ensures memory { result ≡ Err StepFault.NoMemory → LineWants (stack_of self.old) (plain_line line.entry) }
@@ -130,6 +132,8 @@ impl Stack {
             → sink.new ≡ sink.old }
         ensures files_stay { F.files shelf.new ≡ F.files shelf.old }
         ensures unasked { asked_by (stack_of self.old) (plain_line line.entry) ≡ None → shelf.new ≡ shelf.old }
+        ensures fetched { F.fetches shelf.new
+            ≡ fetches_after (asked_by (stack_of self.old) (plain_line line.entry)) (F.fetches shelf.old) }
         ensures shelf_failed { CountsShelf (F.faults shelf.old) (F.faults shelf.new) result }
         ensures asked { result ≡ Err StepFault.Shelf → asked_by (stack_of self.old) (plain_line line.entry) ≢ None }
         ensures memory { result ≡ Err StepFault.NoMemory → LineWants (stack_of self.old) (plain_line line.entry) }
@@ -165,6 +169,8 @@ impl Stack {
             → sink.new ≡ sink.old }
         ensures files_stay { F.files shelf.new ≡ F.files shelf.old }
         ensures unasked { asked_on (stack_of self.old) (plain_given given.entry) ≡ None → shelf.new ≡ shelf.old }
+        ensures fetched { F.fetches shelf.new
+            ≡ fetches_after (asked_on (stack_of self.old) (plain_given given.entry)) (F.fetches shelf.old) }
         ensures shelf_failed { CountsShelf (F.faults shelf.old) (F.faults shelf.new) result }
         ensures asked { result ≡ Err StepFault.Shelf → asked_on (stack_of self.old) (plain_given given.entry) ≢ None }
         ensures memory { result ≡ Err StepFault.NoMemory → WayWants (stack_of self.old) (plain_given given.entry) }

@@ -13,6 +13,7 @@ use Rattle.view_model.specs.Forest.{Forest, Nothing, Branch}
 use Rattle.view_model.specs.PlainTree.{PlainView, view_in}
 use Rattle.view_model.specs.declared.refusals.TheConstants.{NO_FRAME, NO_ROOT, NO_VIEW, NO_WINDOW, UNSETTLED}
 use Rattle.view_model.specs.declared.work.Work.{Work}
+use Rattle.view_tool.specs.Carried.{Alone, world_in}
 use Rattle.view_tool.specs.declared.focusing.Question.{Question}
 use Rattle.view_tool.specs.declared.run.Stop.TheVariants as stop
 use Rattle.view_tool.specs.declared.script.End.{End}
@@ -23,8 +24,8 @@ use Rattle.view_tool.specs.Tally.{costs_of_script}
 use Rattle.view_tool.specs.Tool.{RunsWith, status_of}
 use Rattle.view_tool.specs.Transcript.{after_lines, carried_lines, has_refusal, max_script, transcript}
 use Rattle.view_tool.specs.Usage.{Usage, Focus}
-use Rattle.view_tool.specs.Works.{Trace, WorksPart}
-use Rattle.view_tool.specs.WorksWith.{WorksWith}
+use Rattle.view_tool.specs.Works.{Trace, WorksPartFrom}
+use Rattle.view_tool.specs.WorksWith.{WorksWithFrom}
 use Rattle.view_tool.proofs.CostLaws.{works_with}
 use Rattle.view_tool.proofs.LongScriptLaws.{carried_long, carried_short}
 use Rattle.view_tool.proofs.ToolLaws.{not_ended, runs_with, whole_prefix}
@@ -34,7 +35,7 @@ use Rattle.view_world.specs.KeyedScreen.{KeyedScreen, stage_of, window_of, world
 use Rattle.view_world.specs.Naming.{named}
 use Rattle.view_world.specs.Step.{bounds_asked, bounds_in, bounds_told, with_named}
 use Rattle.view_world.specs.Watched.{IsWorth}
-use Rattle.view_world.specs.World.{World}
+use Rattle.view_world.specs.World.{World, empty_world}
 use Rattle.view_world.specs.World as plain
 use Rattle.view_world.specs.declared.stage.Stage.{Stage}
 use Rattle.view_world.specs.declared.stage.Stage.TheVariants as early
@@ -107,8 +108,8 @@ answer-view world question window number some found =
 
 -- the script ended, and the answer was written
 pub asks_answered : (files : Files) (script : List ℕ) (question : Question) (left : Option (List ℕ)) (first mid : Trace) (gone : Option (List ℕ)) (refused unanswered : Bool) (answer : Result (Option ℕ) ℕ) (world : World)
-    → RunsTo files script left first mid (Ok refused) → world ≡ (after_lines files (lines_of script)).world → answer ≡ answer_of world question → unanswered ≡ is_err answer
-    → Appends mid.gone gone (answer_text answer) → AsksTo files script question left first (record { gone = gone; work = mid.work }) (Ok (refused || unanswered))
+    → RunsTo (Alone empty_world) files script left first mid (Ok refused) → world ≡ world_in (after_lines files (lines_of script)).carried → answer ≡ answer_of world question → unanswered ≡ is_err answer
+    → Appends mid.gone gone (answer_text answer) → AsksTo files script question left first (record mid { gone = gone }) (Ok (refused || unanswered))
 asks_answered files script question left first mid gone refused unanswered answer world runs same is failed sent =
     let answered : answer ≡ script_answer script files question = is ∙ ap (λ (world : World). answer_of world question) same in (
       record {
@@ -116,14 +117,15 @@ asks_answered files script question left first mid gone refused unanswered answe
         gone = appends_both first.gone mid.gone gone (transcript script files) (answer_text (script_answer script files question)) runs.1.gone
             (subst (λ (answer : Result (Option ℕ) ℕ). Appends mid.gone gone (answer_text answer)) answered sent);
         worth = runs.1.worth;
+        fetched = runs.1.fetched;
       },
       ap (λ (refused : Bool). refused || unanswered) runs.2 ∙ ap (λ (unanswered : Bool). has_refusal script files || unanswered) (failed ∙ ap is_err answered),
     )
 
 -- the same where the write failed
 pub asks_cut : (files : Files) (script : List ℕ) (question : Question) (left : Option (List ℕ)) (first mid : Trace) (gone : Option (List ℕ)) (refused : Bool) (answer : Result (Option ℕ) ℕ) (world : World)
-    → RunsTo files script left first mid (Ok refused) → world ≡ (after_lines files (lines_of script)).world → answer ≡ answer_of world question
-    → AppendsPrefix mid.gone gone (answer_text answer) → AsksTo files script question left first (record { gone = gone; work = mid.work }) (Err (ends.Stopped stop.Sink))
+    → RunsTo (Alone empty_world) files script left first mid (Ok refused) → world ≡ world_in (after_lines files (lines_of script)).carried → answer ≡ answer_of world question
+    → AppendsPrefix mid.gone gone (answer_text answer) → AsksTo files script question left first (record mid { gone = gone }) (Err (ends.Stopped stop.Sink))
 asks_cut files script question left first mid gone refused answer world runs same is part =
     let answered : answer ≡ script_answer script files question = is ∙ ap (λ (world : World). answer_of world question) same in
     inr (
@@ -134,10 +136,11 @@ asks_cut files script question left first mid gone refused answer world runs sam
         gone = runs.1.gone;
         part = subst (λ (answer : Result (Option ℕ) ℕ). AppendsPrefix mid.gone gone (answer_text answer)) answered part;
         worth = runs.1.worth;
+        fetched = runs.1.fetched;
       },
     )
 
-whole_part : (files : Files) (script : List ℕ) (old new : Work) → length script ≤ max_script → IsWorth (costs_of_script script files) old new → WorksPart files old new (carried_lines script)
+whole_part : (files : Files) (script : List ℕ) (old new : Work) → length script ≤ max_script → IsWorth (costs_of_script script files) old new → WorksPartFrom (Alone empty_world) files old new (carried_lines script)
 whole_part files script old new short worth = record {
   done = lines_of script;
   left = [];
@@ -167,8 +170,8 @@ unended (ends.Stopped stop.Sink) = omega arith
 unended (ends.Stopped stop.NoMemory) = omega arith
 unended (ends.Stopped stop.Shelf) = omega arith
 
-asks_unended : (files : Files) (script : List ℕ) (question : Question) (left : Option (List ℕ)) (first last : Trace) (status : ℕ) → 2 ≤ status → RunsWith files script left first.gone last.gone status
-    → WorksWith files script left first last status → AsksWith files script question left first last status
+asks_unended : (files : Files) (script : List ℕ) (question : Question) (left : Option (List ℕ)) (first last : Trace) (status : ℕ) → 2 ≤ status → RunsWith (Alone empty_world) files script left first.gone last.gone status
+    → WorksWithFrom (Alone empty_world) files script left first last status → AsksWith files script question left first last status
 asks_unended files script question left first last status big runs works = record {
   writes = λ short. record {
     whole = λ ended. absurd (not_ended status big ended);
@@ -206,7 +209,7 @@ pub asks_with : (files : Files) (script : List ℕ) (question : Question) (left 
 asks_with files script question left first last (Ok true) asks = asks_ended files script question left first last 1 (omega arith) asks.0 (ap (λ b. cond b 1 0) asks.1)
 asks_with files script question left first last (Ok false) asks = asks_ended files script question left first last 0 (omega arith) asks.0 (ap (λ b. cond b 1 0) asks.1)
 asks_with files script question left first last (Err end) (inl runs) =
-    asks_unended files script question left first last (status_of (Err end)) (unended end) (runs_with files script left first last (Err end) runs) (works_with files script left first last (Err end) runs)
+    asks_unended files script question left first last (status_of (Err end)) (unended end) (runs_with (Alone empty_world) files script left first last (Err end) runs) (works_with (Alone empty_world) files script left first last (Err end) runs)
 asks_with files script question left first last (Err end) (inr cuts) =
     subst (λ (end : End). AsksWith files script question left first last (status_of (Err end))) (sym cuts.0) (asks_cut_off files script question left first last cuts.1)
 

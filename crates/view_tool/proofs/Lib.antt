@@ -1,3 +1,4 @@
+pub mod CarrierLaws
 pub mod CostLaws
 mod FocusLaws
 mod LoadLaws
@@ -8,6 +9,10 @@ pub mod NameLaws
 mod RefusalExamples
 pub mod RunLaws
 pub mod ScriptLaws
+pub mod StackPageLaws
+pub mod StatusLaws
+pub mod SumLaws
 pub mod TallyLaws
 pub mod ToolLaws
+pub mod WatchedLaws
 pub mod WorkLaws

@@ -6,6 +6,7 @@ use Rattle.std.proofs.lemmas.List.{append-nil, take-append-drop, take-append-le}
 use Rattle.std.proofs.Math.Seq.{take-append-add}
 use Rattle.script_lines.specs.Lines.{Line, cut_of, lines_of}
 use Rattle.tool_io.specs.Fetched.{Files}
+use Rattle.view_tool.specs.Carried.{Carried}
 use Rattle.view_tool.specs.declared.run.LineRunner.{LineRunner}
 use Rattle.view_tool.specs.declared.run.Run.{Run}
 use Rattle.view_tool.specs.declared.run.Stop.{Stop}
@@ -13,8 +14,8 @@ use Rattle.view_tool.specs.declared.script.End.{End}
 use Rattle.view_tool.specs.declared.script.End.TheVariants as end
 use Rattle.view_tool.specs.Run.{HasCarriedOut, HasReadUpTo, StopsIn}
 use Rattle.view_tool.specs.Script.{ReadsPiece, RunsTo, WorksTaken}
-use Rattle.view_tool.specs.Tally.{tally_of}
-use Rattle.view_tool.specs.Transcript.{after_lines, carried_lines, max_script}
+use Rattle.view_tool.specs.Tally.{tally_from}
+use Rattle.view_tool.specs.Transcript.{after_from, carried_lines, max_script}
 use Rattle.view_tool.specs.Works.{Trace, Works}
 use Rattle.view_tool.proofs.LongScriptLaws.{carried_front, carried_long, carried_short}
 use Rattle.view_tool.proofs.RunLaws.{stops_further}
@@ -58,25 +59,25 @@ take_front script taken bytes rest left e count enough =
     ∙ ap (λ l. taken ++ l) (take-append-le left bytes rest enough)
 
 -- a read failed
-pub ends_source : (files : Files) (first last : Trace) (new : Option (List ℕ)) (script taken : List ℕ) → Consumes (Some script) new taken → length taken ≤ max_script → Works files first last (cut_of taken).lines
-    → WorksTaken files script new first last
-ends_source files first last new script taken lost within works =
+pub ends_source : (start : Carried) (files : Files) (first last : Trace) (new : Option (List ℕ)) (script taken : List ℕ) → Consumes (Some script) new taken → length taken ≤ max_script → Works start files first last (cut_of taken).lines
+    → WorksTaken start files script new first last
+ends_source start files first last new script taken lost within works =
     let c = consumed new script taken lost in
     record { taken = taken; takes = record { rest = c.0; front = c.1; left = c.2 }; within = within; works = works }
 
 -- one byte too many came
-pub ends_long : (files : Files) (first last : Trace) (new : Option (List ℕ)) (script taken bytes : List ℕ) (left : ℕ) → Consumes (Some script) new (taken ++ bytes) → length taken + left ≡ max_script
-    → length bytes ≡ left + 1 → Works files first last (cut_of (taken ++ take left bytes)).lines → RunsTo files script new first last (Err end.Long)
-ends_long files first last new script taken bytes left lost count many works =
+pub ends_long : (start : Carried) (files : Files) (first last : Trace) (new : Option (List ℕ)) (script taken bytes : List ℕ) (left : ℕ) → Consumes (Some script) new (taken ++ bytes) → length taken + left ≡ max_script
+    → length bytes ≡ left + 1 → Works start files first last (cut_of (taken ++ take left bytes)).lines → RunsTo start files script new first last (Err end.Long)
+ends_long start files first last new script taken bytes left lost count many works =
     let c = consumed new script (taken ++ bytes) lost in
     let long : max_script < length script = omega (arith, ap length c.1, length-append (taken ++ bytes) c.0, length-append taken bytes, count, many) in
     let front = take_front script taken bytes c.0 left c.1 count (omega (arith, many)) in
-    (long, subst (Works files first last) (sym (carried_long script long ∙ ap (λ (l : List ℕ). (cut_of l).lines) front)) works)
+    (long, subst (Works start files first last) (sym (carried_long script long ∙ ap (λ (l : List ℕ). (cut_of l).lines) front)) works)
 
 -- the run stopped in a line that ended
-pub ends_stopped : (files : Files) (first last : Trace) (new : Option (List ℕ)) (script taken bytes : List ℕ) (left : ℕ) (stop : Stop) → Consumes (Some script) new (taken ++ bytes)
-    → length taken + left ≡ max_script → StopsIn files first last (cut_of (taken ++ take left bytes)).lines stop → StopsIn files first last (carried_lines script) stop
-ends_stopped files first last new script taken bytes left stop lost count stops =
+pub ends_stopped : (start : Carried) (files : Files) (first last : Trace) (new : Option (List ℕ)) (script taken bytes : List ℕ) (left : ℕ) (stop : Stop) → Consumes (Some script) new (taken ++ bytes)
+    → length taken + left ≡ max_script → StopsIn start files first last (cut_of (taken ++ take left bytes)).lines stop → StopsIn start files first last (carried_lines script) stop
+ends_stopped start files first last new script taken bytes left stop lost count stops =
     let c = consumed new script (taken ++ bytes) lost in
     let split : script ≡ (taken ++ take left bytes) ++ (drop left bytes ++ c.0) =
     c.1 ∙ ap (λ l. (taken ++ l) ++ c.0) (sym (take-append-drop left bytes))
@@ -84,19 +85,19 @@ ends_stopped files first last new script taken bytes left stop lost count stops 
     ∙ append_assoc (taken ++ take left bytes) (drop left bytes) c.0 in
     let short : length (taken ++ take left bytes) ≤ max_script = omega (arith, length-append taken (take left bytes), length-take left bytes, count) in
     let more = carried_front script (taken ++ take left bytes) (drop left bytes ++ c.0) split short in
-    stops_further files first last (cut_of (taken ++ take left bytes)).lines more.0 (carried_lines script) stop more.1 stops
+    stops_further start files first last (cut_of (taken ++ take left bytes)).lines more.0 (carried_lines script) stop more.1 stops
 
 -- what a run has taken of a source, of which at most n more bytes are taken
-pub record HasTaken (shelf : Option Files) (before after : Option (List ℕ)) (first now : Trace) (run : Run) (left : ℕ) : Type 0 where
+pub record HasTaken (start : Carried) (shelf : Option Files) (before after : Option (List ℕ)) (first now : Trace) (run : Run) (left : ℕ) : Type 0 where
   pub bytes : List ℕ
   pub consumed : Consumes before after bytes
   pub count : length bytes + left ≡ max_script
-  pub behind : HasReadUpTo shelf first now run bytes
+  pub behind : HasReadUpTo start shelf first now run bytes
 
 -- and once one piece more was read and carried out
-pub taken_on : (shelf : Option Files) (before mid new : Option (List ℕ)) (first last now : Trace) (old run : Run) (left n : ℕ) (t : HasTaken shelf before mid first last old left) → n ≤ left
-    → ReadsPiece shelf first t.bytes left mid new now run (Ok n) → HasTaken shelf before new first now run (left - n)
-taken_on shelf before mid new first last now old run left n t within p = record {
+pub taken_on : (start : Carried) (shelf : Option Files) (before mid new : Option (List ℕ)) (first last now : Trace) (old run : Run) (left n : ℕ) (t : HasTaken start shelf before mid first last old left) → n ≤ left
+    → ReadsPiece start shelf first t.bytes left mid new now run (Ok n) → HasTaken start shelf before new first now run (left - n)
+taken_on start shelf before mid new first last now old run left n t within p = record {
   bytes = t.bytes ++ p.bytes;
   consumed = Consumes-Consumes before mid new t.bytes p.bytes t.consumed p.consumed;
   count = omega (arith, length-append t.bytes p.bytes, t.count, p.count, within);
@@ -104,33 +105,33 @@ taken_on shelf before mid new first last now old run left n t within p = record 
 }
 
 -- how a run ends that does not get to the end of its script
-pub ends_early : (files : Files) (shelf : Option Files) (first last : Trace) (old mid new : Option (List ℕ)) (run : Run) (script taken : List ℕ) (left : ℕ) (early : End) → shelf ≡ Some files
-    → old ≡ Some script → Consumes old mid taken → length taken + left ≡ max_script → ReadsPiece shelf first taken left mid new last run (Err early) → RunsTo files script new first last (Err early)
-ends_early files shelf first last old mid new run script taken left end.Source at_hand told lost count p =
+pub ends_early : (start : Carried) (files : Files) (shelf : Option Files) (first last : Trace) (old mid new : Option (List ℕ)) (run : Run) (script taken : List ℕ) (left : ℕ) (early : End) → shelf ≡ Some files
+    → old ≡ Some script → Consumes old mid taken → length taken + left ≡ max_script → ReadsPiece start shelf first taken left mid new last run (Err early) → RunsTo start files script new first last (Err early)
+ends_early start files shelf first last old mid new run script taken left end.Source at_hand told lost count p =
     let all = Consumes-Consumes (Some script) mid new taken p.bytes (subst (λ l. Consumes l mid taken) told lost) p.consumed in
     let none : taken ++ p.bytes ≡ taken = ap (λ l. taken ++ l) p.comes.0 ∙ append-nil taken in
-    ends_source files first last new script taken (subst (Consumes (Some script) new) none all) (omega (arith, count)) (p.comes.1 files at_hand)
-ends_early files shelf first last old mid new run script taken left end.Long at_hand told lost count p =
+    ends_source start files first last new script taken (subst (Consumes (Some script) new) none all) (omega (arith, count)) (p.comes.1 files at_hand)
+ends_early start files shelf first last old mid new run script taken left end.Long at_hand told lost count p =
     let all = Consumes-Consumes (Some script) mid new taken p.bytes (subst (λ l. Consumes l mid taken) told lost) p.consumed in
-    ends_long files first last new script taken p.bytes left all count p.comes.0 (p.comes.1 files at_hand)
-ends_early files shelf first last old mid new run script taken left (end.Stopped stop) at_hand told lost count p =
+    ends_long start files first last new script taken p.bytes left all count p.comes.0 (p.comes.1 files at_hand)
+ends_early start files shelf first last old mid new run script taken left (end.Stopped stop) at_hand told lost count p =
     let all = Consumes-Consumes (Some script) mid new taken p.bytes (subst (λ l. Consumes l mid taken) told lost) p.consumed in
-    ends_stopped files first last new script taken p.bytes left stop all count (p.comes files at_hand)
+    ends_stopped start files first last new script taken p.bytes left stop all count (p.comes files at_hand)
 
 -- the run got to the end of its script, and stopped in the last line
-pub ends_last : (files : Files) (first last : Trace) (old new : Option (List ℕ)) (script taken : List ℕ) (stop : Stop) → old ≡ Some script → Consumes old new taken → IsAtEnd new → length taken ≤ max_script
-    → StopsIn files first last (lines_of taken) stop → StopsIn files first last (carried_lines script) stop
-ends_last files first last old new script taken stop told lost end short stops =
+pub ends_last : (start : Carried) (files : Files) (first last : Trace) (old new : Option (List ℕ)) (script taken : List ℕ) (stop : Stop) → old ≡ Some script → Consumes old new taken → IsAtEnd new → length taken ≤ max_script
+    → StopsIn start files first last (lines_of taken) stop → StopsIn start files first last (carried_lines script) stop
+ends_last start files first last old new script taken stop told lost end short stops =
     let all = taken_by_end old new script taken told lost end in
     let fits : length script ≤ max_script = subst (λ (l : List ℕ). length l ≤ max_script) all short in
-    subst (λ (l : List Line). StopsIn files first last l stop) (ap lines_of all ∙ sym (carried_short script fits)) stops
+    subst (λ (l : List Line). StopsIn start files first last l stop) (ap lines_of all ∙ sym (carried_short script fits)) stops
 
 -- the run got to the end of its script
-pub ends_well : (files : Files) (first last : Trace) (old new : Option (List ℕ)) (script taken : List ℕ) (runner : LineRunner) → old ≡ Some script → Consumes old new taken → IsAtEnd new → length taken ≤ max_script
-    → HasCarriedOut first last runner (after_lines files (lines_of taken)) (tally_of files (lines_of taken)) → RunsTo files script new first last (Ok (nat_lt 0 runner.refused))
-ends_well files first last old new script taken runner told lost end short at =
+pub ends_well : (start : Carried) (files : Files) (first last : Trace) (old new : Option (List ℕ)) (script taken : List ℕ) (runner : LineRunner) → old ≡ Some script → Consumes old new taken → IsAtEnd new → length taken ≤ max_script
+    → HasCarriedOut first last runner (after_from start files (lines_of taken)) (tally_from start files (lines_of taken)) → RunsTo start files script new first last (Ok (nat_lt 0 runner.refused))
+ends_well start files first last old new script taken runner told lost end short at =
     let all = taken_by_end old new script taken told lost end in (
       subst (λ (l : List ℕ). length l ≤ max_script) all short,
-      subst (λ (l : List ℕ). Works files first last (lines_of l)) all (record { gone = at.gone; worth = at.tallied.worth }),
-      ap (nat_lt 0) (at.refused ∙ ap (λ (l : List ℕ). (after_lines files (lines_of l)).refused) all),
+      subst (λ (l : List ℕ). Works start files first last (lines_of l)) all (record { gone = at.gone; worth = at.tallied.worth; fetched = at.fetched }),
+      ap (nat_lt 0) (at.refused ∙ ap (λ (l : List ℕ). (after_from start files (lines_of l)).refused) all),
     )

@@ -9,18 +9,19 @@ use Rattle.std.proofs.lemmas.List.{append-nil}
 use Rattle.script_lines.specs.Lines.{Line, cut_of, lines_of}
 use Rattle.text_lines.specs.Prefix.{AppendsPrefix}
 use Rattle.text_lines.proofs.Prefixes.{prefix_of_second}
+use Rattle.view_tool.specs.Carried.{Carried}
 use Rattle.view_tool.specs.declared.run.Stop.TheVariants as stop
 use Rattle.view_tool.specs.declared.script.End.{End}
 use Rattle.view_tool.specs.declared.script.End.TheVariants as end
-use Rattle.view_tool.specs.Run.{StopsAtFetch, StopsBefore}
-use Rattle.view_tool.specs.Script.{CountsEnd, RunsTo, WorksTaken, WritesTaken, ends_counted, reads_counted}
+use Rattle.view_tool.specs.Run.{StopsAtFetchFrom, StopsBeforeFrom}
+use Rattle.view_tool.specs.Script.{CountsEnd, RunsTo, WorksTaken, WritesTakenFrom, ends_counted, reads_counted}
 use Rattle.view_tool.specs.Tool.{IsComplete, IsOneOf, RunsWith, status_of}
 use Rattle.tool_io.specs.Counts.{raised}
 use Rattle.tool_io.specs.Fetched.{CountsFetch, Files}
 use Rattle.tool_io.specs.declared.shelf.ShelfFault.{ShelfFault}
 use Rattle.tool_io.specs.declared.shelf.ShelfFault.TheVariants as fault
 use Rattle.tool_io.proofs.Counting.{raised_later}
-use Rattle.view_tool.specs.Transcript.{after_lines, carried_lines, max_script}
+use Rattle.view_tool.specs.Transcript.{after_from, carried_lines, max_script}
 use Rattle.view_tool.proofs.LongScriptLaws.{carried_front, carried_short}
 use Rattle.view_tool.specs.Works.{Trace, WorksBefore, WorksToFetch, WorksToWrite}
 use Rattle.view_tool.proofs.RunLaws.{line_after, prefix_lines}
@@ -35,12 +36,12 @@ not_ended status big (inl e) = omega arith
 not_ended status big (inr e) = omega arith
 
 -- a run that got to the end of its script
-ended_with : (files : Files) (script : List ℕ) (left first last : Option (List ℕ)) (status : ℕ) → status ≤ 1 → IsComplete status → length script ≤ max_script
-    → Appends first last (after_lines files (lines_of script)).text → status ≡ (if nat_lt 0 (after_lines files (lines_of script)).refused then 1 else 0) → RunsWith files script left first last status
-ended_with files script left first last status small ended short gone told =
-    let text = subst (λ (l : List Line). Appends first last (after_lines files l).text) (sym (carried_short script short)) gone in
+ended_with : (start : Carried) (files : Files) (script : List ℕ) (left first last : Option (List ℕ)) (status : ℕ) → status ≤ 1 → IsComplete status → length script ≤ max_script
+    → Appends first last (after_from start files (lines_of script)).text → status ≡ (if nat_lt 0 (after_from start files (lines_of script)).refused then 1 else 0) → RunsWith start files script left first last status
+ended_with start files script left first last status small ended short gone told =
+    let text = subst (λ (l : List Line). Appends first last (after_from start files l).text) (sym (carried_short script short)) gone in
     record {
-      writes = record { whole = λ _. text; part = whole_prefix first last (after_lines files (carried_lines script)).text text };
+      writes = record { whole = λ _. text; part = whole_prefix first last (after_from start files (carried_lines script)).text text };
       ended = λ _. (short, told);
       taken = λ e. absurd (omega (arith, small, e));
       no_memory = λ e. absurd (omega (arith, small, e));
@@ -48,78 +49,78 @@ ended_with files script left first last status small ended short gone told =
       long = λ e. absurd (omega (arith, small, e));
     }
 
-taken_prefix : (files : Files) (script : List ℕ) (left first last : Option (List ℕ)) → WritesTaken files script left first last → AppendsPrefix first last (after_lines files (carried_lines script)).text
-taken_prefix files script left first last t =
+taken_prefix : (start : Carried) (files : Files) (script : List ℕ) (left first last : Option (List ℕ)) → WritesTakenFrom start files script left first last → AppendsPrefix first last (after_from start files (carried_lines script)).text
+taken_prefix start files script left first last t =
     let more = carried_front script t.taken t.takes.rest t.takes.front t.within in
-    prefix_lines files first last (cut_of t.taken).lines more.0 (carried_lines script) more.1 (whole_prefix first last (after_lines files (cut_of t.taken).lines).text t.text)
+    prefix_lines start files first last (cut_of t.taken).lines more.0 (carried_lines script) more.1 (whole_prefix first last (after_from start files (cut_of t.taken).lines).text t.text)
 
-stopped_prefix : (files : Files) (lines : List Line) (first last : Option (List ℕ)) → StopsBefore files first last lines → AppendsPrefix first last (after_lines files lines).text
-stopped_prefix files lines first last s = prefix_lines files first last s.done (s.line ∷ s.left) lines s.all (whole_prefix first last (after_lines files s.done).text s.gone)
+stopped_prefix : (start : Carried) (files : Files) (lines : List Line) (first last : Option (List ℕ)) → StopsBeforeFrom start files first last lines → AppendsPrefix first last (after_from start files lines).text
+stopped_prefix start files lines first last s = prefix_lines start files first last s.done (s.line ∷ s.left) lines s.all (whole_prefix first last (after_from start files s.done).text s.gone)
 
-fetch_prefix : (files : Files) (lines : List Line) (first last : Option (List ℕ)) → StopsAtFetch files first last lines → AppendsPrefix first last (after_lines files lines).text
-fetch_prefix files lines first last s =
-    prefix_lines files first last s.done (s.line ∷ s.left) lines s.all (whole_prefix first last (after_lines files s.done).text s.gone)
+fetch_prefix : (start : Carried) (files : Files) (lines : List Line) (first last : Option (List ℕ)) → StopsAtFetchFrom start files first last lines → AppendsPrefix first last (after_from start files lines).text
+fetch_prefix start files lines first last s =
+    prefix_lines start files first last s.done (s.line ∷ s.left) lines s.all (whole_prefix first last (after_from start files s.done).text s.gone)
 
 -- what was written in a run, by what was also counted in it
 
-written_taken : (files : Files) (script : List ℕ) (left : Option (List ℕ)) (first last : Trace) → WorksTaken files script left first last → WritesTaken files script left first.gone last.gone
-written_taken files script left first last w = record { taken = w.taken; takes = w.takes; within = w.within; text = w.works.gone }
+written_taken : (start : Carried) (files : Files) (script : List ℕ) (left : Option (List ℕ)) (first last : Trace) → WorksTaken start files script left first last → WritesTakenFrom start files script left first.gone last.gone
+written_taken start files script left first last w = record { taken = w.taken; takes = w.takes; within = w.within; text = w.works.gone }
 
-written_before : (files : Files) (lines : List Line) (first last : Trace) → WorksBefore files first last lines → StopsBefore files first.gone last.gone lines
-written_before files lines first last w = record { done = w.done; line = w.line; left = w.left; all = w.all; wants = w.wants; gone = w.works.gone }
+written_before : (start : Carried) (files : Files) (lines : List Line) (first last : Trace) → WorksBefore start files first last lines → StopsBeforeFrom start files first.gone last.gone lines
+written_before start files lines first last w = record { done = w.done; line = w.line; left = w.left; all = w.all; wants = w.wants; gone = w.gone }
 
-written_to_fetch : (files : Files) (lines : List Line) (first last : Trace) → WorksToFetch files first last lines → StopsAtFetch files first.gone last.gone lines
-written_to_fetch files lines first last w = record { done = w.done; line = w.line; left = w.left; all = w.all; asks = w.asks; gone = w.works.gone }
+written_to_fetch : (start : Carried) (files : Files) (lines : List Line) (first last : Trace) → WorksToFetch start files first last lines → StopsAtFetchFrom start files first.gone last.gone lines
+written_to_fetch start files lines first last w = record { done = w.done; line = w.line; left = w.left; all = w.all; asks = w.asks; gone = w.gone }
 
-written_part : (files : Files) (lines : List Line) (first last : Trace) → WorksToWrite files first last lines → AppendsPrefix first.gone last.gone (after_lines files lines).text
-written_part files lines first last w =
-    prefix_lines files first.gone last.gone (w.done ++ w.line ∷ []) w.left lines (append_assoc w.done (w.line ∷ []) w.left ∙ w.all)
-    (subst (AppendsPrefix first.gone last.gone) (sym (line_after files w.done w.line)) (prefix_of_second first.gone w.between last.gone (after_lines files w.done).text _ w.gone w.part))
+written_part : (start : Carried) (files : Files) (lines : List Line) (first last : Trace) → WorksToWrite start files first last lines → AppendsPrefix first.gone last.gone (after_from start files lines).text
+written_part start files lines first last w =
+    prefix_lines start files first.gone last.gone (w.done ++ w.line ∷ []) w.left lines (append_assoc w.done (w.line ∷ []) w.left ∙ w.all)
+    (subst (AppendsPrefix first.gone last.gone) (sym (line_after start files w.done w.line)) (prefix_of_second first.gone w.between last.gone (after_from start files w.done).text _ w.gone w.part))
 
-pub runs_with : (files : Files) (script : List ℕ) (left : Option (List ℕ)) (first last : Trace) (outcome : Result Bool End) → RunsTo files script left first last outcome
-    → RunsWith files script left first.gone last.gone (status_of outcome)
-runs_with files script left first last (Ok true) r = ended_with files script left first.gone last.gone 1 (omega arith) (inr refl) r.0 r.1.gone (ap (λ b. cond b 1 0) r.2)
-runs_with files script left first last (Ok false) r = ended_with files script left first.gone last.gone 0 (omega arith) (inl refl) r.0 r.1.gone (ap (λ b. cond b 1 0) r.2)
-runs_with files script left first last (Err end.Source) r =
-    let taken = written_taken files script left first last r in
+pub runs_with : (start : Carried) (files : Files) (script : List ℕ) (left : Option (List ℕ)) (first last : Trace) (outcome : Result Bool End) → RunsTo start files script left first last outcome
+    → RunsWith start files script left first.gone last.gone (status_of outcome)
+runs_with start files script left first last (Ok true) r = ended_with start files script left first.gone last.gone 1 (omega arith) (inr refl) r.0 r.1.gone (ap (λ b. cond b 1 0) r.2)
+runs_with start files script left first last (Ok false) r = ended_with start files script left first.gone last.gone 0 (omega arith) (inl refl) r.0 r.1.gone (ap (λ b. cond b 1 0) r.2)
+runs_with start files script left first last (Err end.Source) r =
+    let taken = written_taken start files script left first last r in
     record {
-      writes = record { whole = λ e. absurd (not_ended 3 (omega arith) e); part = taken_prefix files script left first.gone last.gone taken };
+      writes = record { whole = λ e. absurd (not_ended 3 (omega arith) e); part = taken_prefix start files script left first.gone last.gone taken };
       ended = λ e. absurd (not_ended 3 (omega arith) e);
       taken = λ _. taken;
       no_memory = λ e. absurd (omega arith);
       failed_fetch = λ e. absurd (omega arith);
       long = λ e. absurd (omega arith);
     }
-runs_with files script left first last (Err end.Long) r = record {
-  writes = record { whole = λ e. absurd (not_ended 7 (omega arith) e); part = whole_prefix first.gone last.gone (after_lines files (carried_lines script)).text r.1.gone };
+runs_with start files script left first last (Err end.Long) r = record {
+  writes = record { whole = λ e. absurd (not_ended 7 (omega arith) e); part = whole_prefix first.gone last.gone (after_from start files (carried_lines script)).text r.1.gone };
   ended = λ e. absurd (not_ended 7 (omega arith) e);
   taken = λ e. absurd (omega arith);
   no_memory = λ e. absurd (omega arith);
   failed_fetch = λ e. absurd (omega arith);
   long = λ _. (r.0, r.1.gone);
 }
-runs_with files script left first last (Err (end.Stopped stop.Sink)) r = record {
-  writes = record { whole = λ e. absurd (not_ended 4 (omega arith) e); part = written_part files (carried_lines script) first last r };
+runs_with start files script left first last (Err (end.Stopped stop.Sink)) r = record {
+  writes = record { whole = λ e. absurd (not_ended 4 (omega arith) e); part = written_part start files (carried_lines script) first last r };
   ended = λ e. absurd (not_ended 4 (omega arith) e);
   taken = λ e. absurd (omega arith);
   no_memory = λ e. absurd (omega arith);
   failed_fetch = λ e. absurd (omega arith);
   long = λ e. absurd (omega arith);
 }
-runs_with files script left first last (Err (end.Stopped stop.NoMemory)) r =
-    let before = written_before files (carried_lines script) first last r in
+runs_with start files script left first last (Err (end.Stopped stop.NoMemory)) r =
+    let before = written_before start files (carried_lines script) first last r in
     record {
-      writes = record { whole = λ e. absurd (not_ended 5 (omega arith) e); part = stopped_prefix files (carried_lines script) first.gone last.gone before };
+      writes = record { whole = λ e. absurd (not_ended 5 (omega arith) e); part = stopped_prefix start files (carried_lines script) first.gone last.gone before };
       ended = λ e. absurd (not_ended 5 (omega arith) e);
       taken = λ e. absurd (omega arith);
       no_memory = λ _. before;
       failed_fetch = λ e. absurd (omega arith);
       long = λ e. absurd (omega arith);
     }
-runs_with files script left first last (Err (end.Stopped stop.Shelf)) r =
-    let before = written_to_fetch files (carried_lines script) first last r in
+runs_with start files script left first last (Err (end.Stopped stop.Shelf)) r =
+    let before = written_to_fetch start files (carried_lines script) first last r in
     record {
-      writes = record { whole = λ e. absurd (not_ended 6 (omega arith) e); part = fetch_prefix files (carried_lines script) first.gone last.gone before };
+      writes = record { whole = λ e. absurd (not_ended 6 (omega arith) e); part = fetch_prefix start files (carried_lines script) first.gone last.gone before };
       ended = λ e. absurd (not_ended 6 (omega arith) e);
       taken = λ e. absurd (omega arith);
       no_memory = λ e. absurd (omega arith);

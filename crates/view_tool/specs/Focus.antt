@@ -10,6 +10,7 @@ use Rattle.script_lines.specs.PlainCommands as command
 use Rattle.text_lines.specs.Joined.{◌⧺◌}
 use Rattle.text_lines.specs.Prefix.{AppendsPrefix}
 use Rattle.tool_io.specs.Fetched.{Files}
+use Rattle.view_tool.specs.Carried.{Alone, world_in}
 use Rattle.view_tool.specs.declared.focusing.Question.{Question}
 use Rattle.view_tool.specs.declared.run.Stop.TheVariants as stop
 use Rattle.view_tool.specs.declared.script.End.{End}
@@ -20,11 +21,11 @@ use Rattle.view_tool.specs.Tally.{costs_of_script}
 use Rattle.view_tool.specs.Tool.{IsComplete, Writes}
 use Rattle.view_tool.specs.Transcript.{after_lines, carried_lines, cut_transcript, has_refusal, max_script, transcript}
 use Rattle.view_tool.specs.Usage.{Usage, Focus}
-use Rattle.view_tool.specs.Works.{Trace, Works, WorksBefore, WorksPart, WorksToFetch, WorksToWrite}
+use Rattle.view_tool.specs.Works.{HasFetched, Trace, Works, WorksBefore, WorksPart, WorksToFetch, WorksToWrite}
 use Rattle.view_world.specs.Naming.{named}
 use Rattle.view_world.specs.Step.{Reply, Done, Refused, step}
 use Rattle.view_world.specs.Watched.{IsWorth}
-use Rattle.view_world.specs.World.{World}
+use Rattle.view_world.specs.World.{World, empty_world}
 
 -- the view that gets the focus next in a window of this size, from the view of this number
 abbrev pub next_in : World → Side → Option Size → Option ℕ → Option ℕ
@@ -59,7 +60,7 @@ IsNamed number = (1 ≤ number) × (number ≤ 43)
 
 -- the answer to a question that is asked after a script, with these files at hand
 abbrev pub script_answer : List ℕ → Files → Question → Result (Option ℕ) ℕ
-script_answer script files question = answer_of (after_lines files (lines_of script)).world question
+script_answer script files question = answer_of (world_in (after_lines files (lines_of script)).carried) question
 
 -- the transcript of a script, and then the answer
 abbrev pub focus_page : List ℕ → Files → Question → List ℕ
@@ -80,6 +81,7 @@ pub record Answers (files : Files) (script : List ℕ) (question : Question) (fi
   pub short : length script ≤ max_script
   pub gone : Appends first.gone last.gone (focus_page script files question)
   pub worth : IsWorth (costs_of_script script files) first.work last.work
+  pub fetched : HasFetched (Alone empty_world) files (lines_of script) first last
 
 -- all lines were carried out, and only a prefix of the answer was written
 pub record CutsAnswer (files : Files) (script : List ℕ) (question : Question) (first last : Trace) : Type 0 where
@@ -89,6 +91,7 @@ pub record CutsAnswer (files : Files) (script : List ℕ) (question : Question) 
   pub gone : Appends first.gone between (transcript script files)
   pub part : AppendsPrefix between last.gone (answer_text (script_answer script files question))
   pub worth : IsWorth (costs_of_script script files) first.work last.work
+  pub fetched : HasFetched (Alone empty_world) files (lines_of script) first last
 
 -- how the run of a script with a question after it ended: with the answer, as the run alone would, or by a failed write of
 -- the answer
@@ -96,7 +99,7 @@ abbrev pub AsksTo : Files → List ℕ → Question → Option (List ℕ) → Tr
 AsksTo files script question left first last (Ok refused) =
     Answers files script question first last × (refused ≡ refuses_focus script files question)
 AsksTo files script question left first last (Err end) =
-    RunsTo files script left first last (Err end) ⊎ ((end ≡ ends.Stopped stop.Sink) × CutsAnswer files script question first last)
+    RunsTo (Alone empty_world) files script left first last (Err end) ⊎ ((end ≡ ends.Stopped stop.Sink) × CutsAnswer files script question first last)
 
 -- the same of a source, from its first bytes to its end
 pub record AsksFrom (shelf : Option Files) (question : Question) (before after : Option (List ℕ)) (first last : Trace) (outcome : Result Bool End) : Type 0 where
@@ -113,8 +116,8 @@ pub record AsksWith (files : Files) (script : List ℕ) (question : Question) (l
   pub cut : max_script < length script → AppendsPrefix first.gone last.gone (cut_transcript script files)
   pub part : WorksPart files first.work last.work (carried_lines script)
   pub ended : IsComplete status → Answers files script question first last × (status ≡ (if refuses_focus script files question then 1 else 0))
-  pub taken : status ≡ 3 → WorksTaken files script left first last
-  pub failed_write : status ≡ 4 → WorksToWrite files first last (carried_lines script) ⊎ CutsAnswer files script question first last
-  pub no_memory : status ≡ 5 → WorksBefore files first last (carried_lines script)
-  pub failed_fetch : status ≡ 6 → WorksToFetch files first last (carried_lines script)
-  pub long : status ≡ 7 → (max_script < length script) × Works files first last (carried_lines script)
+  pub taken : status ≡ 3 → WorksTaken (Alone empty_world) files script left first last
+  pub failed_write : status ≡ 4 → WorksToWrite (Alone empty_world) files first last (carried_lines script) ⊎ CutsAnswer files script question first last
+  pub no_memory : status ≡ 5 → WorksBefore (Alone empty_world) files first last (carried_lines script)
+  pub failed_fetch : status ≡ 6 → WorksToFetch (Alone empty_world) files first last (carried_lines script)
+  pub long : status ≡ 7 → (max_script < length script) × Works (Alone empty_world) files first last (carried_lines script)

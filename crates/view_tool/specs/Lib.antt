@@ -1,3 +1,5 @@
+pub mod Carried
+pub mod Carrier
 pub mod Dump
 pub mod Focus
 pub mod Gen
@@ -6,9 +8,11 @@ pub mod Names
 pub mod Refusals
 pub mod Run
 pub mod Script
+pub mod StackPage
 pub mod Tally
 pub mod Tool
 pub mod Transcript
 pub mod Usage
+pub mod WatchedStack
 pub mod Works
 pub mod WorksWith

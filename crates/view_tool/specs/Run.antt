@@ -7,15 +7,18 @@ use Rattle.script_lines.specs.Lines.{Line, Text, LongLine, cut_of, max_line}
 use Rattle.tool_io.specs.Counts.{raised}
 use Rattle.tool_io.specs.Fetched.{Files}
 use Rattle.view_model.specs.declared.work.Work.{Work}
+use Rattle.view_tool.specs.Carried.{Carried, Alone}
+use Rattle.view_tool.specs.Carrier.{IsWatching, carried_of}
+use Rattle.view_tool.specs.declared.carrier.Carrier.{Carrier}
 use Rattle.view_tool.specs.declared.run.LineRunner.{LineRunner}
 use Rattle.view_tool.specs.declared.run.Run.{Run}
 use Rattle.view_tool.specs.declared.run.Stop.{Stop}
 use Rattle.view_tool.specs.declared.run.Stop.TheVariants as stop
-use Rattle.view_tool.specs.Tally.{Tally, tally_of}
-use Rattle.view_tool.specs.Transcript.{Asks, MayWant, Progress, after_lines}
-use Rattle.view_tool.specs.Works.{Trace, WorksBefore, WorksToFetch, WorksToWrite}
-use Rattle.view_world.specs.KeyedWorld.{KeyedWorld, world_of}
-use Rattle.view_world.specs.Watched.{IsWatched, IsWorth}
+use Rattle.view_tool.specs.Tally.{Tally, tally_from}
+use Rattle.view_tool.specs.Transcript.{Asks, MayWant, Progress, after_from}
+use Rattle.view_tool.specs.Works.{Trace, raised_by, WorksBefore, WorksToFetch, WorksToWrite}
+use Rattle.view_world.specs.Watched.{IsWorth}
+use Rattle.view_world.specs.World.{empty_world}
 
 -- a line as the code has it: it is not too long
 abbrev pub line_now : Option (Bor (List ℕ)) → Line
@@ -31,52 +34,62 @@ abbrev pub lines_now : Option (Option (Bor (List ℕ))) → List Line
 lines_now None = []
 lines_now (Some line) = line_now line ∷ []
 
--- a world is the one that lines have made, and what was counted is worth what they cost
-pub record HasTallied (first now : Work) (world : KeyedWorld) (tally : Tally) : Type 0 where
-  pub watched : IsWatched world tally.watched
+-- what carries out lines is what they have made, and what was counted is worth what they cost
+pub record HasTallied (first now : Work) (carrier : Carrier) (tally : Tally) : Type 0 where
+  pub watched : IsWatching carrier tally.watched
   pub worth : IsWorth tally.costs first now
 
--- the state of a run so far: since its start its text was written, and what was counted is worth what its lines cost
+-- the state of a run so far: since its start its text was written, what was counted is worth what its lines cost, and
+-- the shelf was asked as often as its lines ask
 pub record HasCarriedOut (first now : Trace) (runner : LineRunner) (progress : Progress) (tally : Tally) : Type 0 where
   pub lines : runner.lines ≡ progress.lines
-  pub world : world_of runner.world ≡ progress.world
+  pub carried : carried_of runner.carrier ≡ progress.carried
   pub refused : runner.refused ≡ progress.refused
   pub few : progress.refused ≤ progress.lines
   pub gone : Appends first.gone now.gone progress.text
-  pub tallied : HasTallied first.work now.work runner.world tally
+  pub tallied : HasTallied first.work now.work runner.carrier tally
+  pub fetched : now.fetches ≡ raised_by progress.asked first.fetches
 
 -- what holds with the files of a shelf, if it makes them visible
 abbrev pub WithFiles : Option Files → (Files → Type 0) → Type 0
 WithFiles shelf P = (files : Files) → shelf ≡ Some files → P files
 
 -- a run has carried out the lines whose line feed is among these bytes, and holds what comes after them
-pub record HasReadUpTo (shelf : Option Files) (first now : Trace) (run : Run) (bytes : List ℕ) : Type 0 where
+pub record HasReadUpTo (start : Carried) (shelf : Option Files) (first now : Trace) (run : Run) (bytes : List ℕ) : Type 0 where
   pub held : IsAfter run.lines bytes
-  pub runner : WithFiles shelf (λ files. HasCarriedOut first now run.runner (after_lines files (cut_of bytes).lines) (tally_of files (cut_of bytes).lines))
+  pub runner : WithFiles shelf (λ files. HasCarriedOut first now run.runner (after_from start files (cut_of bytes).lines) (tally_from start files (cut_of bytes).lines))
 
 -- the texts of the lines before one of these, which may run out of memory, were written
-pub record StopsBefore (files : Files) (first now : Option (List ℕ)) (lines : List Line) : Type 0 where
+pub record StopsBeforeFrom (start : Carried) (files : Files) (first now : Option (List ℕ)) (lines : List Line) : Type 0 where
   pub done : List Line
   pub line : Line
   pub left : List Line
   pub all : done ++ line ∷ left ≡ lines
-  pub wants : MayWant line
-  pub gone : Appends first now (after_lines files done).text
+  pub wants : MayWant (after_from start files done).carried line
+  pub gone : Appends first now (after_from start files done).text
 
 -- the texts of the lines before one of these, which asks the shelf for a file, were written
-pub record StopsAtFetch (files : Files) (first now : Option (List ℕ)) (lines : List Line) : Type 0 where
+pub record StopsAtFetchFrom (start : Carried) (files : Files) (first now : Option (List ℕ)) (lines : List Line) : Type 0 where
   pub done : List Line
   pub line : Line
   pub left : List Line
   pub all : done ++ line ∷ left ≡ lines
-  pub asks : Asks (after_lines files done).world line
-  pub gone : Appends first now (after_lines files done).text
+  pub asks : Asks (after_from start files done).carried line
+  pub gone : Appends first now (after_from start files done).text
+
+-- the same of a run that began with the empty world
+
+abbrev pub StopsBefore : Files → Option (List ℕ) → Option (List ℕ) → List Line → Type 0
+StopsBefore files first now lines = StopsBeforeFrom (Alone empty_world) files first now lines
+
+abbrev pub StopsAtFetch : Files → Option (List ℕ) → Option (List ℕ) → List Line → Type 0
+StopsAtFetch files first now lines = StopsAtFetchFrom (Alone empty_world) files first now lines
 
 -- a run stopped in these lines: a write failed, there was no memory, or a fetch failed
-abbrev pub StopsIn : Files → Trace → Trace → List Line → Stop → Type 0
-StopsIn files first now lines stop.Sink = WorksToWrite files first now lines
-StopsIn files first now lines stop.NoMemory = WorksBefore files first now lines
-StopsIn files first now lines stop.Shelf = WorksToFetch files first now lines
+abbrev pub StopsIn : Carried → Files → Trace → Trace → List Line → Stop → Type 0
+StopsIn start files first now lines stop.Sink = WorksToWrite start files first now lines
+StopsIn start files first now lines stop.NoMemory = WorksBefore start files first now lines
+StopsIn start files first now lines stop.Shelf = WorksToFetch start files first now lines
 
 -- a sink's count of failed calls once a run stopped in this way: a failed write raises it by one
 abbrev pub stop_counted : Stop → ℕ → ℕ

@@ -4,12 +4,14 @@ use Rattle.std.specs.Io.KnownBytes.{Appends, Consumes, IsAtEnd}
 use Rattle.script_lines.specs.Lines.{cut_of, lines_of}
 use Rattle.tool_io.specs.Counts.{raised}
 use Rattle.tool_io.specs.Fetched.{Files}
+use Rattle.view_tool.specs.Carried.{Carried, Alone}
 use Rattle.view_tool.specs.declared.run.Run.{Run}
 use Rattle.view_tool.specs.declared.script.End.{End}
 use Rattle.view_tool.specs.declared.script.End.TheVariants as ends
 use Rattle.view_tool.specs.Run.{CountsStop, HasReadUpTo, StopsIn, WithFiles, stop_counted}
-use Rattle.view_tool.specs.Transcript.{after_lines, carried_lines, max_script}
+use Rattle.view_tool.specs.Transcript.{after_from, carried_lines, max_script}
 use Rattle.view_tool.specs.Works.{Trace, Works}
+use Rattle.view_world.specs.World.{empty_world}
 
 -- the bytes that were taken of a script are at its front, and the rest is left
 pub record Takes (script : List ℕ) (now : Option (List ℕ)) (taken : List ℕ) : Type 0 where
@@ -18,46 +20,50 @@ pub record Takes (script : List ℕ) (now : Option (List ℕ)) (taken : List ℕ
   pub left : now ≡ Some rest
 
 -- what was written is the transcript of the lines whose line feed was taken
-pub record WritesTaken (files : Files) (script : List ℕ) (left old new : Option (List ℕ)) : Type 0 where
+pub record WritesTakenFrom (start : Carried) (files : Files) (script : List ℕ) (left old new : Option (List ℕ)) : Type 0 where
   pub taken : List ℕ
   pub takes : Takes script left taken
   pub within : length taken ≤ max_script
-  pub text : Appends old new (after_lines files (cut_of taken).lines).text
+  pub text : Appends old new (after_from start files (cut_of taken).lines).text
 
--- and these lines were carried out
-pub record WorksTaken (files : Files) (script : List ℕ) (left : Option (List ℕ)) (first now : Trace) : Type 0 where
+-- the same of a run that began with the empty world
+abbrev pub WritesTaken : Files → List ℕ → Option (List ℕ) → Option (List ℕ) → Option (List ℕ) → Type 0
+WritesTaken files script left old new = WritesTakenFrom (Alone empty_world) files script left old new
+
+-- the lines whose line feed was taken were carried out
+pub record WorksTaken (start : Carried) (files : Files) (script : List ℕ) (left : Option (List ℕ)) (first now : Trace) : Type 0 where
   pub taken : List ℕ
   pub takes : Takes script left taken
   pub within : length taken ≤ max_script
-  pub works : Works files first now (cut_of taken).lines
+  pub works : Works start files first now (cut_of taken).lines
 
 -- After some bytes of a script, of which `left` more may come, these were read: they were carried out, or no read gave
 -- them, or they are one too many, or the run stopped in them.
-abbrev pub Comes : Option Files → Trace → List ℕ → ℕ → List ℕ → Trace → Run → Result ℕ End → Type 0
-Comes shelf first before left bytes now run (Ok n) = HasReadUpTo shelf first now run (before ++ bytes)
-Comes shelf first before left bytes now run (Err ends.Source) = (bytes ≡ []) × WithFiles shelf (λ files. Works files first now (cut_of before).lines)
-Comes shelf first before left bytes now run (Err ends.Long) = (length bytes ≡ left + 1) × WithFiles shelf (λ files. Works files first now (cut_of (before ++ take left bytes)).lines)
-Comes shelf first before left bytes now run (Err (ends.Stopped stop)) = WithFiles shelf (λ files. StopsIn files first now (cut_of (before ++ take left bytes)).lines stop)
+abbrev pub Comes : Carried → Option Files → Trace → List ℕ → ℕ → List ℕ → Trace → Run → Result ℕ End → Type 0
+Comes start shelf first before left bytes now run (Ok n) = HasReadUpTo start shelf first now run (before ++ bytes)
+Comes start shelf first before left bytes now run (Err ends.Source) = (bytes ≡ []) × WithFiles shelf (λ files. Works start files first now (cut_of before).lines)
+Comes start shelf first before left bytes now run (Err ends.Long) = (length bytes ≡ left + 1) × WithFiles shelf (λ files. Works start files first now (cut_of (before ++ take left bytes)).lines)
+Comes start shelf first before left bytes now run (Err (ends.Stopped stop)) = WithFiles shelf (λ files. StopsIn start files first now (cut_of (before ++ take left bytes)).lines stop)
 
 -- the result of a read and of the bytes that it gave
-pub record ReadsPiece (shelf : Option Files) (first : Trace) (before : List ℕ) (left : ℕ) (old new : Option (List ℕ)) (now : Trace) (run : Run) (result : Result ℕ End) : Type 0 where
+pub record ReadsPiece (start : Carried) (shelf : Option Files) (first : Trace) (before : List ℕ) (left : ℕ) (old new : Option (List ℕ)) (now : Trace) (run : Run) (result : Result ℕ End) : Type 0 where
   pub bytes : List ℕ
   pub consumed : Consumes old new bytes
   pub within : length bytes ≤ left + 1
   pub count : IfOk result (λ n. n ≡ length bytes)
-  pub comes : Comes shelf first before left bytes now run result
+  pub comes : Comes start shelf first before left bytes now run result
 
 -- How the run of a script got to its end, if it went from the first moment to the last, and this is left of the script.
-abbrev pub RunsTo : Files → List ℕ → Option (List ℕ) → Trace → Trace → Result Bool End → Type 0
-RunsTo files script left first last (Ok refused) =
-    (length script ≤ max_script) × Works files first last (lines_of script) × (refused ≡ nat_lt 0 (after_lines files (lines_of script)).refused)
-RunsTo files script left first last (Err ends.Source) = WorksTaken files script left first last
-RunsTo files script left first last (Err ends.Long) = (max_script < length script) × Works files first last (carried_lines script)
-RunsTo files script left first last (Err (ends.Stopped stop)) = StopsIn files first last (carried_lines script) stop
+abbrev pub RunsTo : Carried → Files → List ℕ → Option (List ℕ) → Trace → Trace → Result Bool End → Type 0
+RunsTo start files script left first last (Ok refused) =
+    (length script ≤ max_script) × Works start files first last (lines_of script) × (refused ≡ nat_lt 0 (after_from start files (lines_of script)).refused)
+RunsTo start files script left first last (Err ends.Source) = WorksTaken start files script left first last
+RunsTo start files script left first last (Err ends.Long) = (max_script < length script) × Works start files first last (carried_lines script)
+RunsTo start files script left first last (Err (ends.Stopped stop)) = StopsIn start files first last (carried_lines script) stop
 
 -- the run of a source from its first bytes to its end
-pub record RunsFrom (shelf : Option Files) (before after : Option (List ℕ)) (first last : Trace) (outcome : Result Bool End) : Type 0 where
-  pub runs : (files : Files) (script : List ℕ) → shelf ≡ Some files → before ≡ Some script → RunsTo files script after first last outcome
+pub record RunsFrom (start : Carried) (shelf : Option Files) (before after : Option (List ℕ)) (first last : Trace) (outcome : Result Bool End) : Type 0 where
+  pub runs : (files : Files) (script : List ℕ) → shelf ≡ Some files → before ≡ Some script → RunsTo start files script after first last outcome
   pub end : IfOk outcome (λ _. IsAtEnd after)
   pub taken : List ℕ
   pub consumed : Consumes before after taken

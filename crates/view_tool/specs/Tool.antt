@@ -4,19 +4,26 @@ use Rattle.std.specs.List.{list_any}
 use Rattle.std.specs.Io.KnownBytes.{Appends}
 use Rattle.script_lines.specs.Lines.{lines_of}
 use Rattle.text_lines.specs.Prefix.{AppendsPrefix}
+use Rattle.view_tool.specs.Carried.{Carried}
 use Rattle.view_tool.specs.declared.run.Stop.TheVariants as stop
 use Rattle.view_tool.specs.declared.script.End.{End}
 use Rattle.view_tool.specs.declared.script.End.TheVariants as ends
 use Rattle.tool_io.specs.Fetched.{Files}
-use Rattle.view_tool.specs.Run.{StopsAtFetch, StopsBefore}
-use Rattle.view_tool.specs.Script.{WritesTaken}
-use Rattle.view_tool.specs.Transcript.{after_lines, carried_lines, max_script}
-use Rattle.view_tool.specs.Usage.{Usage, Run, Dump, Lookup}
+use Rattle.view_tool.specs.Run.{StopsAtFetchFrom, StopsBeforeFrom}
+use Rattle.view_tool.specs.Script.{WritesTakenFrom}
+use Rattle.view_tool.specs.Transcript.{after_from, carried_lines, max_script}
+use Rattle.view_tool.specs.Usage.{Usage, Run, Stack, Dump, Lookup}
 
 -- a run of this script with these files: the words are those of a run, the source has these bytes left, and the shelf
 -- holds these files
 pub record IsRunOf (usage : Usage) (left : Option (List ℕ)) (held : Option Files) (script : List ℕ) (files : Files) : Type 0 where
   pub words : usage ≡ Run
+  pub source : left ≡ Some script
+  pub shelf : held ≡ Some files
+
+-- a run of this script for a stack of windows with these files
+pub record IsStackOf (usage : Usage) (left : Option (List ℕ)) (held : Option Files) (script : List ℕ) (files : Files) : Type 0 where
+  pub words : usage ≡ Stack
   pub source : left ≡ Some script
   pub shelf : held ≡ Some files
 
@@ -53,10 +60,10 @@ pub record Writes (status : ℕ) (old new : Option (List ℕ)) (text : List ℕ)
   pub part : AppendsPrefix old new text
 
 -- how a run of a script ended with a status
-pub record RunsWith (files : Files) (script : List ℕ) (left first last : Option (List ℕ)) (status : ℕ) : Type 0 where
-  pub writes : Writes status first last (after_lines files (carried_lines script)).text
-  pub ended : IsComplete status → (length script ≤ max_script) × (status ≡ (if nat_lt 0 (after_lines files (lines_of script)).refused then 1 else 0))
-  pub taken : status ≡ 3 → WritesTaken files script left first last
-  pub no_memory : status ≡ 5 → StopsBefore files first last (carried_lines script)
-  pub failed_fetch : status ≡ 6 → StopsAtFetch files first last (carried_lines script)
-  pub long : status ≡ 7 → (max_script < length script) × Appends first last (after_lines files (carried_lines script)).text
+pub record RunsWith (start : Carried) (files : Files) (script : List ℕ) (left first last : Option (List ℕ)) (status : ℕ) : Type 0 where
+  pub writes : Writes status first last (after_from start files (carried_lines script)).text
+  pub ended : IsComplete status → (length script ≤ max_script) × (status ≡ (if nat_lt 0 (after_from start files (lines_of script)).refused then 1 else 0))
+  pub taken : status ≡ 3 → WritesTakenFrom start files script left first last
+  pub no_memory : status ≡ 5 → StopsBeforeFrom start files first last (carried_lines script)
+  pub failed_fetch : status ≡ 6 → StopsAtFetchFrom start files first last (carried_lines script)
+  pub long : status ≡ 7 → (max_script < length script) × Appends first last (after_from start files (carried_lines script)).text

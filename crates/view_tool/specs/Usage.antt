@@ -15,10 +15,11 @@ use Rattle.view_tool.specs.declared.focusing.Question.{Question}
 use Rattle.view_tool.specs.declared.usage.Form.{Form}
 use Rattle.view_tool.specs.declared.usage.Form.TheVariants as form
 
--- a run of the script on the source, the print of a file, a run of the load of a size, the print of what resources hold in
--- the table of a file, a run of the script with a question after it, or none
+-- a run of the script on the source, a run of it for a stack of windows, the print of a file, a run of the load of a
+-- size, the print of what resources hold in the table of a file, a run of the script with a question after it, or none
 pub data Usage : Type 0 where
   Run : Usage
+  Stack : Usage
   Dump : (name : List ℕ) → Usage
   Gen : (n : ℕ) → Usage
   Lookup : (name : List ℕ) (ids : List ℕ) → Usage
@@ -26,7 +27,7 @@ pub data Usage : Type 0 where
   Unknown : Usage
 
 abbrev pub run_usage : List ℕ → Usage
-run_usage word = if bytes_eq word (codes "run") then Run else Unknown
+run_usage word = if bytes_eq word (codes "run") then Run else (if bytes_eq word (codes "stack") then Stack else Unknown)
 
 abbrev pub dump_usage : List ℕ → List ℕ → Usage
 dump_usage word name = if bytes_eq word (codes "dump") && is_file_name name then Dump name else Unknown
@@ -83,7 +84,7 @@ focus_usage side (view ∷ other ∷ more) = Unknown
 abbrev pub long_usage : List ℕ → List ℕ → List (String Global) → Usage
 long_usage word name more = if bytes_eq word (codes "focus") then focus_usage name more else lookup_usage word name more
 
--- the form of some words: `run`, `dump NAME`, `gen N`, `focus SIDE V`, or `lookup NAME ID ..`
+-- the form of some words: `run`, `stack`, `dump NAME`, `gen N`, `focus SIDE V`, or `lookup NAME ID ..`
 abbrev pub usage : List (String Global) → Usage
 usage [] = Unknown
 usage (word ∷ []) = run_usage (string_bytes word)
@@ -94,6 +95,7 @@ usage (word ∷ name ∷ third ∷ more) = long_usage (string_bytes word) (strin
 abbrev pub form_now : Option Form → Usage
 form_now None = Unknown
 form_now (Some form.Run) = Run
+form_now (Some form.Stack) = Stack
 form_now (Some (form.Dump name)) = Dump name.now
 form_now (Some (form.Gen n)) = Gen n
 form_now (Some (form.Lookup name ids)) = Lookup name.now (resource_ids ids.now)
@@ -102,6 +104,7 @@ form_now (Some (form.Focus question)) = Focus question
 -- the size of a load is not above the greatest
 abbrev pub HasSize : Form → Type 0
 HasSize form.Run = Unit {0}
+HasSize form.Stack = Unit {0}
 HasSize (form.Dump name) = Unit {0}
 HasSize (form.Gen n) = n ≤ 100
 HasSize (form.Lookup name ids) = Unit {0}

@@ -4,12 +4,15 @@ ghost use Rattle.std.specs.Prelude.{◌≡◌, ◌≤◌, ◌-◌, ◌^◌, IfEr
 ghost use Rattle.std.specs.Option.{option_map};
 ghost use Rattle.text_lines.specs.BufferedText.{Sends};
 ghost use Rattle.text_lines.specs.Delivered.{Delivered};
+ghost use Rattle.view_tool.specs.Carried.{world_in};
+ghost use Rattle.view_tool.specs.Carrier.{carried_of};
 ghost use Rattle.view_tool.specs.Focus.{AsksFrom, IsNamed, answer_of, answer_text, found_text, refused_question};
 ghost use Rattle.view_tool.specs.Script.{CountsEnd, ends_counted, reads_counted};
 ghost use Rattle.view_tool.specs.Works.{trace};
 ghost use Rattle.view_tree.specs.Views.{IsLive, number_of};
 ghost use Rattle.view_world.specs.KeyedWorld.{world_of};
 
+use crate::carrier::Carrier;
 use crate::refusals::{put_counted, put_refused};
 use crate::run::{Run, Stop};
 use crate::script::{End, run_to_end};
@@ -41,7 +44,7 @@ pub fn focus_source<S: Source, K: Sink, F: Shelf>(
     sink: &mut K,
     work: &mut Work,
 ) -> Result<bool, End>
-    ensures asks { AsksFrom (F.files shelf.old) question (S.left source.old) (S.left source.new) (trace (K.state sink.old) work.old) (trace (K.state sink.new) work.new) result }
+    ensures asks { AsksFrom (F.files shelf.old) question (S.left source.old) (S.left source.new) (trace (K.state sink.old) work.old (F.fetches shelf.old)) (trace (K.state sink.new) work.new (F.fetches shelf.new)) result }
     ensures files_stay { F.files shelf.new ≡ F.files shelf.old }
     ensures shelf_failed { CountsEnd (F.faults shelf.old) (F.faults shelf.new) result }
     ensures painted { work.old.painted ≤ work.new.painted }
@@ -49,13 +52,24 @@ pub fn focus_source<S: Source, K: Sink, F: Shelf>(
     ensures source_failed { S.faults source.new ≡ reads_counted result (S.faults source.old) }
     ensures sink_failed { (K.state sink.new).faults ≡ ends_counted result (K.state sink.old).faults }
 {
-    let mut run = Run::new(alloc);
+    let mut run = Run::new(Carrier::alone(alloc));
     let refused = run_to_end(&mut run, alloc, source, shelf, sink, work)?;
-    let answer = answer(run.world(), question);
+    let answer = answer_in(run.carrier(), question);
     let unanswered = answer.is_err();
     match write_answer(sink, answer) {
         Ok(()) => Ok(refused | unanswered),
         Err(_) => Err(End::Stopped(Stop::Sink)),
+    }
+}
+
+/// The answer to a question in the world that a run has made. In a stack no window is meant.
+fn answer_in(carrier: &Carrier, question: Question) -> Result<Option<u64>, u8>
+    ensures value { result ≡ answer_of (world_in (carried_of carrier.now)) question }
+    ensures named { IfErr result IsNamed }
+{
+    match carrier {
+        Carrier::Alone(world) => answer(world, question),
+        Carrier::Stacked(_) => Err(NO_WINDOW),
     }
 }
 

@@ -1,6 +1,6 @@
 //! The load, run in a world of its own.
 
-ghost use Rattle.std.specs.Prelude.{◌≡◌, ◌≢◌, ◌≤◌, ◌^◌, ◌==◌, ◌⊎◌, min, false, ◌-◌, [], ◌∷◌, Some, IfOk, IfErr, IfSome, length, if◌then◌else◌};
+ghost use Rattle.std.specs.Prelude.{◌≡◌, ◌≢◌, ◌≤◌, ◌^◌, ◌==◌, ◌⊎◌, min, false, ◌-◌, [], ◌∷◌, None, Some, IfOk, IfErr, IfSome, length, if◌then◌else◌};
 ghost use Rattle.hex.specs.Hex.{encode_lower};
 ghost use Rattle.load_maker.specs.Load.{load};
 ghost use Rattle.script_lines.specs.Lines.{lines_of};
@@ -8,15 +8,18 @@ ghost use Rattle.sha2.specs.Sha256.{sha256};
 ghost use Rattle.text_lines.specs.BufferedText.{Sends};
 ghost use Rattle.text_lines.specs.Delivered.{Delivered};
 ghost use Rattle.tool_io.specs.Counts.{raised};
+ghost use Rattle.view_tool.specs.Carried.{Alone};
 ghost use Rattle.view_tool.specs.Dump.{Dumps};
 ghost use Rattle.view_tool.specs.Gen.{gen_outcome, gen_page, outcome_text};
 ghost use Rattle.view_tool.specs.Run.{HasCarriedOut};
-ghost use Rattle.view_tool.specs.Tally.{costs_of_script, tally_of};
+ghost use Rattle.view_tool.specs.Tally.{costs_of_script, tally_from};
 ghost use Rattle.view_tool.specs.Tool.{IsOneOf};
 ghost use Rattle.view_tool.specs.Transcript.{after_lines, max_script};
 ghost use Rattle.view_tool.specs.Works.{WorksPart};
 ghost use Rattle.view_world.specs.Watched.{IsWorth};
+ghost use Rattle.view_world.specs.World.{empty_world};
 
+use crate::carrier::Carrier;
 use crate::dump::status_of;
 use crate::run::{Run, Stop};
 use crate::status::{ACCEPTED, NO_MEMORY};
@@ -88,12 +91,12 @@ fn carried_out(
 ) -> Result<Run, Stop>
     requires short { length script.now ≤ max_script }
     ensures stopped { IfErr result (λ stop. WorksPart [] work.old work.new (lines_of script.now)) }
-    ensures runs { IfOk result (λ run. HasCarriedOut (record { gone = Some page.old.gone; work = work.old }) (record { gone = Some page.new.gone; work = work.new }) run.runner (after_lines [] (lines_of script.now)) (tally_of [] (lines_of script.now))) }
+    ensures runs { IfOk result (λ run. HasCarriedOut (record { gone = Some page.old.gone; work = work.old; fetches = None }) (record { gone = Some page.new.gone; work = work.new; fetches = None }) run.runner (after_lines [] (lines_of script.now)) (tally_from (Alone empty_world) [] (lines_of script.now))) }
     ensures painted { work.old.painted ≤ work.new.painted }
     ensures measured { min work.old.measured (2 ^ 64 - 1) ≤ work.new.measured }
 {
     let mut shelf = SteadyShelf::new(Vec::new(alloc));
-    let mut run = Run::new(alloc);
+    let mut run = Run::new(Carrier::alone(alloc));
     run.piece(alloc, script, &mut shelf, page, work)?;
     run.finish(alloc, &mut shelf, page, work)?;
     Ok(run)

@@ -5,7 +5,7 @@ ghost use Rattle.arsc_reader.specs.Lines.{value_lines};
 ghost use Rattle.arsc_reader.specs.Table.{table_of};
 ghost use Rattle.text_lines.specs.BufferedText.{Sends};
 ghost use Rattle.text_lines.specs.Delivered.{Delivered};
-ghost use Rattle.tool_io.specs.Counts.{raised};
+ghost use Rattle.tool_io.specs.Counts.{one_more, raised};
 ghost use Rattle.tool_io.specs.Fetched.{Fetched, Files};
 ghost use Rattle.view_tool.specs.Dump.{Dumps};
 ghost use Rattle.view_tool.specs.Lookup.{is_broken, lookup_page, looked_up, max_table, refuses_table};
@@ -45,6 +45,7 @@ pub fn lookup<K: Sink, F: Shelf>(
         → F.faults shelf.new ≡ (if result == 6 then raised (F.faults shelf.old) else F.faults shelf.old) }
     ensures shelf_later { F.faults shelf.old ≤ F.faults shelf.new }
     ensures files_stay { F.files shelf.new ≡ F.files shelf.old }
+    ensures fetched { F.fetches shelf.new ≡ one_more (F.fetches shelf.old) }
 {
     let mut bytes = Vec::new(alloc);
     match shelf.fetch(name, &mut bytes, MAX_TABLE) {

@@ -3,10 +3,11 @@
 //!
 //! `tool` is the whole program over objects that it is given; `main` passes it the real ones, and `usage` reads what the
 //! words ask for. `script` reads a source in pieces, `run` carries out each line of them as soon as it has ended, by a
-//! world, and `refusals` reports refused lines. `dump` prints a file, or reports by `file_replies` why it is refused, and
+//! `carrier`, and `refusals` reports refused lines. `dump` prints a file, or reports by `file_replies` why it is refused, and
 //! `focusing` answers which view gets the focus next after a script.
 #![tactic(auto)]
 
+mod carrier;
 mod dump;
 mod file_replies;
 mod focusing;

@@ -6,21 +6,23 @@ ghost use Rattle.script_lines.specs.Lines.{Line, cut_of, lines_of, max_line};
 ghost use Rattle.tool_io.specs.Fetched.{Files};
 ghost use Rattle.view_model.specs.declared.work.Work.{Work};
 ghost use Rattle.view_model.specs.declared.limits.TheConstants.{MAX_VIEWS, NUMBERS_END};
+ghost use Rattle.view_tool.specs.Carried.{Carried};
+ghost use Rattle.view_tool.specs.Carrier.{IsFirst, WritesLine, carried_of, next_of};
 ghost use Rattle.view_tool.specs.Run.{CountsFetches, HasCarriedOut, HasReadUpTo, HasTallied, IsShort, StopsIn, WithFiles, line_now, lines_now, writes_counted};
-ghost use Rattle.view_tool.specs.Tally.{Tally, tally_of, with_cost};
-ghost use Rattle.view_tool.specs.Transcript.{Asks, MayWant, Progress, after_line, after_lines, is_idle, reply_to_line};
+ghost use Rattle.view_tool.specs.Tally.{Tally, tally_from, with_cost};
+ghost use Rattle.view_tool.specs.Transcript.{Asks, MayWant, Progress, after_line, after_from, asked_by_line, is_idle, reply_to_line};
 ghost use Rattle.view_tool.specs.Works.{Trace, trace};
-ghost use Rattle.view_world.specs.Carried.{CountsShelf, IsDone, WritesReply, faults_after_line};
-ghost use Rattle.view_world.specs.KeyedWorld.{world_of};
+ghost use Rattle.view_world.specs.Carried.{CountsShelf, IsDone, faults_after_line, fetches_after};
 
+use crate::carrier::Carrier;
 use crate::refusals::write_refusal;
-use script_lines::{Ended, LineFault, LinePlace, Lines, line, passes_over};
+use script_lines::{Ended, LinePlace, Lines, passes_over};
 use std::alloc::Global;
 use text_lines::TextBuffer;
 use tool_io::{Shelf, Sink};
-use view_model::refusals::{LONG_LINE, OUT_OF_RANGE, SYNTAX};
+use view_model::refusals::LONG_LINE;
 use view_model::{Refusal, Work};
-use view_world::{StepFault, World};
+use view_world::StepFault;
 
 /// What ends a run before its last line.
 #[derive(Clone, Copy, Debug, PartialEq, Eq)]
@@ -34,7 +36,7 @@ pub enum Stop {
 /// The state of a run, line by line.
 #[derive(Drop)]
 pub struct LineRunner {
-    world: World,
+    carrier: Carrier,
     /// How many lines were taken, including those that are passed over.
     lines: u64,
     /// How many of them were refused.
@@ -54,19 +56,19 @@ impl LineRunner {
         sink: &mut K,
         work: &mut Work,
     ) -> Result<(), Stop>
-        requires numbered { self.old.world.screen.views.next < NUMBERS_END }
+        requires numbered { next_of self.old.carrier < NUMBERS_END }
         requires short { IsShort line }
         ensures done { (files : Files) (first : Trace) (progress : Progress) (tally : Tally)
             → F.files shelf.old ≡ Some files
             → progress.lines < 2 ^ 63
-            → HasCarriedOut first (trace (K.state sink.old) work.old) self.old progress tally
-            → OnOk result (HasCarriedOut first (trace (K.state sink.new) work.new) self.new (after_line files progress (line_now line.entry)) (with_cost files tally (line_now line.entry))) }
-        ensures stopped { (files : Files) (first : Trace) (lines : List Line)
+            → HasCarriedOut first (trace (K.state sink.old) work.old (F.fetches shelf.old)) self.old progress tally
+            → OnOk result (HasCarriedOut first (trace (K.state sink.new) work.new (F.fetches shelf.new)) self.new (after_line files progress (line_now line.entry)) (with_cost files tally (line_now line.entry))) }
+        ensures stopped { (start : Carried) (files : Files) (first : Trace) (lines : List Line)
             → F.files shelf.old ≡ Some files
             → length lines < 2 ^ 63
-            → HasCarriedOut first (trace (K.state sink.old) work.old) self.old (after_lines files lines) (tally_of files lines)
-            → IfErr result (StopsIn files first (trace (K.state sink.new) work.new) (lines ++ line_now line.entry ∷ [])) }
-        ensures numbers { self.new.world.screen.views.next ≤ self.old.world.screen.views.next + MAX_VIEWS }
+            → HasCarriedOut first (trace (K.state sink.old) work.old (F.fetches shelf.old)) self.old (after_from start files lines) (tally_from start files lines)
+            → IfErr result (StopsIn start files first (trace (K.state sink.new) work.new (F.fetches shelf.new)) (lines ++ line_now line.entry ∷ [])) }
+        ensures numbers { next_of self.new.carrier ≤ next_of self.old.carrier + MAX_VIEWS }
         ensures files_stay { F.files shelf.new ≡ F.files shelf.old }
         ensures shelf_failed { CountsFetches (F.faults shelf.old) (F.faults shelf.new) result }
         ensures painted { work.old.painted ≤ work.new.painted }
@@ -77,7 +79,7 @@ impl LineRunner {
         if is_passed(line) {
             return Ok(());
         }
-        match carry_out(&mut self.world, alloc, line, shelf, sink, work) {
+        match carry_out(&mut self.carrier, alloc, line, shelf, sink, work) {
             Ok(()) => Ok(()),
             Err(StepFault::Refused(refusal)) => {
                 self.refused = self.refused.saturating_add(1);
@@ -107,45 +109,43 @@ fn is_passed(line: Option<&[u8]>) -> bool
 /// Carries out a line, and writes its text; of one that is refused nothing is written. `None` is a line that is too
 /// long.
 #[inline(never)]
-#[tactic(auto, unfolding(crate::specs::Transcript::reply_to_line))]
+#[tactic(auto, unfolding(crate::specs::Transcript::asked_by_line, crate::specs::Transcript::reply_to_line))]
 fn carry_out<K: Sink, F: Shelf>(
-    world: &mut World,
+    carrier: &mut Carrier,
     alloc: Global,
     bytes: Option<&[u8]>,
     shelf: &mut F,
     sink: &mut K,
     work: &mut Work,
 ) -> Result<(), StepFault>
-    requires numbered { world.old.screen.views.next < NUMBERS_END }
+    requires numbered { next_of carrier.old < NUMBERS_END }
     requires short { IsShort bytes }
     requires counts { is_idle (line_now bytes) ≡ false }
     ensures carried { (files : Files)
         → F.files shelf.old ≡ Some files
-        → WritesReply (reply_to_line files (world_of world.old) (line_now bytes.entry)) (world_of world.new) (K.state sink.old) (K.state sink.new) result }
-    ensures unchanged { IsDone result ⊎ ((world.new ≡ world.old) × (sink.new ≡ sink.old)) }
+        → WritesLine (reply_to_line files (carried_of carrier.old) (line_now bytes.entry)) (carried_of carrier.new) (K.state sink.old) (K.state sink.new) result }
+    ensures unchanged { IsDone result ⊎ ((carrier.new ≡ carrier.old) × (sink.new ≡ sink.old)) }
     ensures tallied { (files : Files) (tally : Tally) (first : Work)
         → F.files shelf.old ≡ Some files
-        → HasTallied first work.old world.old tally
+        → HasTallied first work.old carrier.old tally
         → IsDone result
-        → HasTallied first work.new world.new (with_cost files tally (line_now bytes.entry)) }
+        → HasTallied first work.new carrier.new (with_cost files tally (line_now bytes.entry)) }
     ensures idle { IsDone result ⊎ (work.new ≡ work.old) }
-    ensures memory { result ≡ Err StepFault.NoMemory → MayWant (line_now bytes.entry) }
-    ensures numbers { world.new.screen.views.next ≤ world.old.screen.views.next + MAX_VIEWS }
+    ensures memory { result ≡ Err StepFault.NoMemory → MayWant (carried_of carrier.old) (line_now bytes.entry) }
+    ensures numbers { next_of carrier.new ≤ next_of carrier.old + MAX_VIEWS }
     ensures sink_failed { (K.state sink.new).faults ≡ faults_after_line result (K.state sink.old).faults }
     ensures files_stay { F.files shelf.new ≡ F.files shelf.old }
     ensures shelf_failed { CountsShelf (F.faults shelf.old) (F.faults shelf.new) result }
-    ensures asked { result ≡ Err StepFault.Shelf → Asks (world_of world.old) (line_now bytes.entry) }
+    ensures asked { result ≡ Err StepFault.Shelf → Asks (carried_of carrier.old) (line_now bytes.entry) }
+    ensures fetched { F.fetches shelf.new
+        ≡ fetches_after (asked_by_line (carried_of carrier.old) (line_now bytes.entry)) (F.fetches shelf.old) }
     ensures painted { work.old.painted ≤ work.new.painted }
     ensures measured { min work.old.measured (2 ^ 64 - 1) ≤ work.new.measured }
 {
     let Some(bytes) = bytes else {
         return Err(StepFault::Refused(Refusal::plain(LONG_LINE)));
     };
-    match line(bytes) {
-        Ok(command) => world.line(alloc, command, shelf, sink, work),
-        Err(LineFault::Syntax) => Err(StepFault::Refused(Refusal::plain(SYNTAX))),
-        Err(LineFault::Range) => Err(StepFault::Refused(Refusal::plain(OUT_OF_RANGE))),
-    }
+    carrier.line(alloc, bytes, shelf, sink, work)
 }
 
 /// The line that has ended, if one has: one in a piece, or the one that is held. `None` in it is a line that is too
@@ -173,14 +173,18 @@ pub struct Run {
 }
 
 impl Run {
-    pub fn new(alloc: Global) -> Run
-        ensures behind { (shelf : Option Files) (first : Trace) → HasReadUpTo shelf first first result [] }
-        ensures numbers { result.runner.world.screen.views.next ≡ 1 }
+    /// A run of no lines yet.
+    pub fn new(carrier: Carrier) -> Run
+        requires { IsFirst carrier }
+        ensures behind { (shelf : Option Files) (first : Trace)
+            → HasReadUpTo (carried_of result.runner.carrier) shelf first first result [] }
+        ensures carrier { result.runner.carrier ≡ carrier }
+        ensures numbers { next_of result.runner.carrier ≡ 1 }
     {
         Run {
             lines: Lines::new(),
             runner: LineRunner {
-                world: World::new(alloc),
+                carrier,
                 lines: 0,
                 refused: 0,
                 text: TextBuffer::new(),
@@ -202,11 +206,11 @@ impl Run {
         (self.runner.lines, self.runner.refused)
     }
 
-    /// The world that the lines so far have made.
-    pub fn world(&self) -> &World
-        ensures { result.now ≡ self.now.runner.world }
+    /// What the lines so far have made.
+    pub fn carrier(&self) -> &Carrier
+        ensures { result.now ≡ self.now.runner.carrier }
     {
-        &self.runner.world
+        &self.runner.carrier
     }
 
     /// Takes the bytes of a piece up to its first line feed, or all of them, and carries out the line that they end.
@@ -218,18 +222,18 @@ impl Run {
         sink: &mut K,
         work: &mut Work,
     ) -> Result<usize, Stop>
-        requires { self.old.runner.world.screen.views.next < NUMBERS_END }
+        requires { next_of self.old.runner.carrier < NUMBERS_END }
         ensures within { IfOk result (λ n. n ≤ length piece.now) }
         ensures some { 0 < length piece.now → IfOk result (λ n. 0 < n) }
-        ensures done { (first : Trace) (before : List ℕ)
+        ensures done { (start : Carried) (first : Trace) (before : List ℕ)
             → length before < 2 ^ 63
-            → HasReadUpTo (F.files shelf.old) first (trace (K.state sink.old) work.old) self.old before
-            → IfOk result (λ n. HasReadUpTo (F.files shelf.old) first (trace (K.state sink.new) work.new) self.new (before ++ take n piece.now)) }
-        ensures stopped { (first : Trace) (before : List ℕ)
+            → HasReadUpTo start (F.files shelf.old) first (trace (K.state sink.old) work.old (F.fetches shelf.old)) self.old before
+            → IfOk result (λ n. HasReadUpTo start (F.files shelf.old) first (trace (K.state sink.new) work.new (F.fetches shelf.new)) self.new (before ++ take n piece.now)) }
+        ensures stopped { (start : Carried) (first : Trace) (before : List ℕ)
             → length before < 2 ^ 63
-            → HasReadUpTo (F.files shelf.old) first (trace (K.state sink.old) work.old) self.old before
-            → IfErr result (λ stop. WithFiles (F.files shelf.old) (λ files. StopsIn files first (trace (K.state sink.new) work.new) (cut_of (before ++ piece.now)).lines stop)) }
-        ensures numbers { self.new.runner.world.screen.views.next ≤ self.old.runner.world.screen.views.next + MAX_VIEWS }
+            → HasReadUpTo start (F.files shelf.old) first (trace (K.state sink.old) work.old (F.fetches shelf.old)) self.old before
+            → IfErr result (λ stop. WithFiles (F.files shelf.old) (λ files. StopsIn start files first (trace (K.state sink.new) work.new (F.fetches shelf.new)) (cut_of (before ++ piece.now)).lines stop)) }
+        ensures numbers { next_of self.new.runner.carrier ≤ next_of self.old.runner.carrier + MAX_VIEWS }
         ensures files_stay { F.files shelf.new ≡ F.files shelf.old }
         ensures shelf_failed { CountsFetches (F.faults shelf.old) (F.faults shelf.new) result }
         ensures painted { work.old.painted ≤ work.new.painted }
@@ -253,16 +257,16 @@ impl Run {
         sink: &mut K,
         work: &mut Work,
     ) -> Result<(), Stop>
-        requires { self.old.runner.world.screen.views.next + MAX_VIEWS * length piece.now < NUMBERS_END }
-        ensures done { (first : Trace) (before : List ℕ)
+        requires { next_of self.old.runner.carrier + MAX_VIEWS * length piece.now < NUMBERS_END }
+        ensures done { (start : Carried) (first : Trace) (before : List ℕ)
             → length (before ++ piece.now) < 2 ^ 63
-            → HasReadUpTo (F.files shelf.old) first (trace (K.state sink.old) work.old) self.old before
-            → OnOk result (HasReadUpTo (F.files shelf.old) first (trace (K.state sink.new) work.new) self.new (before ++ piece.now)) }
-        ensures stopped { (first : Trace) (before : List ℕ)
+            → HasReadUpTo start (F.files shelf.old) first (trace (K.state sink.old) work.old (F.fetches shelf.old)) self.old before
+            → OnOk result (HasReadUpTo start (F.files shelf.old) first (trace (K.state sink.new) work.new (F.fetches shelf.new)) self.new (before ++ piece.now)) }
+        ensures stopped { (start : Carried) (first : Trace) (before : List ℕ)
             → length (before ++ piece.now) < 2 ^ 63
-            → HasReadUpTo (F.files shelf.old) first (trace (K.state sink.old) work.old) self.old before
-            → IfErr result (λ stop. WithFiles (F.files shelf.old) (λ files. StopsIn files first (trace (K.state sink.new) work.new) (cut_of (before ++ piece.now)).lines stop)) }
-        ensures numbers { self.new.runner.world.screen.views.next ≤ self.old.runner.world.screen.views.next + MAX_VIEWS * length piece.now }
+            → HasReadUpTo start (F.files shelf.old) first (trace (K.state sink.old) work.old (F.fetches shelf.old)) self.old before
+            → IfErr result (λ stop. WithFiles (F.files shelf.old) (λ files. StopsIn start files first (trace (K.state sink.new) work.new (F.fetches shelf.new)) (cut_of (before ++ piece.now)).lines stop)) }
+        ensures numbers { next_of self.new.runner.carrier ≤ next_of self.old.runner.carrier + MAX_VIEWS * length piece.now }
         ensures files_stay { F.files shelf.new ≡ F.files shelf.old }
         ensures shelf_failed { CountsFetches (F.faults shelf.old) (F.faults shelf.new) result }
         ensures painted { work.old.painted ≤ work.new.painted }
@@ -284,17 +288,17 @@ impl Run {
         sink: &mut K,
         work: &mut Work,
     ) -> Result<(), Stop>
-        requires { self.old.runner.world.screen.views.next < NUMBERS_END }
-        ensures done { (files : Files) (first : Trace) (script : List ℕ)
+        requires { next_of self.old.runner.carrier < NUMBERS_END }
+        ensures done { (start : Carried) (files : Files) (first : Trace) (script : List ℕ)
             → F.files shelf.old ≡ Some files
             → length script < 2 ^ 63
-            → HasReadUpTo (F.files shelf.old) first (trace (K.state sink.old) work.old) self.old script
-            → OnOk result (HasCarriedOut first (trace (K.state sink.new) work.new) self.new.runner (after_lines files (lines_of script)) (tally_of files (lines_of script))) }
-        ensures stopped { (files : Files) (first : Trace) (script : List ℕ)
+            → HasReadUpTo start (F.files shelf.old) first (trace (K.state sink.old) work.old (F.fetches shelf.old)) self.old script
+            → OnOk result (HasCarriedOut first (trace (K.state sink.new) work.new (F.fetches shelf.new)) self.new.runner (after_from start files (lines_of script)) (tally_from start files (lines_of script))) }
+        ensures stopped { (start : Carried) (files : Files) (first : Trace) (script : List ℕ)
             → F.files shelf.old ≡ Some files
             → length script < 2 ^ 63
-            → HasReadUpTo (F.files shelf.old) first (trace (K.state sink.old) work.old) self.old script
-            → IfErr result (StopsIn files first (trace (K.state sink.new) work.new) (lines_of script)) }
+            → HasReadUpTo start (F.files shelf.old) first (trace (K.state sink.old) work.old (F.fetches shelf.old)) self.old script
+            → IfErr result (StopsIn start files first (trace (K.state sink.new) work.new (F.fetches shelf.new)) (lines_of script)) }
         ensures files_stay { F.files shelf.new ≡ F.files shelf.old }
         ensures shelf_failed { CountsFetches (F.faults shelf.old) (F.faults shelf.new) result }
         ensures painted { work.old.painted ≤ work.new.painted }

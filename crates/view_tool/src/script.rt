@@ -5,11 +5,12 @@ ghost use Rattle.std.specs.Io.KnownBytes.{IsAtEnd};
 ghost use Rattle.script_lines.specs.Lines.{lines_of};
 ghost use Rattle.tool_io.specs.Fetched.{Files};
 ghost use Rattle.view_model.specs.declared.limits.TheConstants.{MAX_VIEWS, NUMBERS_END};
+ghost use Rattle.view_tool.specs.Carried.{Carried};
+ghost use Rattle.view_tool.specs.Carrier.{carried_of, next_of};
 ghost use Rattle.view_tool.specs.Run.{HasReadUpTo};
 ghost use Rattle.view_tool.specs.Script.{Comes, CountsEnd, ReadsPiece, RunsFrom, ends_counted, reads_counted};
-ghost use Rattle.view_tool.specs.Transcript.{after_lines};
+ghost use Rattle.view_tool.specs.Transcript.{after_from};
 ghost use Rattle.view_tool.specs.Works.{Trace, trace};
-ghost use Rattle.view_world.specs.KeyedWorld.{world_of};
 
 use crate::run::{Run, Stop};
 use std::alloc::Global;
@@ -54,14 +55,14 @@ fn carry_piece<K: Sink, F: Shelf>(
 ) -> Result<usize, End>
     requires most { length piece.now ≤ left + 1 }
     requires left { left ≤ MAX_SCRIPT }
-    requires numbers { run.old.runner.world.screen.views.next + MAX_VIEWS * (left + 1) < NUMBERS_END }
-    ensures comes { (first : Trace) (before : List ℕ)
+    requires numbers { next_of run.old.runner.carrier + MAX_VIEWS * (left + 1) < NUMBERS_END }
+    ensures comes { (start : Carried) (first : Trace) (before : List ℕ)
         → length before + left ≡ MAX_SCRIPT
-        → HasReadUpTo (F.files shelf.old) first (trace (K.state sink.old) work.old) run.old before
-        → Comes (F.files shelf.old) first before left piece.now (trace (K.state sink.new) work.new) run.new result }
+        → HasReadUpTo start (F.files shelf.old) first (trace (K.state sink.old) work.old (F.fetches shelf.old)) run.old before
+        → Comes start (F.files shelf.old) first before left piece.now (trace (K.state sink.new) work.new (F.fetches shelf.new)) run.new result }
     ensures count { IfOk result (λ n. n ≡ length piece.now) }
     ensures most { IfOk result (λ n. n ≤ left) }
-    ensures numbers { IfOk result (λ n. run.new.runner.world.screen.views.next ≤ run.old.runner.world.screen.views.next + MAX_VIEWS * n) }
+    ensures numbers { IfOk result (λ n. next_of run.new.runner.carrier ≤ next_of run.old.runner.carrier + MAX_VIEWS * n) }
     ensures files_stay { F.files shelf.new ≡ F.files shelf.old }
     ensures shelf_failed { CountsEnd (F.faults shelf.old) (F.faults shelf.new) result }
     ensures painted { work.old.painted ≤ work.new.painted }
@@ -92,14 +93,14 @@ fn read_piece<S: Source, K: Sink, F: Shelf>(
     requires some { 0 < length buffer.old }
     requires most { length buffer.old ≤ left + 1 }
     requires left { left ≤ MAX_SCRIPT }
-    requires numbers { run.old.runner.world.screen.views.next + MAX_VIEWS * (left + 1) < NUMBERS_END }
-    ensures reads { (first : Trace) (before : List ℕ)
+    requires numbers { next_of run.old.runner.carrier + MAX_VIEWS * (left + 1) < NUMBERS_END }
+    ensures reads { (start : Carried) (first : Trace) (before : List ℕ)
         → length before + left ≡ MAX_SCRIPT
-        → HasReadUpTo (F.files shelf.old) first (trace (K.state sink.old) work.old) run.old before
-        → ReadsPiece (F.files shelf.old) first before left (S.left source.old) (S.left source.new) (trace (K.state sink.new) work.new) run.new result }
+        → HasReadUpTo start (F.files shelf.old) first (trace (K.state sink.old) work.old (F.fetches shelf.old)) run.old before
+        → ReadsPiece start (F.files shelf.old) first before left (S.left source.old) (S.left source.new) (trace (K.state sink.new) work.new (F.fetches shelf.new)) run.new result }
     ensures end { result ≡ Ok 0 → IsAtEnd (S.left source.new) }
     ensures most { IfOk result (λ n. n ≤ left) }
-    ensures numbers { IfOk result (λ n. run.new.runner.world.screen.views.next ≤ run.old.runner.world.screen.views.next + MAX_VIEWS * n) }
+    ensures numbers { IfOk result (λ n. next_of run.new.runner.carrier ≤ next_of run.old.runner.carrier + MAX_VIEWS * n) }
     ensures files_stay { F.files shelf.new ≡ F.files shelf.old }
     ensures shelf_failed { CountsEnd (F.faults shelf.old) (F.faults shelf.new) result }
     ensures painted { work.old.painted ≤ work.new.painted }
@@ -113,7 +114,8 @@ fn read_piece<S: Source, K: Sink, F: Shelf>(
     }
 }
 
-/// Carries out the script on a source by a run that has not begun. Answers whether a line was refused.
+/// Carries out the script on a source by a run that has not begun, reading on only after each line whose line feed has
+/// come was carried out. Returns whether a line was refused.
 pub fn run_to_end<S: Source, K: Sink, F: Shelf>(
     run: &mut Run,
     alloc: Global,
@@ -122,13 +124,13 @@ pub fn run_to_end<S: Source, K: Sink, F: Shelf>(
     sink: &mut K,
     work: &mut Work,
 ) -> Result<bool, End>
-    requires behind { (files : Option Files) (first : Trace) → HasReadUpTo files first first run.old [] }
-    requires numbers { run.old.runner.world.screen.views.next ≡ 1 }
-    ensures runs { RunsFrom (F.files shelf.old) (S.left source.old) (S.left source.new) (trace (K.state sink.old) work.old) (trace (K.state sink.new) work.new) result }
+    requires behind { (files : Option Files) (first : Trace) → HasReadUpTo (carried_of run.old.runner.carrier) files first first run.old [] }
+    requires numbers { next_of run.old.runner.carrier ≡ 1 }
+    ensures runs { RunsFrom (carried_of run.old.runner.carrier) (F.files shelf.old) (S.left source.old) (S.left source.new) (trace (K.state sink.old) work.old (F.fetches shelf.old)) (trace (K.state sink.new) work.new (F.fetches shelf.new)) result }
     ensures world { (files : Files) (script : List ℕ)
         → F.files shelf.old ≡ Some files
         → S.left source.old ≡ Some script
-        → OnOk result (world_of run.new.runner.world ≡ (after_lines files (lines_of script)).world) }
+        → OnOk result (carried_of run.new.runner.carrier ≡ (after_from (carried_of run.old.runner.carrier) files (lines_of script)).carried) }
     ensures files_stay { F.files shelf.new ≡ F.files shelf.old }
     ensures shelf_failed { CountsEnd (F.faults shelf.old) (F.faults shelf.new) result }
     ensures painted { work.old.painted ≤ work.new.painted }
@@ -157,25 +159,4 @@ pub fn run_to_end<S: Source, K: Sink, F: Shelf>(
     }
     run.finish(alloc, shelf, sink, work)?;
     Ok(run.refused())
-}
-
-/// Carries out the script on a source, reading on only after each line whose line feed has come was carried out.
-/// Returns whether a line was refused.
-pub fn run_source<S: Source, K: Sink, F: Shelf>(
-    alloc: Global,
-    source: &mut S,
-    shelf: &mut F,
-    sink: &mut K,
-    work: &mut Work,
-) -> Result<bool, End>
-    ensures runs { RunsFrom (F.files shelf.old) (S.left source.old) (S.left source.new) (trace (K.state sink.old) work.old) (trace (K.state sink.new) work.new) result }
-    ensures files_stay { F.files shelf.new ≡ F.files shelf.old }
-    ensures shelf_failed { CountsEnd (F.faults shelf.old) (F.faults shelf.new) result }
-    ensures painted { work.old.painted ≤ work.new.painted }
-    ensures measured { min work.old.measured (2 ^ 64 - 1) ≤ work.new.measured }
-    ensures source_failed { S.faults source.new ≡ reads_counted result (S.faults source.old) }
-    ensures sink_failed { (K.state sink.new).faults ≡ ends_counted result (K.state sink.old).faults }
-{
-    let mut run = Run::new(alloc);
-    run_to_end(&mut run, alloc, source, shelf, sink, work)
 }

@@ -4,29 +4,34 @@ ghost use Rattle.std.specs.Prelude.{◌≡◌, ◌≢◌, ℕ, ◌+◌, ◌-◌,
 ghost use Rattle.std.specs.Io.KnownBytes.{Appends, Consumes, IsAtEnd};
 ghost use Rattle.load_maker.specs.Load.{load};
 ghost use Rattle.script_lines.specs.Lines.{lines_of};
-ghost use Rattle.tool_io.specs.Counts.{Rose, raised};
+ghost use Rattle.stack_worlds.specs.PlainStack.{empty_stack};
+ghost use Rattle.tool_io.specs.Counts.{Rose, one_more, raised};
 ghost use Rattle.tool_io.specs.Fetched.{Files};
+ghost use Rattle.view_tool.specs.Carried.{Alone, Stacked};
 ghost use Rattle.view_tool.specs.Dump.{dump_page, refuses_file};
 ghost use Rattle.view_tool.specs.Focus.{AsksWith, IsFocusOf, focus_page, refuses_focus};
 ghost use Rattle.view_tool.specs.Gen.{gen_page};
 ghost use Rattle.view_tool.specs.Lookup.{lookup_page, refuses_table};
 ghost use Rattle.view_tool.specs.Run.{StopsAtFetch, StopsBefore};
-ghost use Rattle.view_tool.specs.Tally.{costs_of_script};
-ghost use Rattle.view_tool.specs.Works.{WorksPart, trace};
-ghost use Rattle.view_tool.specs.WorksWith.{WorksWith};
+ghost use Rattle.view_tool.specs.StackPage.{IsPageIsolated};
+ghost use Rattle.view_tool.specs.Tally.{costs_of_script, costs_of_stack};
+ghost use Rattle.view_tool.specs.Works.{WorksPart, fetches_from, raised_by, trace};
+ghost use Rattle.view_tool.specs.WorksWith.{WorksWith, WorksWithFrom};
 ghost use Rattle.view_world.specs.Watched.{IsWorth};
+ghost use Rattle.view_world.specs.World.{empty_world};
 ghost use Rattle.view_tool.specs.Script.{WritesTaken};
-ghost use Rattle.view_tool.specs.Tool.{IsComplete, IsDumpOf, IsLookupOf, IsOneOf, IsRunOf, RunsWith, Writes, status_of};
-ghost use Rattle.view_tool.specs.Transcript.{carried_lines, cut_transcript, has_refusal, max_script, transcript};
-ghost use Rattle.view_tool.specs.Usage.{Run, Dump, Gen, Lookup, Focus, Unknown, usage};
+ghost use Rattle.view_tool.specs.Tool.{IsComplete, IsDumpOf, IsLookupOf, IsOneOf, IsRunOf, IsStackOf, RunsWith, Writes, status_of};
+ghost use Rattle.view_tool.specs.Transcript.{carried_lines, cut_transcript, has_refusal, max_script, refuses_in_stack, stack_page, transcript};
+ghost use Rattle.view_tool.specs.Usage.{Run, Stack, Dump, Gen, Lookup, Focus, Unknown, usage};
 ghost use Rattle.view_tool.specs.declared.focusing.Question.{Question};
 
+use crate::carrier::Carrier;
 use crate::dump::dump;
 use crate::focusing::{Question, focus_source};
 use crate::loading::run_load;
 use crate::lookup::lookup;
 use crate::run::Stop;
-use crate::script::{End, run_source};
+use crate::script::{End, run_to_end};
 use crate::status::{
     ACCEPTED, LONG_SCRIPT, NO_MEMORY, REFUSED, SHELF_FAILED, SINK_FAILED, SOURCE_FAILED, USAGE,
 };
@@ -155,17 +160,19 @@ pub fn tool<S: Source, K: Sink, F: Shelf>(
     // The work of a run, in whatever way it ends: of the frames that were carried out it measures at most as many views, and
     // paints at least and at most as many pixels, as they cost in the plain world. All lines of the script were carried out
     // where the run ended by itself, and else the first ones: the very lines whose texts were written. The work of a load
-    // is that of its script. Of a script with a question after it `focus_ends` says the same, and nothing else is counted.
+    // is that of its script. Of a script with a question after it `focus_ends` says the same, of one for a stack of windows
+    // `stack_works`, and nothing else is counted.
     ensures worth { (script : List ℕ) (files : Files)
         → IsRunOf (usage words.now) (S.left source.old) (F.files shelf.old) script files
         → IsComplete result
         → IsWorth (costs_of_script script files) work.old work.new }
     ensures works { (script : List ℕ) (files : Files)
         → IsRunOf (usage words.now) (S.left source.old) (F.files shelf.old) script files
-        → WorksWith files script (S.left source.new) (trace (K.state sink.old) work.old) (trace (K.state sink.new) work.new) result }
+        → WorksWith files script (S.left source.new) (trace (K.state sink.old) work.old (F.fetches shelf.old)) (trace (K.state sink.new) work.new (F.fetches shelf.new)) result }
     ensures gen_worth { (n : ℕ) → usage words.now ≡ Gen n → result ≢ 5 → IsWorth (costs_of_script (load n) []) work.old work.new }
     ensures gen_works { (n : ℕ) → usage words.now ≡ Gen n → WorksPart [] work.old work.new (lines_of (load n)) }
     ensures uncounted { usage words.now ≢ Run
+        → usage words.now ≢ Stack
         → ((n : ℕ) → usage words.now ≢ Gen n)
         → ((question : Question) → usage words.now ≢ Focus question)
         → work.new ≡ work.old }
@@ -221,7 +228,7 @@ pub fn tool<S: Source, K: Sink, F: Shelf>(
     ensures focus_read_to_end { (question : Question) → usage words.now ≡ Focus question → IsComplete result → IsAtEnd (S.left source.new) }
     ensures focus_ends { (script : List ℕ) (files : Files) (question : Question)
         → IsFocusOf (usage words.now) (S.left source.old) (F.files shelf.old) script files question
-        → AsksWith files script question (S.left source.new) (trace (K.state sink.old) work.old) (trace (K.state sink.new) work.new) result }
+        → AsksWith files script question (S.left source.new) (trace (K.state sink.old) work.old (F.fetches shelf.old)) (trace (K.state sink.new) work.new (F.fetches shelf.new)) result }
     ensures focus_worth { (script : List ℕ) (files : Files) (question : Question)
         → IsFocusOf (usage words.now) (S.left source.old) (F.files shelf.old) script files question
         → IsComplete result
@@ -236,9 +243,65 @@ pub fn tool<S: Source, K: Sink, F: Shelf>(
         → (Rose (K.state sink.old).faults (K.state sink.new).faults → ⊥)
         → (Rose (F.faults shelf.old) (F.faults shelf.new) → ⊥)
         → IsComplete result ⊎ (result ≡ 5) }
+
+    // A script for a stack of windows: each line goes to the world of one window at most, and the page is the texts of
+    // all lines. What was written, counted, read and fetched is as of a run, and the windows are isolated: whatever the
+    // lines give to others, the state of each open window and its replies are those of its own share alone.
+    ensures stack { (script : List ℕ) (files : Files)
+        → IsStackOf (usage words.now) (S.left source.old) (F.files shelf.old) script files
+        → length script ≤ max_script
+        → Writes result (K.state sink.old).gone (K.state sink.new).gone (stack_page script files) }
+    ensures stack_refused { (script : List ℕ) (files : Files)
+        → IsStackOf (usage words.now) (S.left source.old) (F.files shelf.old) script files
+        → IsComplete result
+        → result ≡ (if refuses_in_stack script files then 1 else 0) }
+    ensures stack_read_to_end { usage words.now ≡ Stack → IsComplete result → IsAtEnd (S.left source.new) }
+    ensures stack_ends { (script : List ℕ) (files : Files)
+        → IsStackOf (usage words.now) (S.left source.old) (F.files shelf.old) script files
+        → RunsWith (Stacked empty_stack) files script (S.left source.new)
+        (K.state sink.old).gone (K.state sink.new).gone result }
+    ensures stack_works { (script : List ℕ) (files : Files)
+        → IsStackOf (usage words.now) (S.left source.old) (F.files shelf.old) script files
+        → WorksWithFrom (Stacked empty_stack) files script (S.left source.new)
+        (trace (K.state sink.old) work.old (F.fetches shelf.old))
+        (trace (K.state sink.new) work.new (F.fetches shelf.new)) result }
+    ensures stack_worth { (script : List ℕ) (files : Files)
+        → IsStackOf (usage words.now) (S.left source.old) (F.files shelf.old) script files
+        → IsComplete result
+        → IsWorth (costs_of_stack script files) work.old work.new }
+    ensures stack_isolated { (script : List ℕ) (files : Files) (k : ℕ)
+        → IsStackOf (usage words.now) (S.left source.old) (F.files shelf.old) script files
+        → IsPageIsolated script files k }
+    ensures stack_statuses { usage words.now ≡ Stack → IsOneOf result (0 ∷ 1 ∷ 3 ∷ 4 ∷ 5 ∷ 6 ∷ 7 ∷ []) }
+    ensures stack_complete { (script : List ℕ) (files : Files)
+        → IsStackOf (usage words.now) (S.left source.old) (F.files shelf.old) script files
+        → length script ≤ max_script
+        → (Rose (S.faults source.old) (S.faults source.new) → ⊥)
+        → (Rose (K.state sink.old).faults (K.state sink.new).faults → ⊥)
+        → (Rose (F.faults shelf.old) (F.faults shelf.new) → ⊥)
+        → IsComplete result ⊎ (result ≡ 5) }
+
+    // How often the shelf is asked, if it counts that: by a run once for each line that is carried out and asks for a file,
+    // whatever comes of it, by a print or a look-up once, and by a load not at all. Of a run that stopped `works` says it,
+    // and of the others `focus_ends` and `stack_works`: the line in which it stopped has asked too, if it asks.
+    ensures fetched { (script : List ℕ) (files : Files)
+        → IsRunOf (usage words.now) (S.left source.old) (F.files shelf.old) script files
+        → IsComplete result
+        → F.fetches shelf.new ≡ raised_by (fetches_from (Alone empty_world) files (lines_of script)) (F.fetches shelf.old) }
+    ensures stack_fetched { (script : List ℕ) (files : Files)
+        → IsStackOf (usage words.now) (S.left source.old) (F.files shelf.old) script files
+        → IsComplete result
+        → F.fetches shelf.new ≡ raised_by (fetches_from (Stacked empty_stack) files (lines_of script)) (F.fetches shelf.old) }
+    ensures dump_fetched { (name : List ℕ)
+        → usage words.now ≡ Dump name
+        → F.fetches shelf.new ≡ one_more (F.fetches shelf.old) }
+    ensures lookup_fetched { (name ids : List ℕ)
+        → usage words.now ≡ Lookup name ids
+        → F.fetches shelf.new ≡ one_more (F.fetches shelf.old) }
 {
     match form_of(words) {
         Some(Form::Run) => run(alloc, shelf, source, sink, work),
+        Some(Form::Stack) => stack(alloc, shelf, source, sink, work),
         Some(Form::Dump(name)) => dump(alloc, name, shelf, sink),
         Some(Form::Gen(n)) => run_load(alloc, n, sink, work),
         Some(Form::Lookup { name, ids }) => lookup(alloc, name, ids, shelf, sink),
@@ -258,11 +321,11 @@ fn run<S: Source, K: Sink, F: Shelf>(
     ensures runs { (files : Files) (script : List ℕ)
         → F.files shelf.old ≡ Some files
         → S.left source.old ≡ Some script
-        → RunsWith files script (S.left source.new) (K.state sink.old).gone (K.state sink.new).gone result }
+        → RunsWith (Alone empty_world) files script (S.left source.new) (K.state sink.old).gone (K.state sink.new).gone result }
     ensures works { (files : Files) (script : List ℕ)
         → F.files shelf.old ≡ Some files
         → S.left source.old ≡ Some script
-        → WorksWith files script (S.left source.new) (trace (K.state sink.old) work.old) (trace (K.state sink.new) work.new) result }
+        → WorksWith files script (S.left source.new) (trace (K.state sink.old) work.old (F.fetches shelf.old)) (trace (K.state sink.new) work.new (F.fetches shelf.new)) result }
     ensures known { IsOneOf result (0 ∷ 1 ∷ 3 ∷ 4 ∷ 5 ∷ 6 ∷ 7 ∷ []) }
     ensures whole { result ≢ 3 → result ≢ 4 → result ≢ 6 → result ≢ 7 → IsComplete result ⊎ (result ≡ 5) }
     ensures read_to_end { IsComplete result → IsAtEnd (S.left source.new) }
@@ -279,7 +342,48 @@ fn run<S: Source, K: Sink, F: Shelf>(
     ensures painted { work.old.painted ≤ work.new.painted }
     ensures measured { min work.old.measured (2 ^ 64 - 1) ≤ work.new.measured }
 {
-    status(run_source(alloc, source, shelf, sink, work))
+    let mut run = crate::run::Run::new(Carrier::alone(alloc));
+    status(run_to_end(&mut run, alloc, source, shelf, sink, work))
+}
+
+/// Carries out a script for a stack of windows.
+fn stack<S: Source, K: Sink, F: Shelf>(
+    alloc: Global,
+    shelf: &mut F,
+    source: &mut S,
+    sink: &mut K,
+    work: &mut Work,
+) -> u8
+    ensures runs { (files : Files) (script : List ℕ)
+        → F.files shelf.old ≡ Some files
+        → S.left source.old ≡ Some script
+        → RunsWith (Stacked empty_stack) files script (S.left source.new)
+        (K.state sink.old).gone (K.state sink.new).gone result }
+    ensures works { (files : Files) (script : List ℕ)
+        → F.files shelf.old ≡ Some files
+        → S.left source.old ≡ Some script
+        → WorksWithFrom (Stacked empty_stack) files script (S.left source.new)
+        (trace (K.state sink.old) work.old (F.fetches shelf.old))
+        (trace (K.state sink.new) work.new (F.fetches shelf.new)) result }
+    ensures known { IsOneOf result (0 ∷ 1 ∷ 3 ∷ 4 ∷ 5 ∷ 6 ∷ 7 ∷ []) }
+    ensures whole { result ≢ 3 → result ≢ 4 → result ≢ 6 → result ≢ 7 → IsComplete result ⊎ (result ≡ 5) }
+    ensures read_to_end { IsComplete result → IsAtEnd (S.left source.new) }
+    ensures taken { (taken : List ℕ)
+        × Consumes (S.left source.old) (S.left source.new) taken
+        × (length taken ≤ max_script + 1) }
+    ensures source_failed { S.faults source.new
+        ≡ (if result == 3 then raised (S.faults source.old) else S.faults source.old) }
+    ensures sink_failed { (K.state sink.new).faults
+        ≡ (if result == 4 then raised (K.state sink.old).faults else (K.state sink.old).faults) }
+    ensures shelf_failed { result ≢ 5
+        → F.faults shelf.new ≡ (if result == 6 then raised (F.faults shelf.old) else F.faults shelf.old) }
+    ensures shelf_later { F.faults shelf.old ≤ F.faults shelf.new }
+    ensures files_stay { F.files shelf.new ≡ F.files shelf.old }
+    ensures painted { work.old.painted ≤ work.new.painted }
+    ensures measured { min work.old.measured (2 ^ 64 - 1) ≤ work.new.measured }
+{
+    let mut run = crate::run::Run::new(Carrier::stacked());
+    status(run_to_end(&mut run, alloc, source, shelf, sink, work))
 }
 
 /// Carries out the script on a source, and then answers a question.
@@ -294,7 +398,7 @@ fn focus<S: Source, K: Sink, F: Shelf>(
     ensures asks { (files : Files) (script : List ℕ)
         → F.files shelf.old ≡ Some files
         → S.left source.old ≡ Some script
-        → AsksWith files script question (S.left source.new) (trace (K.state sink.old) work.old) (trace (K.state sink.new) work.new) result }
+        → AsksWith files script question (S.left source.new) (trace (K.state sink.old) work.old (F.fetches shelf.old)) (trace (K.state sink.new) work.new (F.fetches shelf.new)) result }
     ensures known { IsOneOf result (0 ∷ 1 ∷ 3 ∷ 4 ∷ 5 ∷ 6 ∷ 7 ∷ []) }
     ensures whole { result ≢ 3 → result ≢ 4 → result ≢ 6 → result ≢ 7 → IsComplete result ⊎ (result ≡ 5) }
     ensures read_to_end { IsComplete result → IsAtEnd (S.left source.new) }

@@ -16,6 +16,8 @@ const MAX_IDS: usize = 64;
 pub enum Form<'a> {
     /// To carry out the script on the source.
     Run,
+    /// To carry out the script on the source for a stack of windows.
+    Stack,
     /// To print the file of this name.
     Dump(&'a str),
     /// To run the load of this size.
@@ -39,13 +41,15 @@ pub fn form_of(words: &[String]) -> Option<Form<'_>>
     }
 }
 
-/// `run`
+/// `run`, or `stack`
 fn run_form(word: &String) -> Option<Form<'_>>
     ensures form { form_now result ≡ run_usage (string_bytes word.now) }
     ensures size { IfSome result HasSize }
 {
     if is(word, "run") {
         Some(Form::Run)
+    } else if is(word, "stack") {
+        Some(Form::Stack)
     } else {
         None
     }

@@ -8,7 +8,7 @@ ghost use Rattle.tool_io.specs.Fetched.{Files};
 ghost use Rattle.view_model.specs.declared.limits.TheConstants.{NUMBERS_END};
 ghost use Rattle.stack_worlds.specs.KeptStack.{HaveNumbers, kept_world, keyed_at, stack_of};
 ghost use Rattle.stack_worlds.specs.PlainStack.{is_none_down, size_in, sizes_of};
-ghost use Rattle.view_world.specs.Carried.{AreAtHand, CountsShelf, IsDone, MayWantMemory, WritesReply, faults_after_line};
+ghost use Rattle.view_world.specs.Carried.{AreAtHand, CountsShelf, IsDone, MayWantMemory, WritesReply, faults_after_line, fetches_after};
 ghost use Rattle.view_world.specs.Inflating.{asked_file};
 ghost use Rattle.view_world.specs.KeyedWorld.{KeyedWorld, new_world, world_of};
 ghost use Rattle.stack_worlds.specs.WindowLines.{WorksIn};
@@ -76,6 +76,10 @@ pub fn line_at<K: Sink, F: Shelf>(
         → kept_world place.old ≡ Some world
         → asked_file (world_of world) (plain_command command.entry) ≡ None
         → shelf.new ≡ shelf.old }
+    ensures fetched { (world : KeyedWorld)
+        → kept_world place.old ≡ Some world
+        → F.fetches shelf.new
+        ≡ fetches_after (asked_file (world_of world) (plain_command command.entry)) (F.fetches shelf.old) }
     ensures shelf_failed { CountsShelf (F.faults shelf.old) (F.faults shelf.new) result }
     ensures asked { (world : KeyedWorld)
         → kept_world place.old ≡ Some world
@@ -129,6 +133,10 @@ impl Stack {
             → keyed_at self.old k ≡ Some world
             → asked_file (world_of world) (plain_command command.entry) ≡ None
             → shelf.new ≡ shelf.old }
+        ensures fetched { (world : KeyedWorld)
+            → keyed_at self.old k ≡ Some world
+            → F.fetches shelf.new
+            ≡ fetches_after (asked_file (world_of world) (plain_command command.entry)) (F.fetches shelf.old) }
         ensures shelf_failed { CountsShelf (F.faults shelf.old) (F.faults shelf.new) result }
         ensures asked { (world : KeyedWorld)
             → keyed_at self.old k ≡ Some world

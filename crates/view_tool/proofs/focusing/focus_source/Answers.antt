@@ -5,13 +5,17 @@ use Rattle.tool_io.specs.Counts.{raised}
 use Rattle.view_tool.specs.Works.{trace}
 use Rattle.view_tool.proofs.FocusLaws.{asks_answered, asks_cut}
 use Rattle.view_tool.proofs.focusing.focus_source.Goals as goal
-use Rattle.view_world.specs.KeyedWorld.{world_of}
+use Rattle.view_tool.specs.Carried.{Alone, world_in}
+use Rattle.view_tool.specs.Carrier.{carried_of}
+use Rattle.view_tool.specs.declared.carrier.Carrier.{Carrier}
+use Rattle.view_world.specs.World.{empty_world}
 
 pub returns-in_err-refused-clause-asks : goal.returns-in_err-refused-clause-asks
 returns-in_err-refused-clause-asks g c =
     let p = err_from_is_err_and c.from_residual.result c.from_residual.ensures.1 in
     let e : c.from_residual.result ≡ Err c.in_err-refused.field-0.0 = p.1 ∙ ap Err p.2 in
-    let runs = c.in_err-refused.ensures.runs in
+    let from : carried_of c.new-run.result.runner.carrier ≡ Alone empty_world = ap carried_of c.new-run.ensures.carrier ∙ c.alone.ensures.start in
+    let runs = rw from at c.in_err-refused.ensures.runs in
     rw e (record {
       asks = λ files script at_hand told. inl (runs.runs files script at_hand told);
       end = tt;
@@ -40,14 +44,16 @@ returns-in_err-refused-clause-shelf_failed g c =
 
 pub returns-in-Ok-clause-asks : goal.returns-in-Ok-clause-asks
 returns-in-Ok-clause-asks g c =
-    let runs = c.in_ok-refused.ensures.runs in
-    let first = trace (g.K.Sink.state c.args.sink.now) c.args.work.now in
-    let mid = trace (g.K.Sink.state c.run_to_end.new.sink) c.run_to_end.new.work in
+    let from : carried_of c.new-run.result.runner.carrier ≡ Alone empty_world = ap carried_of c.new-run.ensures.carrier ∙ c.alone.ensures.start in
+    let runs = rw from at c.in_ok-refused.ensures.runs in
+    let made = rw from at c.in_ok-refused.ensures.world in
+    let first = trace (g.K.Sink.state c.args.sink.now) c.args.work.now (g.F.Shelf.fetches c.args.shelf.now) in
+    let mid = trace (g.K.Sink.state c.run_to_end.new.sink) c.run_to_end.new.work (g.F.Shelf.fetches c.run_to_end.new.shelf) in
     let left = g.S.Source.left c.run_to_end.new.source in
     record {
       asks = λ files script at_hand told.
-          asks_answered files script c.args.question left first mid (g.K.Sink.state c.write_answer.new.sink).gone c.in_ok-refused.refused c.is_err-unanswered.result c.answer-answer.result (world_of c.world.result.now)
-          (runs.runs files script at_hand told) (ap world_of c.world.ensures ∙ c.in_ok-refused.ensures.world files script at_hand told) c.answer-answer.ensures.value c.is_err-unanswered.ensures.value c.in-Ok.ensures.whole;
+          asks_answered files script c.args.question left first mid (g.K.Sink.state c.write_answer.new.sink).gone c.in_ok-refused.refused c.is_err-unanswered.result c.answer_in-answer.result (world_in (carried_of c.carrier.result.now))
+          (runs.runs files script at_hand told) (ap (λ (c : Carrier). world_in (carried_of c)) c.carrier.ensures ∙ ap world_in (made files script at_hand told)) c.answer_in-answer.ensures.value c.is_err-unanswered.ensures.value c.in-Ok.ensures.whole;
       end = runs.end;
       taken = runs.taken;
       consumed = runs.consumed;
@@ -59,14 +65,16 @@ returns-in-Ok-clause-sink_failed g c = c.in-Ok.ensures.counted ∙ c.in_ok-refus
 
 pub returns-clause-asks : goal.returns-clause-asks
 returns-clause-asks g c =
-    let runs = c.in_ok-refused.ensures.runs in
-    let first = trace (g.K.Sink.state c.args.sink.now) c.args.work.now in
-    let mid = trace (g.K.Sink.state c.run_to_end.new.sink) c.run_to_end.new.work in
+    let from : carried_of c.new-run.result.runner.carrier ≡ Alone empty_world = ap carried_of c.new-run.ensures.carrier ∙ c.alone.ensures.start in
+    let runs = rw from at c.in_ok-refused.ensures.runs in
+    let made = rw from at c.in_ok-refused.ensures.world in
+    let first = trace (g.K.Sink.state c.args.sink.now) c.args.work.now (g.F.Shelf.fetches c.args.shelf.now) in
+    let mid = trace (g.K.Sink.state c.run_to_end.new.sink) c.run_to_end.new.work (g.F.Shelf.fetches c.run_to_end.new.shelf) in
     let left = g.S.Source.left c.run_to_end.new.source in
     record {
       asks = λ files script at_hand told.
-          asks_cut files script c.args.question left first mid (g.K.Sink.state c.write_answer.new.sink).gone c.in_ok-refused.refused c.answer-answer.result (world_of c.world.result.now)
-          (runs.runs files script at_hand told) (ap world_of c.world.ensures ∙ c.in_ok-refused.ensures.world files script at_hand told) c.answer-answer.ensures.value c.in-Err.ensures.prefix;
+          asks_cut files script c.args.question left first mid (g.K.Sink.state c.write_answer.new.sink).gone c.in_ok-refused.refused c.answer_in-answer.result (world_in (carried_of c.carrier.result.now))
+          (runs.runs files script at_hand told) (ap (λ (c : Carrier). world_in (carried_of c)) c.carrier.ensures ∙ ap world_in (made files script at_hand told)) c.answer_in-answer.ensures.value c.in-Err.ensures.prefix;
       end = tt;
       taken = runs.taken;
       consumed = runs.consumed;

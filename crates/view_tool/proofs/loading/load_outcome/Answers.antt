@@ -2,6 +2,8 @@ use Rattle.std.proofs.Common.{◌≡◌, [], ap, ◌∙◌}
 use Rattle.std.proofs.lemmas.List.{append-nil}
 use Rattle.script_lines.specs.Lines.{lines_of}
 use Rattle.tool_io.specs.MemorySink.{ListedSink}
+use Rattle.view_tool.specs.Carried.{Alone}
+use Rattle.view_world.specs.World.{empty_world}
 use Rattle.view_tool.proofs.CostLaws.{load_works, load_worth, works_none}
 use Rattle.view_tool.proofs.LoadLaws.{outcome_is}
 use Rattle.view_tool.proofs.loading.load_outcome.Goals as goal
@@ -22,4 +24,4 @@ returns-in-Ok-carried_out-clause-works c =
     (record { done = lines_of c.as_slice.result.now; left = []; all = append-nil (lines_of c.as_slice.result.now); worth = c.in-Ok-carried_out.ensures.runs.tallied.worth })
 
 pub returns-in_default-clause-works : goal.returns-in_default-clause-works
-returns-in_default-clause-works c = works_none [] _ _
+returns-in_default-clause-works c = works_none (Alone empty_world) [] _ _

@@ -4,12 +4,12 @@ use Rattle.view_tool.proofs.ScriptLaws.{Consumes-kept}
 use Rattle.view_tool.proofs.script.read_piece.Goals as goal
 
 pub returns-in-Err-clause-reads : goal.returns-in-Err-clause-reads
-returns-in-Err-clause-reads g c first before count behind = record {
+returns-in-Err-clause-reads g c start first before count behind = record {
   bytes = [];
   consumed = Consumes-kept _ _ c.in-Err.ensures.bytes;
   within = omega arith;
   count = tt;
-  comes = (refl, λ files told. works_of files first _ _ _ (behind.runner files told));
+  comes = (refl, λ files told. works_of start files first _ _ _ (behind.runner files told));
 }
 
 pub returns-in-Err-clause-source_failed : goal.returns-in-Err-clause-source_failed
@@ -22,10 +22,10 @@ pub returns-in-Ok-clause-sink_failed : goal.returns-in-Ok-clause-sink_failed
 returns-in-Ok-clause-sink_failed g c = c.carry_piece.ensures.counted
 
 pub returns-in-Ok-clause-reads : goal.returns-in-Ok-clause-reads
-returns-in-Ok-clause-reads g c first before count behind = record {
+returns-in-Ok-clause-reads g c start first before count behind = record {
   bytes = take c.in-Ok.n c.read.new.buf;
   consumed = c.in-Ok.ensures.bytes.0;
   within = omega (arith, length-take c.in-Ok.n c.read.new.buf, c.requires.most, c.read.auto.buf);
   count = c.carry_piece.ensures.count;
-  comes = c.carry_piece.ensures.comes first before count behind;
+  comes = c.carry_piece.ensures.comes start first before count behind;
 }

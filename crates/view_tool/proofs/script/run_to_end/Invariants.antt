@@ -1,5 +1,6 @@
 use Rattle.std.proofs.Common.{◌≡◌, ◌≤◌, ◌+◌, ◌-◌, ◌*◌, ◌^◌, min}
 use Rattle.view_model.specs.declared.limits.TheConstants.{MAX_VIEWS}
+use Rattle.view_tool.specs.Carrier.{carried_of, next_of}
 use Rattle.view_tool.specs.Works.{trace}
 use Rattle.view_tool.specs.Transcript.{max_script}
 use Rattle.view_tool.proofs.ScriptLaws.{HasTaken}
@@ -9,8 +10,8 @@ use Rattle.view_tool.proofs.script.run_to_end.Given as goal
 abbrev pub invariant-loop-n : goal.invariant-loop-n
 invariant-loop-n g l = record {
   bound : l.left ≤ max_script;
-  numbers : l.run.runner.world.screen.views.next + MAX_VIEWS * l.left ≤ MAX_VIEWS * max_script + 1;
-  taken : HasTaken (g.F.Shelf.files l.shelf) (g.S.Source.left l.fn.source) (g.S.Source.left l.source) (trace (g.K.Sink.state l.fn.sink) l.fn.work) (trace (g.K.Sink.state l.sink) l.work) l.run l.left;
+  numbers : next_of l.run.runner.carrier + MAX_VIEWS * l.left ≤ MAX_VIEWS * max_script + 1;
+  taken : HasTaken (carried_of l.fn.run.runner.carrier) (g.F.Shelf.files l.shelf) (g.S.Source.left l.fn.source) (g.S.Source.left l.source) (trace (g.K.Sink.state l.fn.sink) l.fn.work (g.F.Shelf.fetches l.fn.shelf)) (trace (g.K.Sink.state l.sink) l.work (g.F.Shelf.fetches l.shelf)) l.run l.left;
   files : g.F.Shelf.files l.shelf ≡ g.F.Shelf.files l.fn.shelf;
   fetches : g.F.Shelf.faults l.shelf ≡ g.F.Shelf.faults l.fn.shelf;
   painted : l.fn.work.painted ≤ l.work.painted;

@@ -7,8 +7,8 @@ use Rattle.view_tool.proofs.tool.focus.Goals as goal
 
 pub returns-clause-asks : goal.returns-clause-asks
 returns-clause-asks g c files script at_hand told =
-    let first = trace (g.K.Sink.state c.args.sink.now) c.args.work.now in
-    let last = trace (g.K.Sink.state c.focus_source.new.sink) c.focus_source.new.work in
+    let first = trace (g.K.Sink.state c.args.sink.now) c.args.work.now (g.F.Shelf.fetches c.args.shelf.now) in
+    let last = trace (g.K.Sink.state c.focus_source.new.sink) c.focus_source.new.work (g.F.Shelf.fetches c.focus_source.new.shelf) in
     subst (AsksWith files script c.args.question (g.S.Source.left c.focus_source.new.source) first last) (sym c.status.ensures)
     (asks_with files script c.args.question _ first last c.focus_source.result (c.focus_source.ensures.asks.asks files script at_hand told))
 

@@ -1,11 +1,14 @@
 use Rattle.std.proofs.Common.{◌≡◌, List, subst, arith, ◌∙◌}
 use Rattle.std.specs.Io.KnownBytes.{Appends}
 use Rattle.script_lines.specs.Lines.{Line}
+use Rattle.stack_worlds.specs.PlainStack.{empty_stack}
+use Rattle.view_tool.specs.Carried.{Stacked}
 use Rattle.view_tool.specs.Tool.{Writes}
 use Rattle.view_tool.specs.Usage.{Run, Unknown}
-use Rattle.view_tool.specs.Transcript.{after_lines}
+use Rattle.view_tool.specs.Transcript.{after_from, after_lines}
 use Rattle.view_tool.proofs.FocusLaws.{same_question}
 use Rattle.view_tool.proofs.LongScriptLaws.{carried_long, carried_short}
+use Rattle.view_tool.proofs.StackPageLaws.{page_isolated}
 use Rattle.view_tool.proofs.tool.tool.Goals as goal
 
 pub returns-in-Some-Run-clause-headline : goal.returns-in-Some-Run-clause-headline
@@ -74,3 +77,38 @@ returns-in-Some-Focus-clause-focus_complete g c = λ script files question run s
     (λ e. no_write (let failed = rw e at c.focus.ensures.sink_failed in omega (arith, failed)))
     (λ e. no_fetch (let failed = rw e at c.focus.ensures.shelf_failed (λ five. omega (arith, five)) in omega (arith, failed)))
     (λ e. (let long = (asks.long e).0 in omega (arith, short, long)))
+
+pub returns-in-Some-Stack-clause-stack : goal.returns-in-Some-Stack-clause-stack
+returns-in-Some-Stack-clause-stack g c = λ script files run short.
+    subst (λ (lines : List Line). Writes c.stack.result (g.K.Sink.state c.args.sink.now).gone (g.K.Sink.state c.stack.new.sink).gone (after_from (Stacked empty_stack) files lines).text)
+    (carried_short script short) (c.stack.ensures.runs files script run.shelf run.source).writes
+
+pub returns-in-Some-Stack-clause-stack_refused : goal.returns-in-Some-Stack-clause-stack_refused
+returns-in-Some-Stack-clause-stack_refused g c = λ script files run ended. ((c.stack.ensures.runs files script run.shelf run.source).ended ended).1
+
+pub returns-in-Some-Stack-clause-stack_ends : goal.returns-in-Some-Stack-clause-stack_ends
+returns-in-Some-Stack-clause-stack_ends g c = λ script files run. c.stack.ensures.runs files script run.shelf run.source
+
+pub returns-in-Some-Stack-clause-stack_works : goal.returns-in-Some-Stack-clause-stack_works
+returns-in-Some-Stack-clause-stack_works g c = λ script files run. c.stack.ensures.works files script run.shelf run.source
+
+pub returns-in-Some-Stack-clause-stack_worth : goal.returns-in-Some-Stack-clause-stack_worth
+returns-in-Some-Stack-clause-stack_worth g c = λ script files run ended. ((c.stack.ensures.works files script run.shelf run.source).ended ended).worth
+
+pub returns-in-Some-Stack-clause-stack_isolated : goal.returns-in-Some-Stack-clause-stack_isolated
+returns-in-Some-Stack-clause-stack_isolated g c = λ script files k run. page_isolated script files k
+
+pub returns-in-Some-Stack-clause-stack_complete : goal.returns-in-Some-Stack-clause-stack_complete
+returns-in-Some-Stack-clause-stack_complete g c = λ script files run short no_read no_write no_fetch.
+    let runs = c.stack.ensures.runs files script run.shelf run.source in
+    c.stack.ensures.whole
+    (λ e. no_read (let failed = rw e at c.stack.ensures.source_failed in omega (arith, failed)))
+    (λ e. no_write (let failed = rw e at c.stack.ensures.sink_failed in omega (arith, failed)))
+    (λ e. no_fetch (let failed = rw e at c.stack.ensures.shelf_failed (λ five. omega (arith, five)) in omega (arith, failed)))
+    (λ e. (let long = (runs.long e).0 in omega (arith, short, long)))
+
+pub returns-in-Some-Run-clause-fetched : goal.returns-in-Some-Run-clause-fetched
+returns-in-Some-Run-clause-fetched g c = λ script files run ended. ((c.run.ensures.works files script run.shelf run.source).ended ended).fetched
+
+pub returns-in-Some-Stack-clause-stack_fetched : goal.returns-in-Some-Stack-clause-stack_fetched
+returns-in-Some-Stack-clause-stack_fetched g c = λ script files run ended. ((c.stack.ensures.works files script run.shelf run.source).ended ended).fetched

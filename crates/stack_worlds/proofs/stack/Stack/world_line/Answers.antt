@@ -38,6 +38,7 @@ returns g c =
       ];
       files_stay = c.line_at.ensures.files_stay;
       unasked = λ world e. c.line_at.ensures.unasked world (old ∙ e);
+      fetched = λ world e. c.line_at.ensures.fetched world (old ∙ e);
       shelf_failed = c.line_at.ensures.shelf_failed;
       asked = λ world e. c.line_at.ensures.asked world (old ∙ e);
       memory = c.line_at.ensures.memory;

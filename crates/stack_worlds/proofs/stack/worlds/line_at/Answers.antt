@@ -2,7 +2,7 @@ use Rattle.std.proofs.Common.{◌∙◌, ap, refl, subst, sym}
 use Rattle.script_lines.specs.PlainCommands.{plain_command}
 use Rattle.stack_worlds.specs.KeptStack.{kept_world}
 use Rattle.stack_worlds.specs.WindowLines.{WorksIn}
-use Rattle.view_world.specs.Carried.{AreAtHand, WritesReply}
+use Rattle.view_world.specs.Carried.{AreAtHand, WritesReply, fetches_after}
 use Rattle.view_world.specs.Inflating.{asked_file}
 use Rattle.view_world.specs.KeyedWorld.{KeyedWorld, world_of}
 use Rattle.view_world.specs.Step.{step}
@@ -53,3 +53,9 @@ pub returns-in-Some-clause-unasked : goal.returns-in-Some-clause-unasked
 returns-in-Some-clause-unasked g c world e none =
     let same = c.deref_mut.ensures.value ∙ some_of (sym (ap kept_world c.in-Some.is) ∙ e) in
     c.line.ensures.unasked (ap (λ (w : KeyedWorld). asked_file (world_of w) (plain_command c.args.command)) same ∙ none)
+
+pub returns-in-Some-clause-fetched : goal.returns-in-Some-clause-fetched
+returns-in-Some-clause-fetched g c world e =
+    let same = c.deref_mut.ensures.value ∙ some_of (sym (ap kept_world c.in-Some.is) ∙ e) in
+    let said = plain_command c.args.command in
+    c.line.ensures.fetched ∙ ap (λ (w : KeyedWorld). fetches_after (asked_file (world_of w) said) (g.F.Shelf.fetches c.args.shelf.now)) same

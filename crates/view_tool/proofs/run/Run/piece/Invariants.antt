@@ -1,5 +1,7 @@
 use Rattle.std.proofs.Common.{◌≡◌, min, ◌≤◌, ◌<◌, ◌+◌, ◌-◌, ◌*◌, ◌++◌, ◌^◌, List, ℕ, length, take}
 use Rattle.view_model.specs.declared.limits.TheConstants.{MAX_VIEWS}
+use Rattle.view_tool.specs.Carried.{Carried}
+use Rattle.view_tool.specs.Carrier.{next_of}
 use Rattle.view_tool.specs.Run.{HasReadUpTo}
 use Rattle.view_tool.specs.Works.{Trace, trace}
 use Rattle.view_tool.proofs.run.Run.piece.Given as goal
@@ -8,9 +10,9 @@ use Rattle.view_tool.proofs.run.Run.piece.Given as goal
 abbrev pub invariant-loop-at : goal.invariant-loop-at
 invariant-loop-at g l = record {
   within : l.at ≤ length l.piece;
-  behind : (first : Trace) (before : List ℕ) → length (before ++ l.piece) < 2 ^ 63 → HasReadUpTo (g.F.Shelf.files l.fn.shelf) first (trace (g.K.Sink.state l.fn.sink) l.fn.work) l.fn.self before
-      → HasReadUpTo (g.F.Shelf.files l.fn.shelf) first (trace (g.K.Sink.state l.sink) l.work) l.self (before ++ take l.at l.piece);
-  numbers : l.self.runner.world.screen.views.next ≤ l.fn.self.runner.world.screen.views.next + MAX_VIEWS * l.at;
+  behind : (start : Carried) (first : Trace) (before : List ℕ) → length (before ++ l.piece) < 2 ^ 63 → HasReadUpTo start (g.F.Shelf.files l.fn.shelf) first (trace (g.K.Sink.state l.fn.sink) l.fn.work (g.F.Shelf.fetches l.fn.shelf)) l.fn.self before
+      → HasReadUpTo start (g.F.Shelf.files l.fn.shelf) first (trace (g.K.Sink.state l.sink) l.work (g.F.Shelf.fetches l.shelf)) l.self (before ++ take l.at l.piece);
+  numbers : next_of l.self.runner.carrier ≤ next_of l.fn.self.runner.carrier + MAX_VIEWS * l.at;
   files : g.F.Shelf.files l.shelf ≡ g.F.Shelf.files l.fn.shelf;
   fetches : g.F.Shelf.faults l.shelf ≡ g.F.Shelf.faults l.fn.shelf;
   painted : l.fn.work.painted ≤ l.work.painted;
