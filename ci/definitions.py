@@ -20,6 +20,8 @@ WORDS = r"(?:(?:abbrev|unfoldable|opaque|pub|infix[lr]?|\d+)\s+)*"
 TYPE = re.compile(WORDS + r"(data|record)\s+([^\s:({]+)")
 NAMED = re.compile(WORDS + r"([^\s:(){},]+)\s*(?:[({].*[)}]\s*)?:(?:\s|$)")
 MODULE = re.compile(WORDS + r"(module)\s")
+# a law that is there to be read, as one that ties a table of the code to the definitions
+OWN_SAKE = re.compile(r"-- for its own sake\b", re.I)
 # what is declared below another line: a constructor, or a definition of a module with parameters
 INNER = re.compile(r"^\s+" + WORDS + r"(?:(?:data|record)\s+)?([^\s:(){},]+)\s*(?:[({].*[)}]\s*)?:(?:\s|$)", re.M)
 
@@ -125,9 +127,18 @@ def all_files():
     return [parsed(path) for path in files_below(".antt", ("specs", "proofs"))]
 
 
+def is_for_its_own_sake(file, it):
+    """Whether the comment above a definition, or at the head of its file, says that nothing has to use it."""
+    lines = file.text.split("\n")
+    above = it.line - 1
+    while above > 0 and lines[above - 1].startswith("--"):
+        above -= 1
+    return any(OWN_SAKE.match(line) for line in (lines[0], lines[above]))
+
+
 def unreached(files):
-    """The definitions and lemmas that no code, and no answer to a goal of code, uses in any way. Those whose name has
-    holes are not looked at, since the language uses some of them without their names."""
+    """The definitions and lemmas that no code, no answer to a goal of code, and nothing that is for its own sake uses in
+    any way. Those whose name has holes are not looked at, since the language uses some of them without their names."""
     places = {it: file for file in files for it in file.definitions}
     known = {}
     for it in places:
@@ -138,6 +149,7 @@ def unreached(files):
         ready += code.named(known)
     for file in filter(lambda file: is_root(file.path), files):
         ready += file.uses(set(TOKEN.findall(COMMENT.sub("", file.body))), known)
+    ready += [it for it, file in places.items() if is_for_its_own_sake(file, it)]
     reached = set()
     while ready:
         found = ready.pop()

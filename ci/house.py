@@ -2,8 +2,9 @@
 
     python3 ci/house.py > ci/house.txt
 
-    unused import       a name that a file of code or of definitions imports and does not use, which a trait may be
-    unreached           a definition or a lemma that no code, and no answer to a goal of code, uses (definitions.py)
+    unused import       a name that a file of code or of definitions imports and does not use
+    unreached           a definition or a lemma that no code, and no answer to a goal of code, uses, and that is not for its
+                        own sake by the comment above it (definitions.py)
     twice               a record or a data type whose name another one has too
     many parameters     a function with more than five, `self` not counted
     wide clause         a function with a line of its contract above 120 columns
@@ -28,9 +29,14 @@ SHOWN = 12
 USE = re.compile(r"^[ \t]*(pub(?:\([a-z]+\))? )?(ghost )?use ([^;]+);", re.M)
 ANTT_USE = re.compile(r"^use (\S+?)(?:\.\{([^}]*)\}| as (\S+))?$", re.M)
 COMMENT = re.compile(r"(?:^|\s)//.*$", re.M)
-CLAUSE = re.compile(r"^[ ]*(?:requires|ensures)\b.*(?:\n[ ]+(?!requires|ensures|fn\b).*[^;\n])*", re.M)
 FUNCTION = re.compile(r"^( *)(?:pub(?:\([a-z]+\))? )?(?:const )?fn (\w+)", re.M)
 WORD = re.compile(r"[\w']+")
+CLAUSE = re.compile(r"\b(?:requires|ensures)\*?(?: [\w-]+)? \{")
+TEXT = re.compile(r'"(\\.|[^"\\\n])*"')
+# the end of a line of a clause at which a record begins
+RECORD = re.compile(r"\brecord( [^{}]*)? \{$")
+# traits of libraries, which calls of their methods use without the name
+TRAITS = {"ByteOrder", "Digest"}
 
 
 def below_top(path):
@@ -87,7 +93,7 @@ def functions(text):
         if end is None:
             continue
         opened = next((k for k in range(first, end + 1) if lines[k] == margin + "{"
-                       or lines[k].startswith(margin) and lines[k].endswith(" {")), end)
+                       or lines[k].startswith(margin) and lines[k].endswith(" {") and not RECORD.search(lines[k])), end)
         head = lines[first : opened + (lines[opened] != margin + "{")]
         yield Function(found[2], head, lines[opened + 1 : end])
 
@@ -111,17 +117,34 @@ def has(name, text, words):
     return name in words if WORD.fullmatch(name) else name in text
 
 
+def clauses(text):
+    """The clauses of code."""
+    blank = TEXT.sub(lambda found: "_" * len(found[0]), text)
+    for found in CLAUSE.finditer(blank):
+        depth, place = 1, found.end()
+        while depth and place < len(text):
+            depth += (blank[place] in "([{") - (blank[place] in ")]}")
+            place += 1
+        yield text[found.start() : place]
+
+
 def unused_in_code(path, text):
     plain = COMMENT.sub("", text)
-    heads = [line for it in functions(plain) for line in it.head] + CLAUSE.findall(plain)
+    heads = [line for it in functions(plain) for line in it.head]
+    body = rust = USE.sub("", plain)
+    own = list(clauses(body))
+    for clause in own:
+        rust = rust.replace(clause, "", 1)
     ghosts = "\n".join([line for line in plain.split("\n") if not USE.match(line) and (
-        re.match(r"\s*(ghost|requires|ensures|#)", line) or not re.search(r"[;{}]$", line))] + heads)
-    body = USE.sub("", plain)
-    clauses = re.compile(r"^\s*(requires|ensures)\b.*$|^\s+(→|×|⊎).*$", re.M)
-    rust = clauses.sub("", body)
+        re.match(r"\s*(ghost|#)", line) or not re.search(r"[;{}]$", line))] + heads + own)
     words = {True: set(WORD.findall(ghosts)), False: set(WORD.findall(rust))}
-    for name, is_ghost in imported(plain):
-        if name not in ("self", "_", "*") and not has(name, body if is_ghost else rust, words[is_ghost]):
+    names = list(imported(plain))
+    # clauses may use what is imported for code, if there is no ghost import of the same name
+    in_clauses = words[True] - {name for name, is_ghost in names if is_ghost}
+    for name, is_ghost in names:
+        if name in ("self", "_", "*") or not is_ghost and (name in TRAITS or name in in_clauses):
+            continue
+        if not has(name, body if is_ghost else rust, words[is_ghost]):
             yield "unused import: %s: %s" % (below_top(path), name)
 
 

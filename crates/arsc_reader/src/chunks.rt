@@ -113,7 +113,8 @@ impl Reading {
         requires package_id { package_id ≤ 255 }
         requires place { place ≤ end }
         requires end { end ≤ length bytes.now }
-        ensures value { Gives (λ next. (next, found self.new)) result (one_chunk (in_package bytes.now package_id) bytes.now end place (found self.old)) }
+        ensures value { Gives (λ next. (next, found self.new)) result
+            (one_chunk (in_package bytes.now package_id) bytes.now end place (found self.old)) }
         ensures bounds { IfOk result (λ next. (place < next) × (next ≤ end)) }
     {
         let chunk = chunk_at(bytes, place, end)?;
@@ -133,7 +134,8 @@ impl Reading {
         requires package_id { package_id ≤ 255 }
         requires place { place ≤ end }
         requires end { end ≤ length bytes.now }
-        ensures { Does (found self.new) result (all_chunks (in_package bytes.now package_id) bytes.now end place (found self.old)) }
+        ensures { Does (found self.new) result
+            (all_chunks (in_package bytes.now package_id) bytes.now end place (found self.old)) }
     {
         let mut at = place;
         while at < end {
@@ -204,7 +206,8 @@ impl Reading {
     ) -> Result<usize, ReadFault>
         requires place { place ≤ end }
         requires end { end ≤ length bytes.now }
-        ensures value { Gives (λ next. (next, found self.new)) result (one_chunk (in_table bytes.now) bytes.now end place (found self.old)) }
+        ensures value { Gives (λ next. (next, found self.new)) result
+            (one_chunk (in_table bytes.now) bytes.now end place (found self.old)) }
         ensures bounds { IfOk result (λ next. (place < next) × (next ≤ end)) }
     {
         let chunk = chunk_at(bytes, place, end)?;

@@ -37,7 +37,8 @@ fn put_word<K: Sink>(reply: &mut TextBuffer, sink: &mut K, name: &[u8], word: u3
 
 /// Puts a value of a type that has no form of its own.
 fn put_other<K: Sink>(reply: &mut TextBuffer, sink: &mut K, kind: u8, word: u32)
-    ensures { Sends (K.state sink.old) (K.state sink.new) reply.old reply.new (codes "other " ⧺ hex_text kind 2 ⧺ codes " " ⧺ hex_text word 8) }
+    ensures { Sends (K.state sink.old) (K.state sink.new) reply.old reply.new
+        (codes "other " ⧺ hex_text kind 2 ⧺ codes " " ⧺ hex_text word 8) }
 {
     reply.put(sink, b"other ");
     reply.hex(sink, u32::from(kind), 2);
@@ -47,7 +48,8 @@ fn put_other<K: Sink>(reply: &mut TextBuffer, sink: &mut K, kind: u8, word: u32)
 
 /// Puts a string in quotes, with its escapes.
 fn put_quoted<K: Sink>(reply: &mut TextBuffer, sink: &mut K, text: &str)
-    ensures { Sends (K.state sink.old) (K.state sink.new) reply.old reply.new (codes "\"" ⧺ texts_of escaped text.now ⧺ codes "\"") }
+    ensures { Sends (K.state sink.old) (K.state sink.new) reply.old reply.new
+        (codes "\"" ⧺ texts_of escaped text.now ⧺ codes "\"") }
 {
     reply.put(sink, b"\"");
     put_string(reply, sink, text);
@@ -57,7 +59,8 @@ fn put_quoted<K: Sink>(reply: &mut TextBuffer, sink: &mut K, text: &str)
 impl Table {
     /// Puts the string of a number in quotes, or that there is none.
     fn put_string_at<K: Sink>(&self, reply: &mut TextBuffer, sink: &mut K, word: u32)
-        ensures { Sends (K.state sink.old) (K.state sink.new) reply.old reply.new (quoted_text (text_of self.now.pool word)) }
+        ensures { Sends (K.state sink.old) (K.state sink.new) reply.old reply.new
+            (quoted_text (text_of self.now.pool word)) }
     {
         match self.text(word) {
             Some(text) => put_quoted(reply, sink, text),
@@ -67,7 +70,8 @@ impl Table {
 
     /// Puts a value that is the number of a string.
     fn put_text<K: Sink>(&self, reply: &mut TextBuffer, sink: &mut K, word: u32)
-        ensures { Sends (K.state sink.old) (K.state sink.new) reply.old reply.new (codes "text " ⧺ quoted_text (text_of self.now.pool word)) }
+        ensures { Sends (K.state sink.old) (K.state sink.new) reply.old reply.new
+            (codes "text " ⧺ quoted_text (text_of self.now.pool word)) }
     {
         reply.put(sink, b"text ");
         self.put_string_at(reply, sink, word);
@@ -102,7 +106,8 @@ impl Table {
 
     /// Puts what the resource with an id holds.
     fn put_held_by<K: Sink>(&self, reply: &mut TextBuffer, sink: &mut K, id: u32)
-        ensures { Sends (K.state sink.old) (K.state sink.new) reply.old reply.new (held_text self.now.pool (value_of self.now.entries id)) }
+        ensures { Sends (K.state sink.old) (K.state sink.new) reply.old reply.new
+            (held_text self.now.pool (value_of self.now.entries id)) }
     {
         let held = self.value(id);
         self.put_held(reply, sink, held);

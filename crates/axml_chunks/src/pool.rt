@@ -132,7 +132,8 @@ impl Gathering {
     /// Adds a string, whose offset is at a place of the file.
     #[tactic(auto, unfolding(crate::specs::Pool::gathered), using(std::proofs::lemmas::Grind::common_steps))]
     fn add(&mut self, entry: usize, text: Option<String>) -> Result<(), ReadFault>
-        ensures value { Does (gathering self.new) result (gathered (gathering self.old) entry (option_map string_bytes text)) }
+        ensures value { Does (gathering self.new) result
+            (gathered (gathering self.old) entry (option_map string_bytes text)) }
         ensures count { OnOk result (length self.new.texts.items ≡ length self.old.texts.items + 1) }
     {
         let Some(text) = text else {

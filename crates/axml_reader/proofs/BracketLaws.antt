@@ -68,7 +68,7 @@ rooted_passes same word r =
     ∙ plain_passes same r.after [] (nothing_open true) r.after_plain
 
 -- a word that takes a name off the stack: a balanced one up to the bracket that closes it, and the rest
-pub record Splits (same : ℕ → ℕ → Bool) (opened : List ℕ) (a : ℕ) (word : List Token) (t : Stack) : Type 0 where
+pub record SplitsAtClose (same : ℕ → ℕ → Bool) (opened : List ℕ) (a : ℕ) (word : List Token) (t : Stack) : Type 0 where
   pub inner : List Token
   pub last : ℕ
   pub rest : List Token
@@ -84,7 +84,7 @@ some_is : {A : Type 0} (s t : A) → (◌≡◌ {A = Option A} (Some s) (Some t)
 some_is s t e = cc
 
 by_name : (same : ℕ → ℕ → Bool) (opened : List ℕ) (a b : ℕ) (word : List Token) (t : Stack) (v : Bool) → same b a ≡ v
-    → brackets same (within opened a) (Closes b ∷ word) ≡ Some t → Splits same opened a (Closes b ∷ word) t
+    → brackets same (within opened a) (Closes b ∷ word) ≡ Some t → SplitsAtClose same opened a (Closes b ∷ word) t
 by_name same opened a b word t true v e =
     record {
       inner = [];
@@ -99,7 +99,7 @@ by_name same opened a b word t false v e =
     absurd (not_none t (sym (rw (closes_top same opened a b, v) refl) ∙ e))
 
 closes_later : (n : ℕ) (same : ℕ → ℕ → Bool) (opened : List ℕ) (a : ℕ) (word : List Token) (t : Stack) → length word ≤ n
-    → brackets same (within opened a) word ≡ Some t → length t.opened ≤ length opened → Splits same opened a word t
+    → brackets same (within opened a) word ≡ Some t → length t.opened ≤ length opened → SplitsAtClose same opened a word t
 closes_later n same opened a [] t le e low =
     let up : length (opened ++ a ∷ []) ≡ length t.opened = ap (λ (s : Stack). length s.opened) (some_is (within opened a) t e) in
     absurd (omega (arith, up, low, length-append opened (a ∷ [])))

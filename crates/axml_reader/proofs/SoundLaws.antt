@@ -16,7 +16,7 @@ use Rattle.axml_reader.specs.Document.{Document}
 use Rattle.axml_reader.specs.Fields.{is_reference, strings, same_text}
 use Rattle.axml_reader.specs.Parts.{Part, Strings, Ids, Item, Other, token}
 use Rattle.axml_reader.specs.Relation.{IsReference, IsAttr, AreAttrs, IsNode, Place, AreParts, pools_of, nodes_of, attrs_of, IsDocument}
-use Rattle.axml_reader.specs.Sound.{AreShort, has_strings, attr_has_strings, is_within, has_few_attrs, IsSound}
+use Rattle.axml_reader.specs.Sound.{AreShort, has_strings, attr_has_strings, is_within, has_few_attrs, IsSoundDocument}
 use Rattle.axml_reader.proofs.BracketLaws.{rooted_test}
 use Rattle.axml_reader.proofs.DocumentLaws.{pools_before, first_is, not_two}
 use Rattle.axml_reader.proofs.FieldLaws.{test_by_reference}
@@ -153,7 +153,7 @@ parts_short bytes o before (p ∷ ps) (Ids ids ∷ rest) only each e = parts_sho
 parts_short bytes o before (p ∷ ps) (Item node attrs ∷ rest) only each e = parts_short bytes o (before + length attrs) ps rest only each.1 e
 parts_short bytes o before (p ∷ ps) (Other ∷ rest) only each e = parts_short bytes o (before + 0) ps rest only each.1 e
 
-pub document_sound : (bytes : List ℕ) (doc : Document) → IsDocument bytes doc → IsSound doc
+pub document_sound : (bytes : List ℕ) (doc : Document) → IsDocument bytes doc → IsSoundDocument doc
 document_sound bytes doc is =
     let k = keep bytes None 0 (length (attrs_of is.parts)) is.places is.parts doc.pool is.each is.pool_is (omega arith) in
     record {

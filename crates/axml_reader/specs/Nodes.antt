@@ -126,7 +126,7 @@ pub record IsBody (place : ℕ) (chunk : Chunk) (form body : ℕ) : Type 0 where
   pub body_is : body ≡ place + chunk.head
 
 -- the attributes of an element fit in n bytes, and the element is not one too many
-pub record IsStart (len begun : ℕ) (chunk : Chunk) (head : StartHead) : Type 0 where
+pub record StartFits (len begun : ℕ) (chunk : Chunk) (head : StartHead) : Type 0 where
   pub header : 16 ≤ chunk.head
   pub begun_few : begun < 4096
   pub count : head.count ≤ 256

@@ -62,7 +62,7 @@ AreFew nodes = starts_in (map token nodes) ≤ 4096
 abbrev pub AreRooted : StringPool → List Node → Type 0
 AreRooted pool nodes = is_rooted (same_text (Some pool)) (map token nodes) ≡ true
 
-pub record IsSound (doc : Document) : Type 0 where
+pub record IsSoundDocument (doc : Document) : Type 0 where
   pub short : AreShort doc.pool
   pub strings : HaveStrings doc.pool doc.nodes
   pub attr_strings : AttrsHaveStrings doc.pool doc.attrs

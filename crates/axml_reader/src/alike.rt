@@ -25,7 +25,9 @@ pub fn none_alike(alloc: Global, count: u32) -> Result<Vec<u32>, AllocError>
 /// The number to which a number leads in the end. Each number on the way then leads one step
 /// further, which keeps paths short.
 fn least(alike: &mut [u32], mut number: u32) -> u32
-    ensures { (pool : Option StringPool) → AreAlike pool alike.old → AreAlike pool alike.new × (text_of pool result ≡ text_of pool number) }
+    ensures { (pool : Option StringPool)
+        → AreAlike pool alike.old
+        → AreAlike pool alike.new × (text_of pool result ≡ text_of pool number) }
 {
     while (number as usize) < alike.len() {
         let next = alike[number as usize];
@@ -40,7 +42,10 @@ fn least(alike: &mut [u32], mut number: u32) -> u32
 
 /// Makes the greater of two numbers lead to the other.
 fn join(alike: &mut [u32], a: u32, b: u32)
-    ensures { (pool : Option StringPool) → AreAlike pool alike.old → text_of pool a ≡ text_of pool b → AreAlike pool alike.new }
+    ensures { (pool : Option StringPool)
+        → AreAlike pool alike.old
+        → text_of pool a ≡ text_of pool b
+        → AreAlike pool alike.new }
 {
     let (low, high) = if a < b { (a, b) } else { (b, a) };
     if (high as usize) < alike.len() {

@@ -5,7 +5,7 @@ ghost use Rattle.axml_chunks.specs.Steps.{Gives};
 ghost use Rattle.axml_reader.specs.Decoding.{start, document_of, one_chunk, chunks_from, finished, decoded};
 ghost use Rattle.axml_reader.specs.Document.{Document};
 ghost use Rattle.axml_reader.specs.Relation.{IsDocument};
-ghost use Rattle.axml_reader.specs.Sound.{IsSound};
+ghost use Rattle.axml_reader.specs.Sound.{IsSoundDocument};
 ghost use Rattle.axml_reader.specs.Meaning.{document, reading};
 
 use crate::doc::Doc;
@@ -65,7 +65,8 @@ impl Reading {
     ) -> Result<usize, ReadFault>
         requires at { at ≤ end }
         requires end { end ≤ length bytes.now }
-        ensures value { Gives (λ place. (place, reading self.new)) result (one_chunk bytes.now end at (reading self.old)) }
+        ensures value { Gives (λ place. (place, reading self.new)) result
+            (one_chunk bytes.now end at (reading self.old)) }
         ensures bounds { IfOk result (λ place. (at < place) × (place ≤ end)) }
     {
         let chunk = chunk_at(bytes, at, end)?;
@@ -76,7 +77,7 @@ impl Reading {
     /// The document, once all was read up to its end.
     #[tactic(auto, unfolding(crate::specs::Decoding::finished))]
     fn finish(self, end: usize) -> Result<Doc, ReadFault>
-        requires { (doc : Document) → finished end (reading self) ≡ Ok doc → IsSound doc }
+        requires { (doc : Document) → finished end (reading self) ≡ Ok doc → IsSoundDocument doc }
         ensures { Gives document result (finished end (reading self)) }
     {
         if !self.opened.is_empty() {

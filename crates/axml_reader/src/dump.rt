@@ -160,7 +160,8 @@ fn string_of(pool: &Pool, k: u32) -> &str
 
 /// Sends the lines of all strings of a pool.
 fn put_each_string<K: Sink>(text: &mut TextBuffer, sink: &mut K, pool: &Pool)
-    ensures { Sends (K.state sink.old) (K.state sink.new) text.old text.new (texts_of string_line (enumerate_from 0 pool.now.texts)) }
+    ensures { Sends (K.state sink.old) (K.state sink.new) text.old text.new
+        (texts_of string_line (enumerate_from 0 pool.now.texts)) }
 {
     for k in 0..pool.len() {
         put_string_line(text, sink, k, string_of(pool, k));
@@ -309,7 +310,8 @@ fn put_node_lines<K: Sink>(text: &mut TextBuffer, sink: &mut K, attrs: &[Attr], 
 /// Sends the lines of all nodes.
 fn put_each_node<K: Sink>(text: &mut TextBuffer, sink: &mut K, attrs: &[Attr], nodes: &[Node])
     requires { AreWithin attrs.now nodes.now }
-    ensures { Sends (K.state sink.old) (K.state sink.new) text.old text.new (texts_of (node_lines attrs.now) nodes.now) }
+    ensures { Sends (K.state sink.old) (K.state sink.new) text.old text.new
+        (texts_of (node_lines attrs.now) nodes.now) }
 {
     for node in nodes {
         put_node_lines(text, sink, attrs, node);

@@ -142,7 +142,8 @@ pub fn push_attrs(
     requires count { head.count ≤ 256 }
     requires step { head.step < 2 ^ 16 }
     requires last { 0 < head.count → (20 ≤ head.step) × (head.place + head.count * head.step ≤ length bytes.now) }
-    ensures value { Does attrs.new.items result (attrs_upto bytes.now count head.place head.step attrs.old.items head.count) }
+    ensures value { Does attrs.new.items result
+        (attrs_upto bytes.now count head.place head.step attrs.old.items head.count) }
     ensures len { length attrs.new.items ≤ length attrs.old.items + head.count }
 {
     for k in 0..head.count {

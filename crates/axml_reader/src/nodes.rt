@@ -5,7 +5,7 @@ ghost use Rattle.axml_chunks.specs.Steps.{Does};
 ghost use Rattle.axml_reader.specs.Alike.{AreAlike};
 ghost use Rattle.axml_reader.specs.Brackets.{is_closed_by};
 ghost use Rattle.axml_reader.specs.Fields.{same_text};
-ghost use Rattle.axml_reader.specs.Nodes.{IsBody, IsStart, is_short, body_at, is_outside, pair_at, names_at, chars_at, start_at, pool_part, map_part, namespace_start_part, namespace_end_part, start_part, end_part, chars_part, part_at, joined};
+ghost use Rattle.axml_reader.specs.Nodes.{IsBody, StartFits, is_short, body_at, is_outside, pair_at, names_at, chars_at, start_at, pool_part, map_part, namespace_start_part, namespace_end_part, start_part, end_part, chars_part, part_at, joined};
 ghost use Rattle.axml_reader.specs.Meaning.{reading};
 
 use crate::alike::{are_alike, none_alike};
@@ -105,7 +105,7 @@ fn start_at(
 ) -> Result<StartHead, Fault>
     requires { IsChunk at (length bytes.now) chunk }
     ensures value { result ≡ start_at bytes.now at chunk count closed starts }
-    ensures bounds { IfOk result (λ head. IsStart (length bytes.now) starts chunk head) }
+    ensures bounds { IfOk result (λ head. StartFits (length bytes.now) starts chunk head) }
 {
     let body = body_at(at, chunk, 20)?;
     if closed {
@@ -163,7 +163,8 @@ impl Reading {
         chunk: Chunk,
     ) -> Result<(), ReadFault>
         requires { IsChunk at (length bytes.now) chunk }
-        ensures { Does (reading self.new) result (joined (reading self.old) (pool_part bytes.now at chunk (reading self.old))) }
+        ensures { Does (reading self.new) result
+            (joined (reading self.old) (pool_part bytes.now at chunk (reading self.old))) }
     {
         if self.pool.is_some() {
             return Err(ReadFault::Bad(Fault {
@@ -187,7 +188,8 @@ impl Reading {
         chunk: Chunk,
     ) -> Result<(), ReadFault>
         requires { IsChunk at (length bytes.now) chunk }
-        ensures { Does (reading self.new) result (joined (reading self.old) (map_part bytes.now at chunk (reading self.old))) }
+        ensures { Does (reading self.new) result
+            (joined (reading self.old) (map_part bytes.now at chunk (reading self.old))) }
     {
         self.map = words_at(alloc, bytes, at + chunk.head, (chunk.size - chunk.head) / 4)?;
         Ok(())
@@ -202,7 +204,8 @@ impl Reading {
         chunk: Chunk,
     ) -> Result<(), ReadFault>
         requires { IsChunk at (length bytes.now) chunk }
-        ensures { Does (reading self.new) result (joined (reading self.old) (namespace_start_part bytes.now at chunk (reading self.old))) }
+        ensures { Does (reading self.new) result
+            (joined (reading self.old) (namespace_start_part bytes.now at chunk (reading self.old))) }
     {
         let (prefix, uri) = pair_at(bytes, at, chunk, string_count(&self.pool))?;
         self.nodes.push(Node::NsStart { prefix, uri })?;
@@ -213,7 +216,8 @@ impl Reading {
     #[tactic(auto, unfolding(crate::specs::Nodes::namespace_end_part))]
     fn read_namespace_end(&mut self, bytes: &[u8], at: usize, chunk: Chunk) -> Result<(), ReadFault>
         requires { IsChunk at (length bytes.now) chunk }
-        ensures { Does (reading self.new) result (joined (reading self.old) (namespace_end_part bytes.now at chunk (reading self.old))) }
+        ensures { Does (reading self.new) result
+            (joined (reading self.old) (namespace_end_part bytes.now at chunk (reading self.old))) }
     {
         let (prefix, uri) = pair_at(bytes, at, chunk, string_count(&self.pool))?;
         self.nodes.push(Node::NsEnd { prefix, uri })?;
@@ -224,7 +228,8 @@ impl Reading {
     #[tactic(auto, unfolding(crate::specs::Nodes::start_part), using(crate::proofs::Attrs::attrs_behind))]
     fn read_start(&mut self, bytes: &[u8], at: usize, chunk: Chunk) -> Result<(), ReadFault>
         requires { IsChunk at (length bytes.now) chunk }
-        ensures { Does (reading self.new) result (joined (reading self.old) (start_part bytes.now at chunk (reading self.old))) }
+        ensures { Does (reading self.new) result
+            (joined (reading self.old) (start_part bytes.now at chunk (reading self.old))) }
     {
         let count = string_count(&self.pool);
         let head = start_at(bytes, at, chunk, count, self.closed, self.starts)?;
@@ -246,7 +251,8 @@ impl Reading {
     #[tactic(auto, unfolding(crate::specs::Nodes::end_part))]
     fn read_end(&mut self, bytes: &[u8], at: usize, chunk: Chunk) -> Result<(), ReadFault>
         requires { IsChunk at (length bytes.now) chunk }
-        ensures { Does (reading self.new) result (joined (reading self.old) (end_part bytes.now at chunk (reading self.old))) }
+        ensures { Does (reading self.new) result
+            (joined (reading self.old) (end_part bytes.now at chunk (reading self.old))) }
     {
         let (ns, name) = names_at(bytes, at, chunk, string_count(&self.pool))?;
         if !is_closed_by(&self.pool, &mut self.alike, &self.opened, name) {
@@ -269,7 +275,8 @@ impl Reading {
     #[tactic(auto, unfolding(crate::specs::Nodes::chars_part))]
     fn read_chars(&mut self, bytes: &[u8], at: usize, chunk: Chunk) -> Result<(), ReadFault>
         requires { IsChunk at (length bytes.now) chunk }
-        ensures { Does (reading self.new) result (joined (reading self.old) (chars_part bytes.now at chunk (reading self.old))) }
+        ensures { Does (reading self.new) result
+            (joined (reading self.old) (chars_part bytes.now at chunk (reading self.old))) }
     {
         let text = chars_at(bytes, at, chunk, string_count(&self.pool))?;
         let body = at + chunk.head;
@@ -292,7 +299,8 @@ impl Reading {
         chunk: Chunk,
     ) -> Result<(), ReadFault>
         requires { IsChunk at (length bytes.now) chunk }
-        ensures { Does (reading self.new) result (joined (reading self.old) (part_at bytes.now at chunk (reading self.old))) }
+        ensures { Does (reading self.new) result
+            (joined (reading self.old) (part_at bytes.now at chunk (reading self.old))) }
     {
         match chunk.kind {
             0x001 => self.read_pool(alloc, bytes, at, chunk),

@@ -18,7 +18,8 @@ pub fn first_line(text: &[char], n: u32) -> Break
     ensures within { (result.end ≤ result.next) × (result.next ≤ length text.now) }
     ensures goes_on { 0 < length text.now → 0 < result.next }
     ensures first { (place : ℕ) → cell_of n text.now 0 place ≡ slice_get (take result.end text.now) place }
-    ensures rest { (line place : ℕ) → cell_of n text.now (line + 1) place ≡ cell_of n (drop result.next text.now) line place }
+    ensures rest { (line place : ℕ)
+        → cell_of n text.now (line + 1) place ≡ cell_of n (drop result.next text.now) line place }
 {
     let end = line_end(text, n as usize);
     let next = match text.get(end) {

@@ -32,7 +32,8 @@ pub fn cell(text: &Text, n: u32, line: u32, place: u32) -> Option<char>
 fn last_cell(segment: &[char], n: u32, line: u32, place: u32) -> Option<char>
     requires cells { 0 < n }
     requires few { length segment.now < 2 ^ 31 }
-    ensures { result ≡ (if nat_lt line (lines_for n (length segment.now)) then cell_in n segment.now line place else None) }
+    ensures { result ≡ (if nat_lt line (lines_for n (length segment.now))
+        then cell_in n segment.now line place else None) }
 {
     if line < lines_for(segment.len() as u32, n) {
         return cell_in(segment, n, line, place);

@@ -37,9 +37,6 @@ less_all a b c = before_all a.outside b.outside c.outside a.distance b.distance 
 less_none : (a b c : FocusKey) → is_less c b ≡ false → is_less b a ≡ false → is_less c a ≡ false
 less_none a b c = before_none a.outside b.outside c.outside a.distance b.distance c.distance
 
-one_of : Bool → Candidate → Candidate → Candidate
-one_of less other one = if less then other else one
-
 pub lesser-none : (a : Option Candidate) → lesser None a ≡ a
 lesser-none None = refl
 lesser-none (Some a) = refl

@@ -37,7 +37,8 @@ pub struct Search {
 /// of their last layout. One walk over the tree finds it.
 pub fn next(tree: &ViewTree, window: Size, view: Key, side: Side) -> Option<Key>
     requires { IsLive tree.now view }
-    ensures value { option_map (number_of tree.now) result ≡ next_focus (plain_of tree.now) (geometry_of tree.now) window (number_of tree.now view) side }
+    ensures value { option_map (number_of tree.now) result
+        ≡ next_focus (plain_of tree.now) (geometry_of tree.now) window (number_of tree.now view) side }
     ensures live { IfSome result (λ key. IsLive tree.now key) }
 {
     let from = seen(tree, window, view);
@@ -68,7 +69,8 @@ fn best_in_view(
 ) -> Option<Candidate>
     requires live { IsLive tree.now view }
     requires canvas { IsCanvas (2 ^ 37) canvas }
-    ensures { result ≡ lesser best (least (candidates_in search (sights (held_of tree.now) (as_seen canvas) (first_tree (part_from view tree.now.tree))))) }
+    ensures { result ≡ lesser best (least (candidates_in search
+        (sights (held_of tree.now) (as_seen canvas) (first_tree (part_from view tree.now.tree))))) }
 {
     if !is_drawn(tree.facts(view).visibility) {
         return best;
@@ -98,7 +100,8 @@ fn best_in_children(
 ) -> Option<Candidate>
     requires live { IsLive tree.now view }
     requires canvas { IsCanvas (2 ^ 37) canvas }
-    ensures { result ≡ lesser best (least (candidates_in search (sights (held_of tree.now) (as_seen canvas) (children_of_first (part_from view tree.now.tree))))) }
+    ensures { result ≡ lesser best (least (candidates_in search
+        (sights (held_of tree.now) (as_seen canvas) (children_of_first (part_from view tree.now.tree))))) }
 {
     let mut best = best;
     let mut next = tree.first(view);

@@ -27,14 +27,14 @@ pub record InFirst (plan : FramePlan) (own : Facts) (specs : Specs) (taken : Lis
   pub own_size : plan.own_size ≡ None
 
 -- it is in its second phase, after it took these children in the first
-pub record InSecond (plan : FramePlan) (own : Facts) (specs : Specs) (first : List Measured) : Type 0 where
+pub record InSecondFramePhase (plan : FramePlan) (own : Facts) (specs : Specs) (first : List Measured) : Type 0 where
   pub measured : HasMeasured plan own specs first
   pub own_size : plan.own_size ≡ Some (frame_size own specs first)
 
 -- it has completed these phases, and has taken these children in the one that it is in
 abbrev pub StandsFrame : FramePlan → Facts → Specs → List (List Measured) → List Measured → Type 0
 StandsFrame plan own specs [] taken = InFirst plan own specs taken
-StandsFrame plan own specs (first ∷ []) taken = InSecond plan own specs first
+StandsFrame plan own specs (first ∷ []) taken = InSecondFramePhase plan own specs first
 StandsFrame plan own specs (first ∷ second ∷ more) taken = ⊥
 
 -- the plan at the end of a phase, once it has returned whether another follows

@@ -54,7 +54,9 @@ impl Room {
         requires width { IsSide size.w }
         requires height { IsSide size.h }
         ensures extent { size_of_rect result ≡ size }
-        ensures place { (own : FactsValue) (room : SizeValue) → IsRoom self.now own room → result ≡ frame_place own room kid.now size }
+        ensures place { (own : FactsValue) (room : SizeValue)
+            → IsRoom self.now own room
+            → result ≡ frame_place own room kid.now size }
     {
         let gravity = NO_GRAVITY.for_child(kid.layout_gravity);
         rect_at(
@@ -67,7 +69,8 @@ impl Room {
     #[inline(always)]
     fn left_edge(&self, across: Across, kid: &Facts, width: i32) -> i32
         ensures value { result ≡ clamp_coordinate
-            (low_edge (alignment_across self.now.rtl across) self.now.size.w self.now.padding.left self.now.padding.right width (margin_left kid.now) (margin_right kid.now)) }
+            (low_edge (alignment_across self.now.rtl across) self.now.size.w self.now.padding.left
+            self.now.padding.right width (margin_left kid.now) (margin_right kid.now)) }
         ensures edge { IsCoordinate result }
     {
         to_coordinate(
@@ -85,7 +88,8 @@ impl Room {
     #[inline(always)]
     fn top_edge(&self, down: Down, kid: &Facts, height: i32) -> i32
         ensures value { result ≡ clamp_coordinate
-            (low_edge (alignment_down down) self.now.size.h self.now.padding.top self.now.padding.bottom height kid.now.margins.top kid.now.margins.bottom) }
+            (low_edge (alignment_down down) self.now.size.h self.now.padding.top self.now.padding.bottom height
+            kid.now.margins.top kid.now.margins.bottom) }
         ensures edge { IsCoordinate result }
     {
         to_coordinate(

@@ -40,12 +40,12 @@ alpha_of-opaque_of : (red green blue : ℕ) → red < 2 ^ 8 → green < 2 ^ 8 �
 unfolding alpha_of opaque_of
 alpha_of-opaque_of red green blue r g b = omega arith
 
-record AreBytes (color : Argb) : Type 0 where
-  red : red_of color < 2 ^ 8
-  green : green_of color < 2 ^ 8
-  blue : blue_of color < 2 ^ 8
+pub record AreBytes (color : Argb) : Type 0 where
+  pub red : red_of color < 2 ^ 8
+  pub green : green_of color < 2 ^ 8
+  pub blue : blue_of color < 2 ^ 8
 
-channels : (color : Argb) → AreBytes color
+pub channels : (color : Argb) → AreBytes color
 unfolding red_of green_of blue_of
 channels color = record { red = omega arith; green = omega arith; blue = omega arith }
 

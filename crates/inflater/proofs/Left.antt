@@ -26,16 +26,16 @@ use Rattle.inflater.specs.declared.fault.GrowFault.TheVariants as fault
 use Rattle.inflater.proofs.PlaceLaws.{placed}
 use Rattle.inflater.proofs.PreorderLaws.{inflated_preorder}
 use Rattle.inflater.proofs.RootLaws.{Rooted}
-use Rattle.inflater.proofs.RowLaws.{Row, before, inflated_err, inflated_ok, row_of}
+use Rattle.inflater.proofs.RowLaws.{SproutRow, before, inflated_err, inflated_ok, row_of}
 
 -- what came so far, and what comes
-abbrev pub onto : List Sprout → ℕ → Result Row PlainRefusal → Result Row PlainRefusal
+abbrev pub onto : List Sprout → ℕ → Result SproutRow PlainRefusal → Result SproutRow PlainRefusal
 onto sprouts ignored row = row >>= λ r. Ok (record { sprouts = sprouts ++ r.sprouts; ignored = ignored + r.ignored })
 
 -- This many elements are open and this many began, with these views and this many attributes that are not known. With
 -- the nodes that are left they make the row of the whole document. No end is too many, few elements are left, and few
 -- attributes came.
-pub record Left (doc : Document) (resources : Entries) (dpi depth element ignored : ℕ) (sprouts : List Sprout) (rest : List Node) (total : Result Row PlainRefusal) : Type 0 where
+pub record IsLeftToInflate (doc : Document) (resources : Entries) (dpi depth element ignored : ℕ) (sprouts : List Sprout) (rest : List Node) (total : Result SproutRow PlainRefusal) : Type 0 where
   pub same : onto sprouts ignored (row_of doc resources dpi (suc element) (placed depth rest)) ≡ total
   pub ends : length (nested rest) ≤ depth + 1
   pub few : element + starts_in (map token rest) ≤ 4096
@@ -60,11 +60,11 @@ length-begun node [] = omega arith
 length-begun node (below ∷ []) = omega arith
 length-begun node (below ∷ after ∷ outer) = omega arith
 
-onto_none : (row : Result Row PlainRefusal) → onto [] 0 row ≡ row
+onto_none : (row : Result SproutRow PlainRefusal) → onto [] 0 row ≡ row
 onto_none (Err refusal) = refl
 onto_none (Ok row) = let z : 0 + row.ignored ≡ row.ignored = omega arith in ap (λ n. Ok (record { sprouts = row.sprouts; ignored = n })) z
 
-onto_more : (sprouts : List Sprout) (ignored : ℕ) (sprout : Sprout) (own : ℕ) (row : Result Row PlainRefusal)
+onto_more : (sprouts : List Sprout) (ignored : ℕ) (sprout : Sprout) (own : ℕ) (row : Result SproutRow PlainRefusal)
     → onto sprouts ignored (row >>= λ r. Ok (before sprout own r)) ≡ onto (sprouts ++ sprout ∷ []) (ignored + own) row
 onto_more sprouts ignored sprout own (Err refusal) = refl
 onto_more sprouts ignored sprout own (Ok row) =
@@ -73,7 +73,7 @@ onto_more sprouts ignored sprout own (Ok row) =
     ∙ ap (λ l. Ok (record { sprouts = l; ignored = ignored + own + row.ignored })) (sym (append_assoc sprouts (sprout ∷ []) row.sprouts))
 
 pub left_first : (doc : Document) (resources : Entries) (dpi : ℕ) → length (nested doc.nodes) ≡ 1 → starts_in (map token doc.nodes) ≤ 4096
-    → Left doc resources dpi 0 0 0 [] doc.nodes (row_of doc resources dpi 1 (placed 0 doc.nodes))
+    → IsLeftToInflate doc resources dpi 0 0 0 [] doc.nodes (row_of doc resources dpi 1 (placed 0 doc.nodes))
 left_first doc resources dpi ends few = record {
   same = onto_none (row_of doc resources dpi 1 (placed 0 doc.nodes));
   ends = omega (arith, ends);
@@ -82,10 +82,10 @@ left_first doc resources dpi ends few = record {
   unknown = omega arith;
 }
 
-module _ (doc : Document) (resources : Entries) (dpi depth element ignored : ℕ) (sprouts : List Sprout) (more : List Node) (total : Result Row PlainRefusal) where
-  pub left_start : (line ns name first count : ℕ) (own : OneView) → Left doc resources dpi depth element ignored sprouts (Start line ns name first count ∷ more) total
+module _ (doc : Document) (resources : Entries) (dpi depth element ignored : ℕ) (sprouts : List Sprout) (more : List Node) (total : Result SproutRow PlainRefusal) where
+  pub left_start : (line ns name first count : ℕ) (own : OneView) → IsLeftToInflate doc resources dpi depth element ignored sprouts (Start line ns name first count ∷ more) total
       → view_of doc resources dpi (element + 1) (Start line ns name first count) ≡ Ok own → own.ignored ≤ 256
-      → Left doc resources dpi (depth + 1) (element + 1) (ignored + own.ignored) (sprouts ++ sprout_of (depth + 1) own.seed ∷ []) more total
+      → IsLeftToInflate doc resources dpi (depth + 1) (element + 1) (ignored + own.ignored) (sprouts ++ sprout_of (depth + 1) own.seed ∷ []) more total
   left_start line ns name first count own left is few =
       let d : depth + 1 ≡ suc depth = omega arith in
       let e : element + 1 ≡ suc element = omega arith in
@@ -99,17 +99,17 @@ module _ (doc : Document) (resources : Entries) (dpi depth element ignored : ℕ
         unknown = omega (arith, left.unknown, few);
       }
 
-  pub left_refused : (line ns name first count : ℕ) (refusal : PlainRefusal) → Left doc resources dpi depth element ignored sprouts (Start line ns name first count ∷ more) total
+  pub left_refused : (line ns name first count : ℕ) (refusal : PlainRefusal) → IsLeftToInflate doc resources dpi depth element ignored sprouts (Start line ns name first count ∷ more) total
       → view_of doc resources dpi (element + 1) (Start line ns name first count) ≡ Err refusal → total ≡ Err refusal
   left_refused line ns name first count refusal left is =
       let e : element + 1 ≡ suc element = omega arith in
       let here = ap (λ k. view_of doc resources dpi k (Start line ns name first count)) (sym e) ∙ is in
       let s = rw here at left.same in sym s
 
-  pub some_open : (line ns name : ℕ) → Left doc resources dpi depth element ignored sprouts (End line ns name ∷ more) total → 0 < depth
+  pub some_open : (line ns name : ℕ) → IsLeftToInflate doc resources dpi depth element ignored sprouts (End line ns name ∷ more) total → 0 < depth
   some_open line ns name left = let s = some_nested more in omega (arith, left.ends, s)
 
-  pub left_end : (line ns name : ℕ) → Left doc resources dpi depth element ignored sprouts (End line ns name ∷ more) total → Left doc resources dpi (depth - 1) element ignored sprouts more total
+  pub left_end : (line ns name : ℕ) → IsLeftToInflate doc resources dpi depth element ignored sprouts (End line ns name ∷ more) total → IsLeftToInflate doc resources dpi (depth - 1) element ignored sprouts more total
   left_end line ns name left = (let s = some_nested more in record {
     same = left.same;
     ends = omega (arith, left.ends, s);
@@ -118,13 +118,13 @@ module _ (doc : Document) (resources : Entries) (dpi depth element ignored : ℕ
     unknown = left.unknown;
   })
 
-  pub left_ns_start : (prefix uri : ℕ) → Left doc resources dpi depth element ignored sprouts (NsStart prefix uri ∷ more) total → Left doc resources dpi depth element ignored sprouts more total
+  pub left_ns_start : (prefix uri : ℕ) → IsLeftToInflate doc resources dpi depth element ignored sprouts (NsStart prefix uri ∷ more) total → IsLeftToInflate doc resources dpi depth element ignored sprouts more total
   left_ns_start prefix uri left = record { same = left.same; ends = left.ends; few = omega (arith, left.few); deep = left.deep; unknown = left.unknown }
 
-  pub left_ns_end : (prefix uri : ℕ) → Left doc resources dpi depth element ignored sprouts (NsEnd prefix uri ∷ more) total → Left doc resources dpi depth element ignored sprouts more total
+  pub left_ns_end : (prefix uri : ℕ) → IsLeftToInflate doc resources dpi depth element ignored sprouts (NsEnd prefix uri ∷ more) total → IsLeftToInflate doc resources dpi depth element ignored sprouts more total
   left_ns_end prefix uri left = record { same = left.same; ends = left.ends; few = omega (arith, left.few); deep = left.deep; unknown = left.unknown }
 
-  pub left_chars : (line text kind word : ℕ) → Left doc resources dpi depth element ignored sprouts (Chars line text kind word ∷ more) total → Left doc resources dpi depth element ignored sprouts more total
+  pub left_chars : (line text kind word : ℕ) → IsLeftToInflate doc resources dpi depth element ignored sprouts (Chars line text kind word ∷ more) total → IsLeftToInflate doc resources dpi depth element ignored sprouts more total
   left_chars line text kind word left = record { same = left.same; ends = left.ends; few = omega (arith, left.few); deep = left.deep; unknown = left.unknown }
 
 -- all was looked at: the views are those of the document, and a sapling's
@@ -137,7 +137,7 @@ pub record Done (doc : Document) (resources : Entries) (dpi ignored : ℕ) (spro
   pub in_preorder : IsPreorder sprouts
 
 pub done : (doc : Document) (resources : Entries) (dpi depth element ignored : ℕ) (sprouts : List Sprout) → Rooted doc.nodes
-    → Left doc resources dpi depth element ignored sprouts [] (row_of doc resources dpi 1 (placed 0 doc.nodes)) → Done doc resources dpi ignored sprouts
+    → IsLeftToInflate doc resources dpi depth element ignored sprouts [] (row_of doc resources dpi 1 (placed 0 doc.nodes)) → Done doc resources dpi ignored sprouts
 done doc resources dpi depth element ignored sprouts root left =
     let z : ignored + 0 ≡ ignored = omega arith in
     let row : row_of doc resources dpi 1 (placed 0 doc.nodes) ≡ Ok (record { sprouts = sprouts; ignored = ignored }) =
@@ -183,7 +183,7 @@ viewed doc resources dpi element place node made is view =
 -- one element was refused, or memory ran out
 pub fault_out : (doc : Document) (resources : Entries) (dpi depth element ignored : ℕ) (sprouts : List Sprout) (more : List Node)
     (line ns name first count : ℕ) (fault : GrowFault)
-    → Left doc resources dpi depth element ignored sprouts (Start line ns name first count ∷ more) (row_of doc resources dpi 1 (placed 0 doc.nodes))
+    → IsLeftToInflate doc resources dpi depth element ignored sprouts (Start line ns name first count ∷ more) (row_of doc resources dpi 1 (placed 0 doc.nodes))
     → ViewedAs (view_of doc resources dpi (element + 1) (Start line ns name first count)) (Err fault)
     → GrownAs (inflated doc resources dpi) (Err fault)
 fault_out doc resources dpi depth element ignored sprouts more line ns name first count (fault.Refused refusal) left is =

@@ -6,12 +6,12 @@ use Rattle.view_model.specs.Forest.{Forest, Nothing, Branch, joined}
 use Rattle.inflater.specs.Elements.{begun, elements, in_a_row, nested}
 
 -- an element by the node at which it begins, and how many elements it is in, itself too
-pub record Placed : Type 0 where
+pub record ElementAtDepth : Type 0 where
   pub depth : ℕ
   pub node : Node
 
 -- the elements from a node on, inside n open ones
-abbrev pub placed : ℕ → List Node → List Placed
+abbrev pub placed : ℕ → List Node → List ElementAtDepth
 placed depth [] = []
 placed depth (NsStart prefix uri ∷ more) = placed depth more
 placed depth (NsEnd prefix uri ∷ more) = placed depth more
@@ -20,12 +20,12 @@ placed depth (End line ns name ∷ more) = placed (depth - 1) more
 placed depth (Chars line text kind word ∷ more) = placed depth more
 
 -- nested elements in preorder
-abbrev pub placed_trees : ℕ → Forest Node → List Placed
+abbrev pub placed_trees : ℕ → Forest Node → List ElementAtDepth
 placed_trees depth Nothing = []
 placed_trees depth (Branch node below after) = record { depth = suc depth; node = node } ∷ (placed_trees (suc depth) below ++ placed_trees depth after)
 
 -- lists of trees, each one less deep than the one before
-abbrev rising : ℕ → List (Forest Node) → List Placed
+abbrev rising : ℕ → List (Forest Node) → List ElementAtDepth
 rising depth [] = []
 rising depth (trees ∷ more) = placed_trees depth trees ++ rising (depth - 1) more
 

@@ -24,14 +24,14 @@ one_is_preorder : (seed : Seed) (below : Forest Seed) → IsPreorder (preorder 1
 one_is_preorder seed below = follows-preorder 2 1 below [] (omega arith) (omega arith) (λ b le. refl)
 
 -- one view, with all below it
-record IsOne (seeds : Forest Seed) : Type 0 where
+record IsOneSeed (seeds : Forest Seed) : Type 0 where
   seed : Seed
   below : Forest Seed
   is : seeds ≡ Branch seed below Nothing
 
 one_planned : (own : Result OneView PlainRefusal) (below : Result Plan PlainRefusal) (p : Plan)
     → (own >>= λ one. below >>= λ inner. Ok (record { seeds = Branch one.seed inner.seeds Nothing; ignored = one.ignored + (inner.ignored + 0) })) ≡ Ok p
-    → IsOne p.seeds
+    → IsOneSeed p.seeds
 one_planned (Err refusal) below p is = absurd (cc)
 one_planned (Ok one) (Err refusal) p is = absurd (cc)
 one_planned (Ok one) (Ok inner) p is =

@@ -17,7 +17,7 @@ IsLastBehind (suc n) [] = ⊥
 IsLastBehind (suc n) (trees ∷ more) = IsLastBehind n more
 
 -- one element, with all that it has
-record IsOne (lists : List (Forest Node)) : Type 0 where
+record IsOneElement (lists : List (Forest Node)) : Type 0 where
   node : Node
   below : Forest Node
   is : lists ≡ Branch node below Nothing ∷ []
@@ -27,7 +27,7 @@ last_behind-begun n node [] is = absurd is
 last_behind-begun n node (below ∷ []) is = absurd is
 last_behind-begun n node (below ∷ after ∷ outer) is = is
 
-one-begun : (node : Node) (lists : List (Forest Node)) → IsLastBehind 1 lists → IsOne (begun node lists)
+one-begun : (node : Node) (lists : List (Forest Node)) → IsLastBehind 1 lists → IsOneElement (begun node lists)
 one-begun node [] is = absurd is
 one-begun node (below ∷ []) is = absurd (cc)
 one-begun node (below ∷ after ∷ outer) is =
@@ -95,7 +95,7 @@ inside same (suc n) stack (End line ns name ∷ more) long shut still is =
 
 -- before the outermost one
 outside : (same : ℕ → ℕ → Bool) (stack : Stack) (nodes : List Node) → length stack.opened ≡ 0 → stack.closed ≡ false
-    → is_ended (brackets same stack (map token nodes)) ≡ true → IsOne (nested nodes)
+    → is_ended (brackets same stack (map token nodes)) ≡ true → IsOneElement (nested nodes)
 outside same stack [] long still is = let e = all_ended stack is in let c = still in absurd (true≢false (sym e.1 ∙ c))
 outside same stack (NsStart prefix uri ∷ more) long still is = outside same stack more long still is
 outside same stack (NsEnd prefix uri ∷ more) long still is = outside same stack more long still is

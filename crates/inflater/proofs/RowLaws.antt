@@ -10,21 +10,21 @@ use Rattle.view_model.specs.Resources.{Entries}
 use Rattle.view_model.specs.Sprouts.{preorder, sprout_of}
 use Rattle.inflater.specs.Elements.{elements}
 use Rattle.inflater.specs.Inflating.{OneView, Plan, inflated, planned, view_of}
-use Rattle.inflater.proofs.PlaceLaws.{Placed, placed, placed_trees, placed-elements}
+use Rattle.inflater.proofs.PlaceLaws.{ElementAtDepth, placed, placed_trees, placed-elements}
 
 -- the views of some elements, one after the other
-pub record Row : Type 0 where
+pub record SproutRow : Type 0 where
   pub sprouts : List Sprout
   pub ignored : ℕ
 
-abbrev pub nothing : Row
+abbrev pub nothing : SproutRow
 nothing = record { sprouts = []; ignored = 0 }
 
-abbrev pub before : Sprout → ℕ → Row → Row
+abbrev pub before : Sprout → ℕ → SproutRow → SproutRow
 before sprout ignored row = record { sprouts = sprout ∷ row.sprouts; ignored = ignored + row.ignored }
 
 -- the views of elements, or the first refusal; the first element has this number
-abbrev pub row_of : Document → Entries → ℕ → ℕ → List Placed → Result Row PlainRefusal
+abbrev pub row_of : Document → Entries → ℕ → ℕ → List ElementAtDepth → Result SproutRow PlainRefusal
 row_of doc resources dpi element [] = Ok nothing
 row_of doc resources dpi element (placed ∷ more) =
     view_of doc resources dpi element placed.node >>= λ own.
@@ -32,11 +32,11 @@ row_of doc resources dpi element (placed ∷ more) =
     Ok (before (sprout_of placed.depth own.seed) own.ignored row)
 
 -- a plan whose outermost views are inside n others, and what comes after it
-abbrev pub and_row : ℕ → Result Plan PlainRefusal → Result Row PlainRefusal → Result Row PlainRefusal
+abbrev pub and_row : ℕ → Result Plan PlainRefusal → Result SproutRow PlainRefusal → Result SproutRow PlainRefusal
 and_row depth plan rest =
     plan >>= λ p. rest >>= λ row. Ok (record { sprouts = preorder (suc depth) p.seeds ++ row.sprouts; ignored = p.ignored + row.ignored })
 
-rows_join : (depth : ℕ) (own : Result OneView PlainRefusal) (below after : Result Plan PlainRefusal) (rest : Result Row PlainRefusal)
+rows_join : (depth : ℕ) (own : Result OneView PlainRefusal) (below after : Result Plan PlainRefusal) (rest : Result SproutRow PlainRefusal)
     → (own >>= λ one. and_row (suc depth) below (and_row depth after rest) >>= λ row. Ok (before (sprout_of (suc depth) one.seed) one.ignored row))
     ≡ and_row depth (own >>= λ one. below >>= λ inner. after >>= λ later.
     Ok (record { seeds = Branch one.seed inner.seeds later.seeds; ignored = one.ignored + (inner.ignored + later.ignored) })) rest
@@ -50,11 +50,11 @@ rows_join depth (Ok one) (Ok inner) (Ok later) (Ok row) =
     ∙ ap (λ l. Ok (record { sprouts = sprout_of (suc depth) one.seed ∷ l; ignored = one.ignored + (inner.ignored + later.ignored) + row.ignored }))
     (sym (append_assoc (preorder (suc (suc depth)) inner.seeds) (preorder (suc depth) later.seeds) row.sprouts))
 
-alone : (row : Result Row PlainRefusal) → row ≡ (row >>= λ r. Ok (record { sprouts = r.sprouts; ignored = 0 + r.ignored }))
+alone : (row : Result SproutRow PlainRefusal) → row ≡ (row >>= λ r. Ok (record { sprouts = r.sprouts; ignored = 0 + r.ignored }))
 alone (Err refusal) = refl
 alone (Ok row) = let z : row.ignored ≡ 0 + row.ignored = omega arith in ap (λ n. Ok (record { sprouts = row.sprouts; ignored = n })) z
 
-row-planned : (doc : Document) (resources : Entries) (dpi element depth : ℕ) (trees : Forest Node) (rest : List Placed)
+row-planned : (doc : Document) (resources : Entries) (dpi element depth : ℕ) (trees : Forest Node) (rest : List ElementAtDepth)
     → row_of doc resources dpi element (placed_trees depth trees ++ rest)
     ≡ and_row depth (planned doc resources dpi element trees) (row_of doc resources dpi (element + count_of trees) rest)
 row-planned doc resources dpi element depth Nothing rest =
@@ -79,28 +79,28 @@ whole doc resources dpi =
     ∙ row-planned doc resources dpi 1 0 (elements doc.nodes) []
 
 -- a plan in preorder
-pub record Whole (plan : Result Plan PlainRefusal) (row : Row) : Type 0 where
+pub record Whole (plan : Result Plan PlainRefusal) (row : SproutRow) : Type 0 where
   pub of : Plan
   pub is : plan ≡ Ok of
   pub sprouts : preorder 1 of.seeds ≡ row.sprouts
   pub ignored : row.ignored ≡ of.ignored
 
-whole_ok : (plan : Result Plan PlainRefusal) (row : Row) → and_row 0 plan (Ok nothing) ≡ Ok row → Whole plan row
+whole_ok : (plan : Result Plan PlainRefusal) (row : SproutRow) → and_row 0 plan (Ok nothing) ≡ Ok row → Whole plan row
 whole_ok (Err refusal) row is = absurd (cc)
 whole_ok (Ok p) row is =
     let r : row ≡ record { sprouts = preorder 1 p.seeds ++ []; ignored = p.ignored + 0 } = cc in
     record {
       of = p;
       is = refl;
-      sprouts = sym (append-nil (preorder 1 p.seeds)) ∙ sym (ap (λ (r : Row). r.sprouts) r);
-      ignored = ap (λ (r : Row). r.ignored) r ∙ (let z : p.ignored + 0 ≡ p.ignored = omega arith in z);
+      sprouts = sym (append-nil (preorder 1 p.seeds)) ∙ sym (ap (λ (r : SproutRow). r.sprouts) r);
+      ignored = ap (λ (r : SproutRow). r.ignored) r ∙ (let z : p.ignored + 0 ≡ p.ignored = omega arith in z);
     }
 
 whole_err : (plan : Result Plan PlainRefusal) (refusal : PlainRefusal) → and_row 0 plan (Ok nothing) ≡ Err refusal → plan ≡ Err refusal
 whole_err (Err first) refusal is = let e : first ≡ refusal = cc in ap (λ t. Err t) e
 whole_err (Ok p) refusal is = absurd (cc)
 
-pub inflated_ok : (doc : Document) (resources : Entries) (dpi : ℕ) (row : Row) → row_of doc resources dpi 1 (placed 0 doc.nodes) ≡ Ok row → Whole (inflated doc resources dpi) row
+pub inflated_ok : (doc : Document) (resources : Entries) (dpi : ℕ) (row : SproutRow) → row_of doc resources dpi 1 (placed 0 doc.nodes) ≡ Ok row → Whole (inflated doc resources dpi) row
 inflated_ok doc resources dpi row is = whole_ok (inflated doc resources dpi) row (sym (whole doc resources dpi) ∙ is)
 
 pub inflated_err : (doc : Document) (resources : Entries) (dpi : ℕ) (refusal : PlainRefusal) → row_of doc resources dpi 1 (placed 0 doc.nodes) ≡ Err refusal → inflated doc resources dpi ≡ Err refusal

@@ -50,8 +50,11 @@ pub fn element_view(
     dpi: u32,
 ) -> Result<ElementView, GrowFault>
     requires { IsStart doc.now.nodes.items node }
-    ensures value { ViewedAs (view_with element (class_in (slice_get doc.now.pool.texts name)) (facets_at (document doc.now) res.now dpi node)) result }
-    ensures few { (line ns name first count : ℕ) → slice_get doc.now.nodes.items node ≡ Some (Start line ns name first count) → IfOk result (λ view. view.taken.ignored ≤ count) }
+    ensures value { ViewedAs (view_with element (class_in (slice_get doc.now.pool.texts name))
+        (facets_at (document doc.now) res.now dpi node)) result }
+    ensures few { (line ns name first count : ℕ)
+        → slice_get doc.now.nodes.items node ≡ Some (Start line ns name first count)
+        → IfOk result (λ view. view.taken.ignored ≤ count) }
 {
     let class = match doc.pool.text(name) {
         Some(name) => class_of(name),

@@ -5,7 +5,7 @@ use Rattle.std.specs.Prelude.{if◌then◌else◌}
 use mathlib.Core.Path.{fun_ext}
 use Rattle.kept_views.specs.Kept.{IsKept}
 use Rattle.kept_views.specs.Pressing.{path_of}
-use Rattle.kept_views.proofs.Lines.{IsMoved, put_kept}
+use Rattle.kept_views.proofs.Lines.{SameButOffset, put_kept}
 use Rattle.kept_views.proofs.Paths.{unforced_off}
 use Rattle.kept_views.proofs.Requested.{pressed_out}
 use Rattle.view_model.specs.Facts.{is_shown}
@@ -40,7 +40,7 @@ off_path view key tree off e = step (view == key) (eq-eqb view key (sym e)) off
 
 -- facts or a text of one view
 pub put_asked : (old mid new : Views) (view : ℕ) (change : PlainView → PlainView) → IsTree old → IsLive old view → is_shown (change (head_view (part_from view old.tree))).facts ≡ is_shown (head_view (part_from view old.tree)).facts
-    → mid.tree ≡ changed_at_key view change old.tree → IsMoved (held_of old view) (held_of mid view) → ((other : ℕ) → other ≢ view → held_of mid other ≡ held_of old other)
+    → mid.tree ≡ changed_at_key view change old.tree → SameButOffset (held_of old view) (held_of mid view) → ((other : ℕ) → other ≢ view → held_of mid other ≡ held_of old other)
     → new.tree ≡ mid.tree → ((key : ℕ) → held_of new key ≡ pressed (held_of mid) (asking (held_of mid) view mid.tree) key)
     → IsKept (held_of old) old.tree → IsKept (held_of new) new.tree
 put_asked old mid new view change is live shown tree moved others same held k =

@@ -26,14 +26,14 @@ use Rattle.kept_views.proofs.Pruned.{HasChild, Kept_prune, apart_same, pruned_is
 use Rattle.kept_views.proofs.Requested.{cleared-pressed, done_kept, pressed_marks, reached-marks, request_done, request_kept}
 
 -- after an edit, before its request at this view
-pub record Edited (view : ℕ) (held : ℕ → Held) (tree : Forest Row) : Type 0 where
+pub record IsBeforeRequest (view : ℕ) (held : ℕ → Held) (tree : Forest Row) : Type 0 where
   pub kept : Kept (view ∷ []) held loose tree
   pub flags : FlagsAbove view held loose tree
   pub cleared : Cleared held tree
   pub reached : Reached held false tree
 
 pub edit_kept : (view : ℕ) (held : ℕ → Held) (tree : Forest Row) → ((key : ℕ) → count_of_key key tree ≤ 1) → 0 < count_of_key view tree
-    → Edited view held tree → IsKept (pressed held (asking held view tree)) tree
+    → IsBeforeRequest view held tree → IsKept (pressed held (asking held view tree)) tree
 edit_kept view held tree once live e = record {
   kept = request_kept view held tree once live [] e.kept e.flags e.cleared;
   reached = reached-marks held (pressed held (asking held view tree)) false tree (pressed_marks held (asking held view tree)) e.reached;
@@ -44,17 +44,17 @@ pub same_kept : (old new : ℕ → Held) (tree : Forest Row) → ((key : ℕ) �
 same_kept old new tree same k = subst (λ held. IsKept held tree) (sym (fun_ext same)) k
 
 -- a view of which at most the offset is another
-pub record IsMoved (old new : Held) : Type 0 where
+pub record SameButOffset (old new : Held) : Type 0 where
   pub state : new.state ≡ old.state
   pub cache : new.cache ≡ old.cache
 
-moved_cleared : (old new : Held) → IsMoved old new → ClearedAt old → ClearedAt new
+moved_cleared : (old new : Held) → SameButOffset old new → ClearedAt old → ClearedAt new
 moved_cleared old new m c = λ f. m.cache ∙ c (ap (λ state. state.forced) (sym m.state) ∙ f)
 
-moved_calm : (old new : Held) → IsMoved old new → IsCalm old → IsCalm new
+moved_calm : (old new : Held) → SameButOffset old new → IsCalm old → IsCalm new
 moved_calm old new m c = record { needed = ap (λ state. state.layout_needed) m.state ∙ c.needed; first = ap (λ state. state.measure_first) m.state ∙ c.first }
 
-moved_hidden : (old new : Held) → IsMoved old new → HiddenView old → HiddenView new
+moved_hidden : (old new : Held) → SameButOffset old new → HiddenView old → HiddenView new
 moved_hidden old new m h = record { forced = ap (λ state. state.forced) m.state ∙ h.forced; bounds = ap (λ state. state.bounds) m.state ∙ h.bounds; cache = m.cache ∙ h.cache }
 
 count-put : (other key : ℕ) (change : PlainView → PlainView) (tree : Forest Row) → count_of_key other (changed_at_key key change tree) ≡ count_of_key other tree
@@ -80,7 +80,7 @@ module _ (key : ℕ) (change : PlainView → PlainView) (tree : Forest Row) (onc
 
   -- facts that leave a view to take part in layout or not, a text, or an offset
   pub put_kept : (old new : ℕ → Held) → is_shown (change (head_view (part_from key tree))).facts ≡ is_shown (head_view (part_from key tree)).facts
-      → ((other : ℕ) → other ≢ key → new other ≡ old other) → IsMoved (old key) (new key) → IsKept old tree → IsKept (pressed new (asking new key put_tree)) put_tree
+      → ((other : ℕ) → other ≢ key → new other ≡ old other) → SameButOffset (old key) (new key) → IsKept old tree → IsKept (pressed new (asking new key put_tree)) put_tree
   put_kept old new keeps others moved k = edit_kept key new put_tree put_once (put_live key live) (record {
     kept = Kept_put key change tree once live [] old new loose keeps others (ap (λ state. state.forced) moved.state) (moved_hidden _ _ moved) k.kept;
     flags = put_flags old new (put_but key change tree once live [] old new others) k.kept;

@@ -47,11 +47,11 @@ record Parent (view : ℕ) (acc : List ℕ) (list : Forest Row) : Type 0 where
   pub is : around acc view list ≡ key ∷ others
   pub has : HasChild key view list
 
-record Outermost (view : ℕ) (acc : List ℕ) (list : Forest Row) : Type 0 where
+record HasNoneAround (view : ℕ) (acc : List ℕ) (list : Forest Row) : Type 0 where
   pub is : around acc view list ≡ acc
   pub top : Top view list
 
-parent_or_top : (view : ℕ) (acc : List ℕ) (list : Forest Row) → 0 < count_of_key view list → Outermost view acc list ⊎ Parent view acc list
+parent_or_top : (view : ℕ) (acc : List ℕ) (list : Forest Row) → 0 < count_of_key view list → HasNoneAround view acc list ⊎ Parent view acc list
 parent_or_top view acc Nothing live = absurd (omega arith)
 parent_or_top view acc (Branch row kids siblings) live = elim (cases_eq row.key view) [
   | inl e ↦ inl (record { is = around_here acc view row kids siblings e; top = inl e })

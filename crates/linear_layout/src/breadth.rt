@@ -23,12 +23,14 @@ pub fn own_breadth(line: &Line, first: &FirstPass, weighed: Option<WeightPass>) 
     ensures once { (kids : List Measured)
         → weighed ≡ None
         → IsFirstPass first.now (own_in line.now) (specs_in line.now) kids
-        → result ≡ breadth_for (own_in line.now) (specs_in line.now) (breadth_once (own_in line.now) (specs_in line.now) kids) }
+        → result ≡ breadth_for (own_in line.now) (specs_in line.now)
+        (breadth_once (own_in line.now) (specs_in line.now) kids) }
     ensures twice { (pass : WeightPassValue) (kids second : List Measured)
         → weighed ≡ Some pass
         → IsFirstPass first.now (own_in line.now) (specs_in line.now) kids
         → IsWeightPass pass (own_in line.now) (specs_in line.now) kids second
-        → result ≡ breadth_for (own_in line.now) (specs_in line.now) (breadth_twice (own_in line.now) (specs_in line.now) kids second) }
+        → result ≡ breadth_for (own_in line.now) (specs_in line.now)
+        (breadth_twice (own_in line.now) (specs_in line.now) kids second) }
     ensures side { IsSide result }
 {
     let beside = !line.vertical();

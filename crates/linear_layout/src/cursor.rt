@@ -1,5 +1,5 @@
 //! Where a linear layout places its children, one after the other. Lengths are in pixels.
-ghost use Rattle.std.specs.Prelude.{◌≡◌, ℤ, ◌<◌, ◌≤◌, ◌+◌, ◌*◌, ◌^◌, ◌+ℤ◌, ◌-ℤ◌, ◌≤ℤ◌, pos, negsuc, not, unsigned_abs, [], ◌∷◌, ◌++◌, List, length};
+ghost use Rattle.std.specs.Prelude.{◌≡◌, ℤ, ◌<◌, ◌≤◌, ◌+◌, ◌^◌, ◌+ℤ◌, ◌-ℤ◌, unsigned_abs, [], ◌∷◌, ◌++◌, List, length};
 ghost use Rattle.geom_core.specs.Limits.{IsCoordinate, IsSide, clamp_coordinate};
 ghost use Rattle.linear_layout.specs.Line.{kid_with};
 ghost use Rattle.view_model.specs.declared.facts.Facts.{Facts as FactsValue};
@@ -80,7 +80,8 @@ impl Cursor {
         ensures next { (own : FactsValue) (room : SizeValue) (total : ℤ) (before : List Measured)
             → PlacesLinear self.old own room total before
             → length before < MAX_VIEWS
-            → PlacesLinear self.new own room total (before ++ record { facts = layout_facts kid.now; size = size } ∷ []) }
+            → PlacesLinear self.new own room total
+            (before ++ record { facts = layout_facts kid.now; size = size } ∷ []) }
     {
         let vertical = self.vertical;
         let along = self.mark.edge(low_margin(vertical, kid));

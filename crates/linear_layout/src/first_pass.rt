@@ -75,7 +75,8 @@ impl FirstPass {
     pub fn ask(&self, line: &Line, kid: &Facts, size: Size) -> Option<(Spec, Spec)>
         ensures { (kids : List Measured)
             → IsFirstPass self.now (own_in line.now) (specs_in line.now) kids
-            → result ≡ option_map pair_of (first_pass (own_in line.now) (specs_in line.now) kids (kid_with kid.now size)) }
+            → result ≡ option_map pair_of
+            (first_pass (own_in line.now) (specs_in line.now) kids (kid_with kid.now size)) }
     {
         if line.skips(kid) {
             return None;

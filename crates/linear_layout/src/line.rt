@@ -1,9 +1,7 @@
 //! A group whose children form a line, under its specs, and what a child takes of it. Lengths are in pixels.
-ghost use Rattle.std.specs.Prelude.{◌≡◌, ◌+ℤ◌, ◌≤ℤ◌, ◌^◌, pos, negsuc, not};
-ghost use Rattle.view_model.specs.declared.facts.Facts.{Facts as FactsValue};
+ghost use Rattle.std.specs.Prelude.{◌≡◌, ◌≤ℤ◌, ◌^◌, pos, negsuc, not};
 ghost use Rattle.view_model.specs.Facts.{is_match, layout_facts};
 ghost use Rattle.view_model.specs.LinearLayout.{breadth_of, claim, claim_of, dim_on, extent, extent_of, is_exact_beside, is_skipped, min_on, padding_on, skips, spec_beside, spec_on, where_even, where_weighted};
-ghost use Rattle.view_model.specs.Measuring.{Specs};
 
 use crate::axis::{dim_on, margins_on, size_on, spec_on};
 use geom_core::{Insets, MATCH, Size, Spec};
@@ -144,7 +142,8 @@ impl Line {
     #[tactic(auto, unfolding(view_model::specs::LinearLayout::claim))]
     #[inline(always)]
     pub fn claim(&self, kid: &Facts, size: Size) -> i64
-        ensures value { result ≡ claim_of self.now.vertical (is_exact_beside (own_in self.now) (specs_in self.now)) (kid_with kid.now size) }
+        ensures value { result ≡ claim_of self.now.vertical
+            (is_exact_beside (own_in self.now) (specs_in self.now)) (kid_with kid.now size) }
         ensures high { result ≤ℤ pos (2 ^ 33) }
     {
         if !self.is_exact_beside() && self.matches(kid) {
@@ -158,7 +157,8 @@ impl Line {
     #[inline(always)]
     pub fn even_claim(&self, kid: &Facts, size: Size) -> i64
         ensures value { result ≡ where_even kid.now.weight
-            (claim_of self.now.vertical (is_exact_beside (own_in self.now) (specs_in self.now)) (kid_with kid.now size)) }
+            (claim_of self.now.vertical (is_exact_beside (own_in self.now) (specs_in self.now))
+            (kid_with kid.now size)) }
         ensures high { result ≤ℤ pos (2 ^ 33) }
     {
         if kid.weight == 0 {
@@ -172,7 +172,8 @@ impl Line {
     #[inline(always)]
     pub fn weighted_claim(&self, kid: &Facts, size: Size) -> i64
         ensures value { result ≡ where_weighted kid.now.weight
-            (claim_of self.now.vertical (is_exact_beside (own_in self.now) (specs_in self.now)) (kid_with kid.now size)) }
+            (claim_of self.now.vertical (is_exact_beside (own_in self.now) (specs_in self.now))
+            (kid_with kid.now size)) }
         ensures high { result ≤ℤ pos (2 ^ 33) }
     {
         if kid.weight == 0 {

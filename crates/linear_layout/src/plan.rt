@@ -36,7 +36,7 @@ pub struct LinearPlan {
 }
 
 impl LinearPlan {
-    ghost use Rattle.linear_layout.specs.Line.{kid_with, own_in, specs_in};
+    ghost use Rattle.linear_layout.specs.Line.{own_in, specs_in};
     ghost use Rattle.linear_layout.specs.LinearPlan.{StandsLinear, TurnsLinear, weighed_by};
     ghost use Rattle.linear_layout.specs.declared.plan.Phase.TheVariants.{Uniform};
     ghost use Rattle.linear_layout.specs.Passes.{IsFirstPass, IsWeightPass};
@@ -110,7 +110,8 @@ impl LinearPlan {
 
     /// Goes on to the uniform pass, if that follows.
     fn turn_uniform(&mut self, weighed: Option<WeightPass>) -> bool
-        ensures told { is_exact_beside (own_in self.old.line) (specs_in self.old.line) ≡ true → (result ≡ false) × (self.new ≡ self.old) }
+        ensures told { is_exact_beside (own_in self.old.line) (specs_in self.old.line) ≡ true
+            → (result ≡ false) × (self.new ≡ self.old) }
         ensures untold { is_exact_beside (own_in self.old.line) (specs_in self.old.line) ≡ false
             → (result ≡ true) × (self.new ≡ record self.old { phase = Uniform weighed }) }
     {
@@ -153,7 +154,8 @@ impl LinearPlan {
         ensures once { (kids : List Measured)
             → weighed_by self.now.phase ≡ None
             → IsFirstPass self.now.first (own_in self.now.line) (specs_in self.now.line) kids
-            → result ≡ breadth_for (own_in self.now.line) (specs_in self.now.line) (breadth_once (own_in self.now.line) (specs_in self.now.line) kids) }
+            → result ≡ breadth_for (own_in self.now.line) (specs_in self.now.line)
+            (breadth_once (own_in self.now.line) (specs_in self.now.line) kids) }
         ensures twice { (pass : WeightPassValue) (kids second : List Measured)
             → weighed_by self.now.phase ≡ Some pass
             → IsFirstPass self.now.first (own_in self.now.line) (specs_in self.now.line) kids

@@ -1,5 +1,5 @@
 //! What is left of a line to share, and the share of a weight in it.
-ghost use Rattle.std.specs.Prelude.{◌≡◌, ◌<◌, ◌≤◌, ◌≤ℤ◌, ◌<ℤ◌, ◌+◌, ◌*◌, ◌+ℤ◌, ◌-ℤ◌, ◌^◌, pos, neg_ℤ, int_div, unsigned_abs};
+ghost use Rattle.std.specs.Prelude.{◌≡◌, ◌<◌, ◌≤◌, ◌≤ℤ◌, ◌<ℤ◌, ◌+◌, ◌*◌, ◌-ℤ◌, ◌^◌, pos, neg_ℤ, int_div, unsigned_abs};
 ghost use Rattle.view_model.specs.LinearLayout.{share};
 ghost use Rattle.view_model.specs.declared.limits.TheConstants.{MAX_VIEWS};
 

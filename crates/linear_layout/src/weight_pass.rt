@@ -1,5 +1,5 @@
 //! The weight pass: what is left of the line is shared by weight. Lengths are in pixels.
-ghost use Rattle.std.specs.Prelude.{◌≡◌, ◌<◌, ◌≤◌, ◌≤ℤ◌, ◌+◌, ◌+ℤ◌, ◌^◌, pos, negsuc, unsigned_abs, [], ◌∷◌, ◌++◌, List, length};
+ghost use Rattle.std.specs.Prelude.{◌≡◌, ◌<◌, ◌≤◌, ◌+◌, ◌+ℤ◌, ◌^◌, unsigned_abs, [], ◌∷◌, ◌++◌, List, length};
 ghost use Rattle.std.specs.Option.{option_map};
 ghost use Rattle.view_model.specs.declared.limits.TheConstants.{MAX_VIEWS};
 ghost use Rattle.view_model.specs.LinearLayout.{exactly, first_length, full_length, shared_length, weight_pass};
@@ -64,7 +64,8 @@ impl WeightPass {
     pub fn ask(&self, line: &Line, kid: &Facts, size: Size) -> Option<(Spec, Spec)>
         ensures { (first kids : List Measured)
             → IsWeightPass self.now (own_in line.now) (specs_in line.now) first kids
-            → result ≡ option_map pair_of (weight_pass (own_in line.now) (specs_in line.now) first kids (kid_with kid.now size)) }
+            → result ≡ option_map pair_of
+            (weight_pass (own_in line.now) (specs_in line.now) first kids (kid_with kid.now size)) }
     {
         if kid.weight == 0 {
             return None;
@@ -80,7 +81,8 @@ impl WeightPass {
     fn spec_along(&self, line: &Line, kid: &Facts, size: Size) -> Spec
         ensures { (first kids : List Measured)
             → IsWeightPass self.now (own_in line.now) (specs_in line.now) first kids
-            → result ≡ exactly (shared_length (own_in line.now) (specs_in line.now) first kids (kid_with kid.now size)) }
+            → result ≡ exactly
+            (shared_length (own_in line.now) (specs_in line.now) first kids (kid_with kid.now size)) }
     {
         let length = first_length(line.skips(kid), size_on(line.vertical(), size));
         let share = self.sharing.share(kid.weight);

@@ -62,16 +62,6 @@ is_of-is entry specs e =
     let both = if_both (same_spec entry.ws specs.across) (same_spec entry.hs specs.down) e in
     of_both (specs_for entry) specs (same_spec-is _ _ both.0) (same_spec-is _ _ both.1)
 
--- the result is that of an entry, or was there before
-found_after-some : (before : Option Size) (cache : List Entry) (specs : Specs) (size : Size) → found_after before cache specs ≡ Some size
-    → (found cache specs ≡ Some size) ⊎ (before ≡ Some size)
-found_after-some before [] specs size h = inr h
-found_after-some before (entry ∷ more) specs size h = elim (cases_Bool (is_of entry specs)) [
-  | inl is ↦ inl (rw is (rw is at h))
-  | inr not ↦ let rest : found_after before more specs ≡ Some size = rw not at h in
-      elim (found_after-some before more specs size rest) [ inl f ↦ inl (rw not f) | inr b ↦ inr b ]
-]
-
 -- what is found in a list is found after anything
 found_after-any : (before : Option Size) (cache : List Entry) (specs : Specs) (size : Size) → found cache specs ≡ Some size → found_after before cache specs ≡ Some size
 found_after-any before [] specs size h = none_some h

@@ -6,7 +6,7 @@ use Rattle.kept_views.specs.Kept.{HiddenView, IsSized, Kept, Reached, Ready, Sho
 use Rattle.measure_pass.specs.Measured.{Costs, KeepsAllButEdges}
 use Rattle.measure_pass.proofs.Frames.{Kept-along, Reached-along, last_places-along}
 use Rattle.kept_views.proofs.KeptFrames.{in_range-along}
-use Rattle.measure_pass.proofs.Own.{Wrote}
+use Rattle.kept_views.specs.Laying.{Wrote}
 use Rattle.measure_pass.proofs.Parts.{last_edges-along, last_specs-along}
 use Rattle.view_model.specs.declared.relative.Edges.{Edges}
 use Rattle.view_model.specs.Forest.{Forest, Nothing, Branch}

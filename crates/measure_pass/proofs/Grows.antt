@@ -7,7 +7,7 @@ use Rattle.measure_pass.specs.Caches.{AllNew, Among, AskedAt, AskedBy, Grew, Gro
 use Rattle.measure_pass.specs.Courses.{InCourse}
 use Rattle.view_model.specs.Facts.{is_shown}
 use Rattle.view_model.specs.Forest.{Forest, Nothing, Branch}
-use Rattle.view_model.specs.Course.{Progress, Requested, after_phase, after_turn, asked_for, measured_of, one_phase, phases_on, size_in}
+use Rattle.view_model.specs.Course.{MeasuringProgress, Requested, after_phase, after_turn, asked_for, measured_of, one_phase, phases_on, size_in}
 use Rattle.view_model.specs.Measuring.{Measured, Rule, Specs}
 use Rattle.view_tree.specs.Rows.{Row, first_tree, later_siblings}
 use Rattle.view_tree.specs.Views.{Held, KeepsInside}
@@ -110,7 +110,7 @@ AskedAt-on ask taken [] place specs h = absurd h
 AskedAt-on ask taken (kid ∷ kids) zero specs h = asked_turn (is_shown kid.child.facts) (ask taken (measured_of kid)) kid specs h
 AskedAt-on ask taken (kid ∷ kids) (suc place) specs h = AskedAt-on ask (taken ++ size_in (after_turn ask taken kid)) kids place specs h
 
-pub AskedAt-through : (left : ℕ) (rule : Rule) (progress : Progress) (place : ℕ) (specs : Specs) → AskedAt progress.kids place specs
+pub AskedAt-through : (left : ℕ) (rule : Rule) (progress : MeasuringProgress) (place : ℕ) (specs : Specs) → AskedAt progress.kids place specs
     → AskedAt (phases_on left rule progress).kids place specs
 AskedAt-through zero rule progress place specs h = h
 AskedAt-through (suc left) rule progress place specs h =

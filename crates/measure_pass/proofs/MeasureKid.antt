@@ -6,7 +6,7 @@ use Rattle.measure_pass.specs.Courses.{AfterAll, AfterPhase, CanTurn, InCourse, 
 use Rattle.measure_pass.specs.Caches.{Grown}
 use Rattle.kept_views.specs.Kept.{Sized}
 use Rattle.measure_pass.specs.Measured.{Costs, calls_under, size_under}
-use Rattle.measure_pass.specs.Plans.{Group, IsLeaf, IsPlanOf, Plan, Stands, group_by, rule_in}
+use Rattle.measure_pass.specs.Plans.{Group, IsLeaf, IsPlanOf, GroupPlan, Stands, group_by, rule_in}
 use Rattle.measure_pass.proofs.Counts.{costs_nothing}
 use Rattle.measure_pass.proofs.Laws.{lawful_of}
 use Rattle.measure_pass.proofs.Parts.{facts_in}
@@ -25,7 +25,7 @@ use Rattle.view_tree.specs.Views.{Held, IsLive, IsTree, Views, specs_of}
 use Rattle.view_tree.proofs.values.KeptLaws.{no_children_of}
 use Rattle.view_tree.proofs.forest.KeyLaws.{located}
 
-pub gone_kid : (plan : Plan) (group : Group) (past : List (List Measured)) (taken : List Measured) (tree : Forest Row) (kid : ℕ) (asked : List Requested) (held : ℕ → Held)
+pub gone_kid : (plan : GroupPlan) (group : Group) (past : List (List Measured)) (taken : List Measured) (tree : Forest Row) (kid : ℕ) (asked : List Requested) (held : ℕ → Held)
     (count : ℕ) → 0 < count_of_key kid tree → is_shown (facts_in (part_from kid tree)) ≡ false → Stands plan group past taken → InCourse held (first_tree (part_from kid tree)) asked
     → AfterPhase plan group past taken asked held held (first_tree (part_from kid tree)) count count
 gone_kid plan group past taken tree kid asked held count live gone stands course =
@@ -34,7 +34,7 @@ gone_kid plan group past taken tree kid asked held count live gone stands course
     let gone : is_shown x.row.view.facts ≡ false = rw x.is at gone in
     rw x.is (gone_row plan group past taken x.row x.kids asked held count gone stands course)
 
-pub skipped_kid : (plan : Plan) (group : Group) (past : List (List Measured)) (taken : List Measured) (tree : Forest Row) (kid : ℕ) (asked : List Requested) (held : ℕ → Held)
+pub skipped_kid : (plan : GroupPlan) (group : Group) (past : List (List Measured)) (taken : List Measured) (tree : Forest Row) (kid : ℕ) (asked : List Requested) (held : ℕ → Held)
     (present : Size) (count : ℕ) → 0 < count_of_key kid tree → is_shown (facts_in (part_from kid tree)) ≡ true → present ≡ (held kid).state.measured
     → None ≡ option_map pair_of ((rule_in group).ask past taken (record { facts = facts_in (part_from kid tree); size = present }))
     → Stands plan group past (taken ++ taken_as (rule_in group) past taken (facts_in (part_from kid tree)) present ∷ []) → InCourse held (first_tree (part_from kid tree)) asked
@@ -47,7 +47,7 @@ skipped_kid plan group past taken tree kid asked held present count live here pr
     let present_is : present ≡ (held x.row.key).state.measured = subst (λ key. present ≡ (held key).state.measured) (sym x.key_is) present_is in
     rw x.is (left_row plan group past taken x.row x.kids asked held present count here present_is (rw x.is at answer) (rw x.is at stands) course can)
 
-pub measured_kid : (plan : Plan) (group : Group) (past : List (List Measured)) (taken : List Measured) (tree : Forest Row) (kid : ℕ) (asked : List Requested) (before held : ℕ → Held)
+pub measured_kid : (plan : GroupPlan) (group : Group) (past : List (List Measured)) (taken : List Measured) (tree : Forest Row) (kid : ℕ) (asked : List Requested) (before held : ℕ → Held)
     (present size : Size) (specs : Specs) (old new : ℕ) → 0 < count_of_key kid tree → is_shown (facts_in (part_from kid tree)) ≡ true
     → present ≡ (before kid).state.measured
     → Some (pair_of specs) ≡ option_map pair_of ((rule_in group).ask past taken (record { facts = facts_in (part_from kid tree); size = present }))
@@ -86,12 +86,12 @@ measured_whole views view specs rule before held answer total old new is_tree li
     rw x.is (whole_row x.row x.kids x.siblings specs rule before held answer total old new is asked (rw after.size (lawful.width _)) (rw after.size (lawful.height _)) after)
 
 -- a view with a plan measures by a rule
-pub record Planned (manner : Manner) (plan : Plan) (view : PlainView) (specs : Specs) : Type 0 where
+pub record Planned (manner : Manner) (plan : GroupPlan) (view : PlainView) (specs : Specs) : Type 0 where
   pub rule : Rule
   pub is : manner ≡ ByRule rule
   pub stands : Stands plan (group_by rule view specs) [] []
 
-pub planned : (manner : Manner) (plan : Plan) (view : PlainView) (specs : Specs) → IsPlanOf manner plan view specs → Planned manner plan view specs
+pub planned : (manner : Manner) (plan : GroupPlan) (view : PlainView) (specs : Specs) → IsPlanOf manner plan view specs → Planned manner plan view specs
 planned (ByRule rule) plan view specs h = record { rule = rule; is = refl; stands = h }
 planned BySiblings plan view specs h = absurd h
 
@@ -110,7 +110,7 @@ measured_leaf views view specs size held count is_tree live leaf =
     (leaf_after (group_by (leaf_rule size) (for_layout (head_view part)) specs) size held (children_of_first part) count refl (no_children_of views view is_tree leaf.alone))
 
 -- a view that was measured whole by its plan
-pub measured_planned : (views : Views) (view : ℕ) (specs : Specs) (plan : Plan) (before held : ℕ → Held) (answer : Size) (total : ℤ) (old new : ℕ) → IsTree views → IsLive views view
+pub measured_planned : (views : Views) (view : ℕ) (specs : Specs) (plan : GroupPlan) (before held : ℕ → Held) (answer : Size) (total : ℤ) (old new : ℕ) → IsTree views → IsLive views view
     → IsPlanOf (manner_of (for_layout (head_view (part_from view views.tree))) specs) plan (for_layout (head_view (part_from view views.tree))) specs
     → ((group : Group) (past : List (List Measured)) (kids : List Requested) → Stands plan group past [] → InCourse before (children_of_first (part_from view views.tree)) kids
     → StaysReady (rule_in group) 2 (record { past = past; kids = kids })

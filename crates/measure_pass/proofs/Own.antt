@@ -1,5 +1,5 @@
 -- A view that is measured: it stays, its size is taken from its cache, or what is below it is measured.
-use Rattle.std.proofs.Common.{◌≡◌, ◌≢◌, ℤ, ℕ, ◌+◌, ◌<◌, ◌≤◌, Bool, true, false, Some, None, List, [], ◌∷◌, arith, ap, ◌∙◌, sym, refl, subst, inl, inr}
+use Rattle.std.proofs.Common.{◌≡◌, ℤ, ℕ, ◌+◌, ◌<◌, ◌≤◌, Bool, true, false, Some, None, List, [], ◌∷◌, arith, ap, ◌∙◌, sym, refl, subst, inl, inr}
 use Rattle.std.specs.Prelude.{if◌then◌else◌}
 use Rattle.std.proofs.lemmas.Bool.{cases_eq}
 use Rattle.geom_core.specs.Limits.{IsSide}
@@ -25,6 +25,7 @@ use Rattle.view_tree.specs.Rows.{Row, first_tree, children_of_first, head_view, 
 use Rattle.view_tree.specs.Views.{Held, KeepsOutside, Views, held_of, specs_of}
 use Rattle.view_tree.proofs.forest.KeyLaws.{located}
 use Rattle.view_tree.proofs.forest.Walks.{KeepsInside-below, not_below, not_own, once_from}
+use Rattle.kept_views.specs.Laying.{Wrote}
 
 -- what a measuring under these specs leaves with the first view of a list, and below it
 pub record Own (list : Forest Row) (view : ℕ) (specs : Specs) (before held : ℕ → Held) (old new : ℕ) (got : Size) : Type 0 where
@@ -40,11 +41,6 @@ pub record Own (list : Forest Row) (view : ℕ) (specs : Specs) (before held : �
 
 no_false : {A : Type 0} → true ≡ false → A
 no_false e = absurd (cc)
-
--- a write to one view
-pub record Wrote (old new : ℕ → Held) (view : ℕ) (own : Held) : Type 0 where
-  pub at : new view ≡ own
-  pub others : (other : ℕ) → other ≢ view → new other ≡ old other
 
 pub keeps_self : (held : ℕ → Held) → Keeps held held
 keeps_self held = record { bounds = λ key. refl; offsets = λ key. refl; forced = λ key. refl }

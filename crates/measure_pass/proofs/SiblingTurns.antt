@@ -20,7 +20,7 @@ use Rattle.measure_pass.proofs.AtPlace.{Grown-at, costs_at}
 use Rattle.measure_pass.proofs.Counts.{costs_nothing, costs_same}
 use Rattle.measure_pass.proofs.Edged.{costs-edged, edged-write, grown-edged, sized-edged}
 use Rattle.measure_pass.proofs.Grows.{Grown-first, Grown-refl}
-use Rattle.measure_pass.proofs.Own.{Wrote}
+use Rattle.kept_views.specs.Laying.{Wrote}
 use Rattle.measure_pass.proofs.Parts.{Sized-along}
 use Rattle.measure_pass.proofs.Places.{FirstHasEdges-along, kid_at, past_kids, still_there}
 use Rattle.relative_layout.proofs.CourseLaws.{IsKidOrder, anchors_same, spans_across-fixed, spans_down-fixed}

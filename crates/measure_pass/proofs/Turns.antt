@@ -9,7 +9,7 @@ use Rattle.measure_pass.specs.Courses.{AfterPhase, CanTurn, InCourse, MeasuredFo
 use Rattle.measure_pass.specs.Caches.{Among, AskedAt, Grown}
 use Rattle.kept_views.specs.Kept.{IsSized, Sized}
 use Rattle.measure_pass.specs.Measured.{Costs, calls_under, size_under}
-use Rattle.measure_pass.specs.Plans.{Group, Plan, Stands, rule_in}
+use Rattle.measure_pass.specs.Plans.{Group, GroupPlan, Stands, rule_in}
 use Rattle.measure_pass.proofs.Counts.{costs_nothing, costs_same}
 use Rattle.measure_pass.proofs.Grows.{Among-last, Grown-first, Grown-refl}
 use Rattle.view_model.specs.declared.facts.Facts.{Facts}
@@ -42,7 +42,7 @@ present_size held row kids child (first ∷ more) is m has =
     m.1.size ∙ ap (measured_size row.view (views_of kids)) m.0 ∙ ap (λ (child : Child). child.measure (last_of first more)) (sym is)
 
 -- a turn that leaves this of a child
-turned_to : (plan : Plan) (group : Group) (past : List (List Measured)) (taken : List Measured) (kid next : Requested) (before held : ℕ → Held) (list : Forest Row) (old new : ℕ)
+turned_to : (plan : GroupPlan) (group : Group) (past : List (List Measured)) (taken : List Measured) (kid next : Requested) (before held : ℕ → Held) (list : Forest Row) (old new : ℕ)
     → after_turn ((rule_in group).ask past) taken kid ≡ next → Stands plan group past (taken ++ size_in next) → InCourse held list (next ∷ [])
     → Costs list before held old (turn_calls ((rule_in group).ask past) taken kid) new → Grown (AskedAt (next ∷ [])) before held list
     → AfterPhase plan group past taken (kid ∷ []) before held list old new
@@ -56,7 +56,7 @@ turned_to plan group past taken kid next before held list old new is stands cour
       caches = subst (λ next. Grown (AskedAt (next ∷ [])) before held list) (sym is) caches;
     }
 
-pub gone_row : (plan : Plan) (group : Group) (past : List (List Measured)) (taken : List Measured) (row : Row) (kids : Forest Row) (asked : List Requested) (held : ℕ → Held)
+pub gone_row : (plan : GroupPlan) (group : Group) (past : List (List Measured)) (taken : List Measured) (row : Row) (kids : Forest Row) (asked : List Requested) (held : ℕ → Held)
     (count : ℕ) → is_shown row.view.facts ≡ false → Stands plan group past taken → InCourse held (Branch row kids Nothing) asked
     → AfterPhase plan group past taken asked held held (Branch row kids Nothing) count count
 gone_row plan group past taken row kids [] held count gone stands course = absurd course
@@ -84,7 +84,7 @@ some_of a (Some b) e =
     ap (λ (p : Spec × Spec). let s : Specs = record { across = p.0; down = p.1 } in Some s) p
 
 -- a child that its group leaves out in this phase
-pub left_row : (plan : Plan) (group : Group) (past : List (List Measured)) (taken : List Measured) (row : Row) (kids : Forest Row) (asked : List Requested) (held : ℕ → Held)
+pub left_row : (plan : GroupPlan) (group : Group) (past : List (List Measured)) (taken : List Measured) (row : Row) (kids : Forest Row) (asked : List Requested) (held : ℕ → Held)
     (present : Size) (count : ℕ) → is_shown row.view.facts ≡ true → present ≡ (held row.key).state.measured
     → None ≡ option_map pair_of ((rule_in group).ask past taken (record { facts = (child_of row kids).facts; size = present }))
     → Stands plan group past (taken ++ taken_as (rule_in group) past taken (child_of row kids).facts present ∷ []) → InCourse held (Branch row kids Nothing) asked
@@ -118,7 +118,7 @@ left_row plan group past taken row kids (kid ∷ []) held present count here pre
     (Grown-refl (AskedAt (kid ∷ [])) held (Branch row kids Nothing))
 
 -- a child that was measured in this phase
-pub asked_row : (plan : Plan) (group : Group) (past : List (List Measured)) (taken : List Measured) (row : Row) (kids siblings : Forest Row) (asked : List Requested)
+pub asked_row : (plan : GroupPlan) (group : Group) (past : List (List Measured)) (taken : List Measured) (row : Row) (kids siblings : Forest Row) (asked : List Requested)
     (before held : ℕ → Held) (present size : Size) (specs : Specs) (old new : ℕ)
     → is_shown row.view.facts ≡ true → present ≡ (before row.key).state.measured
     → Some (pair_of specs) ≡ option_map pair_of ((rule_in group).ask past taken (record { facts = (child_of row kids).facts; size = present }))

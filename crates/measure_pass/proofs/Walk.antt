@@ -6,7 +6,7 @@ use Rattle.measure_pass.specs.Courses.{AfterPhase, CanTurn, InCourse, phase_call
 use Rattle.measure_pass.specs.Caches.{AskedAt, Grown}
 use Rattle.kept_views.specs.Kept.{Ready}
 use Rattle.measure_pass.specs.Measured.{Costs}
-use Rattle.measure_pass.specs.Plans.{Group, Plan, Stands, rule_in}
+use Rattle.measure_pass.specs.Plans.{Group, GroupPlan, Stands, rule_in}
 use Rattle.measure_pass.proofs.Counts.{costs_nothing, costs_parts, costs_same}
 use Rattle.measure_pass.proofs.Frames.{Ready-after, Ready-along, Ready-join}
 use Rattle.measure_pass.proofs.Grows.{Grown-along, Grown-join}
@@ -44,7 +44,7 @@ first_still : (begin old : ℕ → Held) (part : Forest Row) → KeepsInside beg
 first_still begin old part still = λ key here. sym (still key (let parts = count_of_key-parts key part in omega arith))
 
 -- the plan of a group in a phase, where these children are left
-pub record Phasing (plan : Plan) (group : Group) (past : List (List Measured)) (asked : List Requested) (kids rest : Forest Row) (begin now : ℕ → Held) (start count : ℕ) : Type 0 where
+pub record Phasing (plan : GroupPlan) (group : Group) (past : List (List Measured)) (asked : List Requested) (kids rest : Forest Row) (begin now : ℕ → Held) (start count : ℕ) : Type 0 where
   pub taken : List Measured
   pub ahead : List Requested
   pub plan_stands : Stands plan group past taken
@@ -59,7 +59,7 @@ pub record Phasing (plan : Plan) (group : Group) (past : List (List Measured)) (
   pub caches : (end : ℕ → Held) → KeepsOutside now end rest → Grown (AskedAt (after_phase ((rule_in group).ask past) taken ahead)) begin end rest
       → Grown (AskedAt (after_phase ((rule_in group).ask past) [] asked)) begin end kids
 
-pub phase_start : (plan : Plan) (group : Group) (past : List (List Measured)) (asked : List Requested) (kids : Forest Row) (now : ℕ → Held) (count : ℕ)
+pub phase_start : (plan : GroupPlan) (group : Group) (past : List (List Measured)) (asked : List Requested) (kids : Forest Row) (now : ℕ → Held) (count : ℕ)
     → Stands plan group past [] → count_of kids ≤ MAX_VIEWS → InCourse now kids asked → CanTurn (rule_in group) past asked
     → Phasing plan group past asked kids kids now now count count
 phase_start plan group past asked kids now count stands few course can =
@@ -80,7 +80,7 @@ sizes_few now (Branch row below siblings) (kid ∷ more) h =
     let both = length-append (size_in kid) (sizes_of more) in
     omega arith
 
-pub phase_on : (before plan : Plan) (group : Group) (past : List (List Measured)) (asked : List Requested) (kids part : Forest Row) (begin old mid : ℕ → Held) (start count new : ℕ)
+pub phase_on : (before plan : GroupPlan) (group : Group) (past : List (List Measured)) (asked : List Requested) (kids part : Forest Row) (begin old mid : ℕ → Held) (start count new : ℕ)
     → ((key : ℕ) → count_of_key key part ≤ 1)
     → Phasing before group past asked kids part begin old start count → KeepsOutside old mid (first_tree part) → KeepsInside begin old part
     → ((taken : List Measured) (first : List Requested) → Stands before group past taken → length taken + count_of (first_tree part) ≤ MAX_VIEWS → InCourse old (first_tree part) first
@@ -121,7 +121,7 @@ phase_on before plan group past asked kids part begin old mid start count new on
     }
 
 -- no child is left
-pub phase_end : (plan : Plan) (group : Group) (past : List (List Measured)) (asked : List Requested) (kids : Forest Row) (begin now : ℕ → Held) (start count : ℕ)
+pub phase_end : (plan : GroupPlan) (group : Group) (past : List (List Measured)) (asked : List Requested) (kids : Forest Row) (begin now : ℕ → Held) (start count : ℕ)
     → Phasing plan group past asked kids Nothing begin now start count → AfterPhase plan group past [] asked begin now kids start count
 phase_end plan group past asked kids begin now start count f = ended f.ahead f.before f.sizes f.done (f.costs now count (λ key absent. refl)) (f.caches now (λ key absent. refl))
   where

@@ -9,10 +9,10 @@ use Rattle.measure_pass.specs.Courses.{AfterAll, AfterPhase, CanTurn, InCourse, 
 use Rattle.measure_pass.specs.Caches.{AskedAt, Grown}
 use Rattle.kept_views.specs.Kept.{IsSized, Sized, last_specs}
 use Rattle.measure_pass.specs.Measured.{calls_under}
-use Rattle.measure_pass.specs.Plans.{Group, Plan, group_by, rule_in}
+use Rattle.measure_pass.specs.Plans.{Group, GroupPlan, group_by, rule_in}
 use Rattle.measure_pass.proofs.Counts.{costs_own, costs_same, costs_twice}
 use Rattle.measure_pass.proofs.Grows.{AskedAt-on, AskedAt-through, Grown-mono, Grown-trans}
-use Rattle.view_model.specs.Course.{Child, Course, Progress, Requested, after_phase, after_turn, asked_for, begun, course_of, last_of, measured_of, one_phase, phases_on, size_in}
+use Rattle.view_model.specs.Course.{Child, Course, MeasuringProgress, Requested, after_phase, after_turn, asked_for, begun, course_of, last_of, measured_of, one_phase, phases_on, size_in}
 use Rattle.view_model.specs.Facts.{is_shown}
 use Rattle.view_model.specs.Forest.{Forest, Nothing, Branch}
 use Rattle.view_model.specs.Layout.{Final, children_of, course_by, course_in, manner_by, manner_of, for_layout}
@@ -53,74 +53,74 @@ calls_after ask taken (kid ∷ kids) =
     let one = calls_turn (is_shown kid.child.facts) (ask taken (measured_of kid)) kid in
     omega arith
 
-phases_stop : (left : ℕ) (rule : Rule) (progress : Progress) → rule.turns progress.past ≡ false → phases_on left rule progress ≡ progress
+phases_stop : (left : ℕ) (rule : Rule) (progress : MeasuringProgress) → rule.turns progress.past ≡ false → phases_on left rule progress ≡ progress
 phases_stop zero rule progress over = refl
 phases_stop (suc left) rule progress over = ap (λ b. if b then phases_on left rule (one_phase rule progress) else progress) over
 
 one_less : (left : ℕ) → left ≡ suc left - 1
 one_less left = omega arith
 
-phases_go : (left : ℕ) (rule : Rule) (progress : Progress) → (left ≡ 0 → ⊥) → rule.turns progress.past ≡ true → phases_on left rule progress ≡ phases_on (left - 1) rule (one_phase rule progress)
+phases_go : (left : ℕ) (rule : Rule) (progress : MeasuringProgress) → (left ≡ 0 → ⊥) → rule.turns progress.past ≡ true → phases_on left rule progress ≡ phases_on (left - 1) rule (one_phase rule progress)
 phases_go zero rule progress some again = absurd (some refl)
 phases_go (suc left) rule progress some again =
     ap (λ b. if b then phases_on left rule (one_phase rule progress) else progress) again ∙ ap (λ left. phases_on left rule (one_phase rule progress)) (one_less left)
 
-pub ready_now : (rule : Rule) (left : ℕ) (progress : Progress) → StaysReady rule left progress → CanTurn rule progress.past progress.kids
+pub ready_now : (rule : Rule) (left : ℕ) (progress : MeasuringProgress) → StaysReady rule left progress → CanTurn rule progress.past progress.kids
 ready_now rule zero progress h = h
 ready_now rule (suc left) progress h = h.0
 
-pub ready_then : (rule : Rule) (left : ℕ) (progress : Progress) → (left ≡ 0 → ⊥) → rule.turns (one_phase rule progress).past ≡ true → StaysReady rule left progress
+pub ready_then : (rule : Rule) (left : ℕ) (progress : MeasuringProgress) → (left ≡ 0 → ⊥) → rule.turns (one_phase rule progress).past ≡ true → StaysReady rule left progress
     → StaysReady rule (left - 1) (one_phase rule progress)
 ready_then rule zero progress some again h = absurd (some refl)
 ready_then rule (suc left) progress some again h = subst (λ left. StaysReady rule left (one_phase rule progress)) (one_less left) (h.1 again)
 
 -- after the last phase
-pub phases_end : (plan : Plan) (group : Group) (left : ℕ) (past : List (List Measured)) (kids : List Requested) (before held : ℕ → Held) (list : Forest Row) (answer : Size) (total : ℤ) (old new : ℕ)
-    → (let progress : Progress = record { past = past; kids = kids } in
+pub phases_end : (plan : GroupPlan) (group : Group) (left : ℕ) (past : List (List Measured)) (kids : List Requested) (before held : ℕ → Held) (list : Forest Row) (answer : Size) (total : ℤ) (old new : ℕ)
+    → (let progress : MeasuringProgress = record { past = past; kids = kids } in
     phases_on left (rule_in group) (one_phase (rule_in group) progress) ≡ one_phase (rule_in group) progress
     → AfterPhase plan group past [] kids before held list old new
     → answer ≡ (rule_in group).size (one_phase (rule_in group) progress).past
     → total ≡ (rule_in group).total (one_phase (rule_in group) progress).past
     → AfterAll group left progress before held list answer total old new)
 phases_end plan group left past kids before held list answer total old new ends phase finished summed = record {
-  length = summed ∙ ap (λ (progress : Progress). (rule_in group).total progress.past) (sym ends);
-  size = finished ∙ ap (λ (progress : Progress). (rule_in group).size progress.past) (sym ends);
-  stands = subst (λ (progress : Progress). InCourse held list progress.kids) (sym ends) phase.course;
+  length = summed ∙ ap (λ (progress : MeasuringProgress). (rule_in group).total progress.past) (sym ends);
+  size = finished ∙ ap (λ (progress : MeasuringProgress). (rule_in group).size progress.past) (sym ends);
+  stands = subst (λ (progress : MeasuringProgress). InCourse held list progress.kids) (sym ends) phase.course;
   more = phase_calls ((rule_in group).ask past) [] kids;
-  calls = ap (λ (progress : Progress). calls_of progress.kids) ends ∙ calls_after ((rule_in group).ask past) [] kids;
+  calls = ap (λ (progress : MeasuringProgress). calls_of progress.kids) ends ∙ calls_after ((rule_in group).ask past) [] kids;
   costs = phase.costs;
-  caches = subst (λ (progress : Progress). Grown (AskedAt progress.kids) before held list) (sym ends) phase.caches;
+  caches = subst (λ (progress : MeasuringProgress). Grown (AskedAt progress.kids) before held list) (sym ends) phase.caches;
 }
 
-pub ends_at_0 : (group : Group) (left : ℕ) (progress : Progress) → left ≡ 0 → phases_on left (rule_in group) progress ≡ progress
+pub ends_at_0 : (group : Group) (left : ℕ) (progress : MeasuringProgress) → left ≡ 0 → phases_on left (rule_in group) progress ≡ progress
 ends_at_0 group left progress none = ap (λ left. phases_on left (rule_in group) progress) none
 
-pub ends_here : (group : Group) (left : ℕ) (progress : Progress) → (rule_in group).turns progress.past ≡ false → phases_on left (rule_in group) progress ≡ progress
+pub ends_here : (group : Group) (left : ℕ) (progress : MeasuringProgress) → (rule_in group).turns progress.past ≡ false → phases_on left (rule_in group) progress ≡ progress
 ends_here group left progress over = phases_stop left (rule_in group) progress over
 
 -- after a phase and those that follow it
-pub phases_more : (plan : Plan) (group : Group) (left : ℕ) (past : List (List Measured)) (kids : List Requested) (before mid held : ℕ → Held) (list : Forest Row) (answer : Size) (total : ℤ)
+pub phases_more : (plan : GroupPlan) (group : Group) (left : ℕ) (past : List (List Measured)) (kids : List Requested) (before mid held : ℕ → Held) (list : Forest Row) (answer : Size) (total : ℤ)
     (old between new : ℕ)
-    → (let progress : Progress = record { past = past; kids = kids } in
+    → (let progress : MeasuringProgress = record { past = past; kids = kids } in
     (left ≡ 0 → ⊥) → (rule_in group).turns (one_phase (rule_in group) progress).past ≡ true
     → AfterPhase plan group past [] kids before mid list old between
     → AfterAll group (left - 1) (one_phase (rule_in group) progress) mid held list answer total between new
     → AfterAll group left progress before held list answer total old new)
 phases_more plan group left past kids before mid held list answer total old between new some again phase rest =
-    let progress : Progress = record { past = past; kids = kids } in
+    let progress : MeasuringProgress = record { past = past; kids = kids } in
     let rule = rule_in group in
     let is = phases_go left rule (one_phase rule progress) some again in
     let calls = rest.calls in
     let first = calls_after (rule.ask past) [] kids in
     let all : calls_of (from_here group (left - 1) (one_phase rule progress)).kids ≡ calls_of kids + (phase_calls (rule.ask past) [] kids + rest.more) = omega arith in
     record {
-      size = rest.size ∙ ap (λ (progress : Progress). rule.size progress.past) (sym is);
-      length = rest.length ∙ ap (λ (progress : Progress). rule.total progress.past) (sym is);
-      stands = subst (λ (progress : Progress). InCourse held list progress.kids) (sym is) rest.stands;
+      size = rest.size ∙ ap (λ (progress : MeasuringProgress). rule.size progress.past) (sym is);
+      length = rest.length ∙ ap (λ (progress : MeasuringProgress). rule.total progress.past) (sym is);
+      stands = subst (λ (progress : MeasuringProgress). InCourse held list progress.kids) (sym is) rest.stands;
       more = phase_calls (rule.ask past) [] kids + rest.more;
-      calls = ap (λ (progress : Progress). calls_of progress.kids) is ∙ all;
+      calls = ap (λ (progress : MeasuringProgress). calls_of progress.kids) is ∙ all;
       costs = costs_twice list before mid held old between new (phase_calls (rule.ask past) [] kids) rest.more phase.costs rest.costs;
-      caches = subst (λ (progress : Progress). Grown (AskedAt progress.kids) before held list) (sym is)
+      caches = subst (λ (progress : MeasuringProgress). Grown (AskedAt progress.kids) before held list) (sym is)
           (Grown-trans _ before mid held list
           (Grown-mono _ _ before mid list (λ place specs h. AskedAt-through (left - 1) rule (one_phase rule (one_phase rule progress)) place specs
           (AskedAt-on (rule.ask (one_phase rule progress).past) [] (one_phase rule progress).kids place specs h)) phase.caches)
@@ -154,7 +154,7 @@ asked_on ask taken (kid ∷ kids) h = (asked_turn (is_shown kid.child.facts) (as
 -- what each phase keeps of the children holds after all phases
 kept_through : (P : List Requested → Type 0)
     → ((ask : List Measured → Measured → Option Specs) (taken : List Measured) (kids : List Requested) → P kids → P (after_phase ask taken kids))
-    → (left : ℕ) (rule : Rule) (progress : Progress) → P progress.kids → P (phases_on left rule progress).kids
+    → (left : ℕ) (rule : Rule) (progress : MeasuringProgress) → P progress.kids → P (phases_on left rule progress).kids
 kept_through P keeps zero rule progress h = h
 kept_through P keeps (suc left) rule progress h =
     by_test (rule.turns progress.past) (kept_through P keeps left rule (one_phase rule progress) (keeps (rule.ask progress.past) [] progress.kids h)) h
@@ -163,7 +163,7 @@ kept_through P keeps (suc left) rule progress h =
     by_test true go stop = go
     by_test false go stop = stop
 
-pub asked_through : (left : ℕ) (rule : Rule) (progress : Progress) → AllAsked progress.kids → AllAsked (phases_on left rule progress).kids
+pub asked_through : (left : ℕ) (rule : Rule) (progress : MeasuringProgress) → AllAsked progress.kids → AllAsked (phases_on left rule progress).kids
 asked_through = kept_through AllAsked asked_on
 
 gone_turn : (v : Bool) (answer : Option Specs) (kid : Requested) → v ≡ is_shown kid.child.facts → (is_shown kid.child.facts ≡ false → kid.requests ≡ [])

@@ -5,9 +5,9 @@ use Rattle.geom_core.specs.declared.geometry.Size.{Size}
 use Rattle.measure_pass.specs.Caches.{AskedAt, Grown, asked_under}
 use Rattle.kept_views.specs.Kept.{IsSized, Sized, last_edges, last_specs}
 use Rattle.measure_pass.specs.Measured.{Costs, calls_under, edges_under, finals_under, size_under, total_under}
-use Rattle.measure_pass.specs.Plans.{Group, Plan, Stands, rule_in}
+use Rattle.measure_pass.specs.Plans.{Group, GroupPlan, Stands, rule_in}
 use Rattle.view_model.specs.declared.kinds.Class.TheVariants.{RelativeLayout}
-use Rattle.view_model.specs.Course.{Child, Progress, Requested, after_phase, after_turn, last_of, measured_of, one_phase, phases_on, size_after, size_in, sizes_of}
+use Rattle.view_model.specs.Course.{Child, MeasuringProgress, Requested, after_phase, after_turn, last_of, measured_of, one_phase, phases_on, size_after, size_in, sizes_of}
 use Rattle.view_model.specs.Facts.{is_shown}
 use Rattle.view_model.specs.Forest.{Forest, Nothing, Branch}
 use Rattle.view_model.specs.Layout.{child_under}
@@ -55,7 +55,7 @@ CanTurn rule past [] = Unit {0}
 CanTurn rule past (kid ∷ kids) = (is_shown kid.child.facts ≡ true → TurnIsKnown rule past kid) × CanTurn rule past kids
 
 -- so it is in the next phase, and in those that follow
-abbrev pub StaysReady : Rule → ℕ → Progress → Type 0
+abbrev pub StaysReady : Rule → ℕ → MeasuringProgress → Type 0
 StaysReady rule zero progress = CanTurn rule progress.past progress.kids
 StaysReady rule (suc left) progress =
     CanTurn rule progress.past progress.kids × (rule.turns (one_phase rule progress).past ≡ true → StaysReady rule left (one_phase rule progress))
@@ -91,7 +91,7 @@ pub record IsMeasuredBelow (part : Forest Row) (specs : Specs) (before held : �
   pub caches : Grown (asked_under part specs) before held (children_of_first part)
 
 -- a plan has taken the views of a list, which are these children, after others of the same phase
-pub record AfterPhase (plan : Plan) (group : Group) (past : List (List Measured)) (taken : List Measured) (kids : List Requested)
+pub record AfterPhase (plan : GroupPlan) (group : Group) (past : List (List Measured)) (taken : List Measured) (kids : List Requested)
     (before held : ℕ → Held) (list : Forest Row) (old new : ℕ) : Type 0 where
   pub plan_stands : Stands plan group past (taken ++ sizes_of (after_phase ((rule_in group).ask past) taken kids))
   pub course : InCourse held list (after_phase ((rule_in group).ask past) taken kids)
@@ -99,11 +99,11 @@ pub record AfterPhase (plan : Plan) (group : Group) (past : List (List Measured)
   pub caches : Grown (AskedAt (after_phase ((rule_in group).ask past) taken kids)) before held list
 
 -- what follows for the children of a group from completed phases and the next one, up to n more
-abbrev pub from_here : Group → ℕ → Progress → Progress
+abbrev pub from_here : Group → ℕ → MeasuringProgress → MeasuringProgress
 from_here group left progress = phases_on left (rule_in group) (one_phase (rule_in group) progress)
 
 -- a group's whole measuring, from completed phases
-pub record AfterAll (group : Group) (left : ℕ) (progress : Progress) (before held : ℕ → Held) (list : Forest Row) (answer : Size) (total : ℤ)
+pub record AfterAll (group : Group) (left : ℕ) (progress : MeasuringProgress) (before held : ℕ → Held) (list : Forest Row) (answer : Size) (total : ℤ)
     (old new : ℕ) : Type 0 where
   pub size : answer ≡ (rule_in group).size (from_here group left progress).past
   pub length : total ≡ (rule_in group).total (from_here group left progress).past

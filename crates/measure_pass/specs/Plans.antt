@@ -31,19 +31,19 @@ abbrev pub group_by : Rule → PlainView → Specs → Group
 group_by rule view specs = record { own = view.facts; specs = specs; rule = rule }
 
 -- how a group measures its children: in each phase they come in order
-pub data Plan : Type 0 where
-  Frame : FramePlan → Plan
-  Linear : LinearPlan → Plan
-  Scroll : ScrollPlan → Plan
+pub data GroupPlan : Type 0 where
+  Frame : FramePlan → GroupPlan
+  Linear : LinearPlan → GroupPlan
+  Scroll : ScrollPlan → GroupPlan
 
 -- the plan of a view, once these phases are over and it has taken these children in the next
-abbrev pub Stands : Plan → Group → List (List Measured) → List Measured → Type 0
+abbrev pub Stands : GroupPlan → Group → List (List Measured) → List Measured → Type 0
 Stands (Frame plan) group past taken = (rule_in group ≡ frame_rule group.own group.specs) × StandsFrame plan group.own group.specs past taken
 Stands (Linear plan) group past taken = (rule_in group ≡ linear_rule group.own group.specs) × StandsLinear plan group.own group.specs past taken
 Stands (Scroll plan) group past taken = (rule_in group ≡ scroll_rule group.own group.specs) × StandsScroll plan group.own group.specs past taken
 
 -- the plan of a view that measures so, before its first child
-abbrev pub IsPlanOf : Manner → Plan → PlainView → Specs → Type 0
+abbrev pub IsPlanOf : Manner → GroupPlan → PlainView → Specs → Type 0
 IsPlanOf (ByRule rule) plan view specs = Stands plan (group_by rule view specs) [] []
 IsPlanOf BySiblings plan view specs = ⊥
 
@@ -53,7 +53,7 @@ pub record IsLeaf (view : PlainView) (specs : Specs) (size : Size) : Type 0 wher
   pub alone : is_group view.class ≡ false
 
 -- a plan at the end of a phase: whether another follows, and then the plan is at its start
-pub record Turned (plan : Plan) (group : Group) (past : List (List Measured)) (taken : List Measured) (answer : Bool) : Type 0 where
+pub record Turned (plan : GroupPlan) (group : Group) (past : List (List Measured)) (taken : List Measured) (answer : Bool) : Type 0 where
   pub answers : answer ≡ (rule_in group).turns (past ++ taken ∷ [])
   pub follows : answer ≡ true → Stands plan group (past ++ taken ∷ []) []
   pub ends : answer ≡ false → Stands plan group past taken

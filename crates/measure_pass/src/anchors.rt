@@ -20,7 +20,8 @@ pub fn anchors_of(tree: &ViewTree, view: Key, kid: Key, rtl: bool, axis: Axis) -
     requires live { IsLive tree.now view }
     requires siblings { class_of tree.now view ≡ RelativeLayout }
     requires kid { IsLive tree.now kid }
-    ensures { (place : ℕ) → part_from kid tree.now.tree ≡ siblings_from place (children_of_first (part_from view tree.now.tree))
+    ensures { (place : ℕ)
+        → part_from kid tree.now.tree ≡ siblings_from place (children_of_first (part_from view tree.now.tree))
         → result ≡ anchors_by rtl axis (kids_in (children_of_first (part_from view tree.now.tree)))
         (kept_spans axis (held_of tree.now) (children_of_first (part_from view tree.now.tree))) place }
 {
@@ -46,7 +47,8 @@ fn anchor_of(
     requires live { IsLive tree.now view }
     requires siblings { class_of tree.now view ≡ RelativeLayout }
     requires kid { IsLive tree.now kid }
-    ensures { (place : ℕ) → part_from kid tree.now.tree ≡ siblings_from place (children_of_first (part_from view tree.now.tree))
+    ensures { (place : ℕ)
+        → part_from kid tree.now.tree ≡ siblings_from place (children_of_first (part_from view tree.now.tree))
         → result ≡ anchor_by rtl axis (kids_in (children_of_first (part_from view tree.now.tree)))
         (kept_spans axis (held_of tree.now) (children_of_first (part_from view tree.now.tree))) tie place }
 {
@@ -70,7 +72,8 @@ fn named_anchor(
     requires live { IsLive tree.now view }
     requires siblings { class_of tree.now view ≡ RelativeLayout }
     requires kid { IsLive tree.now kid }
-    ensures { (place : ℕ) → part_from kid tree.now.tree ≡ siblings_from place (children_of_first (part_from view tree.now.tree))
+    ensures { (place : ℕ)
+        → part_from kid tree.now.tree ≡ siblings_from place (children_of_first (part_from view tree.now.tree))
         → result ≡ anchor_by rtl axis (kids_in (children_of_first (part_from view tree.now.tree)))
         (kept_spans axis (held_of tree.now) (children_of_first (part_from view tree.now.tree))) tie place }
 {
@@ -83,7 +86,8 @@ fn named_anchor(
 /// A child as an anchor, with the sides that are kept of it.
 fn anchor_with(tree: &ViewTree, kid: Key, axis: Axis) -> Anchor
     requires { IsLive tree.now kid }
-    ensures { result ≡ anchor_with axis (layout_facts (head_view (part_from kid tree.now.tree)).facts) (first_span axis (held_of tree.now) (part_from kid tree.now.tree)) }
+    ensures { result ≡ anchor_with axis (layout_facts (head_view (part_from kid tree.now.tree)).facts)
+        (first_span axis (held_of tree.now) (part_from kid tree.now.tree)) }
 {
     let margins = axis.margins(tree.facts(kid));
     anchor_between(kept_span(tree, kid, axis), margins)
@@ -119,10 +123,12 @@ fn anchor_key(tree: &ViewTree, view: Key, kid: Key, rtl: bool, axis: Axis, tie: 
     requires live { IsLive tree.now view }
     requires siblings { class_of tree.now view ≡ RelativeLayout }
     requires kid { IsLive tree.now kid }
-    ensures key { (place : ℕ) → part_from kid tree.now.tree ≡ siblings_from place (children_of_first (part_from view tree.now.tree))
+    ensures key { (place : ℕ)
+        → part_from kid tree.now.tree ≡ siblings_from place (children_of_first (part_from view tree.now.tree))
         → IsKidAt tree.now.tree (children_of_first (part_from view tree.now.tree))
         (anchor_of rtl axis tie (links_of (kids_in (children_of_first (part_from view tree.now.tree))))
-        (λ sibling. is_shown (child_at (kids_in (children_of_first (part_from view tree.now.tree))) sibling).facts) place) result }
+        (λ sibling. is_shown (child_at (kids_in (children_of_first (part_from view tree.now.tree))) sibling).facts)
+        place) result }
     ensures live { IfSome result (λ kid. IsLive tree.now kid) }
 {
     let mut at = kid;
@@ -152,9 +158,11 @@ fn named_sibling(
     requires live { IsLive tree.now view }
     requires siblings { class_of tree.now view ≡ RelativeLayout }
     requires kid { IsLive tree.now kid }
-    ensures key { (place : ℕ) → part_from kid tree.now.tree ≡ siblings_from place (children_of_first (part_from view tree.now.tree))
+    ensures key { (place : ℕ)
+        → part_from kid tree.now.tree ≡ siblings_from place (children_of_first (part_from view tree.now.tree))
         → IsKidAt tree.now.tree (children_of_first (part_from view tree.now.tree))
-        (named_sibling rtl axis tie (links_of (kids_in (children_of_first (part_from view tree.now.tree)))) place) result }
+        (named_sibling rtl axis tie (links_of (kids_in (children_of_first (part_from view tree.now.tree)))) place)
+        result }
     ensures live { IfSome result (λ kid. IsLive tree.now kid) }
 {
     let id = tie.anchor_id(rtl, axis, &tree.facts(kid).rules);

@@ -55,14 +55,20 @@ pub fn measure(tree: &mut ViewTree, view: Key, ws: Spec, hs: Spec, work: &mut Wo
     ensures keeps { Keeps (held_of tree.old) (held_of tree.new) }
     ensures others { KeepsOutside (held_of tree.old) (held_of tree.new) (first_tree (part_from view tree.old.tree)) }
     ensures counted { Counted 0 tree.old tree.new work.old work.new }
-    ensures costs { Costs (first_tree (part_from view tree.old.tree)) (held_of tree.old) (held_of tree.new) work.old.measured
+    ensures costs { Costs (first_tree (part_from view tree.old.tree)) (held_of tree.old)
+        (held_of tree.new) work.old.measured
         (calls_under (part_from view tree.old.tree) (record { across = ws; down = hs })) work.new.measured }
-    ensures caches { Grown (λ place other. other ≡ (record { across = ws; down = hs })) (held_of tree.old) (held_of tree.new) (first_tree (part_from view tree.old.tree)) }
+    ensures caches { Grown (λ place other. other ≡ (record { across = ws; down = hs })) (held_of tree.old)
+        (held_of tree.new) (first_tree (part_from view tree.old.tree)) }
     ensures still { current (state_of tree.old view) (record { across = ws; down = hs }) ≡ true → tree.new ≡ tree.old }
     ensures idle { IsKnown (held_of tree.old view) (record { across = ws; down = hs })
-        → (work.new ≡ work.old) × (cache_of tree.new view ≡ cache_of tree.old view) × (tree.new.counts ≡ tree.old.counts) }
-    ensures busy { (IsKnown (held_of tree.old view) (record { across = ws; down = hs }) → ⊥) → Counted 1 tree.old tree.new work.old work.new
-        × (cache_of tree.new view ≡ put_in (cache_of tree.old view) (entry_for (record { across = ws; down = hs }) result)) }
+        → (work.new ≡ work.old)
+        × (cache_of tree.new view ≡ cache_of tree.old view)
+        × (tree.new.counts ≡ tree.old.counts) }
+    ensures busy { (IsKnown (held_of tree.old view) (record { across = ws; down = hs }) → ⊥)
+        → Counted 1 tree.old tree.new work.old work.new
+        × (cache_of tree.new view ≡ put_in (cache_of tree.old view)
+        (entry_for (record { across = ws; down = hs }) result)) }
 {
     let state = tree.state(view);
     if is_current(&state, ws, hs) {
@@ -118,10 +124,13 @@ fn measure_anew(tree: &mut ViewTree, view: Key, ws: Spec, hs: Spec, work: &mut W
     ensures keeps { Keeps (held_of tree.old) (held_of tree.new) }
     ensures others { KeepsOutside (held_of tree.old) (held_of tree.new) (first_tree (part_from view tree.old.tree)) }
     ensures counted { Counted 1 tree.old tree.new work.old work.new }
-    ensures costs { Costs (first_tree (part_from view tree.old.tree)) (held_of tree.old) (held_of tree.new) work.old.measured
+    ensures costs { Costs (first_tree (part_from view tree.old.tree)) (held_of tree.old)
+        (held_of tree.new) work.old.measured
         (calls_under (part_from view tree.old.tree) (record { across = ws; down = hs })) work.new.measured }
-    ensures caches { Grown (λ place other. other ≡ (record { across = ws; down = hs })) (held_of tree.old) (held_of tree.new) (first_tree (part_from view tree.old.tree)) }
-    ensures cache { cache_of tree.new view ≡ put_in (cache_of tree.old view) (entry_for (record { across = ws; down = hs }) result) }
+    ensures caches { Grown (λ place other. other ≡ (record { across = ws; down = hs })) (held_of tree.old)
+        (held_of tree.new) (first_tree (part_from view tree.old.tree)) }
+    ensures cache { cache_of tree.new view
+        ≡ put_in (cache_of tree.old view) (entry_for (record { across = ws; down = hs }) result) }
 {
     let outcome = measure_below(tree, view, ws, hs, work);
     finish(tree, view, ws, hs, outcome, work);
@@ -145,9 +154,12 @@ pub fn remeasure(tree: &mut ViewTree, view: Key, work: &mut Work)
     ensures keeps { Keeps (held_of tree.old) (held_of tree.new) }
     ensures others { KeepsOutside (held_of tree.old) (held_of tree.new) (first_tree (part_from view tree.old.tree)) }
     ensures counted { Counted 1 tree.old tree.new work.old work.new }
-    ensures caches { Grown (λ place other. other ≡ specs_of (state_of tree.old view)) (held_of tree.old) (held_of tree.new) (first_tree (part_from view tree.old.tree)) }
-    ensures back { work.new.measured + owed (held_of tree.new) (first_tree (part_from view tree.old.tree)) ≤ work.old.measured + owed (held_of tree.old) (first_tree (part_from view tree.old.tree)) }
-    ensures spent { work.new.measured ≤ work.old.measured + calls_under (part_from view tree.old.tree) (specs_of (state_of tree.old view)) }
+    ensures caches { Grown (λ place other. other ≡ specs_of (state_of tree.old view)) (held_of tree.old)
+        (held_of tree.new) (first_tree (part_from view tree.old.tree)) }
+    ensures back { work.new.measured + owed (held_of tree.new) (first_tree (part_from view tree.old.tree))
+        ≤ work.old.measured + owed (held_of tree.old) (first_tree (part_from view tree.old.tree)) }
+    ensures spent { work.new.measured
+        ≤ work.old.measured + calls_under (part_from view tree.old.tree) (specs_of (state_of tree.old view)) }
 {
     let state = tree.state(view);
     let outcome = measure_below(tree, view, state.ws, state.hs, work);
@@ -160,7 +172,8 @@ fn make_up(tree: &mut ViewTree, view: Key, outcome: Outcome, work: &mut Work)
     ensures same { SameTree tree.old tree.new }
     ensures held { held_of tree.new view ≡ made_up (held_of tree.old view) outcome.size outcome.total }
     ensures others { KeepsOthers tree.old tree.new view }
-    ensures counts { tree.new.counts ≡ record tree.old.counts { measures = min (tree.old.counts.measures + 1) (2 ^ 64 - 1) } }
+    ensures counts { tree.new.counts
+        ≡ record tree.old.counts { measures = min (tree.old.counts.measures + 1) (2 ^ 64 - 1) } }
     ensures counted { work.new ≡ record work.old { measured = min (work.old.measured + 1) (2 ^ 64 - 1) } }
 {
     let mut state = tree.state(view);
@@ -181,9 +194,11 @@ struct Outcome {
 fn finish(tree: &mut ViewTree, view: Key, ws: Spec, hs: Spec, outcome: Outcome, work: &mut Work)
     requires live { IsLive tree.old view }
     ensures same { SameTree tree.old tree.new }
-    ensures held { held_of tree.new view ≡ done_with (held_of tree.old view) (record { across = ws; down = hs }) outcome.size outcome.total }
+    ensures held { held_of tree.new view
+        ≡ done_with (held_of tree.old view) (record { across = ws; down = hs }) outcome.size outcome.total }
     ensures others { KeepsOthers tree.old tree.new view }
-    ensures counts { tree.new.counts ≡ record tree.old.counts { measures = min (tree.old.counts.measures + 1) (2 ^ 64 - 1) } }
+    ensures counts { tree.new.counts
+        ≡ record tree.old.counts { measures = min (tree.old.counts.measures + 1) (2 ^ 64 - 1) } }
     ensures counted { work.new ≡ record work.old { measured = min (work.old.measured + 1) (2 ^ 64 - 1) } }
 {
     let mut state = tree.state(view);
@@ -203,11 +218,13 @@ fn measure_below(tree: &mut ViewTree, view: Key, ws: Spec, hs: Spec, work: &mut 
     requires ready { Ready (held_of tree.old) (children_of_first (part_from view tree.old.tree)) }
     ensures ready { Ready (held_of tree.new) (children_of_first (part_from view tree.old.tree)) }
     ensures is_tree { IsTree tree.old }
-    ensures measured { IsMeasuredBelow (part_from view tree.old.tree) (record { across = ws; down = hs }) (held_of tree.old) (held_of tree.new)
+    ensures measured { IsMeasuredBelow (part_from view tree.old.tree) (record { across = ws; down = hs })
+        (held_of tree.old) (held_of tree.new)
         result.size result.total work.old.measured work.new.measured }
     ensures same { SameTree tree.old tree.new }
     ensures keeps { Keeps (held_of tree.old) (held_of tree.new) }
-    ensures others { KeepsOutside (held_of tree.old) (held_of tree.new) (children_of_first (part_from view tree.old.tree)) }
+    ensures others { KeepsOutside (held_of tree.old) (held_of tree.new)
+        (children_of_first (part_from view tree.old.tree)) }
     ensures counted { Counted 0 tree.old tree.new work.old work.new }
 {
     let facts = tree.facts(view);
@@ -237,11 +254,13 @@ fn measure_frame(tree: &mut ViewTree, view: Key, ws: Spec, hs: Spec, work: &mut 
     requires ready { Ready (held_of tree.old) (children_of_first (part_from view tree.old.tree)) }
     ensures ready { Ready (held_of tree.new) (children_of_first (part_from view tree.old.tree)) }
     ensures is_tree { IsTree tree.old }
-    ensures measured { IsMeasuredBelow (part_from view tree.old.tree) (record { across = ws; down = hs }) (held_of tree.old) (held_of tree.new)
+    ensures measured { IsMeasuredBelow (part_from view tree.old.tree) (record { across = ws; down = hs })
+        (held_of tree.old) (held_of tree.new)
         result.size result.total work.old.measured work.new.measured }
     ensures same { SameTree tree.old tree.new }
     ensures keeps { Keeps (held_of tree.old) (held_of tree.new) }
-    ensures others { KeepsOutside (held_of tree.old) (held_of tree.new) (children_of_first (part_from view tree.old.tree)) }
+    ensures others { KeepsOutside (held_of tree.old) (held_of tree.new)
+        (children_of_first (part_from view tree.old.tree)) }
     ensures counted { Counted 0 tree.old tree.new work.old work.new }
 {
     let mut plan = FramePlan::start(tree.facts(view), ws, hs);
@@ -260,11 +279,13 @@ fn measure_linear(tree: &mut ViewTree, view: Key, ws: Spec, hs: Spec, work: &mut
     requires ready { Ready (held_of tree.old) (children_of_first (part_from view tree.old.tree)) }
     ensures ready { Ready (held_of tree.new) (children_of_first (part_from view tree.old.tree)) }
     ensures is_tree { IsTree tree.old }
-    ensures measured { IsMeasuredBelow (part_from view tree.old.tree) (record { across = ws; down = hs }) (held_of tree.old) (held_of tree.new)
+    ensures measured { IsMeasuredBelow (part_from view tree.old.tree) (record { across = ws; down = hs })
+        (held_of tree.old) (held_of tree.new)
         result.size result.total work.old.measured work.new.measured }
     ensures same { SameTree tree.old tree.new }
     ensures keeps { Keeps (held_of tree.old) (held_of tree.new) }
-    ensures others { KeepsOutside (held_of tree.old) (held_of tree.new) (children_of_first (part_from view tree.old.tree)) }
+    ensures others { KeepsOutside (held_of tree.old) (held_of tree.new)
+        (children_of_first (part_from view tree.old.tree)) }
     ensures counted { Counted 0 tree.old tree.new work.old work.new }
 {
     let mut plan = LinearPlan::start(tree.facts(view), ws, hs);
@@ -280,11 +301,13 @@ fn measure_scroll(tree: &mut ViewTree, view: Key, ws: Spec, hs: Spec, work: &mut
     requires ready { Ready (held_of tree.old) (children_of_first (part_from view tree.old.tree)) }
     ensures ready { Ready (held_of tree.new) (children_of_first (part_from view tree.old.tree)) }
     ensures is_tree { IsTree tree.old }
-    ensures measured { IsMeasuredBelow (part_from view tree.old.tree) (record { across = ws; down = hs }) (held_of tree.old) (held_of tree.new)
+    ensures measured { IsMeasuredBelow (part_from view tree.old.tree) (record { across = ws; down = hs })
+        (held_of tree.old) (held_of tree.new)
         result.size result.total work.old.measured work.new.measured }
     ensures same { SameTree tree.old tree.new }
     ensures keeps { Keeps (held_of tree.old) (held_of tree.new) }
-    ensures others { KeepsOutside (held_of tree.old) (held_of tree.new) (children_of_first (part_from view tree.old.tree)) }
+    ensures others { KeepsOutside (held_of tree.old) (held_of tree.new)
+        (children_of_first (part_from view tree.old.tree)) }
     ensures counted { Counted 0 tree.old tree.new work.old work.new }
 {
     let mut plan = ScrollPlan::start(tree.facts(view), ws, hs);
@@ -303,11 +326,13 @@ fn measure_siblings(tree: &mut ViewTree, view: Key, ws: Spec, hs: Spec, work: &m
     requires ready { Ready (held_of tree.old) (children_of_first (part_from view tree.old.tree)) }
     ensures ready { Ready (held_of tree.new) (children_of_first (part_from view tree.old.tree)) }
     ensures is_tree { IsTree tree.old }
-    ensures measured { IsMeasuredBelow (part_from view tree.old.tree) (record { across = ws; down = hs }) (held_of tree.old) (held_of tree.new)
+    ensures measured { IsMeasuredBelow (part_from view tree.old.tree) (record { across = ws; down = hs })
+        (held_of tree.old) (held_of tree.new)
         result.size result.total work.old.measured work.new.measured }
     ensures same { SameTree tree.old tree.new }
     ensures keeps { Keeps (held_of tree.old) (held_of tree.new) }
-    ensures others { KeepsOutside (held_of tree.old) (held_of tree.new) (children_of_first (part_from view tree.old.tree)) }
+    ensures others { KeepsOutside (held_of tree.old) (held_of tree.new)
+        (children_of_first (part_from view tree.old.tree)) }
     ensures counted { Counted 0 tree.old tree.new work.old work.new }
 {
     let mut plan = RelativePlan::start(tree.facts(view), ws, hs);
@@ -337,16 +362,21 @@ fn measure_turns(
     ensures turns { (own : FactsValue) (specs : Specs) (past : List (List Spanned))
         → StandsRelative plan.old own specs past []
         → phase_axis past ≡ axis
-        → ((place : ℕ) → FirstIsKnown axis (held_of tree.old) ((phase_of axis own specs (kids_in (children_of_first (part_from view tree.old.tree)))).before place)
+        → ((place : ℕ) → FirstIsKnown axis (held_of tree.old)
+        ((phase_of axis own specs (kids_in (children_of_first (part_from view tree.old.tree)))).before place)
         (siblings_from place (children_of_first (part_from view tree.old.tree))))
-        → AfterTurns plan.new own specs past (phase_of axis own specs (kids_in (children_of_first (part_from view tree.old.tree)))) (order_on axis (orders_of tree.old view))
-        (held_of tree.old) (held_of tree.new) (children_of_first (part_from view tree.old.tree)) work.old.measured work.new.measured }
-    ensures ordered { AreOrders (links_in (views_of (children_of_first (part_from view tree.old.tree)))) (orders_of tree.old view) }
+        → AfterTurns plan.new own specs past (phase_of axis own specs
+        (kids_in (children_of_first (part_from view tree.old.tree)))) (order_on axis (orders_of tree.old view))
+        (held_of tree.old) (held_of tree.new)
+        (children_of_first (part_from view tree.old.tree)) work.old.measured work.new.measured }
+    ensures ordered { AreOrders (links_in (views_of (children_of_first (part_from view tree.old.tree))))
+        (orders_of tree.old view) }
     ensures sizes { (place : ℕ) → place < length (kids_in (children_of_first (part_from view tree.old.tree)))
         → FirstHasSize (held_of tree.new) (siblings_from place (children_of_first (part_from view tree.old.tree))) }
     ensures same { SameTree tree.old tree.new }
     ensures keeps { Keeps (held_of tree.old) (held_of tree.new) }
-    ensures others { KeepsOutside (held_of tree.old) (held_of tree.new) (children_of_first (part_from view tree.old.tree)) }
+    ensures others { KeepsOutside (held_of tree.old) (held_of tree.new)
+        (children_of_first (part_from view tree.old.tree)) }
     ensures counted { Counted 0 tree.old tree.new work.old work.new }
 {
     for turn in 0..turns(tree, view) {
@@ -376,9 +406,13 @@ fn measure_in_turn(
         → part_from kid tree.old.tree ≡ siblings_from place (children_of_first (part_from view tree.old.tree))
         → TurnIsFixed axis own specs (kids_in (children_of_first (part_from view tree.old.tree)))
         (kept_spans axis (held_of tree.old) (children_of_first (part_from view tree.old.tree))) place
-        → FirstIsKnown axis (held_of tree.old) ((phase_of axis own specs (kids_in (children_of_first (part_from view tree.old.tree)))).before place) (part_from kid tree.old.tree)
-        → AfterTurn plan.new own specs past taken (phase_of axis own specs (kids_in (children_of_first (part_from view tree.old.tree))))
-        (kids_in (children_of_first (part_from view tree.old.tree))) place (held_of tree.old) (held_of tree.new) (part_from kid tree.old.tree)
+        → FirstIsKnown axis (held_of tree.old)
+        ((phase_of axis own specs (kids_in (children_of_first (part_from view tree.old.tree)))).before place)
+        (part_from kid tree.old.tree)
+        → AfterTurn plan.new own specs past taken
+        (phase_of axis own specs (kids_in (children_of_first (part_from view tree.old.tree))))
+        (kids_in (children_of_first (part_from view tree.old.tree))) place (held_of tree.old)
+        (held_of tree.new) (part_from kid tree.old.tree)
         work.old.measured work.new.measured }
     ensures size { FirstHasSize (held_of tree.new) (part_from kid tree.old.tree) }
     ensures same { SameTree tree.old tree.new }
@@ -416,11 +450,13 @@ fn frame_phases(
         → Stands (Frame plan.old) group past []
         → InCourse (held_of tree.old) (children_of_first (part_from view tree.old.tree)) kids
         → StaysReady (rule_in group) left (record { past = past; kids = kids })
-        → AfterAll group left (record { past = past; kids = kids }) (held_of tree.old) (held_of tree.new) (children_of_first (part_from view tree.old.tree))
+        → AfterAll group left (record { past = past; kids = kids }) (held_of tree.old) (held_of tree.new)
+        (children_of_first (part_from view tree.old.tree))
         result (pos 0) work.old.measured work.new.measured }
     ensures same { SameTree tree.old tree.new }
     ensures keeps { Keeps (held_of tree.old) (held_of tree.new) }
-    ensures others { KeepsOutside (held_of tree.old) (held_of tree.new) (children_of_first (part_from view tree.old.tree)) }
+    ensures others { KeepsOutside (held_of tree.old) (held_of tree.new)
+        (children_of_first (part_from view tree.old.tree)) }
     ensures counted { Counted 0 tree.old tree.new work.old work.new }
 {
     frame_kids(tree, view, plan, work);
@@ -452,11 +488,13 @@ fn frame_more(
         → Stands (Frame plan.old) group past []
         → InCourse (held_of tree.old) (children_of_first (part_from view tree.old.tree)) kids
         → StaysReady (rule_in group) left (record { past = past; kids = kids })
-        → AfterAll group left (record { past = past; kids = kids }) (held_of tree.old) (held_of tree.new) (children_of_first (part_from view tree.old.tree))
+        → AfterAll group left (record { past = past; kids = kids }) (held_of tree.old) (held_of tree.new)
+        (children_of_first (part_from view tree.old.tree))
         result (pos 0) work.old.measured work.new.measured }
     ensures same { SameTree tree.old tree.new }
     ensures keeps { Keeps (held_of tree.old) (held_of tree.new) }
-    ensures others { KeepsOutside (held_of tree.old) (held_of tree.new) (children_of_first (part_from view tree.old.tree)) }
+    ensures others { KeepsOutside (held_of tree.old) (held_of tree.new)
+        (children_of_first (part_from view tree.old.tree)) }
     ensures counted { Counted 0 tree.old tree.new work.old work.new }
 {
     frame_phases(tree, view, plan, left, work)
@@ -474,10 +512,12 @@ fn frame_kids(tree: &mut ViewTree, view: Key, plan: &mut FramePlan, work: &mut W
         → Stands (Frame plan.old) group past []
         → InCourse (held_of tree.old) (children_of_first (part_from view tree.old.tree)) kids
         → CanTurn (rule_in group) past kids
-        → AfterPhase (Frame plan.new) group past [] kids (held_of tree.old) (held_of tree.new) (children_of_first (part_from view tree.old.tree)) work.old.measured work.new.measured }
+        → AfterPhase (Frame plan.new) group past [] kids (held_of tree.old) (held_of tree.new)
+        (children_of_first (part_from view tree.old.tree)) work.old.measured work.new.measured }
     ensures same { SameTree tree.old tree.new }
     ensures keeps { Keeps (held_of tree.old) (held_of tree.new) }
-    ensures others { KeepsOutside (held_of tree.old) (held_of tree.new) (children_of_first (part_from view tree.old.tree)) }
+    ensures others { KeepsOutside (held_of tree.old) (held_of tree.new)
+        (children_of_first (part_from view tree.old.tree)) }
     ensures counted { Counted 0 tree.old tree.new work.old work.new }
 {
     let mut next = tree.first(view);
@@ -499,7 +539,8 @@ fn frame_kid(tree: &mut ViewTree, kid: Key, plan: &mut FramePlan, work: &mut Wor
         → length taken + count_of (first_tree (part_from kid tree.old.tree)) ≤ MAX_VIEWS
         → InCourse (held_of tree.old) (first_tree (part_from kid tree.old.tree)) kids
         → CanTurn (rule_in group) past kids
-        → AfterPhase (Frame plan.new) group past taken kids (held_of tree.old) (held_of tree.new) (first_tree (part_from kid tree.old.tree)) work.old.measured work.new.measured }
+        → AfterPhase (Frame plan.new) group past taken kids (held_of tree.old) (held_of tree.new)
+        (first_tree (part_from kid tree.old.tree)) work.old.measured work.new.measured }
     ensures same { SameTree tree.old tree.new }
     ensures keeps { Keeps (held_of tree.old) (held_of tree.new) }
     ensures others { KeepsOutside (held_of tree.old) (held_of tree.new) (first_tree (part_from kid tree.old.tree)) }
@@ -549,11 +590,13 @@ fn linear_phases(
         → Stands (Linear plan.old) group past []
         → InCourse (held_of tree.old) (children_of_first (part_from view tree.old.tree)) kids
         → StaysReady (rule_in group) left (record { past = past; kids = kids })
-        → AfterAll group left (record { past = past; kids = kids }) (held_of tree.old) (held_of tree.new) (children_of_first (part_from view tree.old.tree))
+        → AfterAll group left (record { past = past; kids = kids }) (held_of tree.old) (held_of tree.new)
+        (children_of_first (part_from view tree.old.tree))
         result.size result.total work.old.measured work.new.measured }
     ensures same { SameTree tree.old tree.new }
     ensures keeps { Keeps (held_of tree.old) (held_of tree.new) }
-    ensures others { KeepsOutside (held_of tree.old) (held_of tree.new) (children_of_first (part_from view tree.old.tree)) }
+    ensures others { KeepsOutside (held_of tree.old) (held_of tree.new)
+        (children_of_first (part_from view tree.old.tree)) }
     ensures counted { Counted 0 tree.old tree.new work.old work.new }
 {
     linear_kids(tree, view, plan, work);
@@ -585,11 +628,13 @@ fn linear_more(
         → Stands (Linear plan.old) group past []
         → InCourse (held_of tree.old) (children_of_first (part_from view tree.old.tree)) kids
         → StaysReady (rule_in group) left (record { past = past; kids = kids })
-        → AfterAll group left (record { past = past; kids = kids }) (held_of tree.old) (held_of tree.new) (children_of_first (part_from view tree.old.tree))
+        → AfterAll group left (record { past = past; kids = kids }) (held_of tree.old) (held_of tree.new)
+        (children_of_first (part_from view tree.old.tree))
         result.size result.total work.old.measured work.new.measured }
     ensures same { SameTree tree.old tree.new }
     ensures keeps { Keeps (held_of tree.old) (held_of tree.new) }
-    ensures others { KeepsOutside (held_of tree.old) (held_of tree.new) (children_of_first (part_from view tree.old.tree)) }
+    ensures others { KeepsOutside (held_of tree.old) (held_of tree.new)
+        (children_of_first (part_from view tree.old.tree)) }
     ensures counted { Counted 0 tree.old tree.new work.old work.new }
 {
     linear_phases(tree, view, plan, left, work)
@@ -607,10 +652,12 @@ fn linear_kids(tree: &mut ViewTree, view: Key, plan: &mut LinearPlan, work: &mut
         → Stands (Linear plan.old) group past []
         → InCourse (held_of tree.old) (children_of_first (part_from view tree.old.tree)) kids
         → CanTurn (rule_in group) past kids
-        → AfterPhase (Linear plan.new) group past [] kids (held_of tree.old) (held_of tree.new) (children_of_first (part_from view tree.old.tree)) work.old.measured work.new.measured }
+        → AfterPhase (Linear plan.new) group past [] kids (held_of tree.old) (held_of tree.new)
+        (children_of_first (part_from view tree.old.tree)) work.old.measured work.new.measured }
     ensures same { SameTree tree.old tree.new }
     ensures keeps { Keeps (held_of tree.old) (held_of tree.new) }
-    ensures others { KeepsOutside (held_of tree.old) (held_of tree.new) (children_of_first (part_from view tree.old.tree)) }
+    ensures others { KeepsOutside (held_of tree.old) (held_of tree.new)
+        (children_of_first (part_from view tree.old.tree)) }
     ensures counted { Counted 0 tree.old tree.new work.old work.new }
 {
     let mut next = tree.first(view);
@@ -632,7 +679,8 @@ fn linear_kid(tree: &mut ViewTree, kid: Key, plan: &mut LinearPlan, work: &mut W
         → length taken + count_of (first_tree (part_from kid tree.old.tree)) ≤ MAX_VIEWS
         → InCourse (held_of tree.old) (first_tree (part_from kid tree.old.tree)) kids
         → CanTurn (rule_in group) past kids
-        → AfterPhase (Linear plan.new) group past taken kids (held_of tree.old) (held_of tree.new) (first_tree (part_from kid tree.old.tree)) work.old.measured work.new.measured }
+        → AfterPhase (Linear plan.new) group past taken kids (held_of tree.old) (held_of tree.new)
+        (first_tree (part_from kid tree.old.tree)) work.old.measured work.new.measured }
     ensures same { SameTree tree.old tree.new }
     ensures keeps { Keeps (held_of tree.old) (held_of tree.new) }
     ensures others { KeepsOutside (held_of tree.old) (held_of tree.new) (first_tree (part_from kid tree.old.tree)) }
@@ -685,11 +733,13 @@ fn scroll_phases(
         → Stands (Scroll plan.old) group past []
         → InCourse (held_of tree.old) (children_of_first (part_from view tree.old.tree)) kids
         → StaysReady (rule_in group) left (record { past = past; kids = kids })
-        → AfterAll group left (record { past = past; kids = kids }) (held_of tree.old) (held_of tree.new) (children_of_first (part_from view tree.old.tree))
+        → AfterAll group left (record { past = past; kids = kids }) (held_of tree.old) (held_of tree.new)
+        (children_of_first (part_from view tree.old.tree))
         result (pos 0) work.old.measured work.new.measured }
     ensures same { SameTree tree.old tree.new }
     ensures keeps { Keeps (held_of tree.old) (held_of tree.new) }
-    ensures others { KeepsOutside (held_of tree.old) (held_of tree.new) (children_of_first (part_from view tree.old.tree)) }
+    ensures others { KeepsOutside (held_of tree.old) (held_of tree.new)
+        (children_of_first (part_from view tree.old.tree)) }
     ensures counted { Counted 0 tree.old tree.new work.old work.new }
 {
     scroll_kids(tree, view, plan, work);
@@ -721,11 +771,13 @@ fn scroll_more(
         → Stands (Scroll plan.old) group past []
         → InCourse (held_of tree.old) (children_of_first (part_from view tree.old.tree)) kids
         → StaysReady (rule_in group) left (record { past = past; kids = kids })
-        → AfterAll group left (record { past = past; kids = kids }) (held_of tree.old) (held_of tree.new) (children_of_first (part_from view tree.old.tree))
+        → AfterAll group left (record { past = past; kids = kids }) (held_of tree.old) (held_of tree.new)
+        (children_of_first (part_from view tree.old.tree))
         result (pos 0) work.old.measured work.new.measured }
     ensures same { SameTree tree.old tree.new }
     ensures keeps { Keeps (held_of tree.old) (held_of tree.new) }
-    ensures others { KeepsOutside (held_of tree.old) (held_of tree.new) (children_of_first (part_from view tree.old.tree)) }
+    ensures others { KeepsOutside (held_of tree.old) (held_of tree.new)
+        (children_of_first (part_from view tree.old.tree)) }
     ensures counted { Counted 0 tree.old tree.new work.old work.new }
 {
     scroll_phases(tree, view, plan, left, work)
@@ -743,10 +795,12 @@ fn scroll_kids(tree: &mut ViewTree, view: Key, plan: &mut ScrollPlan, work: &mut
         → Stands (Scroll plan.old) group past []
         → InCourse (held_of tree.old) (children_of_first (part_from view tree.old.tree)) kids
         → CanTurn (rule_in group) past kids
-        → AfterPhase (Scroll plan.new) group past [] kids (held_of tree.old) (held_of tree.new) (children_of_first (part_from view tree.old.tree)) work.old.measured work.new.measured }
+        → AfterPhase (Scroll plan.new) group past [] kids (held_of tree.old) (held_of tree.new)
+        (children_of_first (part_from view tree.old.tree)) work.old.measured work.new.measured }
     ensures same { SameTree tree.old tree.new }
     ensures keeps { Keeps (held_of tree.old) (held_of tree.new) }
-    ensures others { KeepsOutside (held_of tree.old) (held_of tree.new) (children_of_first (part_from view tree.old.tree)) }
+    ensures others { KeepsOutside (held_of tree.old) (held_of tree.new)
+        (children_of_first (part_from view tree.old.tree)) }
     ensures counted { Counted 0 tree.old tree.new work.old work.new }
 {
     let mut next = tree.first(view);
@@ -768,7 +822,8 @@ fn scroll_kid(tree: &mut ViewTree, kid: Key, plan: &mut ScrollPlan, work: &mut W
         → length taken + count_of (first_tree (part_from kid tree.old.tree)) ≤ MAX_VIEWS
         → InCourse (held_of tree.old) (first_tree (part_from kid tree.old.tree)) kids
         → CanTurn (rule_in group) past kids
-        → AfterPhase (Scroll plan.new) group past taken kids (held_of tree.old) (held_of tree.new) (first_tree (part_from kid tree.old.tree)) work.old.measured work.new.measured }
+        → AfterPhase (Scroll plan.new) group past taken kids (held_of tree.old) (held_of tree.new)
+        (first_tree (part_from kid tree.old.tree)) work.old.measured work.new.measured }
     ensures same { SameTree tree.old tree.new }
     ensures keeps { Keeps (held_of tree.old) (held_of tree.new) }
     ensures others { KeepsOutside (held_of tree.old) (held_of tree.new) (first_tree (part_from kid tree.old.tree)) }

@@ -19,7 +19,8 @@ use view_model::Facts;
 pub fn frame_ask(plan: &FramePlan, kid: &Facts, size: Size) -> Option<(Spec, Spec)>
     ensures { (group : Group) (past : List (List Measured)) (taken : List Measured)
         → Stands (Frame plan.now) group past taken
-        → result ≡ option_map pair_of ((rule_in group).ask past taken (record { facts = layout_facts kid.now; size = size })) }
+        → result ≡ option_map pair_of
+        ((rule_in group).ask past taken (record { facts = layout_facts kid.now; size = size })) }
 {
     plan.ask(kid, size)
 }
@@ -29,7 +30,8 @@ pub fn frame_ask(plan: &FramePlan, kid: &Facts, size: Size) -> Option<(Spec, Spe
 pub fn linear_ask(plan: &LinearPlan, kid: &Facts, size: Size) -> Option<(Spec, Spec)>
     ensures { (group : Group) (past : List (List Measured)) (taken : List Measured)
         → Stands (Linear plan.now) group past taken
-        → result ≡ option_map pair_of ((rule_in group).ask past taken (record { facts = layout_facts kid.now; size = size })) }
+        → result ≡ option_map pair_of
+        ((rule_in group).ask past taken (record { facts = layout_facts kid.now; size = size })) }
 {
     plan.ask(kid, size)
 }
@@ -39,7 +41,8 @@ pub fn linear_ask(plan: &LinearPlan, kid: &Facts, size: Size) -> Option<(Spec, S
 pub fn scroll_ask(plan: &ScrollPlan, kid: &Facts, size: Size) -> Option<(Spec, Spec)>
     ensures { (group : Group) (past : List (List Measured)) (taken : List Measured)
         → Stands (Scroll plan.now) group past taken
-        → result ≡ option_map pair_of ((rule_in group).ask past taken (record { facts = layout_facts kid.now; size = size })) }
+        → result ≡ option_map pair_of
+        ((rule_in group).ask past taken (record { facts = layout_facts kid.now; size = size })) }
 {
     plan.ask(kid, size)
 }
@@ -50,7 +53,8 @@ pub fn frame_take(plan: &mut FramePlan, kid: &Facts, size: Size)
     ensures { (group : Group) (past : List (List Measured)) (taken : List Measured)
         → Stands (Frame plan.old) group past taken
         → length taken < MAX_VIEWS
-        → Stands (Frame plan.new) group past (taken ++ taken_as (rule_in group) past taken (layout_facts kid.now) size ∷ []) }
+        → Stands (Frame plan.new) group past
+        (taken ++ taken_as (rule_in group) past taken (layout_facts kid.now) size ∷ []) }
 {
     plan.take(kid, size);
 }
@@ -61,7 +65,8 @@ pub fn linear_take(plan: &mut LinearPlan, kid: &Facts, size: Size)
     ensures { (group : Group) (past : List (List Measured)) (taken : List Measured)
         → Stands (Linear plan.old) group past taken
         → length taken < MAX_VIEWS
-        → Stands (Linear plan.new) group past (taken ++ taken_as (rule_in group) past taken (layout_facts kid.now) size ∷ []) }
+        → Stands (Linear plan.new) group past
+        (taken ++ taken_as (rule_in group) past taken (layout_facts kid.now) size ∷ []) }
 {
     plan.take(kid, size);
 }
@@ -72,7 +77,8 @@ pub fn scroll_take(plan: &mut ScrollPlan, kid: &Facts, size: Size)
     ensures { (group : Group) (past : List (List Measured)) (taken : List Measured)
         → Stands (Scroll plan.old) group past taken
         → length taken < MAX_VIEWS
-        → Stands (Scroll plan.new) group past (taken ++ taken_as (rule_in group) past taken (layout_facts kid.now) size ∷ []) }
+        → Stands (Scroll plan.new) group past
+        (taken ++ taken_as (rule_in group) past taken (layout_facts kid.now) size ∷ []) }
 {
     plan.take(kid, size);
 }

@@ -26,7 +26,8 @@ pub fn turns(tree: &ViewTree, view: Key) -> usize
     requires live { IsLive tree.now view }
     requires siblings { class_of tree.now view ≡ RelativeLayout }
     ensures value { result ≡ length (kids_in (children_of_first (part_from view tree.now.tree))) }
-    ensures ordered { AreOrders (links_in (views_of (children_of_first (part_from view tree.now.tree)))) (orders_of tree.now view) }
+    ensures ordered { AreOrders (links_in (views_of (children_of_first (part_from view tree.now.tree))))
+        (orders_of tree.now view) }
 {
     match tree.orders(view) {
         None => 0,
@@ -39,7 +40,9 @@ pub fn kid_in_turn(tree: &ViewTree, view: Key, axis: Axis, turn: usize) -> Key
     requires live { IsLive tree.now view }
     requires siblings { class_of tree.now view ≡ RelativeLayout }
     requires there { turn < length (kids_in (children_of_first (part_from view tree.now.tree))) }
-    ensures part { part_from result tree.now.tree ≡ siblings_from (slice_index (order_on axis (orders_of tree.now view)) turn) (children_of_first (part_from view tree.now.tree)) }
+    ensures part { part_from result tree.now.tree
+        ≡ siblings_from (slice_index (order_on axis (orders_of tree.now view)) turn)
+        (children_of_first (part_from view tree.now.tree)) }
     ensures live { IsLive tree.now result }
     ensures is_tree { IsTree tree.now }
 {
@@ -82,7 +85,8 @@ pub fn edges_before(tree: &ViewTree, kid: Key, axis: Axis) -> Edges
 pub fn keep_edges(tree: &mut ViewTree, kid: Key, edges: Edges)
     requires live { IsLive tree.old kid }
     ensures same { SameTree tree.old tree.new }
-    ensures held { held_of tree.new kid ≡ record (held_of tree.old kid) { state = record (held_of tree.old kid).state { edges = edges } } }
+    ensures held { held_of tree.new kid
+        ≡ record (held_of tree.old kid) { state = record (held_of tree.old kid).state { edges = edges } } }
     ensures others { KeepsOthers tree.old tree.new kid }
     ensures counts { tree.new.counts ≡ tree.old.counts }
 {
@@ -101,16 +105,20 @@ pub fn settle(tree: &mut ViewTree, view: Key, plan: &RelativePlan)
         → FirstHasSize (held_of tree.old) (siblings_from place (children_of_first (part_from view tree.old.tree))) }
     ensures settled { (own : FactsValue) (specs : Specs) (first second : List Spanned)
         → StandsRelative plan.now own specs (first ∷ []) second
-        → relative_size own specs first second ≡ (arranged own specs (kids_in (children_of_first (part_from view tree.old.tree)))).size
+        → relative_size own specs first second
+        ≡ (arranged own specs (kids_in (children_of_first (part_from view tree.old.tree)))).size
         → ((place : ℕ) → place < length (kids_in (children_of_first (part_from view tree.old.tree)))
-        → TurnIsOver (phase_of Vertical own specs (kids_in (children_of_first (part_from view tree.old.tree)))) (held_of tree.old) (children_of_first (part_from view tree.old.tree)) place)
+        → TurnIsOver (phase_of Vertical own specs (kids_in (children_of_first (part_from view tree.old.tree))))
+        (held_of tree.old) (children_of_first (part_from view tree.old.tree)) place)
         → (place : ℕ) → place < length (kids_in (children_of_first (part_from view tree.old.tree)))
         → IsSettled own specs (held_of tree.new) (children_of_first (part_from view tree.old.tree)) place }
     ensures same { SameTree tree.old tree.new }
     ensures keeps { Keeps (held_of tree.old) (held_of tree.new) }
-    ensures others { KeepsOutside (held_of tree.old) (held_of tree.new) (children_of_first (part_from view tree.old.tree)) }
+    ensures others { KeepsOutside (held_of tree.old) (held_of tree.new)
+        (children_of_first (part_from view tree.old.tree)) }
     ensures edged { KeepsAllButEdges (held_of tree.old) (held_of tree.new) }
-    ensures ready { Ready (held_of tree.old) (children_of_first (part_from view tree.old.tree)) → Ready (held_of tree.new) (children_of_first (part_from view tree.old.tree)) }
+    ensures ready { Ready (held_of tree.old) (children_of_first (part_from view tree.old.tree))
+        → Ready (held_of tree.new) (children_of_first (part_from view tree.old.tree)) }
     ensures counts { tree.new.counts ≡ tree.old.counts }
 {
     for place in 0..turns(tree, view) {
@@ -126,13 +134,15 @@ fn settle_kid(tree: &mut ViewTree, kid: Key, plan: &RelativePlan)
     ensures settled { (own : FactsValue) (specs asked : Specs) (first second : List Spanned) (edges : EdgesValue)
         → StandsRelative plan.now own specs (first ∷ []) second
         → FirstHasEdges (held_of tree.old) asked edges (part_from kid tree.old.tree)
-        → FirstHasEdges (held_of tree.new) asked (edges_of (final_rect own specs (relative_size own specs first second) (first_child (part_from kid tree.old.tree)).facts edges
+        → FirstHasEdges (held_of tree.new) asked (edges_of (final_rect own specs (relative_size own specs first second)
+        (first_child (part_from kid tree.old.tree)).facts edges
         ((first_child (part_from kid tree.old.tree)).measure asked))) (part_from kid tree.old.tree) }
     ensures same { SameTree tree.old tree.new }
     ensures keeps { Keeps (held_of tree.old) (held_of tree.new) }
     ensures others { KeepsOthers tree.old tree.new kid }
     ensures edged { KeepsAllButEdges (held_of tree.old) (held_of tree.new) }
-    ensures ready { Ready (held_of tree.old) (first_tree (part_from kid tree.old.tree)) → Ready (held_of tree.new) (first_tree (part_from kid tree.old.tree)) }
+    ensures ready { Ready (held_of tree.old) (first_tree (part_from kid tree.old.tree))
+        → Ready (held_of tree.new) (first_tree (part_from kid tree.old.tree)) }
     ensures counts { tree.new.counts ≡ tree.old.counts }
 {
     if !tree.facts(kid).is_shown() {

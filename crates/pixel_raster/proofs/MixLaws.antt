@@ -3,8 +3,8 @@ use Rattle.std.proofs.Common.{◌≡◌, ℕ, ◌+◌, ◌-◌, ◌*◌, ◌/◌
 use Rattle.std.proofs.lemmas.Nat.{mul-le}
 use Rattle.std.proofs.Math.Nat.{add-mul}
 use Rattle.geom_core.specs.declared.color.Argb.{Argb}
-use Rattle.geom_core.specs.Color.{blue_of, green_of, mixed, red_of}
-use Rattle.geom_core.proofs.ColorLaws.{mix_fits}
+use Rattle.geom_core.specs.Color.{blue_of, mixed, red_of}
+use Rattle.geom_core.proofs.ColorLaws.{mix_fits, channels}
 use Rattle.pixel_raster.specs.Shares.{part_of, share_of}
 
 pub share_of-bound : (alpha over under : ℕ) → alpha < 2 ^ 8 → over < 2 ^ 8 → under < 2 ^ 8 → share_of alpha over under ≤ 65153
@@ -37,15 +37,6 @@ pair_of-shares alpha ro bo ru bu = rw (scaled ru bu (255 - alpha), scaled ro bo 
 mixed-bound : (alpha over under : ℕ) → alpha < 2 ^ 8 → over < 2 ^ 8 → under < 2 ^ 8 → mixed alpha over under ≤ 255
 unfolding mixed
 mixed-bound alpha over under a o u = let fits = mix_fits alpha over under a o u in omega arith
-
-pub record AreBytes (color : Argb) : Type 0 where
-  pub red : red_of color < 2 ^ 8
-  pub green : green_of color < 2 ^ 8
-  pub blue : blue_of color < 2 ^ 8
-
-pub channels : (color : Argb) → AreBytes color
-unfolding red_of green_of blue_of
-channels color = record { red = omega arith; green = omega arith; blue = omega arith }
 
 -- the result of a pair of shares
 module _ (alpha : ℕ) (over under : Argb) (a : alpha < 2 ^ 8) where

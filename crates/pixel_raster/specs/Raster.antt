@@ -51,7 +51,7 @@ pub record IsRaster (raster : Raster) : Type 0 where
   pub opaque : AllOpaque raster.pixels
 
 -- a point of a picture
-pub record IsInside (raster : Raster) (x y : ℤ) : Type 0 where
+pub record IsPointOf (raster : Raster) (x y : ℤ) : Type 0 where
   pub right_of : pos 0 ≤ℤ x
   pub left_of : x <ℤ pos raster.width
   pub below : pos 0 ≤ℤ y

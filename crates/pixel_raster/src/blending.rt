@@ -17,7 +17,8 @@ fn pair_of(color: Argb) -> u32
 /// half, so that what is cut off later is rounded.
 #[inline(always)]
 fn pair_shares(alpha: u8, over: Argb, under: Argb) -> u32
-    ensures { result ≡ share_of alpha (red_of over) (red_of under) * 0x1_0000 + share_of alpha (blue_of over) (blue_of under) }
+    ensures { result ≡ share_of alpha (red_of over) (red_of under) * 0x1_0000
+        + share_of alpha (blue_of over) (blue_of under) }
 {
     let alpha = u32::from(alpha);
     pair_of(under) * (255 - alpha) + (pair_of(over) * alpha + 0x80_0080)
@@ -37,7 +38,8 @@ fn pair_parts(pair: u32) -> u32
 /// Red and blue of what is seen of a colour with this alpha over another one, as a pair.
 #[inline(always)]
 fn pair_seen(alpha: u8, over: Argb, under: Argb) -> u32
-    ensures value { result ≡ mixed alpha (red_of over) (red_of under) * 0x1_0000 + mixed alpha (blue_of over) (blue_of under) }
+    ensures value { result ≡ mixed alpha (red_of over) (red_of under) * 0x1_0000
+        + mixed alpha (blue_of over) (blue_of under) }
     ensures bound { result ≤ 0xff_00ff }
 {
     pair_parts(pair_shares(alpha, over, under))

@@ -3,7 +3,7 @@ ghost use Rattle.std.specs.Prelude.{◌≡◌, ◌<◌, ◌≤◌, ◌+◌, ◌-
 ghost use Rattle.geom_core.specs.declared.color.TheConstants.{BLACK};
 ghost use Rattle.pixel_raster.specs.Bytes.{digest_of};
 ghost use Rattle.pixel_raster.specs.Cuts.{area_within, from_zero};
-ghost use Rattle.pixel_raster.specs.Raster.{Fills, IsInside, IsRaster, black_raster, color_at, empty_raster, size_of};
+ghost use Rattle.pixel_raster.specs.Raster.{Fills, IsPointOf, IsRaster, black_raster, color_at, empty_raster, size_of};
 ghost use Rattle.pixel_raster.specs.Strips.{InksStrip, set_bits};
 
 use crate::cut::{Cut, from_zero};
@@ -129,7 +129,8 @@ impl Surface {
 
     /// Whether a colour leaves each pixel as it is: it is black, and so are they all.
     fn stays_black(&self, color: Argb) -> bool
-        ensures { result ≡ true → (color ≡ BLACK) × (self.now.pixels ≡ replicate (self.now.width * self.now.height) BLACK) }
+        ensures { result ≡ true
+            → (color ≡ BLACK) × (self.now.pixels ≡ replicate (self.now.width * self.now.height) BLACK) }
     {
         self.black && color.0 == BLACK.0
     }
@@ -139,7 +140,9 @@ impl Surface {
     pub fn fill(&mut self, rect: Rect, color: Argb, work: &mut Work)
         ensures fills { Fills rect color self.old self.new }
         ensures raster { IsRaster self.new }
-        ensures counted { work.new ≡ record work.old { painted = min (work.old.painted + area_within self.old.width self.old.height rect) (2 ^ 64 - 1) } }
+        ensures counted { work.new ≡ record work.old {
+          painted = min (work.old.painted + area_within self.old.width self.old.height rect) (2 ^ 64 - 1);
+        } }
         ensures grew { work.old.painted ≤ work.new.painted }
     {
         let stays = self.stays_black(color);
@@ -171,7 +174,9 @@ impl Surface {
         requires few { strip.bottom ≤ strip.top + 8 }
         ensures inks { InksStrip strip bits color self.old self.new }
         ensures raster { IsRaster self.new }
-        ensures counted { work.new ≡ record work.old { painted = min (work.old.painted + set_bits bits (strip.bottom - strip.top)) (2 ^ 64 - 1) } }
+        ensures counted { work.new ≡ record work.old {
+          painted = min (work.old.painted + set_bits bits (strip.bottom - strip.top)) (2 ^ 64 - 1);
+        } }
         ensures grew { work.old.painted ≤ work.new.painted }
     {
         self.digest = None;
@@ -192,7 +197,7 @@ impl Surface {
 
     /// The colour of a pixel, which is opaque, by its window coordinates.
     pub fn pixel(&self, x: i32, y: i32) -> Argb
-        requires { IsInside self.now x y }
+        requires { IsPointOf self.now x y }
         ensures { result ≡ color_at self.now (from_zero x) (from_zero y) }
     {
         self.color_at(from_zero(x), from_zero(y))

@@ -6,7 +6,7 @@ use Rattle.relative_layout.proofs.NamingLaws.{leads_from, leads_inside, pushed}
 use Rattle.relative_layout.proofs.TakingLaws.{marked-cons, marked-most}
 use Rattle.relative_layout.specs.Parts.{AreMarked, members_with}
 use Rattle.relative_layout.specs.Sorting.{IsLongest}
-use Rattle.relative_layout.specs.Taking.{IsTaking, is_marked, marked}
+use Rattle.relative_layout.specs.Taking.{is_marked, marked}
 use Rattle.view_model.specs.declared.relative.Axis.{Axis}
 use Rattle.view_model.specs.declared.relative.Link.{Link}
 use Rattle.view_model.specs.Orders.{AreMembers, IsAcyclic, IsAnchorsFirst, IsCycle, IsOrder, Reaches, AtOnce, Through}
@@ -35,14 +35,6 @@ pub acyclic : (axis : Axis) (kids : List Link) (order : List ℕ) → IsOrder (l
 acyclic axis kids order is = λ place w.
     let p = is.each place (reaches_from axis kids w) in
     taken_apart (leads axis kids) order is.anchors p.0 p.1 (rw p.2 w)
-
-pub longest : (axis : Axis) (kids : List Link) (left : List ℕ) (taken : List Bool) (order : List ℕ) → IsTaking axis kids left taken [] order → IsLongest (leads axis kids) (length kids) order
-longest axis kids left taken order is = record {
-  taken = taken;
-  size = is.size;
-  partial = is.partial;
-  waits = λ k small fresh. elim (is.pending k small fresh) [ inl has ↦ absurd (let h = has.1 in omega arith) | inr w ↦ w ];
-}
 
 -- all are marked if the marks are as many as the places
 all_marked : (marks : List Bool) → marked marks ≡ length marks → (k : ℕ) → k < length marks → is_marked marks k ≡ true

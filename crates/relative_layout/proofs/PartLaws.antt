@@ -364,17 +364,17 @@ IsSearch-enter heads standing path todo parts point small fresh led is = record 
         }
 
 -- a point is in one of three states
-pub data Found (standing : List Standing) (a : ℕ) : Type 0 where
-  IsFresh : standing_of standing a ≡ Fresh → Found standing a
-  IsOn : (p : ℕ) → standing_of standing a ≡ OnPath p → Found standing a
-  IsDone : standing_of standing a ≡ Done → Found standing a
+pub data PointState (standing : List Standing) (a : ℕ) : Type 0 where
+  IsFresh : standing_of standing a ≡ Fresh → PointState standing a
+  IsOn : (p : ℕ) → standing_of standing a ≡ OnPath p → PointState standing a
+  IsDone : standing_of standing a ≡ Done → PointState standing a
 
-found_case : (standing : List Standing) (a : ℕ) (found : Standing) → standing_of standing a ≡ found → Found standing a
+found_case : (standing : List Standing) (a : ℕ) (found : Standing) → standing_of standing a ≡ found → PointState standing a
 found_case standing a Fresh e = IsFresh e
 found_case standing a (OnPath p) e = IsOn p e
 found_case standing a Done e = IsDone e
 
-pub found : (standing : List Standing) (a : ℕ) → Found standing a
+pub found : (standing : List Standing) (a : ℕ) → PointState standing a
 found standing a = found_case standing a (standing_of standing a) refl
 
 -- the last part of a path, with no edge of it left to follow
@@ -426,7 +426,7 @@ settled heads two count start path old new old_marks marks settles whole a = by_
     alike : (OnFrom old start a → ⊥) → standing_of new a ≡ standing_of old a
     alike off = settles.same a (λ p o h same. off (p, o, rw (← same) (whole.there p h)))
 
-    by_case : Found old a → (OnFrom old start a × (standing_of new a ≡ Done)) ⊎ ((OnFrom old start a → ⊥) × (standing_of new a ≡ standing_of old a))
+    by_case : PointState old a → (OnFrom old start a × (standing_of new a ≡ Done)) ⊎ ((OnFrom old start a → ⊥) × (standing_of new a ≡ standing_of old a))
     by_case (IsFresh e) = let off : OnFrom old start a → ⊥ = (λ on. let z = on.2 in let bad : Fresh ≡ OnPath on.0 = sym e ∙ z in cc) in inr (off, alike off)
     by_case (IsDone e) = let off : OnFrom old start a → ⊥ = (λ on. let z = on.2 in let bad : Done ≡ OnPath on.0 = sym e ∙ z in cc) in inr (off, alike off)
     by_case (IsOn p e) = elim (cases_lt p start) [

@@ -82,7 +82,7 @@ abbrev pub IsOrReaches : Axis → List Link → ℕ → ℕ → Type 0
 IsOrReaches axis kids a b = (a ≡ b) ⊎ Reaches (leads axis kids) a b
 
 -- the relation of a child to a point that leads to it: it is that child or reaches it, or all that have that id
-record Follows (axis : Axis) (kids : List Link) (child point : ℕ) : Type 0 where
+record IsAtOrReaches (axis : Axis) (kids : List Link) (child point : ℕ) : Type 0 where
   pub of_child : point < length kids → IsOrReaches axis kids child point
   pub of_id : length kids ≤ point → (b : ℕ) → b < length kids → last_with_id kids (id_at kids b) ≡ Some (point - length kids) → IsOrReaches axis kids child b
 
@@ -95,7 +95,7 @@ reach_next axis kids a b c was named = elim (cases_eq b c) [
 ]
 
 Follows-step : (axis : Axis) (kids : List Link) (rows : List (List ℕ)) (child a b : ℕ) → AreNamers axis kids (length kids) rows → Has (heads_of kids rows a) b
-    → Follows axis kids child b → Follows axis kids child a
+    → IsAtOrReaches axis kids child b → IsAtOrReaches axis kids child a
 Follows-step axis kids rows child a b naming has follows = record {
   of_child = λ small.
       let q = has_id (length kids) (last_with_id kids (id_at kids a)) b (rw (heads-child kids rows a small) at has) in
@@ -110,7 +110,7 @@ Follows-step axis kids rows child a b naming has follows = record {
       reach_next axis kids child b c (follows.of_child fits) named;
 }
 
-goes_follows : (axis : Axis) (kids : List Link) (rows : List (List ℕ)) → AreNamers axis kids (length kids) rows → {child point : ℕ} → child < length kids → Goes (heads_of kids rows) point child → Follows axis kids child point
+goes_follows : (axis : Axis) (kids : List Link) (rows : List (List ℕ)) → AreNamers axis kids (length kids) rows → {child point : ℕ} → child < length kids → Goes (heads_of kids rows) point child → IsAtOrReaches axis kids child point
 goes_follows axis kids rows naming small Stays = record { of_child = λ h. inl refl; of_id = λ large b h found. absurd (omega arith) }
 goes_follows axis kids rows naming small (Steps e w) = Follows-step axis kids rows _ _ _ naming e (goes_follows axis kids rows naming small w)
 

@@ -6,7 +6,7 @@ use Rattle.std.proofs.lemmas.Bool.{cases_lt}
 use Rattle.std.proofs.lemmas.Bool.Decides.{nat_tests}
 use Rattle.std.proofs.lemmas.List.{get_or-take, get_or_past, length-replicate, length-take-le}
 use Rattle.relative_layout.proofs.Counting.{unmarked}
-use Rattle.relative_layout.proofs.PartLaws.{Enters-fresh, Found, IsDone, IsFresh, IsOn, IsSearch-drop, IsSearch-enter, IsSearch-hold, IsSearch-join, IsSearch-leave, IsSearch-next, IsSearch-none, IsTold-keep, IsTold-leave, IsWhole-last, LedTo-next, found, settled}
+use Rattle.relative_layout.proofs.PartLaws.{Enters-fresh, PointState, IsDone, IsFresh, IsOn, IsSearch-drop, IsSearch-enter, IsSearch-hold, IsSearch-join, IsSearch-leave, IsSearch-next, IsSearch-none, IsTold-keep, IsTold-leave, IsWhole-last, LedTo-next, found, settled}
 use Rattle.relative_layout.proofs.PointLaws.{AreMarked-done, heads_inside}
 use Rattle.relative_layout.proofs.SettleLaws.{all_fresh}
 use Rattle.relative_layout.specs.declared.naming.Naming.{Naming}
@@ -140,7 +140,7 @@ pub AreMarked-all : (kids : List Link) (naming : Naming) (search : Search) → I
     → IsSearching kids naming search None → AreMarked (leads naming.axis kids) (length kids) search.members.items
 AreMarked-all kids naming search are none each is = AreMarked-done naming.axis kids (lists_of naming.namers.items) search.standing.items search.members.items are.rows done is.told
   where
-    done_case : (place : ℕ) → place < length kids → Found search.standing.items place → standing_of search.standing.items place ≡ Done
+    done_case : (place : ℕ) → place < length kids → PointState search.standing.items place → standing_of search.standing.items place ≡ Done
     done_case place h (IsFresh e) = absurd (each place (omega arith) e)
     done_case place h (IsOn p e) = absurd (nothing_on kids naming search none is p (is.path.back place p e).0)
     done_case place h (IsDone e) = e

@@ -20,7 +20,7 @@ pub record IsExtent (extent : Extent) (axis : Axis) (own : Facts) (specs : Specs
   pub of_most : extent.most ≡ greatest_reach axis kids
 
 -- a plan in a phase of this axis, with these children taken from left to right and these from top to bottom
-pub record HasTaken (plan : RelativePlan) (axis : Axis) (own : Facts) (specs : Specs) (across down : List Spanned) : Type 0 where
+pub record HasTakenOnAxis (plan : RelativePlan) (axis : Axis) (own : Facts) (specs : Specs) (across down : List Spanned) : Type 0 where
   pub of_axis : plan.axis ≡ axis
   pub of_rtl : plan.rtl ≡ own.rtl
   pub of_across : IsExtent plan.across Horizontal own specs across
@@ -28,8 +28,8 @@ pub record HasTaken (plan : RelativePlan) (axis : Axis) (own : Facts) (specs : S
 
 -- it has completed these phases, and has taken these children in the one that it is in
 abbrev pub StandsRelative : RelativePlan → Facts → Specs → List (List Spanned) → List Spanned → Type 0
-StandsRelative plan own specs [] taken = HasTaken plan Horizontal own specs taken []
-StandsRelative plan own specs (first ∷ []) taken = HasTaken plan Vertical own specs first taken
+StandsRelative plan own specs [] taken = HasTakenOnAxis plan Horizontal own specs taken []
+StandsRelative plan own specs (first ∷ []) taken = HasTakenOnAxis plan Vertical own specs first taken
 StandsRelative plan own specs (first ∷ second ∷ more) taken = ⊥
 
 -- a child as it is taken with this size

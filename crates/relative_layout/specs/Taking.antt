@@ -13,10 +13,6 @@ is_marked marks place = slice_index_or marks place false
 unfoldable pub marked : List Bool → ℕ
 marked marks = count_by (λ b. b) marks
 
--- what was marked is marked
-abbrev pub Grows : List Bool → List Bool → Type 0
-Grows old new = (place : ℕ) → is_marked old place ≡ true → is_marked new place ≡ true
-
 -- all to which a place leads is marked; some place to which it leads is not
 abbrev pub LeadsIn : (ℕ → ℕ → Bool) → ℕ → List Bool → Type 0
 LeadsIn leads place marks = (anchor : ℕ) → leads place anchor ≡ true → is_marked marks anchor ≡ true

@@ -41,7 +41,8 @@ impl Extent {
 
     /// The group's own length.
     pub fn own_length(&self) -> i32
-        ensures value { result ≡ resolve_of (int_max self.now.band.min (self.now.most +ℤ self.now.band.padding_far)) self.now.band.spec }
+        ensures value { result ≡ resolve_of
+            (int_max self.now.band.min (self.now.most +ℤ self.now.band.padding_far)) self.now.band.spec }
         ensures side { IsSide result }
     {
         own_side(
@@ -54,7 +55,8 @@ impl Extent {
 
     /// The spec of a child with these anchors.
     pub fn spec(&self, kid: &Tied, anchors: &Anchors) -> Spec
-        ensures { result ≡ side_spec self.now.band kid.now (near_side self.now.band kid.now anchors.now) (far_side self.now.band kid.now anchors.now) }
+        ensures { result ≡ side_spec self.now.band kid.now (near_side self.now.band kid.now anchors.now)
+            (far_side self.now.band kid.now anchors.now) }
     {
         let near = near_side(&self.band, kid, anchors);
         let far = far_side(&self.band, kid, anchors);
@@ -75,7 +77,8 @@ impl Extent {
     pub fn final_span(&self, kid: &Tied, span: Option<(i32, i32)>, length: i32) -> (i32, i32)
         requires { IsSide length }
         ensures { result ≡ moved_span self.now.band kid.now
-            (resolve_of (int_max self.now.band.min (self.now.most +ℤ self.now.band.padding_far)) self.now.band.spec) (span_or_none span) length }
+            (resolve_of (int_max self.now.band.min (self.now.most +ℤ self.now.band.padding_far)) self.now.band.spec)
+            (span_or_none span) length }
     {
         moved_span(
             &self.band,

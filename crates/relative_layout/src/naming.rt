@@ -1,8 +1,8 @@
 //! Which children name which ids.
-ghost use Rattle.std.specs.Prelude.{◌≡◌, ◌≢◌, ◌<◌, ◌≤◌, ◌+◌, ◌++◌, ◌∷◌, [], IfOk, IfSome, None, OnOk, Some, length, nat_eq, replicate, slice_set, true, vec_len, ℕ};
+ghost use Rattle.std.specs.Prelude.{◌≡◌, ◌<◌, ◌≤◌, ◌+◌, [], IfOk, IfSome, None, OnOk, Some, length, nat_eq, replicate, vec_len, ℕ};
 ghost use Rattle.indexmap.specs.IndexMap.{get as place_in};
-ghost use Rattle.relative_layout.specs.Naming.{AreNamers, Has, id_at, link_at, lists_of, row_at, with_place};
-ghost use Rattle.view_model.specs.SiblingRules.{last_with_id, names};
+ghost use Rattle.relative_layout.specs.Naming.{AreNamers, lists_of, row_at, with_place};
+ghost use Rattle.view_model.specs.SiblingRules.{last_with_id};
 ghost use Rattle.view_model.specs.declared.limits.TheConstants.{MAX_VIEWS};
 
 use crate::ids::{last_places, named_ids};

@@ -1,8 +1,8 @@
 //! Which children reach themselves: a search for strong components that follows each rule once (Gabow 2000,
 //! path-based).
-ghost use Rattle.std.specs.Prelude.{◌≡◌, ◌≢◌, ◌<◌, ◌≤◌, ◌-◌, ◌+◌, ◌++◌, ◌∷◌, ℕ, [], Bool, IfNone, IfOk, IfSome, List, None, OnOk, Some, false, if◌then◌else◌, length, nat_lt, replicate, slice_index, slice_set, take, true};
+ghost use Rattle.std.specs.Prelude.{◌≡◌, ◌≢◌, ◌<◌, ◌≤◌, ◌-◌, ◌+◌, ◌++◌, ◌∷◌, ℕ, [], IfNone, IfOk, IfSome, None, OnOk, Some, false, length, replicate, slice_index, slice_set, take, true};
 ghost use Rattle.relative_layout.specs.Naming.{IsNaming, lists_of};
-ghost use Rattle.relative_layout.specs.Parts.{AreMarked, HasTwo, IsLastPart, IsSearch, IsSearching, IsTold, Joins, Leaves, LedTo, Visits, begins_after, fresh, heads_in, search_effort, standing_of, start_of};
+ghost use Rattle.relative_layout.specs.Parts.{AreMarked, HasTwo, IsLastPart, IsSearching, Joins, Leaves, LedTo, Visits, begins_after, fresh, heads_in, search_effort, standing_of};
 ghost use Rattle.relative_layout.specs.Points.{Goes};
 ghost use Rattle.relative_layout.specs.declared.parts.Standing.TheVariants.{Done, Fresh, OnPath};
 ghost use Rattle.view_model.specs.SiblingRules.{leads};
@@ -87,7 +87,8 @@ impl Search {
         requires parts { self.old.parts.items ≡ [] }
         ensures search { OnOk result (IsSearching kids.now naming.now self.new None) }
         ensures parts { OnOk result (self.new.parts.items ≡ []) }
-        ensures each { OnOk result ((point : ℕ) → point < length kids.now + length kids.now → standing_of self.new.standing.items point ≢ Fresh) }
+        ensures each { OnOk result ((point : ℕ) → point < length kids.now + length kids.now
+            → standing_of self.new.standing.items point ≢ Fresh) }
     {
         for point in 0..kids.len() + kids.len() {
             self.search_from(kids, naming, point)?;
@@ -152,8 +153,10 @@ impl Search {
         requires last { IsLastPart self.old.parts.items part }
         ensures search { OnOk result (IsSearching kids.now naming.now self.new None) }
         ensures visits { OnOk result (Visits self.old.standing.items self.new.standing.items) }
-        ensures effort { OnOk result (search_effort (lists_of naming.now.namers.items) self.new.standing.items (length self.new.todo.items) (length self.new.parts.items)
-            < search_effort (lists_of naming.now.namers.items) self.old.standing.items (length self.old.todo.items) (length self.old.parts.items)) }
+        ensures effort { OnOk result (search_effort (lists_of naming.now.namers.items) self.new.standing.items
+            (length self.new.todo.items) (length self.new.parts.items)
+            < search_effort (lists_of naming.now.namers.items) self.old.standing.items (length self.old.todo.items)
+            (length self.old.parts.items)) }
     {
         if self.todo.len() <= part.todo {
             self.finish(kids.len(), part.path);
@@ -188,8 +191,10 @@ impl Search {
         requires led { LedTo (heads_in kids.now naming.now) self.old.path.items self.old.parts.items point }
         ensures search { OnOk result (IsSearching kids.now naming.now self.new None) }
         ensures visits { OnOk result (Visits self.old.standing.items self.new.standing.items) }
-        ensures effort { OnOk result (search_effort (lists_of naming.now.namers.items) self.new.standing.items (length self.new.todo.items) (length self.new.parts.items)
-            ≤ search_effort (lists_of naming.now.namers.items) self.old.standing.items (length self.old.todo.items) (length self.old.parts.items)) }
+        ensures effort { OnOk result (search_effort (lists_of naming.now.namers.items) self.new.standing.items
+            (length self.new.todo.items) (length self.new.parts.items)
+            ≤ search_effort (lists_of naming.now.namers.items) self.old.standing.items (length self.old.todo.items)
+            (length self.old.parts.items)) }
     {
         match self.standing[point] {
             Standing::Fresh => self.enter(kids, naming, point)?,
@@ -206,12 +211,16 @@ impl Search {
         requires naming { IsNaming kids.now naming.now }
         requires search { IsSearching kids.now naming.now self.old (Some point) }
         requires fresh { standing_of self.old.standing.items point ≡ Fresh }
-        requires led { (place : ℕ) → place < length self.old.path.items → Goes (heads_in kids.now naming.now) (slice_index self.old.path.items place) point }
+        requires led { (place : ℕ)
+            → place < length self.old.path.items
+            → Goes (heads_in kids.now naming.now) (slice_index self.old.path.items place) point }
         ensures search { OnOk result (IsSearching kids.now naming.now self.new None) }
         ensures visits { OnOk result (Visits self.old.standing.items self.new.standing.items) }
         ensures here { OnOk result (standing_of self.new.standing.items point ≢ Fresh) }
-        ensures effort { OnOk result (search_effort (lists_of naming.now.namers.items) self.new.standing.items (length self.new.todo.items) (length self.new.parts.items)
-            ≤ search_effort (lists_of naming.now.namers.items) self.old.standing.items (length self.old.todo.items) (length self.old.parts.items)) }
+        ensures effort { OnOk result (search_effort (lists_of naming.now.namers.items) self.new.standing.items
+            (length self.new.todo.items) (length self.new.parts.items)
+            ≤ search_effort (lists_of naming.now.namers.items) self.old.standing.items (length self.old.todo.items)
+            (length self.old.parts.items)) }
     {
         self.append(point)?;
         put_heads(&mut self.todo, kids, naming, point)?;
@@ -222,9 +231,11 @@ impl Search {
     fn append(&mut self, point: usize) -> Result<(), AllocError>
         requires few { point < MAX_VIEWS + MAX_VIEWS }
         requires point { point < length self.old.standing.items }
-        ensures standing { OnOk result (self.new.standing.items ≡ slice_set self.old.standing.items point (OnPath (length self.old.path.items))) }
+        ensures standing { OnOk result
+            (self.new.standing.items ≡ slice_set self.old.standing.items point (OnPath (length self.old.path.items))) }
         ensures path { OnOk result (self.new.path.items ≡ self.old.path.items ++ point ∷ []) }
-        ensures parts { OnOk result (self.new.parts.items ≡ self.old.parts.items ++ (record { path = length self.old.path.items; todo = length self.old.todo.items }) ∷ []) }
+        ensures parts { OnOk result (self.new.parts.items ≡ self.old.parts.items
+            ++ (record { path = length self.old.path.items; todo = length self.old.todo.items }) ∷ []) }
         ensures todo { OnOk result (self.new.todo ≡ self.old.todo) }
         ensures members { OnOk result (self.new.members ≡ self.old.members) }
     {
@@ -255,9 +266,12 @@ impl Search {
     /// Leaves the last part, whose points lead nowhere else but to finished ones.
     fn finish(&mut self, count: usize, start: usize)
         requires start { start ≤ length self.old.path.items }
-        requires inside { (place : ℕ) → place < length self.old.path.items → slice_index self.old.path.items place < length self.old.standing.items }
+        requires inside { (place : ℕ)
+            → place < length self.old.path.items
+            → slice_index self.old.path.items place < length self.old.standing.items }
         requires members { length self.old.members.items ≡ count }
-        ensures leaves { Leaves count start self.old.path.items self.old.standing.items self.new.standing.items self.old.members.items self.new.members.items }
+        ensures leaves { Leaves count start self.old.path.items self.old.standing.items self.new.standing.items
+            self.old.members.items self.new.members.items }
         ensures path { self.new.path.items ≡ take start self.old.path.items }
         ensures parts { self.new.parts.items ≡ take (length self.old.parts.items - 1) self.old.parts.items }
         ensures todo { self.new.todo ≡ self.old.todo }
@@ -275,8 +289,11 @@ impl Search {
         requires place { place < length self.old.path.items }
         requires inside { slice_index self.old.path.items place < length self.old.standing.items }
         requires members { length self.old.members.items ≡ count }
-        ensures standing { self.new.standing.items ≡ slice_set self.old.standing.items (slice_index self.old.path.items place) Done }
-        ensures marked { two ≡ true → slice_index self.old.path.items place < count → self.new.members.items ≡ slice_set self.old.members.items (slice_index self.old.path.items place) true }
+        ensures standing { self.new.standing.items
+            ≡ slice_set self.old.standing.items (slice_index self.old.path.items place) Done }
+        ensures marked { two ≡ true
+            → slice_index self.old.path.items place < count
+            → self.new.members.items ≡ slice_set self.old.members.items (slice_index self.old.path.items place) true }
         ensures one { two ≡ false → self.new.members.items ≡ self.old.members.items }
         ensures id { count ≤ slice_index self.old.path.items place → self.new.members.items ≡ self.old.members.items }
         ensures path { self.new.path ≡ self.old.path }

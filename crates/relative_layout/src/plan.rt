@@ -72,7 +72,8 @@ impl RelativePlan {
             → result ≡ edges_as own specs past (layout_facts kid.now) edges anchors.now size }
         ensures taken { (own : FactsValue) (specs : Specs) (past : List (List Spanned)) (taken : List Spanned)
             → StandsRelative self.old own specs past taken
-            → StandsRelative self.new own specs past (taken ++ spanned_as own specs past (layout_facts kid.now) anchors.now size ∷ []) }
+            → StandsRelative self.new own specs past
+            (taken ++ spanned_as own specs past (layout_facts kid.now) anchors.now size ∷ []) }
     {
         match self.axis {
             Axis::Horizontal => {

@@ -19,7 +19,8 @@ pub fn put_heads(
     requires few { length kids.now ≤ MAX_VIEWS }
     requires point { point < length kids.now + length kids.now }
     requires naming { IsNaming kids.now naming.now }
-    ensures { OnOk result (points.new.items ≡ points.old.items ++ heads_of kids.now (lists_of naming.now.namers.items) point) }
+    ensures { OnOk result (points.new.items
+        ≡ points.old.items ++ heads_of kids.now (lists_of naming.now.namers.items) point) }
 {
     if point >= kids.len() {
         points.extend_from_slice(naming.namers(point - kids.len()))?;

@@ -1,5 +1,5 @@
 //! The sides of a child on an axis, and the spec under which it is measured there. Lengths are in pixels.
-ghost use Rattle.std.specs.Prelude.{◌≡◌, ◌+ℤ◌, ◌-ℤ◌, ◌≤ℤ◌, IfSome, negsuc, pos, unwrap_or};
+ghost use Rattle.std.specs.Prelude.{◌≡◌, ◌-ℤ◌, ◌≤ℤ◌, IfSome, negsuc, pos, unwrap_or};
 ghost use Rattle.std.specs.Option.{option_map};
 ghost use Rattle.geom_core.specs.Limits.{IsCoordinate};
 ghost use Rattle.view_model.specs.RelativeLayout.{after_anchor, at_most, available_to, before_anchor, begins_at_parent, begins_with, both_insets, bounded_spec, ends_at_parent, ends_with, exactly, far_inset, far_side, loose_spec, loose_spec_in, near_inset, near_side, outer_far, outer_near, room_of, side_spec, spec_in, unbounded_spec, width_of};

@@ -1,9 +1,8 @@
 //! Taking children into an order, each after all to which it leads (Kahn 1962).
-ghost use Rattle.std.specs.Prelude.{◌≡◌, ◌==◌, ◌<◌, ◌≤◌, ◌-◌, ◌+◌, ◌++◌, ◌∷◌, ◌⊎◌, ℕ, [], Bool, IfNone, IfOk, IfSome, OnOk, Some, false, if◌then◌else◌, length, nat_eq, nat_lt, replicate, slice_index, slice_set, true};
-ghost use Rattle.indexmap.specs.IndexMap.{get as place_in};
-ghost use Rattle.relative_layout.specs.Naming.{Has, IsNaming, id_at, lists_of, row_at};
-ghost use Rattle.relative_layout.specs.Taking.{AreCounts, CountsBelow, IsPartial, IsTaking, LeadsIn, Waits, counted_up, effort, has_more, is_marked, left_with, marked};
-ghost use Rattle.view_model.specs.SiblingRules.{last_with_id, leads};
+ghost use Rattle.std.specs.Prelude.{◌≡◌, ◌==◌, ◌<◌, ◌≤◌, ◌-◌, ◌+◌, ◌++◌, ◌∷◌, ℕ, [], IfNone, IfOk, IfSome, OnOk, Some, false, if◌then◌else◌, length, nat_lt, replicate, slice_index, slice_set, true};
+ghost use Rattle.relative_layout.specs.Naming.{Has, IsNaming, lists_of, row_at};
+ghost use Rattle.relative_layout.specs.Taking.{AreCounts, CountsBelow, IsTaking, LeadsIn, Waits, counted_up, effort, has_more, is_marked};
+ghost use Rattle.view_model.specs.SiblingRules.{leads};
 ghost use Rattle.view_model.specs.declared.limits.TheConstants.{MAX_VIEWS};
 
 use crate::ids::named_ids;
@@ -28,7 +27,8 @@ impl Taking {
     pub fn start(alloc: Global, kids: &[Link], naming: &Naming) -> Result<Taking, AllocError>
         requires few { length kids.now ≤ MAX_VIEWS }
         requires naming { IsNaming kids.now naming.now }
-        ensures { IfOk result (λ taking. IsTaking naming.now.axis kids.now taking.left.items taking.taken.items taking.todo.items taking.order.items) }
+        ensures { IfOk result (λ taking. IsTaking naming.now.axis kids.now taking.left.items taking.taken.items
+            taking.todo.items taking.order.items) }
     {
         let left = counts(alloc, kids, naming)?;
         let todo = all_places(alloc, kids.len())?;
@@ -44,8 +44,10 @@ impl Taking {
     pub fn take_all(&mut self, kids: &[Link], naming: &Naming) -> Result<(), AllocError>
         requires few { length kids.now ≤ MAX_VIEWS }
         requires naming { IsNaming kids.now naming.now }
-        requires taking { IsTaking naming.now.axis kids.now self.old.left.items self.old.taken.items self.old.todo.items self.old.order.items }
-        ensures { OnOk result (IsTaking naming.now.axis kids.now self.new.left.items self.new.taken.items [] self.new.order.items) }
+        requires taking { IsTaking naming.now.axis kids.now self.old.left.items self.old.taken.items
+            self.old.todo.items self.old.order.items }
+        ensures { OnOk result
+            (IsTaking naming.now.axis kids.now self.new.left.items self.new.taken.items [] self.new.order.items) }
     {
         while let Some(place) = self.next() {
             self.look_at(kids, naming, place)?;
@@ -70,9 +72,12 @@ impl Taking {
         requires few { length kids.now ≤ MAX_VIEWS }
         requires place { place < length kids.now }
         requires naming { IsNaming kids.now naming.now }
-        requires taking { IsTaking naming.now.axis kids.now self.old.left.items self.old.taken.items (self.old.todo.items ++ place ∷ []) self.old.order.items }
-        ensures taking { OnOk result (IsTaking naming.now.axis kids.now self.new.left.items self.new.taken.items self.new.todo.items self.new.order.items) }
-        ensures effort { OnOk result (effort (lists_of naming.now.namers.items) self.new.taken.items (length self.new.todo.items)
+        requires taking { IsTaking naming.now.axis kids.now self.old.left.items self.old.taken.items
+            (self.old.todo.items ++ place ∷ []) self.old.order.items }
+        ensures taking { OnOk result (IsTaking naming.now.axis kids.now self.new.left.items self.new.taken.items
+            self.new.todo.items self.new.order.items) }
+        ensures effort { OnOk result
+            (effort (lists_of naming.now.namers.items) self.new.taken.items (length self.new.todo.items)
             ≤ effort (lists_of naming.now.namers.items) self.old.taken.items (length self.old.todo.items)) }
     {
         if self.taken[place] {
@@ -121,9 +126,12 @@ impl Taking {
         requires naming { IsNaming kids.now naming.now }
         requires fresh { is_marked self.old.taken.items place ≡ false }
         requires ready { LeadsIn (leads naming.now.axis kids.now) place self.old.taken.items }
-        requires taking { IsTaking naming.now.axis kids.now self.old.left.items self.old.taken.items (self.old.todo.items ++ place ∷ []) self.old.order.items }
-        ensures taking { OnOk result (IsTaking naming.now.axis kids.now self.new.left.items self.new.taken.items self.new.todo.items self.new.order.items) }
-        ensures effort { OnOk result (effort (lists_of naming.now.namers.items) self.new.taken.items (length self.new.todo.items)
+        requires taking { IsTaking naming.now.axis kids.now self.old.left.items self.old.taken.items
+            (self.old.todo.items ++ place ∷ []) self.old.order.items }
+        ensures taking { OnOk result (IsTaking naming.now.axis kids.now self.new.left.items self.new.taken.items
+            self.new.todo.items self.new.order.items) }
+        ensures effort { OnOk result
+            (effort (lists_of naming.now.namers.items) self.new.taken.items (length self.new.todo.items)
             ≤ effort (lists_of naming.now.namers.items) self.old.taken.items (length self.old.todo.items)) }
     {
         self.append(place)?;
@@ -156,7 +164,8 @@ impl Taking {
         requires last { last < length self.old.left.items }
         requires rows { last < length naming.now.namers.items }
         requires some { 0 < slice_index self.old.left.items last }
-        ensures left { OnOk result (self.new.left.items ≡ slice_set self.old.left.items last (slice_index self.old.left.items last - 1)) }
+        ensures left { OnOk result (self.new.left.items
+            ≡ slice_set self.old.left.items last (slice_index self.old.left.items last - 1)) }
         ensures todo { OnOk result (self.new.todo.items ≡ (if nat_lt 1 (slice_index self.old.left.items last - 1)
             then self.old.todo.items else self.old.todo.items ++ row_at (lists_of naming.now.namers.items) last)) }
         ensures taken { OnOk result (self.new.taken.items ≡ self.old.taken.items) }

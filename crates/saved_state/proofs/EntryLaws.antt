@@ -1,7 +1,7 @@
 -- Entries by rising ids: where an id is among them, and what an entry more makes of them.
-use Rattle.std.proofs.Common.{◌≡◌, ◌≢◌, ℕ, zero, suc, ◌+◌, ◌<◌, ◌≤◌, Some, None, Result, Ok, Err, refl, sym, subst, ◌∙◌, ap, arith, inl, inr, List, [], ◌∷◌, ◌++◌, length, Bool, true, false, ◌||◌, ◌&&◌, slice_set, slice_index_or}
+use Rattle.std.proofs.Common.{◌≡◌, ◌≢◌, ℕ, zero, suc, ◌<◌, ◌≤◌, Some, None, Result, Ok, Err, refl, sym, subst, ap, arith, inl, inr, List, [], ◌∷◌, length, Bool, true, false, ◌||◌, ◌&&◌, slice_set, slice_index_or}
 use Rattle.std.proofs.Math.Bool.{or-false}
-use Rattle.std.proofs.lemmas.Bool.{cases_Bool, cases_eq, cases_lt, eq-eqb, le-ltb, lt-ltb, ne_eqb}
+use Rattle.std.proofs.lemmas.Bool.{cases_eq, cases_lt, eq-eqb, le-ltb, lt-ltb, ne_eqb}
 use Rattle.std.proofs.lemmas.Bool.Decides.{nat_tests}
 use Rattle.std.proofs.lemmas.Cmp.{ranked}
 use Rattle.std.proofs.lemmas.Int.{ints}
@@ -158,16 +158,6 @@ insert_rises version before (first ∷ entries) id value rises above fits few = 
     | inr ne ↦
         rw (le-ltb id first.0 upper, ne_eqb id first.0 ne)
         (rises.0, rises.1, rises.2, insert_rises version first.0 entries id value rises.3 (omega arith) fits few)
-  ]
-]
-
-pub insert_more : (entries : List StateEntry) (id : ℕ) (value : Value) → length (insert_entry nat_cmp entries id value) ≤ length entries + 1
-insert_more [] id value = omega arith
-insert_more (first ∷ entries) id value = elim (cases_lt id first.0) [
-  | inl lower ↦ rw (lt-ltb id first.0 lower) (omega arith)
-  | inr upper ↦ elim (cases_eq id first.0) [
-    | inl same ↦ rw (le-ltb id first.0 upper, eq-eqb id first.0 same) (omega arith)
-    | inr ne ↦ let more = insert_more entries id value in rw (le-ltb id first.0 upper, ne_eqb id first.0 ne) (omega arith)
   ]
 ]
 

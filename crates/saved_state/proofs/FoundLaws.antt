@@ -239,7 +239,7 @@ entries_found version (suc n) before place entries bytes fit is =
     subst (λ (made : List StateEntry). AreEntries version before (suc n) made bytes) (ok_is (first.0 ∷ rest.0) entries rest.2)
     (record { rises = (own.above, own.fits, own.value, more.rises); count = ap suc more.count; cells = rw flat_map-cons cells })
 
-record IsHead (bytes : List ℕ) (version count : ℕ) : Type 0 where
+record IsStateHead (bytes : List ℕ) (version count : ℕ) : Type 0 where
   known : (version ≡ 1) ⊎ (version ≡ 2)
   version_is : version ≡ slice_index bytes 2
   few : count < 65536
@@ -261,7 +261,7 @@ head_cells bytes fit there v s =
     ∙ ap (λ (rest : List ℕ). 86 ∷ 83 ∷ rest) third
     ∙ ap (λ (rest : List ℕ). 86 ∷ 83 ∷ slice_index bytes 2 ∷ rest) counted
 
-head_found : (bytes : List ℕ) (head : ℕ × ℕ) → AreBytes bytes → head_of bytes ≡ Ok head → IsHead bytes head.0 head.1
+head_found : (bytes : List ℕ) (head : ℕ × ℕ) → AreBytes bytes → head_of bytes ≡ Ok head → IsStateHead bytes head.0 head.1
 unfolding head_of
 head_found bytes head fit is =
     let v = slice_index bytes 2 in
@@ -269,7 +269,7 @@ head_found bytes head fit is =
     let version = guard_ok (ltb (length bytes) 3 || not (eqb v 1 || eqb v 2)) 2 _ head letters.1 in
     let whole = guard_ok (ltb (length bytes) 5) 3 _ head version.1 in
     let known : (v ≡ 1) ⊎ (v ≡ 2) = either v (not_false (eqb v 1 || eqb v 2) (or_false (ltb (length bytes) 3) (not (eqb v 1 || eqb v 2)) version.0).1) in
-    subst (λ (head : ℕ × ℕ). IsHead bytes head.0 head.1) (ok_is (v, little_number 2 (drop 3 bytes)) head whole.1)
+    subst (λ (head : ℕ × ℕ). IsStateHead bytes head.0 head.1) (ok_is (v, little_number 2 (drop 3 bytes)) head whole.1)
     (record {
       known = known;
       version_is = refl;

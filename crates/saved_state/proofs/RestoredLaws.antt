@@ -6,7 +6,7 @@ use Rattle.std.specs.List.{All, fold}
 use Rattle.std.specs.Prelude.{◌==◌, if◌then◌else◌, is_some}
 use mathlib.Core.Path.{fun_ext}
 use Rattle.kept_views.proofs.AskedViews.{asked_same, off_path}
-use Rattle.kept_views.proofs.Lines.{IsMoved, put_kept}
+use Rattle.kept_views.proofs.Lines.{SameButOffset, put_kept}
 use Rattle.kept_views.proofs.Requested.{pressed_in, pressed_out}
 use Rattle.kept_views.specs.Kept.{IsConsistent, IsKept}
 use Rattle.kept_views.specs.Pressing.{path_of}
@@ -110,12 +110,12 @@ set_kept : (value : Value) (view : ℕ) (tree : Forest Row) (held : ℕ → Held
 set_kept (Offset offset) view tree held once live k =
     let set = moved_one view (pos offset) held in
     let change = with_text_of (Some (Offset offset)) in
-    let own : IsMoved (held view) (set view) = record { state = ap (λ (own : Held). own.state) (moved_at view (pos offset) held); cache = ap (λ (own : Held). own.cache) (moved_at view (pos offset) held) } in
+    let own : SameButOffset (held view) (set view) = record { state = ap (λ (own : Held). own.state) (moved_at view (pos offset) held); cache = ap (λ (own : Held). own.cache) (moved_at view (pos offset) held) } in
     subst (λ (above : List ℕ). IsKept (pressed set (view ∷ unforced set above)) (with_text_at tree (view, Offset offset))) (ancestors-put view view change tree)
     (put_kept view change tree once live held set refl (moved_other view (pos offset) held) own k)
 set_kept (Text text) view tree held once live k =
     let change = with_text_of (Some (Text text)) in
-    let own : IsMoved (held view) (held view) = record { state = refl; cache = refl } in
+    let own : SameButOffset (held view) (held view) = record { state = refl; cache = refl } in
     subst (λ (above : List ℕ). IsKept (pressed held (view ∷ unforced held above)) (with_text_at tree (view, Text text))) (ancestors-put view view change tree)
     (put_kept view change tree once live held held refl (λ other ne. refl) own k)
 

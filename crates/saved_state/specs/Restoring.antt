@@ -1,5 +1,5 @@
 -- The effect of a state on a tree, and which trees it does not fit.
-use Rattle.std.specs.Prelude.{◌≡◌, ℕ, ◌==◌, ◌<◌, ℤ, pos, Bool, false, ◌&&◌, not, if◌then◌else◌, List, length, slice_index_or, Option, Some, None, MatchOption}
+use Rattle.std.specs.Prelude.{◌≡◌, ℕ, ◌==◌, ◌<◌, pos, Bool, false, ◌&&◌, not, if◌then◌else◌, List, length, slice_index_or, Option, Some, None, MatchOption}
 use Rattle.std.specs.List.{list_any}
 use Rattle.std.specs.Map.{lookup}
 use Rattle.saved_state.specs.State.{StateEntry}

@@ -64,7 +64,10 @@ fn mark_one(marks: &mut [bool], tree: &ViewTree, states: &States, view: Key)
     requires live { IsLive tree.now view }
     requires sized { length states.now ≤ length marks.old }
     ensures sized { length states.now ≤ length marks.new }
-    ensures marks { (place : ℕ) → place < length states.now → slice_index_or marks.new place false ≡ (slice_index_or marks.old place false || meets (entry_at states.now place) (view_at tree.now view)) }
+    ensures marks { (place : ℕ)
+        → place < length states.now
+        → slice_index_or marks.new place false
+        ≡ (slice_index_or marks.old place false || meets (entry_at states.now place) (view_at tree.now view)) }
 {
     let Some(place) = states.place_of(tree.facts(view).id) else {
         return;

@@ -21,8 +21,12 @@ use view_model::Text;
 pub fn read(alloc: Global, bytes: &[u8]) -> Result<States, StateFault>
     ensures read { ReadAs (decoded bytes.now) result }
     ensures state { IfOk result (λ states. IsState VERSION states) }
-    ensures found { IfOk result (λ states. IsState (slice_index bytes.now 2) states × (bytes.now ≡ encoded_as (slice_index bytes.now 2) states)) }
-    ensures only { (version : ℕ) (entries : List (ℕ × Value)) → IsState version entries → bytes.now ≡ encoded_as version entries → ReadAs (Ok entries) result }
+    ensures found { IfOk result (λ states. IsState (slice_index bytes.now 2) states
+        × (bytes.now ≡ encoded_as (slice_index bytes.now 2) states)) }
+    ensures only { (version : ℕ) (entries : List (ℕ × Value))
+        → IsState version entries
+        → bytes.now ≡ encoded_as version entries
+        → ReadAs (Ok entries) result }
 {
     let (version, count) = head_of(bytes)?;
     entries_of(alloc, bytes, version, count)

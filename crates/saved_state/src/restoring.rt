@@ -29,8 +29,11 @@ pub fn restore(alloc: Global, tree: &mut ViewTree, states: &States) -> Result<()
     ensures counts { tree.new.counts ≡ tree.old.counts }
     ensures geometry { geometry_of tree.new ≡ geometry_of tree.old }
     ensures consistent { IsConsistent tree.old → IsConsistent tree.new }
-    ensures held { OnOk result ((key : ℕ) → held_of tree.new key ≡ all_given states.now tree.old.tree (set_by states.now tree.old.tree) (held_of tree.old) key) }
-    ensures asked { (key : ℕ) → on_paths key (set_by states.now tree.old.tree) tree.old.tree ≡ false → held_of tree.new key ≡ held_of tree.old key }
+    ensures held { OnOk result ((key : ℕ) → held_of tree.new key
+        ≡ all_given states.now tree.old.tree (set_by states.now tree.old.tree) (held_of tree.old) key) }
+    ensures asked { (key : ℕ)
+        → on_paths key (set_by states.now tree.old.tree) tree.old.tree ≡ false
+        → held_of tree.new key ≡ held_of tree.old key }
     ensures fits { OffsetsFit (plain_of tree.old) → OffsetsFit (plain_of tree.new) }
 {
     states.tell();
@@ -70,8 +73,10 @@ fn copy_value(
     view: Key,
 ) -> Result<(), AllocError>
     requires { IsLive tree.now view }
-    ensures values { OnOk result (values.new.items ≡ values.old.items ++ paired view (wanted states.now tree.now.tree view)) }
-    ensures fit { OnOk result (All (λ set. IsValue set.1) values.old.items → All (λ set. IsValue set.1) values.new.items) }
+    ensures values { OnOk result (values.new.items
+        ≡ values.old.items ++ paired view (wanted states.now tree.now.tree view)) }
+    ensures fit { OnOk result (All (λ set. IsValue set.1) values.old.items
+        → All (λ set. IsValue set.1) values.new.items) }
 {
     if let Some(value) = given(tree, states, view) {
         let copy = value.copy(alloc)?;
@@ -103,7 +108,8 @@ fn set_value(tree: &mut ViewTree, view: Key, value: Value)
     ensures orders { tree.new.orders ≡ tree.old.orders }
     ensures next { tree.new.next ≡ tree.old.next }
     ensures counts { tree.new.counts ≡ tree.old.counts }
-    ensures held { (key : ℕ) → held_of tree.new key ≡ given_held (Some value) view tree.old.tree (held_of tree.old) key }
+    ensures held { (key : ℕ)
+        → held_of tree.new key ≡ given_held (Some value) view tree.old.tree (held_of tree.old) key }
 {
     match value {
         Value::Offset(offset) => {

@@ -72,7 +72,8 @@ fn note_offset(saved: &mut BTreeMap<u32, Value>, id: u32, offset: i32) -> Result
     requires id { 0 < id }
     requires not_negative { pos 0 ≤ℤ offset }
     requires few { offset ≤ℤ pos MAX_OFFSET }
-    ensures entries { OnOk result (saved.new.entries ≡ insert_entry nat_cmp saved.old.entries id (OffsetValue (unsigned_abs offset))) }
+    ensures entries { OnOk result (saved.new.entries
+        ≡ insert_entry nat_cmp saved.old.entries id (OffsetValue (unsigned_abs offset))) }
     ensures rises { OnOk result (RisesFrom VERSION 0 saved.old.entries → RisesFrom VERSION 0 saved.new.entries) }
     ensures more { OnOk result (length saved.new.entries ≤ length saved.old.entries + 1) }
 {
@@ -88,7 +89,8 @@ fn note_text(
     text: &Text,
 ) -> Result<(), AllocError>
     requires { 0 < id }
-    ensures entries { OnOk result (saved.new.entries ≡ (if nat_lt MAX_TEXT_BYTES (length (encode_utf8_all text.now)) then saved.old.entries else insert_entry nat_cmp saved.old.entries id (TextValue text.now))) }
+    ensures entries { OnOk result (saved.new.entries ≡ (if nat_lt MAX_TEXT_BYTES (length (encode_utf8_all text.now))
+        then saved.old.entries else insert_entry nat_cmp saved.old.entries id (TextValue text.now))) }
     ensures rises { OnOk result (RisesFrom VERSION 0 saved.old.entries → RisesFrom VERSION 0 saved.new.entries) }
     ensures more { OnOk result (length saved.new.entries ≤ length saved.old.entries + 1) }
 {

@@ -20,7 +20,8 @@ pub fn bring_one(tree: &mut ViewTree, view: Key) -> bool
     ensures moved { result ≡ true → offset_of tree.new view ≢ offset_of tree.old view }
     ensures still { result ≡ false → tree.new ≡ tree.old }
     ensures same { SameTree tree.old tree.new }
-    ensures held { held_of tree.new view ≡ record (held_of tree.old view) { offset = brought (range_at tree.old view) (offset_of tree.old view) } }
+    ensures held { held_of tree.new view
+        ≡ record (held_of tree.old view) { offset = brought (range_at tree.old view) (offset_of tree.old view) } }
     ensures others { KeepsOthers tree.old tree.new view }
     ensures counts { tree.new.counts ≡ tree.old.counts }
 {

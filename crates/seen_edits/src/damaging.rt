@@ -1,5 +1,5 @@
 //! Edits of a tree, and what has to be painted again after them.
-ghost use Rattle.std.specs.Prelude.{◌≡◌, ◌^◌, ◌<◌, ◌≢◌, pos, true, Err, OnErr, OnOk, Ok, None};
+ghost use Rattle.std.specs.Prelude.{◌≡◌, ◌<◌, ◌≢◌, pos, true, Err, OnErr, OnOk, Ok};
 ghost use Rattle.damage_rect.specs.Within.{LiesIn};
 ghost use Rattle.geom_core.specs.Rects.{hull_of};
 ghost use Rattle.geom_core.specs.declared.geometry.Rect.{Rect};
@@ -38,7 +38,8 @@ pub fn change(
     ensures within { GrowsWithin window (edited edit.entry) tree.old tree.new damage.old.rect damage.new.rect }
     ensures unseen { is_unseen edit.entry ≡ true → damage.new ≡ damage.old }
     ensures undamaged { OnErr result (damage.new ≡ damage.old) }
-    ensures applied { AppliesEdit (outcome_of_edit (scene_of tree.old) (numbered tree.old edit.entry)) (scene_of tree.new) result }
+    ensures applied { AppliesEdit (outcome_of_edit (scene_of tree.old) (numbered tree.old edit.entry))
+        (scene_of tree.new) result }
     ensures kept { OnOk result (KeepsViews tree.old tree.new edit.entry) }
     ensures unchanged { OnErr result (tree.new ≡ tree.old) }
     ensures memory { result ≡ Err EditFault.NoMemory → MayWantMemory edit.entry }
@@ -114,9 +115,13 @@ pub fn take(
 ) -> Result<Option<u64>, EditFault>
     requires { IsLive tree.old view }
     ensures shown { KeepsShown window damage.old.rect damage.new.rect tree.old tree.new }
-    ensures within { (box : Rect) → LiesIn damage.old.rect box → LiesIn (seen_of window tree.old view) box → LiesIn damage.new.rect box }
+    ensures within { (box : Rect)
+        → LiesIn damage.old.rect box
+        → LiesIn (seen_of window tree.old view) box
+        → LiesIn damage.new.rect box }
     ensures undamaged { OnErr result (damage.new ≡ damage.old) }
-    ensures applied { AppliesEdit (outcome_of_edit (scene_of tree.old) (numbered tree.old (Edit.Remove view))) (scene_of tree.new) result }
+    ensures applied { AppliesEdit (outcome_of_edit (scene_of tree.old) (numbered tree.old (Edit.Remove view)))
+        (scene_of tree.new) result }
     ensures kept { OnOk result (KeepsViews tree.old tree.new (Edit.Remove view)) }
     ensures unchanged { OnErr result (tree.new ≡ tree.old) }
     ensures memory { result ≢ Err EditFault.NoMemory }
@@ -168,7 +173,10 @@ fn covers(rect: Rect, window: Size) -> bool
 pub fn damage_all(damage: &mut Damage, window: Size)
     ensures grew { LiesIn damage.old.rect damage.new.rect }
     ensures whole { LiesIn (rect_at (pos 0) (pos 0) window) damage.new.rect }
-    ensures within { (box : Rect) → LiesIn damage.old.rect box → LiesIn (rect_at (pos 0) (pos 0) window) box → LiesIn damage.new.rect box }
+    ensures within { (box : Rect)
+        → LiesIn damage.old.rect box
+        → LiesIn (rect_at (pos 0) (pos 0) window) box
+        → LiesIn damage.new.rect box }
 {
     damage.add(whole(window));
 }

@@ -19,13 +19,18 @@ use view_tree::ViewTree;
 pub fn paint_damage(tree: &ViewTree, surface: &mut Surface, damage: &mut Damage, work: &mut Work)
     requires { Shows surface.old damage.old.rect tree.now }
     ensures size { size_of surface.new ≡ size_of surface.old }
-    ensures picture { surface.new.pixels ≡ picture surface.old.width surface.old.height (geometry_of tree.now) (plain_of tree.now) }
+    ensures picture { surface.new.pixels
+        ≡ picture surface.old.width surface.old.height (geometry_of tree.now) (plain_of tree.now) }
     ensures shows { Shows surface.new damage.new.rect tree.now }
     ensures emptied { damage.new ≡ no_damage }
     ensures grew { work.old.painted ≤ work.new.painted }
-    ensures most { work.new.painted ≤ work.old.painted + (2 * count_of tree.now.tree + 1) * area_in surface.old damage.old.rect }
-    ensures least { min (work.old.painted + differing surface.old.pixels surface.new.pixels) (2 ^ 64 - 1) ≤ work.new.painted }
-    ensures filled { work.new.painted < 2 ^ 64 - 1 → surface.new.filled < 2 ^ 64 - 1 → work.new.painted + surface.old.filled ≡ work.old.painted + surface.new.filled }
+    ensures most { work.new.painted
+        ≤ work.old.painted + (2 * count_of tree.now.tree + 1) * area_in surface.old damage.old.rect }
+    ensures least { min (work.old.painted + differing surface.old.pixels surface.new.pixels) (2 ^ 64 - 1)
+        ≤ work.new.painted }
+    ensures filled { work.new.painted < 2 ^ 64 - 1
+        → surface.new.filled < 2 ^ 64 - 1
+        → work.new.painted + surface.old.filled ≡ work.old.painted + surface.new.filled }
     ensures measured { work.new.measured ≡ work.old.measured }
 {
     let _was_in_rows = surface.size();

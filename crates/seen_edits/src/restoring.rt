@@ -31,7 +31,10 @@ pub fn restore_views(
     damage: &mut Damage,
 ) -> Result<(), StateFault>
     ensures shown { KeepsShown window damage.old.rect damage.new.rect tree.old tree.new }
-    ensures within { (box : Rect) → LiesIn damage.old.rect box → GivenIn states.now window box tree.new → LiesIn damage.new.rect box }
+    ensures within { (box : Rect)
+        → LiesIn damage.old.rect box
+        → GivenIn states.now window box tree.new
+        → LiesIn damage.new.rect box }
     ensures undamaged { OnErr result (damage.new ≡ damage.old) }
     ensures plain { OnOk result (plain_of tree.new ≡ restored states.now (plain_of tree.old)) }
     ensures refused { RestoredUnless (is_for_other_class states.now (rows (plain_of tree.old))) result }
@@ -41,8 +44,11 @@ pub fn restore_views(
     ensures counts { tree.new.counts ≡ tree.old.counts }
     ensures geometry { geometry_of tree.new ≡ geometry_of tree.old }
     ensures consistent { IsConsistent tree.old → IsConsistent tree.new }
-    ensures held { OnOk result ((key : ℕ) → held_of tree.new key ≡ all_given states.now tree.old.tree (set_by states.now tree.old.tree) (held_of tree.old) key) }
-    ensures asked { (key : ℕ) → on_paths key (set_by states.now tree.old.tree) tree.old.tree ≡ false → held_of tree.new key ≡ held_of tree.old key }
+    ensures held { OnOk result ((key : ℕ) → held_of tree.new key
+        ≡ all_given states.now tree.old.tree (set_by states.now tree.old.tree) (held_of tree.old) key) }
+    ensures asked { (key : ℕ)
+        → on_paths key (set_by states.now tree.old.tree) tree.old.tree ≡ false
+        → held_of tree.new key ≡ held_of tree.old key }
     ensures fits { OffsetsFit (plain_of tree.old) → OffsetsFit (plain_of tree.new) }
 {
     note_tree(tree);
@@ -60,7 +66,10 @@ pub fn restore_views(
 fn note_given(tree: &ViewTree, window: Size, states: &States, damage: &mut Damage)
     ensures grew { LiesIn damage.old.rect damage.new.rect }
     ensures noted { NotesGiven states.now window damage.new.rect tree.now }
-    ensures within { (box : Rect) → LiesIn damage.old.rect box → GivenIn states.now window box tree.now → LiesIn damage.new.rect box }
+    ensures within { (box : Rect)
+        → LiesIn damage.old.rect box
+        → GivenIn states.now window box tree.now
+        → LiesIn damage.new.rect box }
 {
     let mut next = tree.root();
     while let Some(view) = next {
@@ -74,7 +83,10 @@ fn note_view(tree: &ViewTree, window: Size, states: &States, view: Key, damage: 
     requires { IsLive tree.now view }
     ensures grew { LiesIn damage.old.rect damage.new.rect }
     ensures noted { is_some (wanted states.now tree.now.tree view) ≡ true → IsIn window damage.new.rect tree.now view }
-    ensures within { (box : Rect) → LiesIn damage.old.rect box → (is_some (wanted states.now tree.now.tree view) ≡ true → LiesIn (seen_of window tree.now view) box) → LiesIn damage.new.rect box }
+    ensures within { (box : Rect)
+        → LiesIn damage.old.rect box
+        → (is_some (wanted states.now tree.now.tree view) ≡ true → LiesIn (seen_of window tree.now view) box)
+        → LiesIn damage.new.rect box }
 {
     if is_given(tree, states, view) {
         damage.add(seen(tree, window, view));

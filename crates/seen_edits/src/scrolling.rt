@@ -19,7 +19,10 @@ pub fn note_scrolled(tree: &ViewTree, window: Size, log: &Log, damage: &mut Dama
     ensures grew { LiesIn damage.old.rect damage.new.rect }
     ensures is_tree { IsTree tree.now }
     ensures noted { NotesAll window damage.new.rect tree.now log.now.entries.items }
-    ensures within { (box : Rect) → LiesIn damage.old.rect box → ScrolledIn window box tree.now log.now.entries.items → LiesIn damage.new.rect box }
+    ensures within { (box : Rect)
+        → LiesIn damage.old.rect box
+        → ScrolledIn window box tree.now log.now.entries.items
+        → LiesIn damage.new.rect box }
 {
     note_tree(tree);
     note_all(tree, window, log.entries(), damage);
@@ -29,7 +32,10 @@ pub fn note_scrolled(tree: &ViewTree, window: Size, log: &Log, damage: &mut Dama
 fn note_all(tree: &ViewTree, window: Size, entries: &[Entry], damage: &mut Damage)
     ensures grew { LiesIn damage.old.rect damage.new.rect }
     ensures noted { NotesAll window damage.new.rect tree.now entries.now }
-    ensures within { (box : Rect) → LiesIn damage.old.rect box → ScrolledIn window box tree.now entries.now → LiesIn damage.new.rect box }
+    ensures within { (box : Rect)
+        → LiesIn damage.old.rect box
+        → ScrolledIn window box tree.now entries.now
+        → LiesIn damage.new.rect box }
 {
     for entry in entries {
         note_entry(tree, window, entry, damage);
@@ -40,7 +46,10 @@ fn note_all(tree: &ViewTree, window: Size, entries: &[Entry], damage: &mut Damag
 fn note_entry(tree: &ViewTree, window: Size, entry: &Entry, damage: &mut Damage)
     ensures grew { LiesIn damage.old.rect damage.new.rect }
     ensures noted { NotesEntry window damage.new.rect tree.now entry.now }
-    ensures within { (box : Rect) → LiesIn damage.old.rect box → EntryIn window box tree.now entry.now → LiesIn damage.new.rect box }
+    ensures within { (box : Rect)
+        → LiesIn damage.old.rect box
+        → EntryIn window box tree.now entry.now
+        → LiesIn damage.new.rect box }
 {
     note_tree(tree);
     if !is_scroll(entry.kind) {

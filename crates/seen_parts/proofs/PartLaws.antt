@@ -7,7 +7,7 @@ use Rattle.geom_core.specs.declared.geometry.Rect.{Rect}
 use Rattle.geom_core.specs.Rects.{holds, larger_of, smaller_of}
 use Rattle.seen_parts.specs.declared.frame.Frame.{Frame}
 use Rattle.damage_rect.specs.Within.{IsInside}
-use Rattle.seen_parts.specs.Frames.{IsPart, frame_holds}
+use Rattle.seen_parts.specs.Frames.{IsCommonPart, frame_holds}
 
 -- the rectangle of the edges of a frame
 abbrev edges_of : Frame → Rect
@@ -59,6 +59,6 @@ part_inside clip frame l t r b rect e is = rw is (record {
 })
 
 pub part_edges : (clip : Rect) (frame : Frame) (l t r b : ℤ) (rect : Rect) → Edges clip frame l t r b → rect ≡ record { left = l; top = t; right = r; bottom = b }
-    → l <ℤ r → t <ℤ b → IsPart clip frame rect
+    → l <ℤ r → t <ℤ b → IsCommonPart clip frame rect
 part_edges clip frame l t r b rect e is across down =
     rw is (record { left = e.left; top = e.top; right = e.right; bottom = e.bottom; across = across; down = down })

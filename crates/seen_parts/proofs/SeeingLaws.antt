@@ -5,7 +5,7 @@ use Rattle.std.proofs.lemmas.Int.{ints}
 use Rattle.damage_rect.proofs.RectLaws.{meet_holds, meet_none}
 use Rattle.geom_core.specs.Rects.{holds, is_empty, larger_of, meet_of, overlap_of, smaller_of}
 use Rattle.geom_core.specs.declared.geometry.Rect.{Rect}
-use Rattle.seen_parts.specs.Frames.{IsBelow, IsMoved, IsPart, IsWithout, frame_holds, padding_of}
+use Rattle.seen_parts.specs.Frames.{IsBelow, IsMoved, IsCommonPart, IsWithout, frame_holds, padding_of}
 use Rattle.seen_parts.specs.Meeting.{as_seen}
 use Rattle.seen_parts.specs.declared.frame.Canvas.{Canvas as FramedCanvas}
 use Rattle.seen_parts.specs.declared.frame.Frame.{Frame}
@@ -33,7 +33,7 @@ not_empty : (l r t b : ℤ) → l <ℤ r → t <ℤ b → (not (int_lt l r) || n
 not_empty l r t b across down = grind (arith, ints)
 
 -- what a frame has in common with a clip
-pub part_is_meet : (rect clip : Rect) (frame : Frame) (part : Rect) → FrameOf rect frame → IsPart clip frame part → part ≡ meet_of rect clip
+pub part_is_meet : (rect clip : Rect) (frame : Frame) (part : Rect) → FrameOf rect frame → IsCommonPart clip frame part → part ≡ meet_of rect clip
 unfolding meet_of
 part_is_meet rect clip frame part of cut =
     let over : overlap_of rect clip ≡ part = overlap in

@@ -52,7 +52,7 @@ part_holds None x y = false
 part_holds (Some rect) x y = holds rect x y
 
 -- a rectangle that is what two have in common
-pub record IsPart (clip : Rect) (frame : Frame) (part : Rect) : Type 0 where
+pub record IsCommonPart (clip : Rect) (frame : Frame) (part : Rect) : Type 0 where
   pub left : part.left ≡ larger_of clip.left frame.left
   pub top : part.top ≡ larger_of clip.top frame.top
   pub right : part.right ≡ smaller_of clip.right frame.right

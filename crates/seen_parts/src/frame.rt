@@ -2,7 +2,7 @@
 ghost use Rattle.std.specs.Prelude.{◌≡◌, ℤ, pos, negsuc, ◌+ℤ◌, ◌-ℤ◌, ◌≤ℤ◌, ◌<ℤ◌, ◌&&◌, ◌^◌, OnSome, IfSome};
 ghost use Rattle.damage_rect.specs.Within.{IsInside};
 ghost use Rattle.geom_core.specs.Rects.{holds, larger_of, smaller_of};
-ghost use Rattle.seen_parts.specs.Frames.{IsCanvas, IsEdge, IsInReach, IsMoved, IsPart, IsSeen, IsWithin, IsWithout, frame_holds, padding_of, part_holds};
+ghost use Rattle.seen_parts.specs.Frames.{IsCanvas, IsEdge, IsInReach, IsMoved, IsCommonPart, IsSeen, IsWithin, IsWithout, frame_holds, padding_of, part_holds};
 
 use geom_core::{Insets, Rect};
 use view_model::Facts;
@@ -95,7 +95,7 @@ fn rect_of(left: i64, top: i64, right: i64, bottom: i64) -> Rect
 /// What of a frame lies in a rectangle, if there is anything.
 pub fn part_in(clip: Rect, frame: Frame) -> Option<Rect>
     ensures points { (x y : ℤ) → part_holds result x y ≡ (holds clip x y && frame_holds frame x y) }
-    ensures edges { IfSome result (IsPart clip frame) }
+    ensures edges { IfSome result (IsCommonPart clip frame) }
     ensures seen { OnSome result (IsSeen frame) }
     ensures inside { IfSome result (IsInside clip) }
 {

@@ -99,10 +99,12 @@ pub fn follow(
     ensures near { IfSome result (IsCanvas (2 ^ 37)) }
     ensures follows { IfSome canvas (λ canvas. Follows facts.now before rect (as_seen canvas) damage.new.rect result) }
     ensures within { (box : Rect) → LiesIn damage.old.rect box
-        → IfSome canvas (λ canvas. before ≢ Some rect → LiesIn (seen_in before (as_seen canvas)) box × LiesIn (seen_in (Some rect) (as_seen canvas)) box)
+        → IfSome canvas (λ canvas. before ≢ Some rect
+        → LiesIn (seen_in before (as_seen canvas)) box × LiesIn (seen_in (Some rect) (as_seen canvas)) box)
         → LiesIn damage.new.rect box }
     ensures unfollowed { canvas ≡ None → result ≡ None }
-    ensures stays { IfSome result (λ inner. (before ≡ Some rect) × IfSome canvas (λ canvas. as_seen inner ≡ canvas_below (Some rect) facts.now (as_seen canvas))) }
+    ensures stays { IfSome result (λ inner. (before ≡ Some rect)
+        × IfSome canvas (λ canvas. as_seen inner ≡ canvas_below (Some rect) facts.now (as_seen canvas))) }
 {
     let Some(canvas) = canvas else {
         return None;

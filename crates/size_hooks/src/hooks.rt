@@ -61,8 +61,10 @@ impl Hooks {
         reported: Size,
         edits: &ArrayVec<NumEdit, MAX_EDITS>,
     ) -> Result<(), HookFault>
-        ensures hooks { OnOk result (self.new ≡ armed (record { view = view; reported = reported; edits = edits.now.items }) self.old) }
-        ensures value { OnOk result ((other : ℕ) → hook_of self.new other ≡ (if nat_eq view other then Some (record { view = view; reported = reported; edits = edits.now.items }) else hook_of self.old other)) }
+        ensures hooks { OnOk result
+            (self.new ≡ armed (record { view = view; reported = reported; edits = edits.now.items }) self.old) }
+        ensures value { OnOk result ((other : ℕ) → hook_of self.new other ≡ (if nat_eq view other then Some
+            (record { view = view; reported = reported; edits = edits.now.items }) else hook_of self.old other)) }
         ensures full { IsErr result ↔ ((length self.old ≡ MAX_HOOKS) × (hook_of self.old view ≡ None)) }
         ensures unchanged { OnErr result (self.new ≡ self.old) }
     {
@@ -82,7 +84,8 @@ impl Hooks {
     /// Takes the hook of a view away, if it has one.
     pub fn disarm(&mut self, view: u64)
         ensures hooks { self.new ≡ disarmed view self.old }
-        ensures value { (other : ℕ) → hook_of self.new other ≡ (if nat_eq view other then None else hook_of self.old other) }
+        ensures value { (other : ℕ)
+            → hook_of self.new other ≡ (if nat_eq view other then None else hook_of self.old other) }
         ensures map { IsMap self.old }
     {
         self.entries.retain(|entry| entry.view != view);
@@ -99,7 +102,8 @@ impl Hooks {
     /// Sets the reported size of a view, in pixels, if its hook is armed.
     pub fn report(&mut self, view: u64, size: Size)
         ensures hooks { self.new ≡ reported_as view size self.old }
-        ensures value { (other : ℕ) → hook_of self.new other ≡ option_map (reported_to view size) (hook_of self.old other) }
+        ensures value { (other : ℕ)
+            → hook_of self.new other ≡ option_map (reported_to view size) (hook_of self.old other) }
     {
         report_in(self.entries.as_mut_slice(), view, size);
     }

@@ -151,7 +151,7 @@ none_in (suc n) (suc k) = none_in n k
 none_at_first : (files : Files) (k : ℕ) → IsAlone files (world_at empty_stack k) [] []
 none_at_first files k = subst (λ (o : Option World). IsAlone files o [] []) (sym (none_in 8 k)) tt
 
--- after any lines, the state and the replies of each open window are those of its share alone
+-- for its own sake: after any lines, the state and the replies of each open window are those of its share alone
 pub isolated : (files : Files) (k : ℕ) (lines : List PlainLine) → IsIsolated files k lines
 isolated files k lines = alone_from files k nothing_shared lines (none_at_first files k)
 
@@ -161,7 +161,7 @@ alike files said None replies other others one two = tt
 alike files said (Some world) replies None others one two = tt
 alike files said (Some world) replies (Some other) others one two = (one.0 ∙ sym two.0, one.1 ∙ sym two.1)
 
--- what a window has become and what it has replied to depends on its share alone
+-- for its own sake: what a window has become and what it has replied to depends on its share alone
 pub depends_on_share : (files : Files) (k : ℕ) (lines others : List PlainLine) → DependsOnShare files k lines others
 depends_on_share files k lines others same =
     let one = shared_by files k lines in

@@ -5,7 +5,7 @@ use Rattle.std.specs.Option.{is_some, option_map}
 use Rattle.tool_io.specs.Fetched.{Files}
 use Rattle.tool_io.specs.SinkState.{SinkState}
 use Rattle.stack_worlds.proofs.IsolationLaws.{alone_after}
-use Rattle.stack_worlds.specs.Isolation.{IsAfter, IsAlone, Shared, after_shared, stack_or}
+use Rattle.stack_worlds.specs.Isolation.{IsAfterLine, IsAlone, Shared, after_shared, stack_or}
 use Rattle.stack_worlds.specs.KeptStack.{HasWorlds, KeyedStack, keyed_at, stack_of}
 use Rattle.stack_worlds.specs.PlainStack.{PlainStack, Done, after_given, stack_step, with_world, world_at}
 use Rattle.stack_worlds.specs.StackCarried.{IsReplied, WritesStack}
@@ -49,7 +49,7 @@ given_writes reply stack new holder k after before now (Err fault.Sink) w is =
 given_writes reply stack new holder k after before now (Err fault.Shelf) w is = tt
 
 after_reply : (files : Files) (k : ℕ) (shared : Shared) (line : PlainLine) (new : PlainStack) → IsAlone files (world_at shared.stack k) shared.share shared.replies
-    → stack_or shared.stack (stack_step files shared.stack line) ≡ new → IsAfter files k shared line new
+    → stack_or shared.stack (stack_step files shared.stack line) ≡ new → IsAfterLine files k shared line new
 after_reply files k shared line new is same = record {
   same = same;
   alone = subst (λ (s : PlainStack). IsAlone files (world_at s k) (after_shared files k shared line).share (after_shared files k shared line).replies) same (alone_after files k shared line is);
@@ -58,7 +58,7 @@ after_reply files k shared line new is same = record {
 -- a line that was replied to keeps each window that of its share alone
 pub isolated_line : (files : Files) (k : ℕ) (shared : Shared) (line : PlainLine) (new : PlainStack) (before now : SinkState) (result : Result (Unit {0}) StepFault)
     → WritesStack (stack_step files shared.stack line) new before now result → IsDone result ⊎ (new ≡ shared.stack) → IsReplied result
-    → IsAlone files (world_at shared.stack k) shared.share shared.replies → IsAfter files k shared line new
+    → IsAlone files (world_at shared.stack k) shared.share shared.replies → IsAfterLine files k shared line new
 isolated_line files k shared line new before now (Ok u) w same replied is = after_reply files k shared line new is (ap (stack_or shared.stack) w.1)
 isolated_line files k shared line new before now (Err (fault.Refused refusal)) w (inl done) replied is = absurd done
 isolated_line files k shared line new before now (Err (fault.Refused refusal)) w (inr same) replied is = after_reply files k shared line new is (ap (stack_or shared.stack) w ∙ sym same)

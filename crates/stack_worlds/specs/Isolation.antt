@@ -4,7 +4,6 @@ use Rattle.script_lines.specs.PlainCommands.{PlainCommand}
 use Rattle.tool_io.specs.Fetched.{Files}
 use Rattle.stack_worlds.specs.PlainStack.{PlainStack, PlainWay, Given, Missed, RefusedBy, ToStack, StackReply, empty_stack, stack_step, way_of, world_at}
 use Rattle.stack_worlds.specs.PlainStack as stack_reply
-use Rattle.stack_worlds.specs.declared.stack.way.Own.{Own}
 use Rattle.stack_worlds.specs.declared.stack.way.Own.TheVariants as own
 use Rattle.view_world.specs.Step.{Reply, Done, Refused, step}
 use Rattle.view_world.specs.World.{World, empty_world}
@@ -93,7 +92,7 @@ IsAlone files None share replies = Unit {0}
 IsAlone files (Some world) share replies = (world ≡ world_alone files share) × (replies ≡ replies_alone files share)
 
 -- a stack after one more line, in which the window is that of its share alone
-pub record IsAfter (files : Files) (k : ℕ) (shared : Shared) (line : PlainLine) (stack : PlainStack) : Type 0 where
+pub record IsAfterLine (files : Files) (k : ℕ) (shared : Shared) (line : PlainLine) (stack : PlainStack) : Type 0 where
   pub same : (after_shared files k shared line).stack ≡ stack
   pub alone : IsAlone files (world_at stack k) (after_shared files k shared line).share (after_shared files k shared line).replies
 

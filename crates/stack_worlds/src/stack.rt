@@ -3,7 +3,7 @@
 ghost use Rattle.std.specs.Prelude.{◌≡◌, ◌≢◌, ◌⊎◌, ◌+◌, ◌-◌, ◌<◌, ◌≤◌, ◌^◌, ℕ, min, [], true, false, Err, IfErr, IfSome, None, OnOk, Option, Some};
 ghost use Rattle.script_lines.specs.PlainCommands.{plain_command};
 ghost use Rattle.tool_io.specs.Fetched.{Files};
-ghost use Rattle.stack_worlds.specs.Isolation.{IsAfter, IsAlone, Shared};
+ghost use Rattle.stack_worlds.specs.Isolation.{IsAfterLine, IsAlone, Shared};
 ghost use Rattle.stack_worlds.specs.KeptStack.{HaveNumbers, keyed_at, no_windows, stack_of};
 ghost use Rattle.stack_worlds.specs.PlainStack.{Done, PlainStack, asked_by, asked_on, by_way, holder_after, own_step, placed_at, stack_step, way_of, world_at};
 ghost use Rattle.stack_worlds.specs.StackCarried.{IsGivenSound, IsOwnSound, IsReplied, LineWants, OwnWants, WayWants, WritesStack, plain_given, written};
@@ -40,7 +40,7 @@ pub struct Stack {
 }
 
 impl Model for Stack {
-    ghost use Rattle.stack_worlds.specs.Isolation.{IsAfter, IsAlone, Shared};
+    ghost use Rattle.stack_worlds.specs.Isolation.{IsAfterLine, IsAlone, Shared};
     ghost use Rattle.stack_worlds.specs.KeptStack.{HasWorlds, KeyedStack, keyed, stack_code};
 
     ghost Value = { KeyedStack };
@@ -78,14 +78,15 @@ impl Stack {
         requires short { text_length_in (plain_line line) < 2 ^ 31 }
         ensures carried { (files : Files)
             → AreAtHand files (F.files shelf.old) (asked_by (stack_of self.old) (plain_line line.entry))
-            → WritesStack (stack_step files (stack_of self.old) (plain_line line.entry)) (stack_of self.new) (K.state sink.old) (K.state sink.new) result }
+            → WritesStack (stack_step files (stack_of self.old) (plain_line line.entry)) (stack_of self.new)
+            (K.state sink.old) (K.state sink.new) result }
         // The state of a window and its replies are those of its own share of the lines alone, whatever others get.
         ensures isolated { (files : Files) (k : ℕ) (shared : Shared)
             → AreAtHand files (F.files shelf.old) (asked_by (stack_of self.old) (plain_line line.entry))
             → shared.stack ≡ stack_of self.old
             → IsAlone files (world_at shared.stack k) shared.share shared.replies
             → IsReplied result
-            → IsAfter files k shared (plain_line line.entry) (stack_of self.new) }
+            → IsAfterLine files k shared (plain_line line.entry) (stack_of self.new) }
         ensures unchanged { IsDone result ⊎ ((self.new ≡ self.old) × (sink.new ≡ sink.old)) }
         ensures silent { (files : Files) (stack : PlainStack)
             → AreAtHand files (F.files shelf.old) (asked_by (stack_of self.old) (plain_line line.entry))
@@ -104,7 +105,8 @@ impl Stack {
         ensures numbers { (k : ℕ) → next_at self.new k ≤ next_at self.old k + MAX_VIEWS }
         ensures painted { work.old.painted ≤ work.new.painted }
         ensures measured { min work.old.measured (2 ^ 64 - 1) ≤ work.new.measured }
-        ensures works { WorksBy (way_of (stack_of self.old) (plain_line line.entry)) self.old self.new result work.old work.new }
+        ensures works { WorksBy (way_of (stack_of self.old) (plain_line line.entry)) self.old
+            self.new result work.old work.new }
         ensures sink_failed { (K.state sink.new).faults ≡ faults_after_line result (K.state sink.old).faults }
     {
         self.carry_out(alloc, line, shelf, sink, work)
@@ -124,7 +126,8 @@ impl Stack {
         requires short { text_length_in (plain_line line) < 2 ^ 31 }
         ensures carried { (files : Files)
             → AreAtHand files (F.files shelf.old) (asked_by (stack_of self.old) (plain_line line.entry))
-            → WritesStack (stack_step files (stack_of self.old) (plain_line line.entry)) (stack_of self.new) (K.state sink.old) (K.state sink.new) result }
+            → WritesStack (stack_step files (stack_of self.old) (plain_line line.entry)) (stack_of self.new)
+            (K.state sink.old) (K.state sink.new) result }
         ensures unchanged { IsDone result ⊎ ((self.new ≡ self.old) × (sink.new ≡ sink.old)) }
         ensures silent { (files : Files) (stack : PlainStack)
             → AreAtHand files (F.files shelf.old) (asked_by (stack_of self.old) (plain_line line.entry))
@@ -137,7 +140,8 @@ impl Stack {
         ensures shelf_failed { CountsShelf (F.faults shelf.old) (F.faults shelf.new) result }
         ensures asked { result ≡ Err StepFault.Shelf → asked_by (stack_of self.old) (plain_line line.entry) ≢ None }
         ensures memory { result ≡ Err StepFault.NoMemory → LineWants (stack_of self.old) (plain_line line.entry) }
-        ensures works { WorksBy (way_of (stack_of self.old) (plain_line line.entry)) self.old self.new result work.old work.new }
+        ensures works { WorksBy (way_of (stack_of self.old) (plain_line line.entry)) self.old
+            self.new result work.old work.new }
         ensures sink_failed { (K.state sink.new).faults ≡ faults_after_line result (K.state sink.old).faults }
     {
         match self.way(line) {
@@ -161,7 +165,8 @@ impl Stack {
         requires sound { IsGivenSound (stack_of self.old) given.holder given.k (plain_command given.command) }
         ensures carried { (files : Files)
             → AreAtHand files (F.files shelf.old) (asked_on (stack_of self.old) (plain_given given.entry))
-            → WritesStack (by_way files (stack_of self.old) (plain_given given.entry)) (stack_of self.new) (K.state sink.old) (K.state sink.new) result }
+            → WritesStack (by_way files (stack_of self.old) (plain_given given.entry)) (stack_of self.new)
+            (K.state sink.old) (K.state sink.new) result }
         ensures unchanged { IsDone result ⊎ ((self.new ≡ self.old) × (sink.new ≡ sink.old)) }
         ensures silent { (files : Files) (stack : PlainStack)
             → AreAtHand files (F.files shelf.old) (asked_on (stack_of self.old) (plain_given given.entry))
@@ -192,7 +197,8 @@ impl Stack {
         requires held { IfSome holder (λ k. is_open self.old.panes k ≡ true) }
         ensures value { (world : KeyedWorld)
             → keyed_at self.old k ≡ Some world
-            → self.new ≡ record self.old { panes = record self.old.panes { holder = holder_after holder k (world_of world) } } }
+            → self.new
+            ≡ record self.old { panes = record self.old.panes { holder = holder_after holder k (world_of world) } } }
         ensures worlds { self.new.worlds ≡ self.old.worlds }
     {
         let holder = self.holder_after(holder, k);
@@ -204,7 +210,9 @@ impl Stack {
     fn holder_after(&self, holder: Option<u8>, k: u8) -> Option<u8>
         requires name { k ≤ MAX_PANE }
         requires open { IfSome holder (λ k. is_open self.now.panes k ≡ true) }
-        ensures value { (world : KeyedWorld) → keyed_at self.now k ≡ Some world → result ≡ holder_after holder k (world_of world) }
+        ensures value { (world : KeyedWorld)
+            → keyed_at self.now k ≡ Some world
+            → result ≡ holder_after holder k (world_of world) }
         ensures open { IfSome result (λ k. is_open self.now.panes k ≡ true) }
     {
         if holder == Some(k) && self.is_untouched(k) {
@@ -217,7 +225,8 @@ impl Stack {
     /// What a line does to the stack itself.
     fn change<K: Sink>(&mut self, alloc: Global, own: Own, sink: &mut K) -> Result<(), StepFault>
         requires { IsOwnSound (stack_of self.old) own }
-        ensures carried { WritesStack (own_step (stack_of self.old) own) (stack_of self.new) (K.state sink.old) (K.state sink.new) result }
+        ensures carried { WritesStack (own_step (stack_of self.old) own) (stack_of self.new)
+            (K.state sink.old) (K.state sink.new) result }
         ensures unchanged { IsDone result ⊎ ((self.new ≡ self.old) × (sink.new ≡ sink.old)) }
         ensures silent { (stack : PlainStack) → own_step (stack_of self.old) own ≡ Done stack [] → sink.new ≡ sink.old }
         ensures worlds { IsDone result → self.new.worlds ≡ worlds_after self.old own }
@@ -245,7 +254,8 @@ impl Stack {
         requires { k ≤ MAX_PANE }
         ensures done { OnOk result (stack_of self.new ≡ placed_at (stack_of self.old) k x y) }
         ensures worlds { OnOk result (self.new.worlds ≡ worlds_after self.old (Own.At k x y)) }
-        ensures failed { IfErr result (λ fault. (fault ≡ StepFault.NoMemory) × (is_open self.old.panes k ≡ false) × (self.new ≡ self.old)) }
+        ensures failed { IfErr result (λ fault. (fault ≡ StepFault.NoMemory)
+            × (is_open self.old.panes k ≡ false) × (self.new ≡ self.old)) }
     {
         if self.is_open(k) {
             self.panes.set(k, x, y);

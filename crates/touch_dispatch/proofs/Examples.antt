@@ -1,6 +1,6 @@
 -- Worked gestures, by computation.
 use Rattle.std.proofs.Common.{◌≡◌, ℕ, true, false, Bool, List, [], ◌∷◌, Option, Some, refl}
-use Rattle.std.specs.Prelude.{ℤ, pos, ◌==◌, if◌then◌else◌}
+use Rattle.std.specs.Prelude.{ℤ, pos, ◌==◌, if◌then◌else◌, map}
 use Rattle.geom_core.specs.Limits.{clamp_coordinate}
 use Rattle.geom_core.specs.declared.geometry.Rect.{Rect}
 use Rattle.touch_dispatch.specs.Dispatch.{Scene, cancelled, reach}
@@ -14,7 +14,6 @@ use Rattle.touch_event.specs.declared.event.Action.{Action}
 use Rattle.touch_event.specs.declared.event.Action.TheVariants.{Down, Up, Move, Cancel, PointerDown, PointerUp}
 use Rattle.touch_event.specs.declared.event.Event.{Event}
 use Rattle.touch_event.specs.declared.event.Point.{Point}
-use Rattle.touch_targets.specs.Captures.{order}
 use Rattle.view_model.specs.Facts.{new_facts}
 use Rattle.view_model.specs.Forest.{Forest, Nothing, Branch}
 use Rattle.view_model.specs.PlainTree.{PlainView}
@@ -23,6 +22,11 @@ use Rattle.view_model.specs.declared.kinds.Answer.{Answer}
 use Rattle.view_model.specs.declared.kinds.Answer.TheVariants as plan
 use Rattle.view_model.specs.declared.kinds.Class.{Class}
 use Rattle.view_model.specs.declared.kinds.Class.TheVariants as class
+use Rattle.touch_targets.specs.Captures.{Target}
+
+-- the children in the order of their capture, the newest first
+abbrev order : List Target → List ℕ
+order targets = map (λ (t : Target). t.child) targets
 
 abbrev view_of : ℕ → Class → Answer → PlainView
 view_of number class answer = record { number = number; class = class; facts = record (new_facts (pos 0) (pos 0)) { answer = answer }; text = [] }

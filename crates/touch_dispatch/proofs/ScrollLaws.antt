@@ -5,10 +5,10 @@ use Rattle.std.proofs.lemmas.Int.{ints}
 use Rattle.std.specs.Prelude.{if◌then◌else◌, ◌==◌, ◌||◌, ◌&&◌, not, is_some, pos}
 use Rattle.touch_dispatch.proofs.OnceLaws.{total_more}
 use Rattle.touch_dispatch.specs.Once.{total, touches}
-use Rattle.touch_dispatch.specs.Dispatch.{EventChild, Scene, Tried, answered, begun, cancelled, child_of, dispatched, ended, ended_by, event_children, group_reached, hand_out, hand_part, hand_to, intercepted_cleared, is_handed, is_offered, offered, reach, reached_by, receiver, taken_by, tried_event, try_child, try_children, unless_taken}
+use Rattle.touch_dispatch.specs.Dispatch.{EventChild, Scene, Tried, answered, begun, child_of, dispatched, ended, ended_by, event_children, group_reached, hand_out, hand_part, hand_to, intercepted_cleared, is_handed, is_offered, offered, reach, reached_by, receiver, taken_by, tried_event, try_child, try_children, unless_taken}
 use Rattle.touch_dispatch.specs.Gestures.{at_number, set_drag, set_pressed}
 use Rattle.touch_dispatch.specs.Handling.{Progress, Reached, answered_ask, drag_answer, intercepts, looked, pressed_after, asked, click_handled, click_noted, clicks, drag_handled, handled, handled_by, is_down, is_nil, is_same_offset, moved_by, noted_with, offset_after, targets_at, with_gesture}
-use Rattle.touch_dispatch.specs.Points.{cancel_event, is_near_first, is_tried, local_event}
+use Rattle.touch_dispatch.specs.Points.{is_near_first, is_tried, local_event}
 use Rattle.touch_dispatch.specs.Drags.{pulled}
 use Rattle.touch_dispatch.specs.Scrolled.{has_scrolled, is_scroll}
 use Rattle.touch_dispatch.specs.declared.drag.Drag.{Drag}
@@ -378,20 +378,3 @@ dispatch_logs scene (Branch view below after) event progress = elim (cases_Bool 
   | inl e ↦ rw e (reach_logs scene (Branch view below after) event progress)
   | inr e ↦ rw e (still progress)
 ]
-
-pub cancel_logs : (scene : Scene) (parent : Option ℕ) (number : ℕ) (part : Forest PlainView) (progress : Progress) → LogsScrolls progress (cancelled scene parent number part progress)
-cancel_logs scene None number part progress = reach_logs scene part cancel_event progress
-cancel_logs scene (Some parent) number part progress = elim (cases_Bool (is_target number (targets_at progress parent))) [
-  | inl e ↦ rw e (onward (reach_logs scene part cancel_event progress) (gestured refl refl))
-  | inr e ↦ rw e (still progress)
-]
-
--- a view that handles at most one event, and that the log has as scrolled since, has another offset
-pub scrolled_differs : (n : ℕ) (old new : Progress) → LogsScrolls old new → total (touches n) new.entries ≤ total (touches n) old.entries + 1
-    → has_scrolled n old.entries ≡ false → has_scrolled n new.entries ≡ true → new.offsets n ≢ old.offsets n
-scrolled_differs n old new logs once none has = by (logs.moved n)
-  where
-    by : MovesOnce n old new → new.offsets n ≢ old.offsets n
-    by (inl still) = absurd (let f : true ≡ false = sym has ∙ still.entries ∙ none in cc)
-    by (inr (inl scrolled)) = scrolled.differs
-    by (inr (inr twice)) = absurd (omega arith)

@@ -65,7 +65,7 @@ abbrev pub kept_in : Inside → Kept
 kept_in inside = record { seats = inside.targets; marks = inside.marks.entries }
 
 -- no group has a child twice, and a view has a seat exactly where it has marks
-pub record IsSound (inside : Inside) : Type 0 where
+pub record IsSoundGesture (inside : Inside) : Type 0 where
   pub distinct : AllDistinct (targets_of inside.targets)
   pub places : (view : ℕ) → has_seat inside.targets view ≡ is_some (lookup (nat_eq view) inside.marks.entries)
 

@@ -17,7 +17,7 @@ use crate::limits::Limits;
 use crate::log::Log;
 use crate::points::cancel_event;
 use crate::reaching::reach;
-use touch_event::{Event, MAX_POINTERS};
+use touch_event::Event;
 use view_tree::{Key, ViewTree};
 
 /// Sends an event of all the pointers to the root, in the root's coordinates, and returns what the root says. A pointer
@@ -33,8 +33,11 @@ pub fn dispatch(
     requires caught { IsGestureIn tree.old.tree gesture.old }
     requires room { length log.old.entries.items + 3 * count_of tree.old.tree ≤ room_of log.old }
     ensures is_tree { IsTree tree.old }
-    ensures dispatched { dispatched (scene_of tree.old slop) (views_of tree.old.tree) event.now (progress_of tree.old gesture.old log.old) ≡ record { yes = result; progress = progress_of tree.new gesture.new log.new } }
-    ensures touched_once { (n : ℕ) → total (touches n) log.new.entries.items ≤ total (touches n) log.old.entries.items + 1 }
+    ensures dispatched { dispatched
+        (scene_of tree.old slop) (views_of tree.old.tree) event.now (progress_of tree.old gesture.old log.old)
+        ≡ record { yes = result; progress = progress_of tree.new gesture.new log.new } }
+    ensures touched_once { (n : ℕ)
+        → total (touches n) log.new.entries.items ≤ total (touches n) log.old.entries.items + 1 }
     ensures asked_once { (n : ℕ) → total (asks n) log.new.entries.items ≤ total (asks n) log.old.entries.items + 1 }
     ensures scrolls { OnlyScrolls tree.old tree.new }
     ensures caught { IsGestureIn tree.new.tree gesture.new }
@@ -70,8 +73,11 @@ fn reach_whole(
 ) -> bool
     requires may { MayReach tree.old gesture.old view event.now }
     requires room { length log.old.entries.items + 3 * count_of tree.old.tree ≤ room_of log.old }
-    ensures reached { reach (scene_of tree.old limits.now.slop) (views_of (first_tree (part_from view tree.old.tree))) event.now (progress_of tree.old gesture.old log.old) ≡ record { yes = result; progress = progress_of tree.new gesture.new log.new } }
-    ensures touched_once { (n : ℕ) → total (touches n) log.new.entries.items ≤ total (touches n) log.old.entries.items + 1 }
+    ensures reached { reach (scene_of tree.old limits.now.slop)
+        (views_of (first_tree (part_from view tree.old.tree))) event.now (progress_of tree.old gesture.old log.old)
+        ≡ record { yes = result; progress = progress_of tree.new gesture.new log.new } }
+    ensures touched_once { (n : ℕ)
+        → total (touches n) log.new.entries.items ≤ total (touches n) log.old.entries.items + 1 }
     ensures asked_once { (n : ℕ) → total (asks n) log.new.entries.items ≤ total (asks n) log.old.entries.items + 1 }
     ensures kept { KeepsScene tree.old tree.new gesture.old gesture.new log.old log.new }
 {
@@ -86,10 +92,18 @@ pub fn cancel_view(tree: &mut ViewTree, gesture: &mut Gesture, view: Key, slop: 
     requires live { IsLive tree.old view }
     requires caught { IsGestureIn tree.old.tree gesture.old }
     requires room { length log.old.entries.items + 3 * count_of tree.old.tree ≤ room_of log.old }
-    ensures cancelled { progress_of tree.new gesture.new log.new ≡ cancelled (scene_of tree.old slop) (parent_number tree.old view) (number_of tree.old view) (part_at tree.old view) (progress_of tree.old gesture.old log.old) }
-    ensures gone { (group : ℕ) → parent_number tree.old view ≡ Some group → is_target (number_of tree.old view) ((gesture_of gesture.new).targets group) ≡ false }
-    ensures unchanged { (group : ℕ) → parent_number tree.old view ≡ Some group → is_target (number_of tree.old view) ((gesture_of gesture.old).targets group) ≡ false → Unchanged tree.old tree.new gesture.old gesture.new log.old log.new }
-    ensures touched_once { (n : ℕ) → total (touches n) log.new.entries.items ≤ total (touches n) log.old.entries.items + 1 }
+    ensures cancelled { progress_of tree.new gesture.new log.new
+        ≡ cancelled (scene_of tree.old slop) (parent_number tree.old view) (number_of tree.old view)
+        (part_at tree.old view) (progress_of tree.old gesture.old log.old) }
+    ensures gone { (group : ℕ)
+        → parent_number tree.old view ≡ Some group
+        → is_target (number_of tree.old view) ((gesture_of gesture.new).targets group) ≡ false }
+    ensures unchanged { (group : ℕ)
+        → parent_number tree.old view ≡ Some group
+        → is_target (number_of tree.old view) ((gesture_of gesture.old).targets group) ≡ false
+        → Unchanged tree.old tree.new gesture.old gesture.new log.old log.new }
+    ensures touched_once { (n : ℕ)
+        → total (touches n) log.new.entries.items ≤ total (touches n) log.old.entries.items + 1 }
     ensures asked_once { (n : ℕ) → total (asks n) log.new.entries.items ≤ total (asks n) log.old.entries.items + 1 }
     ensures scrolls { OnlyScrolls tree.old tree.new }
     ensures caught { IsGestureIn tree.new.tree gesture.new }

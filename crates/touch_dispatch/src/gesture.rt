@@ -5,7 +5,7 @@ ghost use Rattle.touch_dispatch.specs.Gestures.{closed, set_disallow, set_drag, 
 ghost use Rattle.touch_dispatch.specs.Kept.{IsUnknown, Kept, MayCapture, gesture_of, is_open, marks_or, no_marks, nothing_kept, with_place};
 ghost use Rattle.touch_dispatch.specs.Once.{AllDistinct};
 ghost use Rattle.touch_event.specs.PointerSets.{has_id};
-ghost use Rattle.touch_targets.specs.Captures.{drop_pointers, first_child, first_ids, from_child, is_target, older, put_target, targets_from, without_child};
+ghost use Rattle.touch_targets.specs.Captures.{drop_pointers, first_child, first_ids, from_child, is_target, older, put_target, targets_from};
 
 use crate::drag::Drag;
 use crate::marks::Marks;
@@ -29,11 +29,11 @@ impl Model for Gesture {
 
     ghost coded = { kept_code };
 
-    ghost use Rattle.touch_dispatch.specs.Kept.{IsSound, kept_in};
+    ghost use Rattle.touch_dispatch.specs.Kept.{IsSoundGesture, kept_in};
 
     ghost view = { kept_in };
 
-    ghost invariant = { IsSound };
+    ghost invariant = { IsSoundGesture };
 }
 
 impl Gesture {
@@ -49,7 +49,8 @@ impl Gesture {
 
     /// Keeps a place for a view.
     pub fn open(&mut self, view: u64) -> Result<(), AllocError>
-        ensures opened { OnOk result ((other : ℕ) → is_open self.new other ≡ (is_open self.old other || other == view)) }
+        ensures opened { OnOk result ((other : ℕ)
+            → is_open self.new other ≡ (is_open self.old other || other == view)) }
         ensures gesture { gesture_of self.new ≡ gesture_of self.old }
         ensures added { OnOk result (is_open self.old view ≡ false → self.new ≡ with_place view self.old) }
         ensures unknown { (other : ℕ) → is_open self.old other ≡ false → IsUnknown self.old other }
@@ -67,7 +68,11 @@ impl Gesture {
     pub fn close(&mut self, view: u64)
         ensures opened { (other : ℕ) → is_open self.new other ≡ (is_open self.old other && not (other == view)) }
         ensures gesture { gesture_of self.new ≡ closed view (gesture_of self.old) }
-        ensures last { (before : Kept) → self.old ≡ with_place view before → IsUnknown before view → ((group : ℕ) → is_target view ((gesture_of before).targets group) ≡ false) → self.new ≡ before }
+        ensures last { (before : Kept)
+            → self.old ≡ with_place view before
+            → IsUnknown before view
+            → ((group : ℕ) → is_target view ((gesture_of before).targets group) ≡ false)
+            → self.new ≡ before }
     {
         self.targets.close(view);
         forget_marks(&mut self.marks, view);
@@ -150,15 +155,22 @@ impl Gesture {
 
     /// The next older target of the group that has captured a view.
     pub(crate) fn next(&self, child: u64) -> Option<u64>
-        ensures part { (group : ℕ) → is_target child ((gesture_of self.now).targets group) ≡ true → targets_from result ((gesture_of self.now).targets group) ≡ older (from_child child ((gesture_of self.now).targets group)) }
-        ensures child { (group : ℕ) → is_target child ((gesture_of self.now).targets group) ≡ true → result ≡ first_child (older (from_child child ((gesture_of self.now).targets group))) }
+        ensures part { (group : ℕ)
+            → is_target child ((gesture_of self.now).targets group) ≡ true
+            → targets_from result ((gesture_of self.now).targets group)
+            ≡ older (from_child child ((gesture_of self.now).targets group)) }
+        ensures child { (group : ℕ)
+            → is_target child ((gesture_of self.now).targets group) ≡ true
+            → result ≡ first_child (older (from_child child ((gesture_of self.now).targets group))) }
     {
         self.targets.next(child)
     }
 
     /// The pointers by which a view was captured, where bit `k` represents the id `k`.
     pub(crate) fn ids(&self, child: u64) -> u32
-        ensures { (group : ℕ) → is_target child ((gesture_of self.now).targets group) ≡ true → has_id result ≡ first_ids (from_child child ((gesture_of self.now).targets group)) }
+        ensures { (group : ℕ)
+            → is_target child ((gesture_of self.now).targets group) ≡ true
+            → has_id result ≡ first_ids (from_child child ((gesture_of self.now).targets group)) }
     {
         self.targets.ids(child)
     }
@@ -168,7 +180,8 @@ impl Gesture {
         requires ids { ids ≢ 0 }
         requires may { MayCapture self.old group child }
         ensures opened { (view : ℕ) → is_open self.new view ≡ is_open self.old view }
-        ensures gesture { gesture_of self.new ≡ set_targets group (put_target child (has_id ids) ((gesture_of self.old).targets group)) (gesture_of self.old) }
+        ensures gesture { gesture_of self.new ≡ set_targets group
+            (put_target child (has_id ids) ((gesture_of self.old).targets group)) (gesture_of self.old) }
     {
         self.targets.put(group, child, ids);
     }
@@ -176,7 +189,8 @@ impl Gesture {
     /// Takes a pointer away from all targets of a group, and removes the targets that have no other.
     pub(crate) fn drop_ids(&mut self, group: u64, ids: u32)
         ensures opened { (view : ℕ) → is_open self.new view ≡ is_open self.old view }
-        ensures gesture { gesture_of self.new ≡ set_targets group (drop_pointers (has_id ids) ((gesture_of self.old).targets group)) (gesture_of self.old) }
+        ensures gesture { gesture_of self.new ≡ set_targets group
+            (drop_pointers (has_id ids) ((gesture_of self.old).targets group)) (gesture_of self.old) }
     {
         self.targets.drop_ids(group, ids);
     }
@@ -236,7 +250,8 @@ fn searched_marks(marks: &IndexMap<u64, Marks>, view: u64) -> Marks
 /// Changes the marks of a view that has some.
 fn write_marks(marks: &mut IndexMap<u64, Marks>, view: u64, new: Marks)
     requires { is_some (get_key nat_eq marks.old view) ≡ true }
-    ensures { (other : ℕ) → get_key nat_eq marks.new other ≡ (if nat_eq view other then Some new else get_key nat_eq marks.old other) }
+    ensures { (other : ℕ)
+        → get_key nat_eq marks.new other ≡ (if nat_eq view other then Some new else get_key nat_eq marks.old other) }
 {
     match marks.get_mut(&view) {
         None => unreachable!(),
@@ -249,7 +264,8 @@ fn write_marks(marks: &mut IndexMap<u64, Marks>, view: u64, new: Marks)
 /// Forgets the marks of a view.
 fn forget_marks(marks: &mut IndexMap<u64, Marks>, view: u64)
     ensures entries { marks.new.entries ≡ swap_remove_entry (nat_eq view) marks.old.entries }
-    ensures forgot { (other : ℕ) → get_key nat_eq marks.new other ≡ (if nat_eq view other then None else get_key nat_eq marks.old other) }
+    ensures forgot { (other : ℕ)
+        → get_key nat_eq marks.new other ≡ (if nat_eq view other then None else get_key nat_eq marks.old other) }
 {
     marks.swap_remove(&view);
 }
@@ -258,7 +274,8 @@ fn forget_marks(marks: &mut IndexMap<u64, Marks>, view: u64)
 fn note_marks(marks: &mut IndexMap<u64, Marks>, view: u64, new: Marks)
     requires { 0 < spare marks.old }
     ensures entries { marks.new.entries ≡ insert_entry nat_eq marks.old.entries view new }
-    ensures noted { (other : ℕ) → get_key nat_eq marks.new other ≡ (if nat_eq view other then Some new else get_key nat_eq marks.old other) }
+    ensures noted { (other : ℕ)
+        → get_key nat_eq marks.new other ≡ (if nat_eq view other then Some new else get_key nat_eq marks.old other) }
 {
     match marks.insert(view, new) {
         Ok(_) => (),

@@ -11,7 +11,7 @@ ghost use Rattle.touch_targets.specs.Captures.{drop_pointers, is_target};
 use crate::gesture::Gesture;
 use crate::points::{id_bit, is_down};
 use crate::taker::Taker;
-use touch_event::{Action, Event, MAX_POINTERS};
+use touch_event::{Action, Event};
 
 /// Whether a child is a target of a group.
 pub fn is_target(gesture: &Gesture, group: u64, child: u64) -> bool
@@ -43,7 +43,9 @@ fn oldest(gesture: &Gesture, group: u64) -> Option<u64>
 /// The first pointer begins a gesture.
 pub fn begin(gesture: &mut Gesture, group: u64, action: Action)
     requires { is_open gesture.old group ≡ true }
-    ensures begun { (offsets : ℕ → ℤ) (entries : List Entry) → progress_by offsets (gesture_of gesture.new) entries ≡ begun group action (progress_by offsets (gesture_of gesture.old) entries) }
+    ensures begun { (offsets : ℕ → ℤ) (entries : List Entry)
+        → progress_by offsets (gesture_of gesture.new) entries
+        ≡ begun group action (progress_by offsets (gesture_of gesture.old) entries) }
     ensures opened { (view : ℕ) → is_open gesture.new view ≡ is_open gesture.old view }
 {
     if is_down(action) {
@@ -55,8 +57,13 @@ pub fn begin(gesture: &mut Gesture, group: u64, action: Action)
 /// The oldest target gets the pointer that no child took.
 pub fn settle(gesture: &mut Gesture, group: u64, event: &Event, taker: Taker)
     requires pointer { event.now.pointer < MAX_POINTERS }
-    requires may { (child : ℕ) → is_target child ((gesture_of gesture.old).targets group) ≡ true → MayCapture gesture.old group child }
-    ensures settled { (offsets : ℕ → ℤ) (entries : List Entry) → settled group event.now (record { taker = taker; progress = progress_by offsets (gesture_of gesture.old) entries }) ≡ record { taker = taker; progress = progress_by offsets (gesture_of gesture.new) entries } }
+    requires may { (child : ℕ)
+        → is_target child ((gesture_of gesture.old).targets group) ≡ true
+        → MayCapture gesture.old group child }
+    ensures settled { (offsets : ℕ → ℤ) (entries : List Entry)
+        → settled group event.now
+        (record { taker = taker; progress = progress_by offsets (gesture_of gesture.old) entries })
+        ≡ record { taker = taker; progress = progress_by offsets (gesture_of gesture.new) entries } }
     ensures opened { (view : ℕ) → is_open gesture.new view ≡ is_open gesture.old view }
 {
     match taker {
@@ -67,8 +74,11 @@ pub fn settle(gesture: &mut Gesture, group: u64, event: &Event, taker: Taker)
 
 fn give_to_oldest(gesture: &mut Gesture, group: u64, pointer: u8)
     requires pointer { pointer < MAX_POINTERS }
-    requires may { (child : ℕ) → is_target child ((gesture_of gesture.old).targets group) ≡ true → MayCapture gesture.old group child }
-    ensures given { gesture_of gesture.new ≡ given (oldest ((gesture_of gesture.old).targets group)) group pointer (gesture_of gesture.old) }
+    requires may { (child : ℕ)
+        → is_target child ((gesture_of gesture.old).targets group) ≡ true
+        → MayCapture gesture.old group child }
+    ensures given { gesture_of gesture.new
+        ≡ given (oldest ((gesture_of gesture.old).targets group)) group pointer (gesture_of gesture.old) }
     ensures opened { (view : ℕ) → is_open gesture.new view ≡ is_open gesture.old view }
 {
     if let Some(child) = oldest(gesture, group) {
@@ -80,7 +90,9 @@ fn give_to_oldest(gesture: &mut Gesture, group: u64, pointer: u8)
 pub fn end(gesture: &mut Gesture, group: u64, split: bool, event: &Event, intercepted: bool)
     requires pointer { event.now.pointer < MAX_POINTERS }
     requires open { is_open gesture.old group ≡ true }
-    ensures ended { (offsets : ℕ → ℤ) (entries : List Entry) → progress_by offsets (gesture_of gesture.new) entries ≡ ended group split event.now intercepted (progress_by offsets (gesture_of gesture.old) entries) }
+    ensures ended { (offsets : ℕ → ℤ) (entries : List Entry)
+        → progress_by offsets (gesture_of gesture.new) entries
+        ≡ ended group split event.now intercepted (progress_by offsets (gesture_of gesture.old) entries) }
     ensures opened { (view : ℕ) → is_open gesture.new view ≡ is_open gesture.old view }
 {
     clear_intercepted(gesture, group, intercepted);
@@ -95,7 +107,8 @@ pub fn end(gesture: &mut Gesture, group: u64, split: bool, event: &Event, interc
 }
 
 fn clear_intercepted(gesture: &mut Gesture, group: u64, intercepted: bool)
-    ensures cleared { gesture_of gesture.new ≡ (if intercepted then set_targets group [] (gesture_of gesture.old) else gesture_of gesture.old) }
+    ensures cleared { gesture_of gesture.new
+        ≡ (if intercepted then set_targets group [] (gesture_of gesture.old) else gesture_of gesture.old) }
     ensures opened { (view : ℕ) → is_open gesture.new view ≡ is_open gesture.old view }
 {
     if intercepted {
@@ -106,7 +119,8 @@ fn clear_intercepted(gesture: &mut Gesture, group: u64, intercepted: bool)
 /// A pointer leaves the targets of a group that splits events.
 fn lift(gesture: &mut Gesture, group: u64, split: bool, pointer: u8)
     requires { pointer < MAX_POINTERS }
-    ensures lifted { gesture_of gesture.new ≡ (if split then set_targets group (drop_pointers (only pointer) ((gesture_of gesture.old).targets group)) (gesture_of gesture.old) else gesture_of gesture.old) }
+    ensures lifted { gesture_of gesture.new ≡ (if split then set_targets group (drop_pointers (only pointer)
+        ((gesture_of gesture.old).targets group)) (gesture_of gesture.old) else gesture_of gesture.old) }
     ensures opened { (view : ℕ) → is_open gesture.new view ≡ is_open gesture.old view }
 {
     if split {

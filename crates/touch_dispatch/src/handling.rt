@@ -1,6 +1,6 @@
 //! What a view does with an event itself, and what a group is asked about one.
 ghost use Rattle.std.specs.Prelude.{◌≡◌, ◌<◌, ◌≤◌, ◌+◌, ◌&&◌, ◌||◌, ◌++◌, ◌∷◌, [], ℕ, ℤ, pos, length, not, true};
-ghost use Rattle.touch_dispatch.specs.Handling.{answered_ask, asked, click_handled, clicks, drag_answer, handled_by, intercepts, is_down, is_nil, looked, many, pressed_after};
+ghost use Rattle.touch_dispatch.specs.Handling.{asked, click_handled, clicks, drag_answer, handled_by, intercepts, is_down, is_nil, looked, many, pressed_after};
 ghost use Rattle.touch_dispatch.specs.Kept.{gesture_of, is_open};
 ghost use Rattle.touch_dispatch.specs.TreeEvents.{progress_by, room_of};
 
@@ -15,7 +15,8 @@ use view_model::Answer;
 /// One entry more.
 pub fn note(log: &mut Log, view: u64, kind: Kind, event: &Event, yes: bool)
     requires { length log.old.entries.items < room_of log.old }
-    ensures noted { log.new.entries.items ≡ log.old.entries.items ++ record { view = view; kind = kind; event = event.now; yes = yes; offset = pos 0 } ∷ [] }
+    ensures noted { log.new.entries.items ≡ log.old.entries.items
+        ++ record { view = view; kind = kind; event = event.now; yes = yes; offset = pos 0 } ∷ [] }
     ensures room { room_of log.new ≡ room_of log.old }
 {
     log.note(Entry {
@@ -31,8 +32,12 @@ pub fn note(log: &mut Log, view: u64, kind: Kind, event: &Event, yes: bool)
 /// Whether a group takes an event away from its children.
 pub fn ask(gesture: &mut Gesture, log: &mut Log, own: &Receiver, event: &Event) -> bool
     requires open { is_open gesture.old own.now.number ≡ true }
-    requires fits { (offsets : ℕ → ℤ) → many (asked own.now event.now (progress_by offsets (gesture_of gesture.old) log.old.entries.items)).progress ≤ room_of log.old }
-    ensures asked { (offsets : ℕ → ℤ) → asked own.now event.now (progress_by offsets (gesture_of gesture.old) log.old.entries.items) ≡ record { yes = result; progress = progress_by offsets (gesture_of gesture.new) log.new.entries.items } }
+    requires fits { (offsets : ℕ → ℤ)
+        → many (asked own.now event.now (progress_by offsets (gesture_of gesture.old) log.old.entries.items)).progress
+        ≤ room_of log.old }
+    ensures asked { (offsets : ℕ → ℤ)
+        → asked own.now event.now (progress_by offsets (gesture_of gesture.old) log.old.entries.items)
+        ≡ record { yes = result; progress = progress_by offsets (gesture_of gesture.new) log.new.entries.items } }
     ensures opened { (view : ℕ) → is_open gesture.new view ≡ is_open gesture.old view }
     ensures room { room_of log.new ≡ room_of log.old }
 {
@@ -76,8 +81,13 @@ fn intercepts(gesture: &Gesture, own: &Receiver, event: &Event) -> bool
 /// A view handles an event itself, by its plan.
 pub fn handle(gesture: &mut Gesture, log: &mut Log, own: &Receiver, event: &Event) -> bool
     requires open { is_open gesture.old own.now.number ≡ true }
-    requires fits { (offsets : ℕ → ℤ) → many (handled_by own.now.answer own.now event.now (progress_by offsets (gesture_of gesture.old) log.old.entries.items)).progress ≤ room_of log.old }
-    ensures handled { (offsets : ℕ → ℤ) → handled_by own.now.answer own.now event.now (progress_by offsets (gesture_of gesture.old) log.old.entries.items) ≡ record { yes = result; progress = progress_by offsets (gesture_of gesture.new) log.new.entries.items } }
+    requires fits { (offsets : ℕ → ℤ)
+        → many (handled_by own.now.answer own.now event.now
+        (progress_by offsets (gesture_of gesture.old) log.old.entries.items)).progress ≤ room_of log.old }
+    ensures handled { (offsets : ℕ → ℤ)
+        → handled_by own.now.answer own.now event.now
+        (progress_by offsets (gesture_of gesture.old) log.old.entries.items)
+        ≡ record { yes = result; progress = progress_by offsets (gesture_of gesture.new) log.new.entries.items } }
     ensures opened { (view : ℕ) → is_open gesture.new view ≡ is_open gesture.old view }
     ensures room { room_of log.new ≡ room_of log.old }
 {
@@ -100,8 +110,12 @@ pub fn handle(gesture: &mut Gesture, log: &mut Log, own: &Receiver, event: &Even
 
 fn click(gesture: &mut Gesture, log: &mut Log, own: &Receiver, event: &Event)
     requires open { is_open gesture.old own.now.number ≡ true }
-    requires fits { (offsets : ℕ → ℤ) → many (click_handled own.now event.now (progress_by offsets (gesture_of gesture.old) log.old.entries.items)) ≤ room_of log.old }
-    ensures clicked { (offsets : ℕ → ℤ) → progress_by offsets (gesture_of gesture.new) log.new.entries.items ≡ click_handled own.now event.now (progress_by offsets (gesture_of gesture.old) log.old.entries.items) }
+    requires fits { (offsets : ℕ → ℤ)
+        → many (click_handled own.now event.now (progress_by offsets (gesture_of gesture.old) log.old.entries.items))
+        ≤ room_of log.old }
+    ensures clicked { (offsets : ℕ → ℤ)
+        → progress_by offsets (gesture_of gesture.new) log.new.entries.items
+        ≡ click_handled own.now event.now (progress_by offsets (gesture_of gesture.old) log.old.entries.items) }
     ensures opened { (view : ℕ) → is_open gesture.new view ≡ is_open gesture.old view }
     ensures room { room_of log.new ≡ room_of log.old }
 {

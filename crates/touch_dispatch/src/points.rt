@@ -238,7 +238,8 @@ pub fn tried_ids(is_split: bool, event: &Event) -> u32
 
 /// Makes a part of an event that of a target with these bounds. Returns whether the target gets one.
 pub fn put_part(part: &mut Event, own: &Facts, rect: Option<Rect>, event: &Event, ids: u32) -> bool
-    ensures value { (if result then Some part.new else None) ≡ part_for rect own.now.offset event.now false (has_id ids) }
+    ensures value { (if result then Some part.new else None)
+        ≡ part_for rect own.now.offset event.now false (has_id ids) }
     ensures pointer { part.new.pointer ≡ event.now.pointer }
 {
     if is_cancel(event.action) {
@@ -251,7 +252,8 @@ pub fn put_part(part: &mut Event, own: &Facts, rect: Option<Rect>, event: &Event
 /// Makes a part of an event that of these pointers, in the coordinates of a child with these bounds. Returns whether it
 /// has one of them.
 fn put_split(part: &mut Event, own: &Facts, rect: Option<Rect>, event: &Event, ids: u32) -> bool
-    ensures value { (if result then Some part.new else None) ≡ option_map (local_event rect own.now.offset) (split_event (has_id ids) event.now) }
+    ensures value { (if result then Some part.new else None)
+        ≡ option_map (local_event rect own.now.offset) (split_event (has_id ids) event.now) }
     ensures pointer { part.new.pointer ≡ event.now.pointer }
 {
     put_points(&mut part.points, own, rect, event, ids);
@@ -270,7 +272,8 @@ fn put_points(
     event: &Event,
     ids: u32,
 )
-    ensures { points.new.items ≡ map (local_point rect own.now.offset) (kept_points (has_id ids) event.now.points.items) }
+    ensures { points.new.items ≡ map (local_point rect own.now.offset)
+        (kept_points (has_id ids) event.now.points.items) }
 {
     points.clear();
     for point in event.points.as_slice() {

@@ -30,8 +30,12 @@ pub fn reach(
     event: &Event,
 ) -> bool
     requires may { MayReach tree.old gesture.old view event.now }
-    requires fits { many (reach (scene_of tree.old limits.now.slop) (views_of (first_tree (part_from view tree.old.tree))) event.now (progress_of tree.old gesture.old log.old)).progress ≤ room_of log.old }
-    ensures reached { reach (scene_of tree.old limits.now.slop) (views_of (first_tree (part_from view tree.old.tree))) event.now (progress_of tree.old gesture.old log.old) ≡ record { yes = result; progress = progress_of tree.new gesture.new log.new } }
+    requires fits { many
+        (reach (scene_of tree.old limits.now.slop) (views_of (first_tree (part_from view tree.old.tree))) event.now
+        (progress_of tree.old gesture.old log.old)).progress ≤ room_of log.old }
+    ensures reached { reach (scene_of tree.old limits.now.slop)
+        (views_of (first_tree (part_from view tree.old.tree))) event.now (progress_of tree.old gesture.old log.old)
+        ≡ record { yes = result; progress = progress_of tree.new gesture.new log.new } }
     ensures kept { KeepsScene tree.old tree.new gesture.old gesture.new log.old log.new }
 {
     if tree.class(view).is_group() {
@@ -52,8 +56,10 @@ fn handle_at(
 ) -> bool
     requires live { IsLive tree.old view }
     requires caught { IsGestureIn tree.old.tree gesture.old }
-    requires fits { many (handled_at tree.old limits.now.slop view event.now (progress_of tree.old gesture.old log.old)).progress ≤ room_of log.old }
-    ensures reached { handled_at tree.old limits.now.slop view event.now (progress_of tree.old gesture.old log.old) ≡ record { yes = result; progress = progress_of tree.new gesture.new log.new } }
+    requires fits { many (handled_at tree.old limits.now.slop view event.now
+        (progress_of tree.old gesture.old log.old)).progress ≤ room_of log.old }
+    ensures reached { handled_at tree.old limits.now.slop view event.now (progress_of tree.old gesture.old log.old)
+        ≡ record { yes = result; progress = progress_of tree.new gesture.new log.new } }
     ensures kept { KeepsScene tree.old tree.new gesture.old gesture.new log.old log.new }
 {
     let own = receiver_at(tree, limits, view);
@@ -76,8 +82,12 @@ fn reach_group(
     event: &Event,
 ) -> bool
     requires may { MayReach tree.old gesture.old view event.now }
-    requires fits { many (group_reached (scene_of tree.old limits.now.slop) (own_of tree.old view) (kids_of tree.old limits.now.slop view) event.now (progress_of tree.old gesture.old log.old)).progress ≤ room_of log.old }
-    ensures reached { group_reached (scene_of tree.old limits.now.slop) (own_of tree.old view) (kids_of tree.old limits.now.slop view) event.now (progress_of tree.old gesture.old log.old) ≡ record { yes = result; progress = progress_of tree.new gesture.new log.new } }
+    requires fits { many (group_reached (scene_of tree.old limits.now.slop) (own_of tree.old view)
+        (kids_of tree.old limits.now.slop view) event.now (progress_of tree.old gesture.old log.old)).progress
+        ≤ room_of log.old }
+    ensures reached { group_reached (scene_of tree.old limits.now.slop) (own_of tree.old view)
+        (kids_of tree.old limits.now.slop view) event.now (progress_of tree.old gesture.old log.old)
+        ≡ record { yes = result; progress = progress_of tree.new gesture.new log.new } }
     ensures kept { KeepsScene tree.old tree.new gesture.old gesture.new log.old log.new }
 {
     let own = receiver_at(tree, limits, view);
@@ -102,8 +112,12 @@ fn offer(
     intercepted: bool,
 ) -> Taker
     requires may { MayReach tree.old gesture.old view event.now }
-    requires fits { many (offered (scene_of tree.old limits.now.slop) (own_of tree.old view) (kids_of tree.old limits.now.slop view) event.now intercepted (progress_of tree.old gesture.old log.old)).progress ≤ room_of log.old }
-    ensures offered { offered (scene_of tree.old limits.now.slop) (own_of tree.old view) (kids_of tree.old limits.now.slop view) event.now intercepted (progress_of tree.old gesture.old log.old) ≡ record { taker = result; progress = progress_of tree.new gesture.new log.new } }
+    requires fits { many
+        (offered (scene_of tree.old limits.now.slop) (own_of tree.old view) (kids_of tree.old limits.now.slop view)
+        event.now intercepted (progress_of tree.old gesture.old log.old)).progress ≤ room_of log.old }
+    ensures offered { offered (scene_of tree.old limits.now.slop) (own_of tree.old view)
+        (kids_of tree.old limits.now.slop view) event.now intercepted (progress_of tree.old gesture.old log.old)
+        ≡ record { taker = result; progress = progress_of tree.new gesture.new log.new } }
     ensures kept { KeepsScene tree.old tree.new gesture.old gesture.new log.old log.new }
 {
     if intercepted || !is_offered(event.action, tree.facts(view).split) {
@@ -125,8 +139,11 @@ fn try_children(
     event: &Event,
 ) -> Taker
     requires may { MayReach tree.old gesture.old view event.now }
-    requires fits { many (try_children (scene_of tree.old limits.now.slop) (own_of tree.old view) event.now (kids_of tree.old limits.now.slop view) (progress_of tree.old gesture.old log.old)).progress ≤ room_of log.old }
-    ensures tried { try_children (scene_of tree.old limits.now.slop) (own_of tree.old view) event.now (kids_of tree.old limits.now.slop view) (progress_of tree.old gesture.old log.old) ≡ record { taker = result; progress = progress_of tree.new gesture.new log.new } }
+    requires fits { many (try_children (scene_of tree.old limits.now.slop) (own_of tree.old view) event.now
+        (kids_of tree.old limits.now.slop view) (progress_of tree.old gesture.old log.old)).progress ≤ room_of log.old }
+    ensures tried { try_children (scene_of tree.old limits.now.slop) (own_of tree.old view) event.now
+        (kids_of tree.old limits.now.slop view) (progress_of tree.old gesture.old log.old)
+        ≡ record { taker = result; progress = progress_of tree.new gesture.new log.new } }
     ensures kept { KeepsScene tree.old tree.new gesture.old gesture.new log.old log.new }
 {
     let mut next = tree.last(view);
@@ -154,8 +171,11 @@ fn try_child(
 ) -> Taker
     requires may { MayReach tree.old gesture.old view event.now }
     requires kid { IsKidAt tree.old view kid }
-    requires fits { many (try_child (scene_of tree.old limits.now.slop) (own_of tree.old view) event.now (child_at tree.old limits.now.slop kid) (progress_of tree.old gesture.old log.old)).progress ≤ room_of log.old }
-    ensures tried { try_child (scene_of tree.old limits.now.slop) (own_of tree.old view) event.now (child_at tree.old limits.now.slop kid) (progress_of tree.old gesture.old log.old) ≡ record { taker = result; progress = progress_of tree.new gesture.new log.new } }
+    requires fits { many (try_child (scene_of tree.old limits.now.slop) (own_of tree.old view) event.now
+        (child_at tree.old limits.now.slop kid) (progress_of tree.old gesture.old log.old)).progress ≤ room_of log.old }
+    ensures tried { try_child (scene_of tree.old limits.now.slop) (own_of tree.old view) event.now
+        (child_at tree.old limits.now.slop kid) (progress_of tree.old gesture.old log.old)
+        ≡ record { taker = result; progress = progress_of tree.new gesture.new log.new } }
     ensures kept { KeepsScene tree.old tree.new gesture.old gesture.new log.old log.new }
 {
     let own = tree.facts(view);
@@ -191,8 +211,12 @@ fn answer(
     taker: Taker,
 ) -> bool
     requires may { MayReach tree.old gesture.old view event.now }
-    requires fits { many (answered (scene_of tree.old limits.now.slop) (own_of tree.old view) (kids_of tree.old limits.now.slop view) event.now intercepted taker (progress_of tree.old gesture.old log.old)).progress ≤ room_of log.old }
-    ensures answered { answered (scene_of tree.old limits.now.slop) (own_of tree.old view) (kids_of tree.old limits.now.slop view) event.now intercepted taker (progress_of tree.old gesture.old log.old) ≡ record { yes = result; progress = progress_of tree.new gesture.new log.new } }
+    requires fits { many
+        (answered (scene_of tree.old limits.now.slop) (own_of tree.old view) (kids_of tree.old limits.now.slop view)
+        event.now intercepted taker (progress_of tree.old gesture.old log.old)).progress ≤ room_of log.old }
+    ensures answered { answered (scene_of tree.old limits.now.slop) (own_of tree.old view)
+        (kids_of tree.old limits.now.slop view) event.now intercepted taker (progress_of tree.old gesture.old log.old)
+        ≡ record { yes = result; progress = progress_of tree.new gesture.new log.new } }
     ensures kept { KeepsScene tree.old tree.new gesture.old gesture.new log.old log.new }
 {
     if gesture.newest(tree.number(view)).is_none() {
@@ -214,8 +238,14 @@ fn hand_out(
     taker: Taker,
 ) -> bool
     requires may { MayReach tree.old gesture.old view event.now }
-    requires fits { many (hand_out (scene_of tree.old limits.now.slop) (own_of tree.old view) (kids_of tree.old limits.now.slop view) event.now intercepted taker ((gesture_of gesture.old).targets (own_of tree.old view).number) false (progress_of tree.old gesture.old log.old)).progress ≤ room_of log.old }
-    ensures handed { hand_out (scene_of tree.old limits.now.slop) (own_of tree.old view) (kids_of tree.old limits.now.slop view) event.now intercepted taker ((gesture_of gesture.old).targets (own_of tree.old view).number) false (progress_of tree.old gesture.old log.old) ≡ record { yes = result; progress = progress_of tree.new gesture.new log.new } }
+    requires fits { many (hand_out (scene_of tree.old limits.now.slop) (own_of tree.old view)
+        (kids_of tree.old limits.now.slop view) event.now intercepted taker ((gesture_of gesture.old).targets
+        (own_of tree.old view).number) false (progress_of tree.old gesture.old log.old)).progress ≤ room_of log.old }
+    ensures handed { hand_out (scene_of tree.old limits.now.slop) (own_of tree.old view)
+        (kids_of tree.old limits.now.slop view) event.now intercepted taker
+        ((gesture_of gesture.old).targets (own_of tree.old view).number) false
+        (progress_of tree.old gesture.old log.old)
+        ≡ record { yes = result; progress = progress_of tree.new gesture.new log.new } }
     ensures kept { KeepsScene tree.old tree.new gesture.old gesture.new log.old log.new }
 {
     let group = tree.number(view);
@@ -255,8 +285,14 @@ fn hand_to(
 ) -> bool
     requires may { MayReach tree.old gesture.old view event.now }
     requires target { is_target child ((gesture_of gesture.old).targets (own_of tree.old view).number) ≡ true }
-    requires fits { many (hand_to (scene_of tree.old limits.now.slop) (own_of tree.old view) (kids_of tree.old limits.now.slop view) event.now intercepted taker (target_of child ((gesture_of gesture.old).targets (own_of tree.old view).number)) (progress_of tree.old gesture.old log.old)).progress ≤ room_of log.old }
-    ensures handed { hand_to (scene_of tree.old limits.now.slop) (own_of tree.old view) (kids_of tree.old limits.now.slop view) event.now intercepted taker (target_of child ((gesture_of gesture.old).targets (own_of tree.old view).number)) (progress_of tree.old gesture.old log.old) ≡ record { yes = result; progress = progress_of tree.new gesture.new log.new } }
+    requires fits { many
+        (hand_to (scene_of tree.old limits.now.slop) (own_of tree.old view) (kids_of tree.old limits.now.slop view)
+        event.now intercepted taker (target_of child ((gesture_of gesture.old).targets (own_of tree.old view).number))
+        (progress_of tree.old gesture.old log.old)).progress ≤ room_of log.old }
+    ensures handed { hand_to (scene_of tree.old limits.now.slop)
+        (own_of tree.old view) (kids_of tree.old limits.now.slop view) event.now intercepted taker (target_of child
+        ((gesture_of gesture.old).targets (own_of tree.old view).number)) (progress_of tree.old gesture.old log.old)
+        ≡ record { yes = result; progress = progress_of tree.new gesture.new log.new } }
     ensures kept { KeepsScene tree.old tree.new gesture.old gesture.new log.old log.new }
 {
     if is_handed(taker, child) {

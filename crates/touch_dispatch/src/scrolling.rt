@@ -1,5 +1,5 @@
 //! How a scroll view moves its child at an event.
-ghost use Rattle.std.specs.Prelude.{◌≡◌, ◌≤◌, ◌≤ℤ◌, ℕ, ℤ, pos, true, IfSome};
+ghost use Rattle.std.specs.Prelude.{◌≡◌, ◌≤◌, ℕ, ℤ, true, IfSome};
 ghost use Rattle.geom_core.specs.Limits.{IsSide};
 ghost use Rattle.kept_views.specs.Kept.{first_place};
 ghost use Rattle.touch_dispatch.specs.Dispatch.{first_rect, range_for, receiver};
@@ -28,7 +28,8 @@ use view_tree::{Key, ViewTree};
 /// A view as it handles an event itself.
 pub fn receiver_at(tree: &ViewTree, limits: &Limits, view: Key) -> Receiver
     requires { IsLive tree.now view }
-    ensures value { result ≡ receiver (scene_of tree.now limits.now.slop) (own_of tree.now view) (kids_of tree.now limits.now.slop view) }
+    ensures value { result ≡ receiver (scene_of tree.now limits.now.slop) (own_of tree.now view)
+        (kids_of tree.now limits.now.slop view) }
     ensures range { IsSide result.range }
     ensures own { result.range ≡ own_range tree.now view }
     ensures is_tree { IsTree tree.now }
@@ -85,8 +86,10 @@ pub fn handle_drag(
     requires own { own.now.range ≡ own_range tree.old view }
     requires open { is_open gesture.old own.now.number ≡ true }
     requires range { IsSide own.now.range }
-    requires fits { many (drag_handled own.now event.now (progress_of tree.old gesture.old log.old)).progress ≤ room_of log.old }
-    ensures handled { drag_handled own.now event.now (progress_of tree.old gesture.old log.old) ≡ record { yes = result; progress = progress_of tree.new gesture.new log.new } }
+    requires fits { many (drag_handled own.now event.now (progress_of tree.old gesture.old log.old)).progress
+        ≤ room_of log.old }
+    ensures handled { drag_handled own.now event.now (progress_of tree.old gesture.old log.old)
+        ≡ record { yes = result; progress = progress_of tree.new gesture.new log.new } }
     ensures scrolls { OnlyScrolls tree.old tree.new }
     ensures opened { (view : ℕ) → is_open gesture.new view ≡ is_open gesture.old view }
     ensures room { room_of log.new ≡ room_of log.old }
@@ -113,8 +116,12 @@ fn move_child(
     requires own { own.now.range ≡ own_range tree.old view }
     requires range { IsSide own.now.range }
     requires way { IfSome by IsWay }
-    requires fits { (g : PlainGesture) → many (moved_by by own.now event.now (progress_by (offsets_in tree.old) g log.old.entries.items)) ≤ room_of log.old }
-    ensures moved { (g : PlainGesture) → progress_by (offsets_in tree.new) g log.new.entries.items ≡ moved_by by own.now event.now (progress_by (offsets_in tree.old) g log.old.entries.items) }
+    requires fits { (g : PlainGesture)
+        → many (moved_by by own.now event.now (progress_by (offsets_in tree.old) g log.old.entries.items))
+        ≤ room_of log.old }
+    ensures moved { (g : PlainGesture)
+        → progress_by (offsets_in tree.new) g log.new.entries.items
+        ≡ moved_by by own.now event.now (progress_by (offsets_in tree.old) g log.old.entries.items) }
     ensures scrolls { OnlyScrolls tree.old tree.new }
     ensures room { room_of log.new ≡ room_of log.old }
 {

@@ -57,14 +57,14 @@ map_same f g (p ∷ ps) same =
     rw (first, map_same f g ps (λ q has. same q (has_later p q ps has))) refl
 
 -- a node that is linked in its group as another was
-pub record Stays (old : Node) (new : Option Node) : Type 0 where
+pub record StaysLinked (old : Node) (new : Option Node) : Type 0 where
   pub node : Node
   pub is : new ≡ Some node
   pub group : node.group ≡ old.group
   pub next : node.next ≡ old.next
 
 pub chain_stays : (at new : ℕ → Option Node) (g : ℕ) (start : Option ℕ) (ps : List ℕ)
-    → ((p : ℕ) (n : Node) → has_place p ps ≡ true → at p ≡ Some n → Stays n (new p)) → Chain at g start ps → Chain new g start ps
+    → ((p : ℕ) (n : Node) → has_place p ps ≡ true → at p ≡ Some n → StaysLinked n (new p)) → Chain at g start ps → Chain new g start ps
 chain_stays at new g start [] stays c = c
 chain_stays at new g start (p ∷ ps) stays c =
     let s = stays p c.2 (has_first p ps) c.3 in

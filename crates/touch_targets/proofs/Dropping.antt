@@ -10,13 +10,13 @@ use Rattle.touch_targets.specs.declared.node.Node.{Node}
 use Rattle.touch_targets.proofs.Chains.{first_of, from_start, has_apart, map_same, no_some, some_is, starts_at, there, true_not_false}
 use Rattle.touch_targets.proofs.Removing.{elsewhere}
 use Rattle.touch_targets.proofs.Unlinking.{has_behind, without_behind}
-use Rattle.touch_targets.proofs.Walks.{Here, Walk, chain_ahead, here, last_end, node_here, walk_start, whole_here}
+use Rattle.touch_targets.proofs.Walks.{Here, LinkWalk, chain_ahead, here, last_end, node_here, walk_start, whole_here}
 
 -- the pool as it was, and the pool once the walk has reached this place
 pub record Drops (old new : Slab Node) (group ids : ℕ) (previous at : Option ℕ) : Type 0 where
   pub linked : AreLinked new
   pub opened : IsSome (get new group)
-  pub walk : Walk new group previous at
+  pub walk : LinkWalk new group previous at
   pub dropped : map (λ p. caught_at (get new p)) walk.front ++ drop_caught ids (map (λ p. caught_at (get new p)) walk.back) ≡ drop_caught ids (caught_by old group)
   pub others : (x : ℕ) → x ≢ group → caught_by new x ≡ caught_by old x
   pub views : (x : ℕ) → view_of (get new x) ≡ view_of (get old x)

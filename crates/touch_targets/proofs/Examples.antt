@@ -1,7 +1,16 @@
 -- Worked captures, by computation.
-use Rattle.std.specs.Prelude.{◌≡◌, ℕ, Bool, true, false, List, [], ◌∷◌, Some, None, refl, map}
+use Rattle.std.specs.Prelude.{◌≡◌, ℕ, Bool, true, false, List, [], ◌∷◌, Some, None, refl, map, ◌==◌, ◌&&◌}
 use Rattle.touch_event.specs.PointerSets.{has_id}
-use Rattle.touch_targets.specs.Captures.{Target, drop_pointers, first_child, from_child, holds, older, order, put_target, without_child}
+use Rattle.touch_targets.specs.Captures.{Target, drop_pointers, first_child, from_child, older, put_target, without_child}
+use Rattle.std.specs.List.{list_any}
+
+-- the children in the order of their capture, the newest first
+abbrev order : List Target → List ℕ
+order targets = map (λ (t : Target). t.child) targets
+
+-- the child is captured by this pointer
+abbrev holds : ℕ → ℕ → List Target → Bool
+holds pointer child targets = list_any (λ (t : Target). t.child == child && t.ids pointer) targets
 
 -- a view of the targets of a group: each child with the first three of its pointers
 abbrev pointers : (ℕ → Bool) → List Bool

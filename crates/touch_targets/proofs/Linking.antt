@@ -5,7 +5,7 @@ use Rattle.std.proofs.lemmas.Bool.{cases_Bool, cases_eq, eq-eqb, ne_eqb}
 use Rattle.slab.specs.Slab.{Slab, get}
 use Rattle.touch_targets.specs.Nodes.{AreLinked, Chain, IsLinked, caught_at, caught_by, caught_in_place, changed, has_place, places_by, view_of}
 use Rattle.touch_targets.specs.declared.node.Node.{Node}
-use Rattle.touch_targets.proofs.Chains.{Stays, Was, are_linked, chain_stays, free_apart, has_apart, has_first, has_later, cases_Option, map_same, no_some, places_are, places_none, some_is, there, was}
+use Rattle.touch_targets.proofs.Chains.{StaysLinked, Was, are_linked, chain_stays, free_apart, has_apart, has_first, has_later, cases_Option, map_same, no_some, places_are, places_none, some_is, there, was}
 
 -- what a node holds then
 abbrev pub node_linked : ℕ → ℕ → Option ℕ → ℕ → ℕ → Node → Node
@@ -66,7 +66,7 @@ module _
   lacks : (x : ℕ) (n : Node) → at x ≡ Some n → has_place child (places x) ≡ false
   lacks x n h = free_apart at x n.newest (places x) child (linked.chained x n h) child_free
 
-  stays : (x p : ℕ) (n : Node) → x ≢ child → at x ≡ Some n → Stays n (new x)
+  stays : (x p : ℕ) (n : Node) → x ≢ child → at x ≡ Some n → StaysLinked n (new x)
   stays x p n apart h = record {
     node = node_linked group child g.newest ids x n;
     is = now x n h;

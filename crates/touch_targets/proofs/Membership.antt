@@ -6,7 +6,7 @@ use Rattle.std.proofs.lemmas.Bool.{cases_Bool, cases_eq, eq-eqb, ne_eqb}
 use Rattle.slab.specs.Slab.{Slab, get}
 use Rattle.touch_targets.specs.Captures.{Target, is_target, without_child}
 use Rattle.touch_targets.specs.Nodes.{AreLinked, caught_at, caught_by, fresh_node, view_at, view_of}
-use Rattle.touch_targets.specs.Pool.{IsSound, seat_at, seats_in}
+use Rattle.touch_targets.specs.Pool.{IsSoundPool, seat_at, seats_in}
 use Rattle.touch_targets.specs.Seats.{Caught, Seat, is_caught, is_open, target_of, targets_of}
 use Rattle.touch_targets.specs.declared.node.Node.{Node}
 use Rattle.touch_targets.specs.declared.targets.Targets.TheInside.{Inside}
@@ -25,7 +25,7 @@ module _ (a b : Inside) (nodes : b.nodes ≡ record a.nodes { capacity = b.nodes
   pub linked_room : AreLinked a.nodes → AreLinked b.nodes
   linked_room linked = subst AreLinked (sym nodes) linked
 
-  pub sound_room : IsSound a → IsSound b
+  pub sound_room : IsSoundPool a → IsSoundPool b
   sound_room sound = record {
     linked = linked_room sound.linked;
     named = λ view p h. ap view_of (node_same p) ∙ sound.named view p (sym (place_same view) ∙ h);
@@ -37,14 +37,14 @@ module _ (a b : Inside) (nodes : b.nodes ≡ record a.nodes { capacity = b.nodes
 
 -- the pool with one more view open
 pub record Grown (seats : List Seat) (view : ℕ) (b : Inside) : Type 0 where
-  pub sound : IsSound b
+  pub sound : IsSoundPool b
   pub opened : (other : ℕ) → is_open (seats_in b) other ≡ (is_open seats other || other == view)
   pub targets : (group : ℕ) → targets_of (seats_in b) group ≡ targets_of seats group
 
 -- a view that was not open has a node
 module _
     (a b : Inside) (seats : List Seat) (view place : ℕ)
-    (sound : IsSound a) (is : seats_in a ≡ seats)
+    (sound : IsSoundPool a) (is : seats_in a ≡ seats)
     (closed : place_in a view ≡ None)
     (unused : get a.nodes place ≡ None)
     (linked : AreLinked b.nodes)
@@ -63,7 +63,7 @@ module _
   own_node : get b.nodes place ≡ Some (fresh_node view)
   own_node = nodes place ∙ rw (eq-eqb place place refl) refl
 
-  sound_open : IsSound b
+  sound_open : IsSoundPool b
   sound_open = record {
     linked = linked;
     named = λ v p h.
@@ -131,7 +131,7 @@ no_targets (c ∷ caught) e = absurd (cc)
 pub nothing_caught : (a : Inside) (seats : List Seat) (view place : ℕ) → seats_in a ≡ seats → place_in a view ≡ Some place → targets_of seats view ≡ [] → caught_by a.nodes place ≡ []
 nothing_caught a seats view place is place_is none = no_targets (caught_by a.nodes place) (sym (at_group a seats is view place place_is) ∙ none)
 
-pub nowhere_caught : (a : Inside) (seats : List Seat) (view place : ℕ) → IsSound a → seats_in a ≡ seats → place_in a view ≡ Some place
+pub nowhere_caught : (a : Inside) (seats : List Seat) (view place : ℕ) → IsSoundPool a → seats_in a ≡ seats → place_in a view ≡ Some place
     → ((group : ℕ) → is_target view (targets_of seats group) ≡ false) → (x : ℕ) → is_caught (view_at a.nodes place) (caught_by a.nodes x) ≡ false
 nowhere_caught a seats view place sound is place_is none x =
     let n = node_of a sound view place place_is in
@@ -182,7 +182,7 @@ module _
       same None = refl
       same (Some p) = ap (map target_of) (caught p)
 
-  pub sound_closed : (place : ℕ) → IsSound a → place_in a view ≡ Some place → AreLinked b.nodes → ((x : ℕ) → get b.nodes x ≡ (if x == place then None else get a.nodes x)) → IsSound b
+  pub sound_closed : (place : ℕ) → IsSoundPool a → place_in a view ≡ Some place → AreLinked b.nodes → ((x : ℕ) → get b.nodes x ≡ (if x == place then None else get a.nodes x)) → IsSoundPool b
   sound_closed place sound place_is linked nodes = record {
     linked = linked;
     named = λ v p h.

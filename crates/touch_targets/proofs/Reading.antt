@@ -39,14 +39,14 @@ starts_none s g [] c = refl
 starts_none s g (q ∷ ps) c = no_some refl c.0
 
 -- the targets from one on
-pub record Found (s : Slab Node) (g : ℕ) (k : Node) (ps : List ℕ) : Type 0 where
+pub record FoundTarget (s : Slab Node) (g : ℕ) (k : Node) (ps : List ℕ) : Type 0 where
   pub rest : List ℕ
   pub chain : Chain (get s) g k.next rest
   pub within : (q : ℕ) → has_place q rest ≡ true → has_place q ps ≡ true
   pub from : from_child k.view (targets_at s ps) ≡ target_by k ∷ targets_at s rest
 
 module _ (s : Slab Node) (linked : AreLinked s) where
-  pub found : (g : ℕ) (start : Option ℕ) (p : ℕ) (k : Node) (ps : List ℕ) → Chain (get s) g start ps → get s p ≡ Some k → has_place p ps ≡ true → Found s g k ps
+  pub found : (g : ℕ) (start : Option ℕ) (p : ℕ) (k : Node) (ps : List ℕ) → Chain (get s) g start ps → get s p ≡ Some k → has_place p ps ≡ true → FoundTarget s g k ps
   found g start p k [] c is has = true_not_false has refl
   found g start p k (q ∷ ps) c is has =
       elim (cases_eq q p) [
@@ -70,7 +70,7 @@ module _ (s : Slab Node) (linked : AreLinked s) where
       ]
 
   -- the target after one
-  pub next_some : (g : ℕ) (start : Option ℕ) (q : ℕ) (k : Node) (ps : List ℕ) → Chain (get s) g start ps → (f : Found s g k ps) → k.next ≡ Some q → (m : Node) → get s q ≡ Some m
+  pub next_some : (g : ℕ) (start : Option ℕ) (q : ℕ) (k : Node) (ps : List ℕ) → Chain (get s) g start ps → (f : FoundTarget s g k ps) → k.next ≡ Some q → (m : Node) → get s q ≡ Some m
       → (Some m.view ≡ first_child (targets_at s f.rest)) × (targets_from (Some m.view) (targets_at s ps) ≡ targets_at s f.rest)
   next_some g start q k ps c f next m is =
       go f.rest (subst (λ o. Chain (get s) g o f.rest) next f.chain) f.within

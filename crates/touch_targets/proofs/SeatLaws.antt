@@ -7,13 +7,13 @@ use Rattle.slab.specs.Slab.{Slab, get}
 use Rattle.indexmap.specs.IndexMap.{get as get_key}
 use Rattle.touch_targets.specs.Captures.{Target, from_child, is_target, without_child}
 use Rattle.touch_targets.specs.Nodes.{AreLinked, Chain, caught_at, caught_by, has_place, places_by, view_of, without_caught}
-use Rattle.touch_targets.specs.Pool.{IsSound, seat_at, seats_in}
+use Rattle.touch_targets.specs.Pool.{IsSoundPool, seat_at, seats_in}
 use Rattle.touch_targets.specs.Seats.{Caught, Seat, caught_of, is_caught, is_open, target_of, targets_of}
 use Rattle.touch_targets.specs.declared.node.Node.{Node}
 use Rattle.touch_targets.specs.declared.targets.Targets.TheInside.{Inside}
 use Rattle.touch_targets.proofs.CaughtLaws.{AllFit, is_target_of, without_of}
 use Rattle.touch_targets.proofs.Chains.{There, cases_Option, has_first, has_later, no_some, some_is, there, true_not_false}
-use Rattle.touch_targets.proofs.Reading.{Found, found, target_by, targets_at}
+use Rattle.touch_targets.proofs.Reading.{FoundTarget, found, target_by, targets_at}
 use Rattle.touch_targets.proofs.Removing.{is_caught_by, nodes_by}
 
 -- what the group at a place has captured, if there is a place
@@ -52,12 +52,12 @@ module _ (a : Inside) (seats : List Seat) (is : seats_in a ≡ seats) where
   open_is view = ap (λ s. is_open s view) (sym is) ∙ open_seats a.nodes a.places.entries view
 
 -- the node of an open view
-pub record NodeOf (nodes : Slab Node) (place view : ℕ) : Type 0 where
+pub record OpenNode (nodes : Slab Node) (place view : ℕ) : Type 0 where
   pub node : Node
   pub is : get nodes place ≡ Some node
   pub view_is : node.view ≡ view
 
-pub node_of : (a : Inside) → IsSound a → (view place : ℕ) → place_in a view ≡ Some place → NodeOf a.nodes place view
+pub node_of : (a : Inside) → IsSoundPool a → (view place : ℕ) → place_in a view ≡ Some place → OpenNode a.nodes place view
 node_of a sound view place h =
     let named = sound.named view place h in
     elim (cases_Option (get a.nodes place)) [
@@ -66,7 +66,7 @@ node_of a sound view place h =
     ]
 
 -- two views have no place in common
-pub apart : (a : Inside) → IsSound a → (view other place : ℕ) → place_in a view ≡ Some place → place_in a other ≡ Some place → view ≡ other
+pub apart : (a : Inside) → IsSoundPool a → (view other place : ℕ) → place_in a view ≡ Some place → place_in a other ≡ Some place → view ≡ other
 apart a sound view other place h i = some_is (sym (sound.named view place h) ∙ sound.named other place i)
 
 fits_in : (s : Slab Node) → AreLinked s → (ps : List ℕ) → ((p : ℕ) → has_place p ps ≡ true → There (get s p)) → AllFit (map (λ p. caught_at (get s p)) ps)
@@ -81,7 +81,7 @@ fits_by s linked group = fits_in s linked (places_by s group) (nodes_by s linked
 -- a change of what one open group has captured
 module _
     (a b : Inside) (seats : List Seat) (group place : ℕ) (change : List Caught → List Caught) (set : List Target → List Target)
-    (sound : IsSound a) (is : seats_in a ≡ seats) (places : b.places ≡ a.places)
+    (sound : IsSoundPool a) (is : seats_in a ≡ seats) (places : b.places ≡ a.places)
     (place_is : place_in a group ≡ Some place)
     (caught : (x : ℕ) → caught_by b.nodes x ≡ (if x == place then change (caught_by a.nodes x) else caught_by a.nodes x))
     (means : map target_of (change (caught_by a.nodes place)) ≡ set (map target_of (caught_by a.nodes place))) where
@@ -123,7 +123,7 @@ same_open a b seats is places view =
     open_is b (seats_in b) refl view ∙ ap (λ m. is_some (get_key nat_eq m view)) places ∙ sym (open_is a seats is view)
 
 -- a view that is captured is open
-others_left : (a : Inside) → IsSound a → (child : ℕ) → place_in a child ≡ None → (ps : List ℕ) → ((p : ℕ) → has_place p ps ≡ true → There (get a.nodes p))
+others_left : (a : Inside) → IsSoundPool a → (child : ℕ) → place_in a child ≡ None → (ps : List ℕ) → ((p : ℕ) → has_place p ps ≡ true → There (get a.nodes p))
     → without_child child (map target_of (map (λ p. caught_at (get a.nodes p)) ps)) ≡ map target_of (map (λ p. caught_at (get a.nodes p)) ps)
 others_left a sound child none [] nodes = refl
 others_left a sound child none (p ∷ ps) nodes =
@@ -132,7 +132,7 @@ others_left a sound child none (p ∷ ps) nodes =
     rw (n.is, ne_eqb n.value.view child differs) (ap (λ l. target_of (record { child = n.value.view; ids = n.value.ids }) ∷ l)
     (others_left a sound child none ps (λ q has. nodes q (has_later p q ps has))))
 
-pub closed_nowhere : (a : Inside) (seats : List Seat) → IsSound a → seats_in a ≡ seats → (child : ℕ) → place_in a child ≡ None
+pub closed_nowhere : (a : Inside) (seats : List Seat) → IsSoundPool a → seats_in a ≡ seats → (child : ℕ) → place_in a child ≡ None
     → (group : ℕ) → targets_of seats group ≡ without_child child (targets_of seats group)
 closed_nowhere a seats sound is child none group =
     targets_are a seats is group ∙ sym (go (place_in a group)) ∙ ap (without_child child) (sym (targets_are a seats is group))
@@ -142,7 +142,7 @@ closed_nowhere a seats sound is child none group =
     go (Some place) = others_left a sound child none (places_by a.nodes place) (nodes_by a.nodes sound.linked place)
 
 -- a view is taken away from its group
-pub removed_targets : (a b : Inside) (seats : List Seat) (child place : ℕ) → IsSound a → seats_in a ≡ seats → b.places ≡ a.places → place_in a child ≡ Some place
+pub removed_targets : (a b : Inside) (seats : List Seat) (child place : ℕ) → IsSoundPool a → seats_in a ≡ seats → b.places ≡ a.places → place_in a child ≡ Some place
     → ((x : ℕ) → caught_by b.nodes x ≡ without_caught (view_of (get a.nodes place)) (caught_by a.nodes x))
     → (group : ℕ) → targets_of (seats_in b) group ≡ without_child child (targets_of seats group)
 removed_targets a b seats child place sound is places place_is caught group =
@@ -157,7 +157,7 @@ removed_targets a b seats child place sound is places place_is caught group =
         ∙ without_of child (caught_by a.nodes p)
 
 -- a target of a node's group is one by its number
-pub target_where : (a : Inside) (seats : List Seat) → IsSound a → seats_in a ≡ seats → (child place x : ℕ) (k : Node) → get a.nodes place ≡ Some k → k.view ≡ child → k.group ≡ Some x
+pub target_where : (a : Inside) (seats : List Seat) → IsSoundPool a → seats_in a ≡ seats → (child place x : ℕ) (k : Node) → get a.nodes place ≡ Some k → k.view ≡ child → k.group ≡ Some x
     → (group : ℕ) × (place_in a group ≡ Some x) × (is_target child (targets_of seats group) ≡ true)
 target_where a seats sound is child place x k k_is view group_is =
     let m = sound.linked.member place x k k_is group_is in
@@ -168,13 +168,13 @@ target_where a seats sound is child place x k k_is view group_is =
     (g.value.view, found, ap (is_target child) targets ∙ is_target_of child (caught_by a.nodes x) ∙ ap (λ v. is_caught v (caught_by a.nodes x)) (sym view) ∙ there)
 
 -- and the other way round
-pub where_target : (a : Inside) (seats : List Seat) → IsSound a → seats_in a ≡ seats → (child place : ℕ) → place_in a child ≡ Some place
+pub where_target : (a : Inside) (seats : List Seat) → IsSoundPool a → seats_in a ≡ seats → (child place : ℕ) → place_in a child ≡ Some place
     → (group : ℕ) → is_target child (targets_of seats group) ≡ true
     → (x : ℕ) × (place_in a group ≡ Some x) × (has_place place (places_by a.nodes x) ≡ true)
 where_target a seats sound is child place place_is group target =
     go (place_in a group) refl
   where
-    n : NodeOf a.nodes place child
+    n : OpenNode a.nodes place child
     n = node_of a sound child place place_is
 
     go : (o : Option ℕ) → place_in a group ≡ o → (x : ℕ) × (place_in a group ≡ Some x) × (has_place place (places_by a.nodes x) ≡ true)
@@ -191,7 +191,7 @@ pub gone : (child : ℕ) (targets : List Target) → is_target child (without_ch
 gone child [] = refl
 gone child (t ∷ targets) = elim (cases_Bool (t.child == child)) [ inl is ↦ rw is (gone child targets) | inr is ↦ rw (is, is) (gone child targets) ]
 
-pub closed_no_target : (a : Inside) (seats : List Seat) → IsSound a → seats_in a ≡ seats → (child : ℕ) → place_in a child ≡ None → (group : ℕ) → is_target child (targets_of seats group) ≡ false
+pub closed_no_target : (a : Inside) (seats : List Seat) → IsSoundPool a → seats_in a ≡ seats → (child : ℕ) → place_in a child ≡ None → (group : ℕ) → is_target child (targets_of seats group) ≡ false
 closed_no_target a seats sound is child none group = ap (is_target child) (closed_nowhere a seats sound is child none group) ∙ gone child (targets_of seats group)
 
 -- the targets of an open group, and of one that is not open
@@ -206,11 +206,11 @@ pub record TargetAt (a : Inside) (seats : List Seat) (child : ℕ) (k : Node) (g
   pub place : ℕ
   pub start : Option ℕ
   pub chain : Chain (get a.nodes) place start (places_by a.nodes place)
-  pub found : Found a.nodes place k (places_by a.nodes place)
+  pub found : FoundTarget a.nodes place k (places_by a.nodes place)
   pub whole : targets_of seats group ≡ targets_at a.nodes (places_by a.nodes place)
   pub from : from_child child (targets_of seats group) ≡ target_by k ∷ targets_at a.nodes found.rest
 
-pub target_at : (a : Inside) (seats : List Seat) → IsSound a → seats_in a ≡ seats → (child place : ℕ) (k : Node) → place_in a child ≡ Some place → get a.nodes place ≡ Some k
+pub target_at : (a : Inside) (seats : List Seat) → IsSoundPool a → seats_in a ≡ seats → (child place : ℕ) (k : Node) → place_in a child ≡ Some place → get a.nodes place ≡ Some k
     → (group : ℕ) → is_target child (targets_of seats group) ≡ true → TargetAt a seats child k group
 target_at a seats sound is child place k place_is k_is group target =
     let w = where_target a seats sound is child place place_is group target in
@@ -230,7 +230,7 @@ target_at a seats sound is child place k place_is k_is group target =
     }
 
 -- a view that is the target of no group has a node that shows it
-pub free_node : (a : Inside) (seats : List Seat) → IsSound a → seats_in a ≡ seats → (child place : ℕ) (k : Node) → place_in a child ≡ Some place → get a.nodes place ≡ Some k
+pub free_node : (a : Inside) (seats : List Seat) → IsSoundPool a → seats_in a ≡ seats → (child place : ℕ) (k : Node) → place_in a child ≡ Some place → get a.nodes place ≡ Some k
     → ((group : ℕ) → is_target child (targets_of seats group) ≡ false) → k.group ≡ None
 free_node a seats sound is child place k place_is k_is none =
     elim (cases_Option k.group) [

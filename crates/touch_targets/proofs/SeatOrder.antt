@@ -9,7 +9,7 @@ use Rattle.indexmap.specs.IndexMap.{insert_entry, swap_remove_entry}
 use Rattle.indexmap.proofs.CallerLemmas.{insert_entry-new}
 use Rattle.touch_targets.specs.Captures.{is_target}
 use Rattle.touch_targets.specs.Nodes.{caught_at, caught_by, view_at, without_caught, view_of}
-use Rattle.touch_targets.specs.Pool.{IsSound, seat_at, seats_in}
+use Rattle.touch_targets.specs.Pool.{IsSoundPool, seat_at, seats_in}
 use Rattle.touch_targets.specs.Seats.{Caught, Seat, drop_caught, is_caught, is_open, targets_of, with_seat}
 use Rattle.touch_targets.specs.declared.node.Node.{Node}
 use Rattle.touch_targets.specs.declared.targets.Targets.TheInside.{Inside}
@@ -48,7 +48,7 @@ not_there child (c ∷ caught) none =
       | inr is ↦ rw is (ap (λ l. c ∷ l) (not_there child caught (rw is at none)))
     ]
 
-pub nothing_removed : (a b : Inside) (seats : List Seat) (child place : ℕ) → IsSound a → seats_in a ≡ seats → place_in a child ≡ Some place
+pub nothing_removed : (a b : Inside) (seats : List Seat) (child place : ℕ) → IsSoundPool a → seats_in a ≡ seats → place_in a child ≡ Some place
     → ((group : ℕ) → is_target child (targets_of seats group) ≡ false)
     → ((x : ℕ) → caught_by b.nodes x ≡ without_caught (view_of (get a.nodes place)) (caught_by a.nodes x))
     → (x : ℕ) → caught_by b.nodes x ≡ caught_by a.nodes x

@@ -6,7 +6,7 @@ use Rattle.std.specs.List.{last_or}
 use Rattle.slab.specs.Slab.{Slab, get}
 use Rattle.touch_targets.specs.Nodes.{AreLinked, Chain, IsBehind, IsLinked, caught_at, changed, has_place, places_by, relinked, view_of, without_place}
 use Rattle.touch_targets.specs.declared.node.Node.{Node}
-use Rattle.touch_targets.proofs.Chains.{Stays, TargetOf, Was, are_linked, cases_Option, chain_stays, has_apart, has_cases, has_first, has_later, no_some, places_are, places_none, some_is, target_in, there, true_not_false, was}
+use Rattle.touch_targets.proofs.Chains.{StaysLinked, TargetOf, Was, are_linked, cases_Option, chain_stays, has_apart, has_cases, has_first, has_later, no_some, places_are, places_none, some_is, target_in, there, true_not_false, was}
 
 abbrev pub is_at : Option ℕ → ℕ → Bool
 is_at None x = false
@@ -157,7 +157,7 @@ module _
   old : Chain at group g.newest (front ++ place ∷ back)
   old = subst (Chain at group g.newest) whole (linked.chained group g group_is)
 
-  stays : (p : ℕ) (n : Node) → p ≢ place → is_at previous p ≡ false → at p ≡ Some n → Stays n (new p)
+  stays : (p : ℕ) (n : Node) → p ≢ place → is_at previous p ≡ false → at p ≡ Some n → StaysLinked n (new p)
   stays p n apart behind h = record {
     node = node_unlinked group previous place k.next p n;
     is = now p n h;

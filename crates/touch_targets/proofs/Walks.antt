@@ -8,14 +8,14 @@ use Rattle.touch_targets.specs.declared.node.Node.{Node}
 use Rattle.touch_targets.proofs.Chains.{chain_after, chain_none, first_of, from_start, no_some, some_is, starts_at, there}
 
 -- the walk has reached this place, from the one before
-pub record Walk (nodes : Slab Node) (group : ℕ) (previous at : Option ℕ) : Type 0 where
+pub record LinkWalk (nodes : Slab Node) (group : ℕ) (previous at : Option ℕ) : Type 0 where
   pub front : List ℕ
   pub back : List ℕ
   pub whole : places_by nodes group ≡ front ++ back
   pub before : last_or None front ≡ previous
   pub ahead : at ≡ first_of back
 
-abbrev pub walk_start : (s : Slab Node) (group : ℕ) (g : Node) → AreLinked s → get s group ≡ Some g → Walk s group None g.newest
+abbrev pub walk_start : (s : Slab Node) (group : ℕ) (g : Node) → AreLinked s → get s group ≡ Some g → LinkWalk s group None g.newest
 walk_start s group g linked is = record {
   front = [];
   back = places_by s group;
@@ -25,7 +25,7 @@ walk_start s group g linked is = record {
 }
 
 -- the targets ahead
-pub chain_ahead : (s : Slab Node) (group : ℕ) (previous at : Option ℕ) → AreLinked s → IsSome (get s group) → (walk : Walk s group previous at) → Chain (get s) group at walk.back
+pub chain_ahead : (s : Slab Node) (group : ℕ) (previous at : Option ℕ) → AreLinked s → IsSome (get s group) → (walk : LinkWalk s group previous at) → Chain (get s) group at walk.back
 chain_ahead s group previous at linked opened walk =
     let g = there (get s group) opened in
     subst (λ o. Chain (get s) group o walk.back) (sym walk.ahead)
@@ -46,7 +46,7 @@ pub record Here (nodes : Slab Node) (group place : ℕ) (ahead : List ℕ) : Typ
   pub chain : Chain (get nodes) group node.next back
   pub from : places_from nodes (Some place) ≡ place ∷ back
 
-pub here : (s : Slab Node) (group : ℕ) (previous : Option ℕ) (place : ℕ) → AreLinked s → IsSome (get s group) → (walk : Walk s group previous (Some place)) → Here s group place walk.back
+pub here : (s : Slab Node) (group : ℕ) (previous : Option ℕ) (place : ℕ) → AreLinked s → IsSome (get s group) → (walk : LinkWalk s group previous (Some place)) → Here s group place walk.back
 here s group previous place linked opened walk = go walk.back (chain_ahead s group previous (Some place) linked opened walk)
   where
     go : (back : List ℕ) → Chain (get s) group (Some place) back → Here s group place back
@@ -64,7 +64,7 @@ here s group previous place linked opened walk = go walk.back (chain_ahead s gro
           from = from_start s group (Some place) (q ∷ back) c ∙ ap (λ q. q ∷ back) (sym is);
         }
 
-module _ (s : Slab Node) (group : ℕ) (previous : Option ℕ) (place : ℕ) (walk : Walk s group previous (Some place)) (at : Here s group place walk.back) where
+module _ (s : Slab Node) (group : ℕ) (previous : Option ℕ) (place : ℕ) (walk : LinkWalk s group previous (Some place)) (at : Here s group place walk.back) where
   pub whole_here : places_by s group ≡ walk.front ++ place ∷ at.back
   whole_here = walk.whole ∙ ap (λ l. walk.front ++ l) at.first
 
@@ -74,7 +74,7 @@ module _ (s : Slab Node) (group : ℕ) (previous : Option ℕ) (place : ℕ) (wa
   pub node_here : (n : Node) → get s place ≡ Some n → Chain (get s) group n.next at.back
   node_here n is = subst (λ (n : Node). Chain (get s) group n.next at.back) (some_is (sym at.is ∙ is)) at.chain
 
-  pub walk_on : (n : Node) → get s place ≡ Some n → Walk s group (Some place) n.next
+  pub walk_on : (n : Node) → get s place ≡ Some n → LinkWalk s group (Some place) n.next
   walk_on n is = record {
     front = walk.front ++ place ∷ [];
     back = at.back;

@@ -10,14 +10,6 @@ pub record Target : Type 0 where
 abbrev pub is_target : ℕ → List Target → Bool
 is_target child targets = list_any (λ (t : Target). t.child == child) targets
 
--- the child is captured by this pointer
-abbrev pub holds : ℕ → ℕ → List Target → Bool
-holds pointer child targets = list_any (λ (t : Target). t.child == child && t.ids pointer) targets
-
--- the children in the order of their capture, the newest first
-abbrev pub order : List Target → List ℕ
-order targets = map (λ (t : Target). t.child) targets
-
 -- the target of this child and the older ones
 abbrev pub from_child : ℕ → List Target → List Target
 from_child child [] = []

@@ -15,7 +15,7 @@ abbrev pub seats_in : Inside → List Seat
 seats_in inside = map (seat_at inside.nodes) inside.places.entries
 
 -- targets are linked, each open view has a node, and each node's view is open
-pub record IsSound (inside : Inside) : Type 0 where
+pub record IsSoundPool (inside : Inside) : Type 0 where
   pub linked : AreLinked inside.nodes
   pub named : (view place : ℕ) → get_key nat_eq inside.places view ≡ Some place → view_of (get inside.nodes place) ≡ Some view
   pub found : (place : ℕ) (node : Node) → get inside.nodes place ≡ Some node → get_key nat_eq inside.places node.view ≡ Some place

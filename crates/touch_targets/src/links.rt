@@ -50,7 +50,9 @@ fn set_behind(nodes: &mut Slab<Node>, group: usize, previous: Option<usize>, nex
 /// Makes a node a target of a group, or of none.
 fn set_target(nodes: &mut Slab<Node>, place: usize, group: Link, next: Link, ids: u32)
     requires { ContainsKey nodes.old place }
-    ensures { (x : ℕ) → get nodes.new x ≡ changed (get nodes.old) place (λ node. record node { group = group; next = next; ids = ids }) x }
+    ensures { (x : ℕ)
+        → get nodes.new x ≡ changed (get nodes.old) place
+        (λ node. record node { group = group; next = next; ids = ids }) x }
 {
     let node = &mut nodes[place];
     node.group = group;
@@ -78,7 +80,9 @@ pub fn link_newest(nodes: &mut Slab<Node>, group: usize, child: usize, ids: u32)
     requires free { (node : Node) → get nodes.old child ≡ Some node → node.group ≡ None }
     requires ids { ids ≢ 0 }
     ensures linked { AreLinked nodes.new }
-    ensures caught { (x : ℕ) → caught_by nodes.new x ≡ (if x == group then caught_in_place (get nodes.old child) ids ∷ caught_by nodes.old x else caught_by nodes.old x) }
+    ensures caught { (x : ℕ)
+        → caught_by nodes.new x ≡ (if x == group
+        then caught_in_place (get nodes.old child) ids ∷ caught_by nodes.old x else caught_by nodes.old x) }
     ensures views { (x : ℕ) → view_of (get nodes.new x) ≡ view_of (get nodes.old x) }
 {
     let next = nodes[group].newest;
@@ -92,7 +96,9 @@ pub fn unlink(nodes: &mut Slab<Node>, group: usize, previous: Option<usize>, pla
     requires group { ContainsKey nodes.old group }
     requires behind { IsBehind previous place (places_by nodes.old group) }
     ensures linked { AreLinked nodes.new }
-    ensures places { (x : ℕ) → places_by nodes.new x ≡ (if x == group then without_place place (places_by nodes.old x) else places_by nodes.old x) }
+    ensures places { (x : ℕ)
+        → places_by nodes.new x
+        ≡ (if x == group then without_place place (places_by nodes.old x) else places_by nodes.old x) }
     ensures others { (x : ℕ) → x ≢ place → caught_at (get nodes.new x) ≡ caught_at (get nodes.old x) }
     ensures views { (x : ℕ) → view_of (get nodes.new x) ≡ view_of (get nodes.old x) }
 {
@@ -126,7 +132,8 @@ fn unlink_child(nodes: &mut Slab<Node>, group: usize, child: usize)
     requires target { (node : Node) → get nodes.old child ≡ Some node → node.group ≡ Some group }
     requires child { ContainsKey nodes.old child }
     ensures linked { AreLinked nodes.new }
-    ensures caught { (x : ℕ) → caught_by nodes.new x ≡ without_caught (view_of (get nodes.old child)) (caught_by nodes.old x) }
+    ensures caught { (x : ℕ)
+        → caught_by nodes.new x ≡ without_caught (view_of (get nodes.old child)) (caught_by nodes.old x) }
     ensures views { (x : ℕ) → view_of (get nodes.new x) ≡ view_of (get nodes.old x) }
 {
     let previous = before(nodes, group, child);
@@ -138,7 +145,8 @@ pub fn remove(nodes: &mut Slab<Node>, child: usize)
     requires linked { AreLinked nodes.old }
     requires child { ContainsKey nodes.old child }
     ensures linked { AreLinked nodes.new }
-    ensures caught { (x : ℕ) → caught_by nodes.new x ≡ without_caught (view_of (get nodes.old child)) (caught_by nodes.old x) }
+    ensures caught { (x : ℕ)
+        → caught_by nodes.new x ≡ without_caught (view_of (get nodes.old child)) (caught_by nodes.old x) }
     ensures views { (x : ℕ) → view_of (get nodes.new x) ≡ view_of (get nodes.old x) }
 {
     match nodes[child].group.key() {
@@ -155,7 +163,9 @@ pub fn put(nodes: &mut Slab<Node>, group: usize, child: usize, ids: u32)
     requires only { (node : Node) (x : ℕ) → get nodes.old child ≡ Some node → node.group ≡ Some x → x ≡ group }
     requires ids { ids ≢ 0 }
     ensures linked { AreLinked nodes.new }
-    ensures caught { (x : ℕ) → caught_by nodes.new x ≡ (if x == group then put_caught (view_at nodes.old child) ids (caught_by nodes.old x) else caught_by nodes.old x) }
+    ensures caught { (x : ℕ)
+        → caught_by nodes.new x ≡ (if x == group
+        then put_caught (view_at nodes.old child) ids (caught_by nodes.old x) else caught_by nodes.old x) }
     ensures views { (x : ℕ) → view_of (get nodes.new x) ≡ view_of (get nodes.old x) }
 {
     match nodes[child].group.key() {
@@ -218,7 +228,9 @@ pub fn drop_ids(nodes: &mut Slab<Node>, group: usize, ids: u32)
     requires linked { AreLinked nodes.old }
     requires group { ContainsKey nodes.old group }
     ensures linked { AreLinked nodes.new }
-    ensures caught { (x : ℕ) → caught_by nodes.new x ≡ (if x == group then drop_caught ids (caught_by nodes.old x) else caught_by nodes.old x) }
+    ensures caught { (x : ℕ)
+        → caught_by nodes.new x
+        ≡ (if x == group then drop_caught ids (caught_by nodes.old x) else caught_by nodes.old x) }
     ensures views { (x : ℕ) → view_of (get nodes.new x) ≡ view_of (get nodes.old x) }
 {
     let mut previous = None;
@@ -243,9 +255,12 @@ fn drop_ids_at(
     requires behind { IsBehind previous place (places_by nodes.old group) }
     ensures linked { AreLinked nodes.new }
     ensures previous { result ≡ (if left_at nodes.old place ids == 0 then previous else Some place) }
-    ensures places { (x : ℕ) → places_by nodes.new x ≡ (if left_at nodes.old place ids == 0 && x == group then without_place place (places_by nodes.old x) else places_by nodes.old x) }
+    ensures places { (x : ℕ)
+        → places_by nodes.new x ≡ (if left_at nodes.old place ids == 0 && x == group
+        then without_place place (places_by nodes.old x) else places_by nodes.old x) }
     ensures others { (x : ℕ) → x ≢ place → caught_at (get nodes.new x) ≡ caught_at (get nodes.old x) }
-    ensures own { left_at nodes.old place ids ≢ 0 → caught_at (get nodes.new place) ≡ caught_in_place (get nodes.old place) (left_at nodes.old place ids) }
+    ensures own { left_at nodes.old place ids ≢ 0
+        → caught_at (get nodes.new place) ≡ caught_in_place (get nodes.old place) (left_at nodes.old place ids) }
     ensures views { (x : ℕ) → view_of (get nodes.new x) ≡ view_of (get nodes.old x) }
 {
     let left = ids_without(nodes[place].ids, ids);

@@ -31,11 +31,11 @@ impl Model for Targets {
 
     ghost coded = { seats_code };
 
-    ghost use Rattle.touch_targets.specs.Pool.{IsSound, seats_in};
+    ghost use Rattle.touch_targets.specs.Pool.{IsSoundPool, seats_in};
 
     ghost view = { seats_in };
 
-    ghost invariant = { IsSound };
+    ghost invariant = { IsSoundPool };
 }
 
 impl Targets {
@@ -51,7 +51,8 @@ impl Targets {
 
     /// Keeps a place for a view, so that it may be a group or a target. No other call takes memory.
     pub fn open(&mut self, view: u64) -> Result<(), AllocError>
-        ensures opened { OnOk result ((other : ℕ) → is_open self.new other ≡ (is_open self.old other || other == view)) }
+        ensures opened { OnOk result ((other : ℕ)
+            → is_open self.new other ≡ (is_open self.old other || other == view)) }
         ensures targets { (group : ℕ) → targets_of self.new group ≡ targets_of self.old group }
         ensures added { OnOk result (is_open self.old view ≡ false → self.new ≡ with_seat view self.old) }
         ensures same { is_open self.old view ≡ true → self.new ≡ self.old }
@@ -70,8 +71,14 @@ impl Targets {
     /// Removes the place of a view, with all that names the view as a group or as a target.
     pub fn close(&mut self, view: u64)
         ensures opened { (other : ℕ) → is_open self.new other ≡ (is_open self.old other && not (other == view)) }
-        ensures targets { (group : ℕ) → targets_of self.new group ≡ (if group == view then [] else without_child view (targets_of self.old group)) }
-        ensures last { (before : List Seat) → self.old ≡ with_seat view before → is_open before view ≡ false → ((group : ℕ) → is_target view (targets_of before group) ≡ false) → self.new ≡ before }
+        ensures targets { (group : ℕ)
+            → targets_of self.new group
+            ≡ (if group == view then [] else without_child view (targets_of self.old group)) }
+        ensures last { (before : List Seat)
+            → self.old ≡ with_seat view before
+            → is_open before view ≡ false
+            → ((group : ℕ) → is_target view (targets_of before group) ≡ false)
+            → self.new ≡ before }
     {
         self.clear(view);
         self.remove(view);
@@ -92,8 +99,12 @@ impl Targets {
 
     /// The next older target of the group that has captured a view.
     pub fn next(&self, child: u64) -> Option<u64>
-        ensures child { (group : ℕ) → is_target child (targets_of self.now group) ≡ true → result ≡ first_child (older (from_child child (targets_of self.now group))) }
-        ensures part { (group : ℕ) → is_target child (targets_of self.now group) ≡ true → targets_from result (targets_of self.now group) ≡ older (from_child child (targets_of self.now group)) }
+        ensures child { (group : ℕ)
+            → is_target child (targets_of self.now group) ≡ true
+            → result ≡ first_child (older (from_child child (targets_of self.now group))) }
+        ensures part { (group : ℕ)
+            → is_target child (targets_of self.now group) ≡ true
+            → targets_from result (targets_of self.now group) ≡ older (from_child child (targets_of self.now group)) }
         ensures free { ((group : ℕ) → is_target child (targets_of self.now group) ≡ false) → result ≡ None }
     {
         let place = place_of(&self.nodes, &self.places, child)?;
@@ -103,7 +114,9 @@ impl Targets {
 
     /// The pointers by which a view was captured, where bit `k` represents the id `k`; 0 for a view that is no target.
     pub fn ids(&self, child: u64) -> u32
-        ensures ids { (group : ℕ) → is_target child (targets_of self.now group) ≡ true → has_id result ≡ first_ids (from_child child (targets_of self.now group)) }
+        ensures ids { (group : ℕ)
+            → is_target child (targets_of self.now group) ≡ true
+            → has_id result ≡ first_ids (from_child child (targets_of self.now group)) }
         ensures free { ((group : ℕ) → is_target child (targets_of self.now group) ≡ false) → result ≡ 0 }
     {
         match place_of(&self.nodes, &self.places, child) {
@@ -120,7 +133,9 @@ impl Targets {
         requires child { is_open self.old child ≡ true }
         requires only { (other : ℕ) → is_target child (targets_of self.old other) ≡ true → other ≡ group }
         ensures opened { (view : ℕ) → is_open self.new view ≡ is_open self.old view }
-        ensures targets { (other : ℕ) → targets_of self.new other ≡ (if other == group then put_target child (has_id ids) (targets_of self.old other) else targets_of self.old other) }
+        ensures targets { (other : ℕ)
+            → targets_of self.new other ≡ (if other == group
+            then put_target child (has_id ids) (targets_of self.old other) else targets_of self.old other) }
     {
         let at = open_place(&self.nodes, &self.places, group);
         let place = open_place(&self.nodes, &self.places, child);
@@ -130,7 +145,9 @@ impl Targets {
     /// Takes pointers away from all targets of a group, and removes the targets that have no others.
     pub fn drop_ids(&mut self, group: u64, ids: u32)
         ensures opened { (view : ℕ) → is_open self.new view ≡ is_open self.old view }
-        ensures targets { (other : ℕ) → targets_of self.new other ≡ (if other == group then drop_pointers (has_id ids) (targets_of self.old other) else targets_of self.old other) }
+        ensures targets { (other : ℕ)
+            → targets_of self.new other ≡ (if other == group then drop_pointers (has_id ids) (targets_of self.old other)
+            else targets_of self.old other) }
         ensures same { targets_of self.old group ≡ [] → self.new ≡ self.old }
     {
         if let Some(place) = place_of(&self.nodes, &self.places, group) {
@@ -152,7 +169,8 @@ impl Targets {
     /// Removes all targets of a group.
     pub fn clear(&mut self, group: u64)
         ensures opened { (view : ℕ) → is_open self.new view ≡ is_open self.old view }
-        ensures targets { (other : ℕ) → targets_of self.new other ≡ (if other == group then [] else targets_of self.old other) }
+        ensures targets { (other : ℕ)
+            → targets_of self.new other ≡ (if other == group then [] else targets_of self.old other) }
         ensures same { targets_of self.old group ≡ [] → self.new ≡ self.old }
     {
         self.drop_ids(group, u32::MAX);
@@ -192,7 +210,8 @@ fn open_place(nodes: &Slab<Node>, places: &IndexMap<u64, usize>, view: u64) -> u
 fn forget_place(places: &mut IndexMap<u64, usize>, view: u64) -> Option<usize>
     ensures value { result ≡ get_key nat_eq places.old view }
     ensures entries { places.new.entries ≡ swap_remove_entry (nat_eq view) places.old.entries }
-    ensures forgot { (other : ℕ) → get_key nat_eq places.new other ≡ (if nat_eq view other then None else get_key nat_eq places.old other) }
+    ensures forgot { (other : ℕ)
+        → get_key nat_eq places.new other ≡ (if nat_eq view other then None else get_key nat_eq places.old other) }
 {
     places.swap_remove(&view)
 }
@@ -201,7 +220,9 @@ fn forget_place(places: &mut IndexMap<u64, usize>, view: u64) -> Option<usize>
 fn note_place(places: &mut IndexMap<u64, usize>, view: u64, place: usize)
     requires { 0 < spare places.old }
     ensures entries { places.new.entries ≡ insert_entry nat_eq places.old.entries view place }
-    ensures noted { (other : ℕ) → get_key nat_eq places.new other ≡ (if nat_eq view other then Some place else get_key nat_eq places.old other) }
+    ensures noted { (other : ℕ)
+        → get_key nat_eq places.new other
+        ≡ (if nat_eq view other then Some place else get_key nat_eq places.old other) }
 {
     match places.insert(view, place) {
         Ok(_) => (),

@@ -22,7 +22,7 @@ use Rattle.view_tree.proofs.forest.Walks.{count_of-parts, count_of_key-parts, on
 use Rattle.traversal.specs.declared.laying.placer.Placer.{Placer}
 use Rattle.traversal.specs.Narrow.{AreNarrow, AreSidesNarrow, IsNarrowFor}
 use Rattle.traversal.specs.Placing.{LaidKids, PlacesAs}
-use Rattle.traversal.proofs.LaidStages.{IsDone, Stage, as_begun, done_joined, done_start, unlaid_yet}
+use Rattle.traversal.proofs.LaidStages.{IsDone, LayingState, as_begun, done_joined, done_start, unlaid_yet}
 use Rattle.traversal.proofs.LaidWalk.{narrow_for, sides_at}
 
 -- the children after the next one
@@ -40,19 +40,19 @@ pub record IsKid (tree list : Forest Row) (kid : ℕ) : Type 0 where
   pub within : Later (part_from kid tree) list
 
 -- so far, the children after `next` were laid, and nothing else was done
-pub record BackWalk (tree list : Forest Row) (placer : Placer) (spot : Spot) (canvas : Option Canvas) (start : Stage) (next : Option ℕ) (now : Stage) : Type 0 where
+pub record BackWalk (tree list : Forest Row) (placer : Placer) (spot : Spot) (canvas : Option Canvas) (start : LayingState) (next : Option ℕ) (now : LayingState) : Type 0 where
   pub kid : IfSome next (IsKid tree list)
   pub places : PlacesAs placer spot (sizes_back start.held (behind next list tree))
   pub quiet : IsQuietBack now.held spot start.held (behind next list tree)
   pub done : IsDone canvas start now (behind next list tree)
 
 -- the first of a list is laid once the rest is
-pub record WithFirst (placer : Placer) (spot : Spot) (canvas : Option Canvas) (start mid : Stage) (list : Forest Row) : Type 0 where
+pub record WithFirst (placer : Placer) (spot : Spot) (canvas : Option Canvas) (start mid : LayingState) (list : Forest Row) : Type 0 where
   pub places : PlacesAs placer spot (sizes_back start.held list)
   pub quiet : IsQuietBack mid.held spot start.held list
   pub done : IsDone canvas start mid list
 
-with_first : (placer : Placer) (spot : Spot) (canvas : Option Canvas) (start old mid : Stage) (row : Row) (kids siblings : Forest Row) → ((key : ℕ) → count_of_key key (Branch row kids siblings) ≤ 1)
+with_first : (placer : Placer) (spot : Spot) (canvas : Option Canvas) (start old mid : LayingState) (row : Row) (kids siblings : Forest Row) → ((key : ℕ) → count_of_key key (Branch row kids siblings) ≤ 1)
     → IsQuietBack old.held spot start.held siblings → IsDone canvas start old siblings
     → LaidKids placer spot (sizes_back start.held siblings) old.held mid.held (Branch row kids Nothing) → IsDone canvas old mid (Branch row kids Nothing)
     → WithFirst placer spot canvas start mid (Branch row kids siblings)
@@ -71,7 +71,7 @@ with_first placer spot canvas start old mid row kids siblings once quiet rest st
       done = done_joined canvas start old mid list once rest own;
     }
 
-pub back_start : (tree : Forest Row) (view : ℕ) (placer : Placer) (spot : Spot) (canvas : Option Canvas) (start : Stage) (last : Option ℕ) → ((key : ℕ) → count_of_key key tree ≤ 1) → 0 < count_of_key view tree
+pub back_start : (tree : Forest Row) (view : ℕ) (placer : Placer) (spot : Spot) (canvas : Option Canvas) (start : LayingState) (last : Option ℕ) → ((key : ℕ) → count_of_key key tree ≤ 1) → 0 < count_of_key view tree
     → last ≡ last_key (children_of_first (part_from view tree)) → PlacesAs placer spot [] → BackWalk tree (children_of_first (part_from view tree)) placer spot canvas start last start
 back_start tree view placer spot canvas start None once live e places =
     let none = last_none (children_of_first (part_from view tree)) (sym e) in
@@ -97,11 +97,11 @@ back_start tree view placer spot canvas start (Some key) once live e places =
     }
 
 -- one child further
-pub record WalkTo (tree : Forest Row) (view : ℕ) (placer : Placer) (spot : Spot) (canvas : Option Canvas) (start mid : Stage) (kid : ℕ) (next : Option ℕ) : Type 0 where
+pub record WalkTo (tree : Forest Row) (view : ℕ) (placer : Placer) (spot : Spot) (canvas : Option Canvas) (start mid : LayingState) (kid : ℕ) (next : Option ℕ) : Type 0 where
   pub walk : BackWalk tree (children_of_first (part_from view tree)) placer spot canvas start next mid
   pub fewer : before next (children_of_first (part_from view tree)) tree < before (Some kid) (children_of_first (part_from view tree)) tree
 
-pub back_on : (tree : Forest Row) (view : ℕ) (placer next_placer : Placer) (spot : Spot) (canvas : Option Canvas) (start : Stage) (kid : ℕ) (old mid : Stage) (next : Option ℕ)
+pub back_on : (tree : Forest Row) (view : ℕ) (placer next_placer : Placer) (spot : Spot) (canvas : Option Canvas) (start : LayingState) (kid : ℕ) (old mid : LayingState) (next : Option ℕ)
     → ((key : ℕ) → count_of_key key tree ≤ 1) → 0 < count_of_key view tree
     → BackWalk tree (children_of_first (part_from view tree)) placer spot canvas start (Some kid) old
     → LaidKids next_placer spot (sizes_back start.held (later_siblings (part_from kid tree))) old.held mid.held (first_tree (part_from kid tree))
@@ -162,7 +162,7 @@ AreNarrow-back : (held : ℕ → Held) {rest list : Forest Row} → Later rest l
 AreNarrow-back held At_first narrow = narrow
 AreNarrow-back held (Later_on l) narrow = AreNarrow-back held l narrow.1
 
-module _ (tree list : Forest Row) (placer : Placer) (spot : Spot) (canvas : Option Canvas) (start : Stage) (kid : ℕ) (now : Stage)
+module _ (tree list : Forest Row) (placer : Placer) (spot : Spot) (canvas : Option Canvas) (start : LayingState) (kid : ℕ) (now : LayingState)
     (keys : (key : ℕ) → count_of_key key tree ≤ 1) (walk : BackWalk tree list placer spot canvas start (Some kid) now) where
   at : IsKid tree list kid
   at = walk.kid

@@ -23,7 +23,7 @@ use Rattle.traversal.proofs.ChangeLaws.{bare_put}
 
 -- a change is none of the names of a view, of its direction and how it runs, of its offset and of whether it takes part
 -- in layout
-pub record Leaves (old new : Facts) : Type 0 where
+pub record KeepsOtherFacts (old new : Facts) : Type 0 where
   pub id : new.id ≡ old.id
   pub rules : new.rules ≡ old.rules
   pub direction : new.direction ≡ old.direction
@@ -31,7 +31,7 @@ pub record Leaves (old new : Facts) : Type 0 where
   pub offset : new.offset ≡ old.offset
   pub shown : is_shown new ≡ is_shown old
 
-pub change_leaves : (change : Change) (facts : Facts) → Leaves facts (facts_after_change change facts)
+pub change_leaves : (change : Change) (facts : Facts) → KeepsOtherFacts facts (facts_after_change change facts)
 change_leaves (change.Size width height) facts = record { id = refl; rules = refl; direction = refl; rtl = refl; offset = refl; shown = refl }
 change_leaves (change.Min size) facts = record { id = refl; rules = refl; direction = refl; rtl = refl; offset = refl; shown = refl }
 change_leaves (change.Margins sides) facts = record { id = refl; rules = refl; direction = refl; rtl = refl; offset = refl; shown = refl }

@@ -36,7 +36,7 @@ use Rattle.traversal.proofs.LaidWalk.{AreNarrow-along}
 use Rattle.traversal.proofs.NarrowSides.{group_narrow}
 
 -- a view in this rectangle on which nothing is left to do
-pub record IsDone (old held : Held) (rect : Rect) : Type 0 where
+pub record NothingIsLeft (old held : Held) (rect : Rect) : Type 0 where
   pub forced : held.state.forced ≡ false
   pub needed : held.state.layout_needed ≡ false
   pub bounds : held.state.bounds ≡ Some rect
@@ -106,13 +106,13 @@ brought_settled view old held (Branch row kids siblings) b = (
 
 -- nothing is left to do at a view
 pub calm_at : (tree : Forest Row) (view : ℕ) (old held : ℕ → Held) (rect : Rect) → 0 < count_of_key view tree → is_shown (head_view (part_from view tree)).facts ≡ true
-    → Fit held (first_tree (part_from view tree)) → IsDone (old view) (held view) rect → ((key : ℕ) → (held key).offset ≡ (old key).offset)
+    → Fit held (first_tree (part_from view tree)) → NothingIsLeft (old view) (held view) rect → ((key : ℕ) → (held key).offset ≡ (old key).offset)
     → IsPut old (settled_at view held) view (part_from view tree) rect
 calm_at tree view old held rect live here fit done offsets =
     let x = located view tree live in
     let here : is_shown x.row.view.facts ≡ true = rw x.is at here in
     let fit : Fit held (Branch x.row x.kids Nothing) = rw x.is at fit in
-    let done' : IsDone (old x.row.key) (held x.row.key) rect = subst (λ key. IsDone (old key) (held key) rect) (sym x.key_is) done in
+    let done' : NothingIsLeft (old x.row.key) (held x.row.key) rect = subst (λ key. NothingIsLeft (old key) (held key) rect) (sym x.key_is) done in
     let row = calm_row old held x.row x.kids x.siblings rect here fit done'.forced done'.needed done'.bounds done'.specs done'.edges offsets in
     put_same old held (settled_at view held) view (part_from view tree) rect (settled_same view held done.forced done.needed)
     (rw x.is (subst (λ key. IsPut old held key (Branch x.row x.kids x.siblings) rect) x.key_is row))

@@ -20,17 +20,17 @@ use Rattle.traversal.proofs.FollowedViews.{covers_along, covers_first, covers_la
 use Rattle.traversal.proofs.GrownLaid.{grown_first, grown_joined}
 
 -- what is kept of the views, the damage, and the two counts
-pub record Stage : Type 0 where
+pub record LayingState : Type 0 where
   pub held : ℕ → Held
   pub damage : Rect
   pub measured : ℕ
   pub laid : ℕ
 
-abbrev pub stage_of : Views → Rect → Work → Stage
+abbrev pub stage_of : Views → Rect → Work → LayingState
 stage_of views damage work = record { held = held_of views; damage = damage; measured = work.measured; laid = views.counts.laid }
 
 -- these views alone were laid, and that was followed in a canvas
-pub record IsDone (canvas : Option Canvas) (old new : Stage) (list : Forest Row) : Type 0 where
+pub record IsDone (canvas : Option Canvas) (old new : LayingState) (list : Forest Row) : Type 0 where
   pub others : KeepsOutside old.held new.held list
   pub measures : new.measured ≤ old.measured + owed old.held list
   pub moves : new.laid ≤ old.laid + differ old.held new.held list
@@ -39,7 +39,7 @@ pub record IsDone (canvas : Option Canvas) (old new : Stage) (list : Forest Row)
   pub sight : KeepsSightIn canvas new.damage old.held new.held list
   pub within : GrowsWithin canvas old.damage new.damage old.held new.held list
 
-pub done_start : (canvas : Option Canvas) (start : Stage) → IsDone canvas start start Nothing
+pub done_start : (canvas : Option Canvas) (start : LayingState) → IsDone canvas start start Nothing
 done_start canvas start = record {
   others = λ key none. refl;
   measures = omega arith;
@@ -51,7 +51,7 @@ done_start canvas start = record {
 }
 
 -- the first of a list is as it was at the start where the others alone were laid
-pub as_begun : (canvas : Option Canvas) (start old : Stage) (list : Forest Row) → ((key : ℕ) → count_of_key key list ≤ 1) → IsDone canvas start old (later_siblings list)
+pub as_begun : (canvas : Option Canvas) (start old : LayingState) (list : Forest Row) → ((key : ℕ) → count_of_key key list ≤ 1) → IsDone canvas start old (later_siblings list)
     → KeepsInside start.held old.held (first_tree list)
 as_begun canvas start old list once rest key here =
     let parts = count_of_key-parts key list in
@@ -59,12 +59,12 @@ as_begun canvas start old list once rest key here =
     rest.others key (omega arith)
 
 -- and the others stay while the first is
-pub unlaid_yet : (canvas : Option Canvas) (old mid : Stage) (list : Forest Row) → ((key : ℕ) → count_of_key key list ≤ 1) → IsDone canvas old mid (first_tree list)
+pub unlaid_yet : (canvas : Option Canvas) (old mid : LayingState) (list : Forest Row) → ((key : ℕ) → count_of_key key list ≤ 1) → IsDone canvas old mid (first_tree list)
     → KeepsInside old.held mid.held (later_siblings list)
 unlaid_yet canvas old mid list once own = KeepsInside-rest old.held mid.held list once own.others
 
 -- the others of a list were laid, and then its first
-pub done_joined : (canvas : Option Canvas) (start old mid : Stage) (list : Forest Row) → ((key : ℕ) → count_of_key key list ≤ 1)
+pub done_joined : (canvas : Option Canvas) (start old mid : LayingState) (list : Forest Row) → ((key : ℕ) → count_of_key key list ≤ 1)
     → IsDone canvas start old (later_siblings list) → IsDone canvas old mid (first_tree list) → IsDone canvas start mid list
 done_joined canvas start old mid list once rest own = record {
   others = λ key none. let parts = count_of_key-parts key list in own.others key (omega arith) ∙ rest.others key (omega arith);

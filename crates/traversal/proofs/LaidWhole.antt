@@ -16,23 +16,22 @@ use Rattle.view_model.specs.Forest.{Forest, Nothing, Branch}
 use Rattle.view_model.specs.Geometry.{rect_at}
 use Rattle.view_model.specs.Layout.{full_layout, laid_views, measured_size, root_calls, root_specs}
 use Rattle.view_model.specs.Measuring.{Specs}
-use Rattle.view_tree.specs.Rows.{Row, later_siblings, first_tree, first_key, part_from, head_view, views_of}
+use Rattle.view_tree.specs.Rows.{Row, later_siblings, first_tree, first_key, part_from, head_view, views_of, count_of_key}
 use Rattle.view_tree.specs.Views.{Held, laid_rows, plain_rows, specs_of}
 use Rattle.view_tree.proofs.values.LayoutLaws.{full_layout_scrolled, root_calls_scrolled}
 use Rattle.traversal.specs.Narrow.{IsNarrow}
 use Rattle.view_tree.proofs.forest.KeyLaws.{times_self}
 use Rattle.std.proofs.Common.{Bool, ◌+◌, ◌<◌, [], subst}
 use Rattle.std.specs.Prelude.{if◌then◌else◌}
-use Rattle.view_tree.specs.Rows.{count_of_key}
 
 -- a tree of one root
-record Rooted (tree : Forest Row) (root : ℕ) : Type 0 where
+record HasOneRoot (tree : Forest Row) (root : ℕ) : Type 0 where
   row : Row
   kids : Forest Row
   is : tree ≡ Branch row kids Nothing
   from_is : part_from root (Branch row kids Nothing) ≡ Branch row kids Nothing
 
-rooted : (tree : Forest Row) (root : ℕ) → first_key tree ≡ Some root → later_siblings tree ≡ Nothing → Rooted tree root
+rooted : (tree : Forest Row) (root : ℕ) → first_key tree ≡ Some root → later_siblings tree ≡ Nothing → HasOneRoot tree root
 rooted Nothing root first none = absurd (cc)
 rooted (Branch row kids siblings) root first none =
     let key : row.key ≡ root = cc in

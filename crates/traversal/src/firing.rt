@@ -93,10 +93,14 @@ pub fn fire(tree: &mut ViewTree, hooks: &mut Hooks, view: u64) -> ArrayVec<Key, 
     ensures geometry { geometry_of tree.new ≡ geometry_of tree.old }
     ensures shape { SameShape tree.old tree.new }
     ensures bounds { (key : ℕ) → (state_of tree.new key).bounds ≡ (state_of tree.old key).bounds }
-    ensures in_pass { (root : ℕ) → InPass [] root (held_of tree.old) tree.old.tree → InPass result.items root (held_of tree.new) tree.new.tree }
+    ensures in_pass { (root : ℕ)
+        → InPass [] root (held_of tree.old) tree.old.tree
+        → InPass result.items root (held_of tree.new) tree.new.tree }
     ensures live { (key : ℕ) → among key result.items ≡ true → IsLive tree.new key }
     ensures counts { tree.new.counts ≡ tree.old.counts }
-    ensures caches { (key : ℕ) → IsUnedited tree.old.tree (edits_of (hook_of hooks.old view)) key → (cache_of tree.new key ≡ cache_of tree.old key) × IsOffPaths result.items tree.old.tree key }
+    ensures caches { (key : ℕ)
+        → IsUnedited tree.old.tree (edits_of (hook_of hooks.old view)) key
+        → (cache_of tree.new key ≡ cache_of tree.old key) × IsOffPaths result.items tree.old.tree key }
     ensures hooks { hooks.new ≡ disarmed view hooks.old }
 {
     let requesters = make_all(tree, hooks, view);
@@ -110,10 +114,14 @@ fn make_all(tree: &mut ViewTree, hooks: &Hooks, view: u64) -> ArrayVec<Key, MAX_
     ensures geometry { geometry_of tree.new ≡ geometry_of tree.old }
     ensures shape { SameShape tree.old tree.new }
     ensures bounds { (key : ℕ) → (state_of tree.new key).bounds ≡ (state_of tree.old key).bounds }
-    ensures in_pass { (root : ℕ) → InPass [] root (held_of tree.old) tree.old.tree → InPass result.items root (held_of tree.new) tree.new.tree }
+    ensures in_pass { (root : ℕ)
+        → InPass [] root (held_of tree.old) tree.old.tree
+        → InPass result.items root (held_of tree.new) tree.new.tree }
     ensures live { (key : ℕ) → among key result.items ≡ true → IsLive tree.new key }
     ensures counts { tree.new.counts ≡ tree.old.counts }
-    ensures caches { (key : ℕ) → IsUnedited tree.old.tree (edits_of (hook_of hooks.now view)) key → (cache_of tree.new key ≡ cache_of tree.old key) × IsOffPaths result.items tree.old.tree key }
+    ensures caches { (key : ℕ)
+        → IsUnedited tree.old.tree (edits_of (hook_of hooks.now view)) key
+        → (cache_of tree.new key ≡ cache_of tree.old key) × IsOffPaths result.items tree.old.tree key }
 {
     let mut requesters = ArrayVec::new();
     let mut k = 0;
@@ -142,10 +150,15 @@ fn make(tree: &mut ViewTree, edit: NumEdit) -> Option<Key>
     ensures geometry { geometry_of tree.new ≡ geometry_of tree.old }
     ensures shape { SameShape tree.old tree.new }
     ensures bounds { (key : ℕ) → (state_of tree.new key).bounds ≡ (state_of tree.old key).bounds }
-    ensures in_pass { (keys : List ℕ) (root : ℕ) → InPass keys root (held_of tree.old) tree.old.tree → InPass (with_requester result keys) root (held_of tree.new) tree.new.tree }
+    ensures in_pass { (keys : List ℕ) (root : ℕ)
+        → InPass keys root (held_of tree.old) tree.old.tree
+        → InPass (with_requester result keys) root (held_of tree.new) tree.new.tree }
     ensures live { IfSome result (λ view. IsLive tree.new view) }
     ensures counts { tree.new.counts ≡ tree.old.counts }
-    ensures caches { (key : ℕ) → IsUnedited tree.old.tree (edit ∷ []) key → (cache_of tree.new key ≡ cache_of tree.old key) × IfSome result (λ view. among key (path_of view tree.old.tree) ≡ false) }
+    ensures caches { (key : ℕ)
+        → IsUnedited tree.old.tree (edit ∷ []) key
+        → (cache_of tree.new key ≡ cache_of tree.old key)
+        × IfSome result (λ view. among key (path_of view tree.old.tree) ≡ false) }
 {
     let Some(view) = tree.find(edit.view) else {
         return None;

@@ -8,7 +8,7 @@ ghost use Rattle.view_tree.specs.Rows.{first_key, head_view};
 ghost use Rattle.kept_views.specs.Kept.{IsConsistent};
 ghost use Rattle.kept_views.specs.Laying.{differ};
 ghost use Rattle.view_model.specs.Forest.{count_of};
-ghost use Rattle.traversal.specs.Counting.{IsCounted};
+ghost use Rattle.traversal.specs.Counting.{IsMeasuringCounted};
 ghost use Rattle.traversal.specs.Changing.{FitAll, IsDamage, IsFramed, SameShape};
 ghost use Rattle.traversal.specs.Frames.{after_frame, fired_in, frame_calls};
 ghost use Rattle.traversal.specs.Growing.{IsMeasuredByFrame, IsUnedited, frame_edits};
@@ -42,15 +42,33 @@ pub fn frame(tree: &mut ViewTree, hooks: &mut Hooks, window: Size, work: &mut Wo
     ensures consistent { IsConsistent tree.new }
     ensures damage { IsDamage tree.old tree.new window result }
     ensures measured { work.new.measured ≤ work.old.measured + frame_calls (plain_of tree.old) hooks.old window }
-    ensures laid { result.fired ≡ 0 → tree.new.counts.laid ≤ tree.old.counts.laid + differ (held_of tree.old) (held_of tree.new) tree.old.tree }
+    ensures laid { result.fired ≡ 0
+        → tree.new.counts.laid ≤ tree.old.counts.laid + differ (held_of tree.old) (held_of tree.new) tree.old.tree }
     ensures laid_twice { tree.new.counts.laid ≤ tree.old.counts.laid + 2 * count_of tree.old.tree }
-    ensures counted { IsCounted tree.old tree.new work.old work.new }
-    ensures idle { result.fired ≡ 0 → (root : ℕ) → first_key tree.old.tree ≡ Some root → current (state_of tree.old root) (root_specs window (head_view tree.old.tree).facts) ≡ true → work.new.measured ≤ work.old.measured }
-    ensures calm { IsAtRest tree.old window → fired_in hooks.old (geometry_of tree.old) ≡ None → (tree.new ≡ tree.old) × (result.fired ≡ 0) × (result.settled ≡ true) × (work.new ≡ work.old) × (hooks.new ≡ hooks.old) }
-    ensures rest { result.settled ≡ true → IsAtRest tree.new window × (fired_in hooks.new (geometry_of tree.new) ≡ None) }
-    ensures caches { (key : ℕ) → IsLive tree.old key → IsUnedited tree.old.tree (frame_edits (plain_of tree.old) hooks.old window) key
-        → Grew (IsMeasuredByFrame (plain_of tree.old) hooks.old window (number_of tree.old key)) (cache_of tree.old key) (cache_of tree.new key) }
-    ensures last { result.settled ≡ true → (root : ℕ) → first_key tree.new.tree ≡ Some root → is_shown (head_view tree.new.tree).facts ≡ true
+    ensures counted { IsMeasuringCounted tree.old tree.new work.old work.new }
+    ensures idle { result.fired ≡ 0
+        → (root : ℕ)
+        → first_key tree.old.tree ≡ Some root
+        → current (state_of tree.old root) (root_specs window (head_view tree.old.tree).facts) ≡ true
+        → work.new.measured ≤ work.old.measured }
+    ensures calm { IsAtRest tree.old window
+        → fired_in hooks.old (geometry_of tree.old) ≡ None
+        → (tree.new ≡ tree.old)
+        × (result.fired ≡ 0)
+        × (result.settled ≡ true)
+        × (work.new ≡ work.old)
+        × (hooks.new ≡ hooks.old) }
+    ensures rest { result.settled ≡ true
+        → IsAtRest tree.new window × (fired_in hooks.new (geometry_of tree.new) ≡ None) }
+    ensures caches { (key : ℕ)
+        → IsLive tree.old key
+        → IsUnedited tree.old.tree (frame_edits (plain_of tree.old) hooks.old window) key
+        → Grew (IsMeasuredByFrame (plain_of tree.old) hooks.old window (number_of tree.old key))
+        (cache_of tree.old key) (cache_of tree.new key) }
+    ensures last { result.settled ≡ true
+        → (root : ℕ)
+        → first_key tree.new.tree ≡ Some root
+        → is_shown (head_view tree.new.tree).facts ≡ true
         → current (state_of tree.new root) (root_specs window (head_view tree.new.tree).facts) ≡ true }
 {
     let _in_range = work.measured;

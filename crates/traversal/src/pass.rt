@@ -13,7 +13,7 @@ ghost use Rattle.view_tree.specs.Requests.{among};
 ghost use Rattle.kept_views.specs.Kept.{IsConsistent, IsKept};
 ghost use Rattle.kept_views.specs.Laying.{differ};
 ghost use Rattle.traversal.specs.Changing.{IsPassed, SameShape};
-ghost use Rattle.traversal.specs.Counting.{IsCounted};
+ghost use Rattle.traversal.specs.Counting.{IsMeasuringCounted};
 ghost use Rattle.traversal.specs.Covering.{Covered};
 ghost use Rattle.traversal.specs.Frames.{after_pass, fired_in};
 ghost use Rattle.view_model.specs.Layout.{root_calls, root_specs};
@@ -44,21 +44,38 @@ pub fn pass(
 ) -> bool
     requires consistent { IsConsistent tree.old }
     ensures quiet { result ≡ false → SameTree tree.old tree.new }
-    ensures sight { result ≡ false → KeepsSight (whole_window window) damage.new.rect (held_of tree.old) (held_of tree.new) tree.old.tree }
-    ensures within { result ≡ false → (box : Rect) → LiesIn damage.old.rect box → Covered (whole_window window) box (held_of tree.old) (held_of tree.new) tree.old.tree → LiesIn damage.new.rect box }
+    ensures sight { result ≡ false
+        → KeepsSight (whole_window window) damage.new.rect (held_of tree.old) (held_of tree.new) tree.old.tree }
+    ensures within { result ≡ false
+        → (box : Rect)
+        → LiesIn damage.old.rect box
+        → Covered (whole_window window) box (held_of tree.old) (held_of tree.new) tree.old.tree
+        → LiesIn damage.new.rect box }
     ensures passed { IsPassed (after_pass (plain_of tree.old) hooks.old window) tree.new hooks.new }
     ensures fired { result ≡ (after_pass (plain_of tree.old) hooks.old window).fired }
     ensures shape { SameShape tree.old tree.new }
     ensures consistent { IsConsistent tree.new }
     ensures measured { work.new.measured ≤ work.old.measured + root_calls (plain_of tree.old) window }
-    ensures laid { tree.new.counts.laid ≤ tree.old.counts.laid + differ (held_of tree.old) (held_of tree.new) tree.old.tree }
-    ensures counted { IsCounted tree.old tree.new work.old work.new }
-    ensures idle { (root : ℕ) → first_key tree.old.tree ≡ Some root → current (state_of tree.old root) (root_specs window (head_view tree.old.tree).facts) ≡ true → work.new.measured ≤ work.old.measured }
-    ensures calm { IsAtRest tree.old window → fired_in hooks.old (geometry_of tree.old) ≡ None → (tree.new ≡ tree.old) × (result ≡ false) × (hooks.new ≡ hooks.old) × (work.new ≡ work.old) }
+    ensures laid { tree.new.counts.laid
+        ≤ tree.old.counts.laid + differ (held_of tree.old) (held_of tree.new) tree.old.tree }
+    ensures counted { IsMeasuringCounted tree.old tree.new work.old work.new }
+    ensures idle { (root : ℕ)
+        → first_key tree.old.tree ≡ Some root
+        → current (state_of tree.old root) (root_specs window (head_view tree.old.tree).facts) ≡ true
+        → work.new.measured ≤ work.old.measured }
+    ensures calm { IsAtRest tree.old window
+        → fired_in hooks.old (geometry_of tree.old) ≡ None
+        → (tree.new ≡ tree.old) × (result ≡ false) × (hooks.new ≡ hooks.old) × (work.new ≡ work.old) }
     ensures rest { result ≡ false → IsAtRest tree.new window }
-    ensures caches { (key : ℕ) → IsLive tree.old key → IsUnedited tree.old.tree (pass_edits (plain_of tree.old) hooks.old window) key
-        → Grew (IsMeasuredByPass (plain_of tree.old) window (number_of tree.old key)) (cache_of tree.old key) (cache_of tree.new key) }
-    ensures last { result ≡ false → (root : ℕ) → first_key tree.new.tree ≡ Some root → is_shown (head_view tree.new.tree).facts ≡ true
+    ensures caches { (key : ℕ)
+        → IsLive tree.old key
+        → IsUnedited tree.old.tree (pass_edits (plain_of tree.old) hooks.old window) key
+        → Grew (IsMeasuredByPass (plain_of tree.old) window (number_of tree.old key))
+        (cache_of tree.old key) (cache_of tree.new key) }
+    ensures last { result ≡ false
+        → (root : ℕ)
+        → first_key tree.new.tree ≡ Some root
+        → is_shown (head_view tree.new.tree).facts ≡ true
         → current (state_of tree.new root) (root_specs window (head_view tree.new.tree).facts) ≡ true }
 {
     let _in_range = work.measured;
@@ -85,9 +102,15 @@ fn end_pass(tree: &mut ViewTree, root: Key, requesters: &[Key])
     ensures bounds { (key : ℕ) → (state_of tree.new key).bounds ≡ (state_of tree.old key).bounds }
     ensures offsets { (key : ℕ) → (held_of tree.new key).offset ≡ (held_of tree.old key).offset }
     ensures own { requesters.now ≡ [] → held_of tree.new root ≡ settled (held_of tree.old root) }
-    ensures caches { (key : ℕ) → IsOffPaths requesters.now tree.old.tree key → cache_of tree.new key ≡ cache_of tree.old key }
-    ensures still { requesters.now ≡ [] → (state_of tree.old root).forced ≡ false → (state_of tree.old root).layout_needed ≡ false → tree.new ≡ tree.old }
-    ensures kept { InPass requesters.now root (held_of tree.old) tree.old.tree → IsKept (held_of tree.new) tree.old.tree }
+    ensures caches { (key : ℕ)
+        → IsOffPaths requesters.now tree.old.tree key
+        → cache_of tree.new key ≡ cache_of tree.old key }
+    ensures still { requesters.now ≡ []
+        → (state_of tree.old root).forced ≡ false
+        → (state_of tree.old root).layout_needed ≡ false
+        → tree.new ≡ tree.old }
+    ensures kept { InPass requesters.now root (held_of tree.old) tree.old.tree
+        → IsKept (held_of tree.new) tree.old.tree }
     ensures counts { tree.new.counts ≡ tree.old.counts }
 {
     settle(tree, root);

@@ -7,7 +7,7 @@ use Rattle.kept_views.specs.Kept.{HiddenView, IsConsistent, IsKept, loose}
 use Rattle.kept_views.proofs.AskedViews.{asked_kept, put_asked}
 use Rattle.kept_views.proofs.AroundEdits.{IsCalm, cleared_each, reached_each}
 use Rattle.kept_views.proofs.Edits.{AllHidden, hidden_kept}
-use Rattle.kept_views.proofs.Lines.{IsMoved, grow_kept, hide_kept, prune_kept, show_kept}
+use Rattle.kept_views.proofs.Lines.{SameButOffset, grow_kept, hide_kept, prune_kept, show_kept}
 use Rattle.kept_views.proofs.Pruned.{has_child, root_pruned}
 use Rattle.kept_views.proofs.QuietEdits.{quiet_kept}
 use Rattle.view_model.specs.Changes.{facts_after_act}
@@ -46,8 +46,8 @@ gone_asked old hid mid new view facts is live still gone tree own others same he
     let change : PlainView → PlainView = λ v. record v { facts = unscrolled_facts facts } in
     let part = first_tree (part_from view old.tree) in
     let mine : 0 < count_of_key view part = count_of_key-own_part view old.tree live in
-    let each : (key : ℕ) → IsMoved (hidden_at (count_of_key key part) (held_of old key)) (held_of mid key) = λ key. elim (cases_eq key view) [
-      | inl e ↦ subst (λ key. IsMoved (hidden_at (count_of_key key part) (held_of old key)) (held_of mid key)) (sym e)
+    let each : (key : ℕ) → SameButOffset (hidden_at (count_of_key key part) (held_of old key)) (held_of mid key) = λ key. elim (cases_eq key view) [
+      | inl e ↦ subst (λ key. SameButOffset (hidden_at (count_of_key key part) (held_of old key)) (held_of mid key)) (sym e)
           (record { state = ap (λ (h : Held). h.state) (own ∙ ap (λ (h : Held). let g : Held = record h { offset = facts.offset } in g) (gone view)); cache = ap (λ (h : Held). h.cache) (own ∙ ap (λ (h : Held). let g : Held = record h { offset = facts.offset } in g) (gone view)) })
       | inr ne ↦ let e = others key ne ∙ gone key in record { state = ap (λ (h : Held). h.state) e; cache = ap (λ (h : Held). h.cache) e }
     ] in

@@ -16,7 +16,7 @@ use Rattle.view_model.specs.PlainTree.{PlainView, with_facts}
 use Rattle.view_model.specs.Refusals.{PlainRefusal}
 use Rattle.tree_edits.specs.Applied.{IsDoneOrCyclic}
 use Rattle.tree_edits.specs.Editing.{after_act, cycle_of_act, names_views, outcome_unless}
-use Rattle.tree_edits.specs.Scene.{Scene}
+use Rattle.tree_edits.specs.Scene.{EditScene}
 
 -- a reason, if there is one, that has the number of a cycle
 abbrev IsOfCycle : Option PlainRefusal → Type 0
@@ -43,11 +43,11 @@ first_is name (Branch view below after) =
     or_is (cycle_below name view.class below) (option_or (first_cycle name below) (first_cycle name after)) (below_is name view.class below)
     (or_is (first_cycle name below) (first_cycle name after) (first_is name below) (first_is name after))
 
-done_or_cyclic : (scene : Scene) (number : ℕ) (act : Act) (reason : Option PlainRefusal) → IsOfCycle reason → IsDoneOrCyclic (outcome_unless scene number act reason)
+done_or_cyclic : (scene : EditScene) (number : ℕ) (act : Act) (reason : Option PlainRefusal) → IsOfCycle reason → IsDoneOrCyclic (outcome_unless scene number act reason)
 done_or_cyclic scene number act None is = tt
 done_or_cyclic scene number act (Some refusal) is = is
 
-module _ (scene : Scene) (number : ℕ) (act : Act) where
+module _ (scene : EditScene) (number : ℕ) (act : Act) where
   -- the cycle of an act that names views
   pub cycle_named : names_views act ≡ true → cycle_of_act scene.tree number act ≡ first_cycle member.View (with_facts number (facts_after_act act) scene.tree)
   cycle_named names = rw names refl

@@ -29,7 +29,7 @@ use Rattle.tree_edits.specs.Applied.{AppliesEdit, IsAddable, IsDoneOrCyclic, fau
 use Rattle.tree_edits.specs.declared.fault.EditFault.{EditFault}
 use Rattle.tree_edits.specs.declared.fault.EditFault.TheVariants as fault
 use Rattle.tree_edits.specs.Editing.{Add, Outcome, cycle_of_act, names_views, outcome_of_add, outcome_of_act, outcome_of_edit, outcome_unless, new_view, outcome_of_remove, takes, has_text, outcome_of_text}
-use Rattle.tree_edits.specs.Scene.{Scene, scene_of}
+use Rattle.tree_edits.specs.Scene.{EditScene, scene_of}
 use Rattle.tree_edits.proofs.CycleLaws.{cycle_named, taken_or_cyclic}
 use Rattle.tree_edits.proofs.SceneLaws.{same_scene}
 use Rattle.tree_edits.proofs.SpreadLaws.{runs_named}
@@ -61,7 +61,7 @@ pub attached_scene : (old new : Views) (parent : Option ℕ) (class : Class) (wi
     → outcome_of_edit (scene_of old) (Add (option_map (number_of old) parent) class width height) ≡ Ok (scene_of new, Some number)
 attached_scene old new parent class width height key number is addable free attached number_is =
     ap (outcome_of_add (scene_of old) (option_map (number_of old) parent) class width height) free
-    ∙ ap (λ (scene : Scene). Ok (scene, Some old.next))
+    ∙ ap (λ (scene : EditScene). Ok (scene, Some old.next))
     (sym (same_scene _ _ _ _ _ _
     (attached.plain
     ∙ ap (λ (rtl : Bool). grown_at (option_map (number_of old) parent) (single (running rtl (new_view old.next class width height))) (plain_of old)) (runs_named old parent is (added_live old parent addable)))
@@ -72,7 +72,7 @@ attached_scene old new parent class width height key number is addable free atta
     ∙ ap (λ (n : ℕ). Ok (scene_of new, Some n)) (sym number_is)
 
 -- a view was not added
-pub not_attached : (old : Views) (after : Scene) (parent : Option ℕ) (class : Class) (width height : ℤ) (given : AttachFault) (answer : Result (Option ℕ) EditFault)
+pub not_attached : (old : Views) (after : EditScene) (parent : Option ℕ) (class : Class) (width height : ℤ) (given : AttachFault) (answer : Result (Option ℕ) EditFault)
     → IsRefusedExactlyFor {A = ℕ} (refusal_at (plain_of old) (option_map (number_of old) parent)) (Err given)
     → IsErrAnd answer (λ fault. fault ≡ fault_of given)
     → AppliesEdit (outcome_of_edit (scene_of old) (Add (option_map (number_of old) parent) class width height)) after answer
@@ -92,7 +92,7 @@ pub detached_scene : (old new : Views) (view : ℕ) → IsTree old → IsLive ol
     → KeepsOutside (held_of old) (held_of new) (first_tree (part_from view old.tree))
     → outcome_of_remove (scene_of old) (number_of old view) ≡ Ok (scene_of new, None)
 detached_scene old new view is live tree plain next others =
-    ap (λ (scene : Scene). Ok (scene, None))
+    ap (λ (scene : EditScene). Ok (scene, None))
     (sym (same_scene _ _ _ _ _ _ plain next (ap (laid_rows (held_of new)) tree ∙ geometry-pruned_at_key old (held_of new) view is live others)))
 
 -- an act is done or refused, by the class of its view
@@ -116,7 +116,7 @@ written_by views view text class has is live class_is has_is =
     (sym (has_is ∙ ap has_text class_is))
 
 -- an act that names views was not done
-pub not_named : (scene : Scene) (number : ℕ) (act : Act) (outcome : Outcome) (after : Scene) (given : AttachFault) (answer : Result (Option ℕ) EditFault) → names_views act ≡ true
+pub not_named : (scene : EditScene) (number : ℕ) (act : Act) (outcome : Outcome) (after : EditScene) (given : AttachFault) (answer : Result (Option ℕ) EditFault) → names_views act ≡ true
     → outcome ≡ outcome_unless scene number act (cycle_of_act scene.tree number act)
     → IsRefusedOrCyclic {A = Unit {0}} None (first_cycle member.View (with_facts number (facts_after_act act) scene.tree)) (Err given)
     → IsErrAnd answer (λ fault. fault ≡ fault_of given)
@@ -128,7 +128,7 @@ not_named scene number act outcome after attach.NoMemory (Err fault) names is re
     subst (λ (f : EditFault). AppliesEdit outcome after (Err f)) (sym fault_is) (subst IsDoneOrCyclic (sym is) (taken_or_cyclic scene number act names))
 
 -- what is done, unless it is out of memory
-pub no_memory : (outcome : Outcome) (made after : Scene) (answer : Result (Option ℕ) EditFault) → outcome ≡ Ok (made, None)
+pub no_memory : (outcome : Outcome) (made after : EditScene) (answer : Result (Option ℕ) EditFault) → outcome ≡ Ok (made, None)
     → IsErrAnd answer (λ given. given ≡ fault.NoMemory) → AppliesEdit outcome after answer
 no_memory outcome made after (Ok number) is fault_is = absurd fault_is
 no_memory outcome made after (Err fault) is fault_is = subst (λ (f : EditFault). AppliesEdit outcome after (Err f)) (sym fault_is) (subst IsDoneOrCyclic (sym is) tt)

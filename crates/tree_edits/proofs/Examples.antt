@@ -26,7 +26,7 @@ use Rattle.tree_edits.specs.declared.edits.Edit.TheVariants as edit
 use Rattle.tree_edits.specs.Editing.{Add, ActOn, Remove, SetText, outcome_of_edit, new_view}
 use Rattle.tree_edits.specs.Hiding.{gone_one}
 use Rattle.tree_edits.specs.Keeping.{held_after}
-use Rattle.tree_edits.specs.Scene.{Scene}
+use Rattle.tree_edits.specs.Scene.{EditScene}
 use Rattle.view_tree.specs.Requests.{forced_one}
 use Rattle.view_tree.specs.Rows.{Row}
 use Rattle.view_tree.specs.Views.{Views, held_of}
@@ -40,7 +40,7 @@ leaf number = new_view number class.View (pos 5) (pos 6)
 laid : ℕ → ℕ → ℕ → Laid
 laid number right bottom = record { number = number; rect = record { left = pos 0; top = pos 0; right = pos right; bottom = pos bottom } }
 
-scene : Forest PlainView → ℕ → List Laid → Scene
+scene : Forest PlainView → ℕ → List Laid → EditScene
 scene tree next geometry = record { tree = tree; next = next; geometry = geometry }
 
 -- a frame 1 with a frame 2, which has a view 3, and after it a view 4
@@ -53,7 +53,7 @@ tree_with second = Branch (frame 1) (Branch second inner (Branch (leaf 4) Nothin
 everywhere : List Laid
 everywhere = laid 1 40 30 ∷ laid 2 20 10 ∷ laid 3 5 6 ∷ laid 4 5 6 ∷ []
 
-start : Scene
+start : EditScene
 start = scene (tree_with (frame 2)) 5 everywhere
 
 -- a new view is the last child, has the next number and no bounds
@@ -82,7 +82,7 @@ unfolding start scene tree_with inner everywhere frame leaf laid
 root_is_removed = refl
 
 -- a view that is gone has no bounds from then on, nor has what is below it
-gone : Scene
+gone : EditScene
 gone = scene (tree_with (record (frame 2) { facts = record (new_facts (pos 40) (pos 30)) { visibility = Gone } })) 5 (laid 1 40 30 ∷ laid 4 5 6 ∷ [])
 
 gone_lies_nowhere : outcome_of_edit start (ActOn 2 (act.Visible Gone)) ≡ Ok (gone, None)
@@ -138,7 +138,7 @@ gravity_of_the_children_of_a_frame : outcome_of_edit start (ActOn 2 (act.Change 
 unfolding start scene tree_with inner everywhere frame leaf laid
 gravity_of_the_children_of_a_frame = refl
 
-line : Facts → Scene
+line : Facts → EditScene
 line facts = scene (Branch (record (new_view 1 class.LinearLayout (pos 40) (pos 30)) { facts = facts }) Nothing Nothing) 2 []
 
 sum_is_set : outcome_of_edit (line (new_facts (pos 40) (pos 30))) (ActOn 1 (act.WeightSum 256)) ≡ Ok (line (record (new_facts (pos 40) (pos 30)) { weight_sum = 256 }), None)

@@ -6,7 +6,7 @@ mod Examples
 mod FactLaws
 pub mod KeepLaws
 mod ParentLaws
-mod RequestLaws
+pub mod RequestLaws
 mod SceneLaws
 pub mod SpreadLaws
 mod TurnLaws

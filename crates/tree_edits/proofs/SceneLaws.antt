@@ -7,11 +7,11 @@ use Rattle.view_tree.specs.Requests.{requested}
 use Rattle.view_tree.specs.Views.{Held, SameTree, Views, held_of, laid_rows, plain_rows}
 use Rattle.view_tree.proofs.forest.PlainLaws.{plain_along}
 use Rattle.view_tree.proofs.values.GeometryLaws.{laid_along}
-use Rattle.tree_edits.specs.Scene.{Scene, scene_of}
+use Rattle.tree_edits.specs.Scene.{EditScene, scene_of}
 use Rattle.tree_edits.proofs.RequestLaws.{requested_place}
 
 -- scenes are the same if their parts are
-abbrev pub scene : Forest PlainView → ℕ → List Laid → Scene
+abbrev pub scene : Forest PlainView → ℕ → List Laid → EditScene
 scene tree next geometry = record { tree = tree; next = next; geometry = geometry }
 
 pub same_scene : (t u : Forest PlainView) (m n : ℕ) (g h : List Laid) → t ≡ u → m ≡ n → g ≡ h → scene t m g ≡ scene u n h

@@ -15,7 +15,7 @@ use Rattle.tree_edits.specs.declared.edits.Edit.TheVariants as edit
 use Rattle.tree_edits.specs.declared.fault.EditFault.{EditFault}
 use Rattle.tree_edits.specs.declared.fault.EditFault.TheVariants as fault
 use Rattle.tree_edits.specs.Editing.{NumberedEdit, Add, Remove, ActOn, SetText, Outcome, names_views}
-use Rattle.tree_edits.specs.Scene.{Scene}
+use Rattle.tree_edits.specs.Scene.{EditScene}
 
 -- an edit with the numbers of the views in place of their keys, and with the characters of its text
 abbrev pub numbered : Views → Edit → NumberedEdit
@@ -65,7 +65,7 @@ IsDoneOrCyclic (Err refusal) = refusal.number ≡ CYCLE
 
 -- The result is the outcome: the scene and the number of the new view, or the refusal. An edit may run out of memory if
 -- there is no refusal, or only that of a cycle, since memory is taken before a cycle is known.
-abbrev pub AppliesEdit : Outcome → Scene → Result (Option ℕ) EditFault → Type 0
+abbrev pub AppliesEdit : Outcome → EditScene → Result (Option ℕ) EditFault → Type 0
 AppliesEdit outcome after (Ok number) = outcome ≡ Ok (after, number)
 AppliesEdit outcome after (Err (fault.Refused refusal)) = outcome ≡ Err (plain_refusal refusal)
 AppliesEdit outcome after (Err fault.NoMemory) = IsDoneOrCyclic outcome

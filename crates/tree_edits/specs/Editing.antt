@@ -20,7 +20,7 @@ use Rattle.view_model.specs.Offsets.{scrolls}
 use Rattle.view_model.specs.PlainTree.{PlainView, numbers_of, part_of, pruned, single, view_in, with_facts, with_text}
 use Rattle.view_model.specs.Refusals.{PlainRefusal, refusal_numbered}
 use Rattle.view_model.specs.declared.refusals.TheConstants.{WRONG_CLASS}
-use Rattle.tree_edits.specs.Scene.{Scene}
+use Rattle.tree_edits.specs.Scene.{EditScene}
 
 -- an edit that names views by their numbers
 pub data NumberedEdit : Type 0 where
@@ -31,7 +31,7 @@ pub data NumberedEdit : Type 0 where
 
 -- the scene after an edit, with the number of the view that it made, or why it is refused
 abbrev pub Outcome : Type 0
-Outcome = Result (Scene × Option ℕ) PlainRefusal
+Outcome = Result (EditScene × Option ℕ) PlainRefusal
 
 -- whether a view of this class lays its children in a line, and so has an orientation, a sum of weights and a gravity
 -- for them
@@ -139,7 +139,7 @@ abbrev pub cycle_of_act : Forest PlainView → ℕ → Act → Option PlainRefus
 cycle_of_act tree number act = if names_views act then first_cycle member.View (with_facts number (facts_after_act act) tree) else None
 
 -- the geometry without a view and all below it
-abbrev pub hidden : ℕ → Scene → List Laid
+abbrev pub hidden : ℕ → EditScene → List Laid
 hidden number scene = without (numbers_of (part_of number scene.tree)) scene.geometry
 
 -- a new view: its facts are the default ones except for its dimensions, and its text is empty
@@ -147,39 +147,39 @@ abbrev pub new_view : ℕ → Class → ℤ → ℤ → PlainView
 new_view number class width height = record { number = number; class = class; facts = new_facts width height; text = [] }
 
 -- a view is added under the next number, unless there is a reason against it; it runs as its parent, and has no bounds
-abbrev pub outcome_of_add : Scene → Option ℕ → Class → ℤ → ℤ → Option PlainRefusal → Outcome
+abbrev pub outcome_of_add : EditScene → Option ℕ → Class → ℤ → ℤ → Option PlainRefusal → Outcome
 outcome_of_add scene parent class width height (Some refusal) = Err refusal
 outcome_of_add scene parent class width height None =
     Ok (record scene { tree = grown_at parent (directed (rtl_at parent scene.tree) (single (new_view scene.next class width height))) scene.tree; next = scene.next + 1 }, Some scene.next)
 
 -- a view and all below it are removed, with their bounds
-abbrev pub outcome_of_remove : Scene → ℕ → Outcome
+abbrev pub outcome_of_remove : EditScene → ℕ → Outcome
 outcome_of_remove scene number = Ok (record scene { tree = pruned number scene.tree; geometry = hidden number scene }, None)
 
 -- the result of an act on a scene
-abbrev pub after_act : Scene → ℕ → Act → Scene
+abbrev pub after_act : EditScene → ℕ → Act → EditScene
 after_act scene number act =
     record scene { tree = tree_after_act number act scene.tree; geometry = if hides act then hidden number scene else scene.geometry }
 
 -- an act that a view takes is done, unless there would be a cycle
-abbrev pub outcome_unless : Scene → ℕ → Act → Option PlainRefusal → Outcome
+abbrev pub outcome_unless : EditScene → ℕ → Act → Option PlainRefusal → Outcome
 outcome_unless scene number act None = Ok (after_act scene number act, None)
 outcome_unless scene number act (Some refusal) = Err refusal
 
 -- an act on a view, by what is found under its number
-abbrev pub outcome_of_act : Scene → ℕ → Act → Option PlainView → Outcome
+abbrev pub outcome_of_act : EditScene → ℕ → Act → Option PlainView → Outcome
 outcome_of_act scene number act None = Ok (scene, None)
 outcome_of_act scene number act (Some view) =
     if takes view.class act then outcome_unless scene number act (cycle_of_act scene.tree number act) else Err (refusal_numbered WRONG_CLASS)
 
 -- a text of a view, by what is found under its number
-abbrev pub outcome_of_text : Scene → ℕ → List ℕ → Option PlainView → Outcome
+abbrev pub outcome_of_text : EditScene → ℕ → List ℕ → Option PlainView → Outcome
 outcome_of_text scene number text None = Ok (scene, None)
 outcome_of_text scene number text (Some view) =
     if has_text view.class then Ok (record scene { tree = with_text number text scene.tree }, None) else Err (refusal_numbered WRONG_CLASS)
 
 -- the result of an edit of views that are there on a scene
-abbrev pub outcome_of_edit : Scene → NumberedEdit → Outcome
+abbrev pub outcome_of_edit : EditScene → NumberedEdit → Outcome
 outcome_of_edit scene (Add parent class width height) = outcome_of_add scene parent class width height (refusal_at scene.tree parent)
 outcome_of_edit scene (Remove number) = outcome_of_remove scene number
 outcome_of_edit scene (ActOn number act) = outcome_of_act scene number act (view_in scene.tree number)

@@ -35,7 +35,8 @@ pub fn set_names(tree: &mut ViewTree, view: Key, act: Act) -> Result<(), AttachF
     requires names { names_views act ≡ true }
     ensures scene { OnOk result (scene_of tree.new ≡ after_act (scene_of tree.old) (number_of tree.old view) act) }
     ensures kept { OnOk result (KeepsViews tree.old tree.new (Edit.Act view act)) }
-    ensures refused { IsRefusedOrCyclic None (first_cycle Member.View (with_facts (number_of tree.old view) (facts_after_act act) (plain_of tree.old))) result }
+    ensures refused { IsRefusedOrCyclic None (first_cycle Member.View
+        (with_facts (number_of tree.old view) (facts_after_act act) (plain_of tree.old))) result }
     ensures unchanged { OnErr result (tree.new ≡ tree.old) }
     ensures consistent { IsConsistent tree.old → IsConsistent tree.new }
     ensures asked { LeavesUnasked tree.old tree.new (Edit.Act view act) }
@@ -56,7 +57,8 @@ pub fn set_names(tree: &mut ViewTree, view: Key, act: Act) -> Result<(), AttachF
 #[inline(never)]
 pub fn set_direction(tree: &mut ViewTree, view: Key, direction: Direction)
     requires live { IsLive tree.old view }
-    ensures scene { scene_of tree.new ≡ after_act (scene_of tree.old) (number_of tree.old view) (Act.Direction direction) }
+    ensures scene { scene_of tree.new
+        ≡ after_act (scene_of tree.old) (number_of tree.old view) (Act.Direction direction) }
     ensures kept { KeepsViews tree.old tree.new (Edit.Act view (Act.Direction direction)) }
     ensures consistent { IsConsistent tree.old → IsConsistent tree.new }
     ensures asked { LeavesUnasked tree.old tree.new (Edit.Act view (Act.Direction direction)) }

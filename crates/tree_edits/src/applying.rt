@@ -23,7 +23,8 @@ use view_tree::{Key, ViewTree};
 /// Makes an edit, and requests layout if it may change. Returns the number of the view that it made.
 pub fn apply(alloc: Global, tree: &mut ViewTree, edit: Edit<'_>) -> Result<Option<u64>, EditFault>
     requires edit { IsEdit tree.old edit }
-    ensures applied { AppliesEdit (outcome_of_edit (scene_of tree.old) (numbered tree.old edit.entry)) (scene_of tree.new) result }
+    ensures applied { AppliesEdit (outcome_of_edit (scene_of tree.old) (numbered tree.old edit.entry))
+        (scene_of tree.new) result }
     ensures kept { OnOk result (KeepsViews tree.old tree.new edit.entry) }
     ensures unchanged { OnErr result (tree.new ≡ tree.old) }
     ensures memory { result ≡ Err EditFault.NoMemory → MayWantMemory edit.entry }
@@ -58,7 +59,8 @@ fn add(
     height: i32,
 ) -> Result<Option<u64>, EditFault>
     requires addable { IsAddable tree.old parent }
-    ensures applied { AppliesEdit (outcome_of_edit (scene_of tree.old) (Add (option_map (number_of tree.old) parent) class width height)) (scene_of tree.new) result }
+    ensures applied { AppliesEdit (outcome_of_edit (scene_of tree.old)
+        (Add (option_map (number_of tree.old) parent) class width height)) (scene_of tree.new) result }
     ensures kept { OnOk result (KeepsViews tree.old tree.new (Edit.Add parent class width height)) }
     ensures unchanged { OnErr result (tree.new ≡ tree.old) }
     ensures consistent { IsConsistent tree.old → IsConsistent tree.new }
@@ -99,7 +101,8 @@ fn remove(tree: &mut ViewTree, view: Key)
 fn act_on(tree: &mut ViewTree, view: Key, act: Act) -> Result<Option<u64>, EditFault>
     requires live { IsLive tree.old view }
     requires verb { IsVerb act }
-    ensures applied { AppliesEdit (outcome_of_edit (scene_of tree.old) (ActOn (number_of tree.old view) act)) (scene_of tree.new) result }
+    ensures applied { AppliesEdit (outcome_of_edit (scene_of tree.old) (ActOn (number_of tree.old view) act))
+        (scene_of tree.new) result }
     ensures kept { OnOk result (KeepsViews tree.old tree.new (Edit.Act view act)) }
     ensures unchanged { OnErr result (tree.new ≡ tree.old) }
     ensures memory { result ≡ Err EditFault.NoMemory → names_views act ≡ true }
@@ -130,7 +133,8 @@ fn write(
 ) -> Result<Option<u64>, EditFault>
     requires live { IsLive tree.old view }
     requires short { length text.now < 2 ^ 31 }
-    ensures applied { AppliesEdit (outcome_of_edit (scene_of tree.old) (SetText (number_of tree.old view) (chars text.now))) (scene_of tree.new) result }
+    ensures applied { AppliesEdit (outcome_of_edit (scene_of tree.old)
+        (SetText (number_of tree.old view) (chars text.now))) (scene_of tree.new) result }
     ensures kept { OnOk result (KeepsViews tree.old tree.new (Edit.Text view text.entry)) }
     ensures unchanged { OnErr result (tree.new ≡ tree.old) }
     ensures consistent { IsConsistent tree.old → IsConsistent tree.new }

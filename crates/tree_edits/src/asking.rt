@@ -54,7 +54,8 @@ fn flag_requests(flag: Flag) -> bool
 pub fn request_by(tree: &mut ViewTree, view: Key, act: Act)
     requires { IsLive tree.old view }
     ensures same { SameTree tree.old tree.new }
-    ensures held { (key : ℕ) → held_of tree.new key ≡ requested (held_of tree.old) (asked_by_act view act) tree.old.tree key }
+    ensures held { (key : ℕ)
+        → held_of tree.new key ≡ requested (held_of tree.old) (asked_by_act view act) tree.old.tree key }
     ensures counts { tree.new.counts ≡ tree.old.counts }
 {
     if requests_layout(act) {

@@ -10,7 +10,9 @@ use view_tree::{Key, ViewTree};
 pub fn hide(tree: &mut ViewTree, view: Key)
     requires { IsLive tree.old view }
     ensures same { SameTree tree.old tree.new }
-    ensures held { (key : ℕ) → held_of tree.new key ≡ hidden_at (count_of_key key (first_tree (part_from view tree.old.tree))) (held_of tree.old key) }
+    ensures held { (key : ℕ)
+        → held_of tree.new key ≡ hidden_at
+        (count_of_key key (first_tree (part_from view tree.old.tree))) (held_of tree.old key) }
     ensures measures { tree.new.counts.measures ≡ tree.old.counts.measures }
 {
     hide_one(tree, view);

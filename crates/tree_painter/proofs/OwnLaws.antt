@@ -114,14 +114,14 @@ pixel_of true false i c kids ink back start mid inked end m n e = e ∙ n ∙ m
 pixel_of false b i c kids ink back start mid inked end m n e = e ∙ n ∙ m
 
 -- what the children left of each pixel
-record IsShown (paint : Painter) (shown : ℤ → ℤ → Bool) (old new : Raster) : Type 0 where
+record IsPaintedWhereShown (paint : Painter) (shown : ℤ → ℤ → Bool) (old new : Raster) : Type 0 where
   width : new.width ≡ old.width
   height : new.height ≡ old.height
   colors : (x y : ℕ) → x < old.width → y < old.height
       → color_at new x y ≡ (if shown (pos x) (pos y) then paint (pos x) (pos y) (color_at old x y) else color_at old x y)
 
 children_shown : (frame : Frame) (offset : ℤ) (result : Option Canvas) (children : Painter) (mid end : Raster) → IfSome result (IsBelow frame offset)
-    → ChildrenPainted result children mid end → IsShown (λ x y u. children (x -ℤ frame.left) (y -ℤ frame.top +ℤ offset) u) (canvas_holds result) mid end
+    → ChildrenPainted result children mid end → IsPaintedWhereShown (λ x y u. children (x -ℤ frame.left) (y -ℤ frame.top +ℤ offset) u) (canvas_holds result) mid end
 children_shown frame offset None children mid end below same = rw same (record { width = refl; height = refl; colors = λ x y xw yh. refl })
 children_shown frame offset (Some canvas) children mid end below h = record {
   width = h.width;
@@ -171,7 +171,7 @@ module _ (view : PlainView) (bounds : Rect) (canvas : Canvas) (children : Painte
       → Fills part view.facts.background start mid
       → IsPainted (from_origin frame.left frame.top (own_ink view (frame_size frame))) part mid inked
       → ((x y : ℤ) → shown x y ≡ (holds part x y && reaches_children view.facts (frame_size frame) (x -ℤ frame.left) (y -ℤ frame.top)))
-      → IsShown (λ x y u. children (x -ℤ frame.left) (y -ℤ frame.top +ℤ view.facts.offset) u) shown inked end
+      → IsPaintedWhereShown (λ x y u. children (x -ℤ frame.left) (y -ℤ frame.top +ℤ view.facts.offset) u) shown inked end
       → PaintedIn canvas (drawn_in (Some bounds) view children) start end
   seen_by part shown start mid inked end points back ink reach kids =
       record {

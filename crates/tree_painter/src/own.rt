@@ -32,12 +32,15 @@ pub fn paint_own(
 ) -> Option<Canvas>
     requires live { IsLive tree.now view }
     requires canvas { IsCanvas (2 ^ 37) canvas }
-    ensures painted { (children : Painter) (end : Raster) → (children_of_first (part_from view tree.now.tree) ≡ Nothing → PaintsNothing children) → ChildrenPainted result children surface.new end
+    ensures painted { (children : Painter) (end : Raster)
+        → (children_of_first (part_from view tree.now.tree) ≡ Nothing → PaintsNothing children)
+        → ChildrenPainted result children surface.new end
         → PaintedIn canvas (drawn_in (Some bounds) (view_at tree.now view) children) surface.old end }
     ensures size { (surface.new.width ≡ surface.old.width) × (surface.new.height ≡ surface.old.height) }
     ensures canvas { IfSome result (IsCanvas (2 ^ 37)) }
     ensures narrower { IfSome result (λ inner. area_in surface.old inner.clip ≤ area_in surface.old canvas.clip) }
-    ensures counted { IsCounted (area_in surface.old canvas.clip + area_in surface.old canvas.clip) surface.old surface.new work.old work.new }
+    ensures counted { IsCounted (area_in surface.old canvas.clip + area_in surface.old canvas.clip) surface.old
+        surface.new work.old work.new }
 {
     let frame = moved(bounds, canvas);
     let Some(part) = part_in(canvas.clip, frame) else {
@@ -87,7 +90,8 @@ fn paint_ink(
     requires live { IsLive tree.now view }
     requires reach { IsInReach frame }
     requires seen { IsSeen frame }
-    ensures painted { IsPainted (from_origin frame.left frame.top (own_ink (view_at tree.now view) (frame_size frame))) part surface.old surface.new }
+    ensures painted { IsPainted (from_origin frame.left frame.top (own_ink (view_at tree.now view) (frame_size frame)))
+        part surface.old surface.new }
     ensures counted { IsCounted (area_in surface.old part) surface.old surface.new work.old work.new }
 {
     if shows_text(tree.class(view)) {
@@ -122,7 +126,8 @@ fn paint_text(
     requires shows { shows_text (view_at tree.now view).class ≡ true }
     requires reach { IsInReach frame }
     requires seen { IsSeen frame }
-    ensures painted { IsPainted (from_origin frame.left frame.top (own_ink (view_at tree.now view) (frame_size frame))) part surface.old surface.new }
+    ensures painted { IsPainted (from_origin frame.left frame.top (own_ink (view_at tree.now view) (frame_size frame)))
+        part surface.old surface.new }
     ensures counted { IsCounted (area_in surface.old part) surface.old surface.new work.old work.new }
 {
     let facts = tree.facts(view);

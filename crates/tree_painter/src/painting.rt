@@ -18,8 +18,10 @@ use view_tree::{Key, ViewTree};
 /// Paints a whole tree, over black, in a rectangle of the window; the rest of the picture stays. The views have the
 /// bounds of their last layout.
 pub fn paint(tree: &ViewTree, surface: &mut Surface, damage: Rect, work: &mut Work)
-    ensures painted { IsPainted (λ x y under. pixel_color (geometry_of tree.now) (plain_of tree.now) x y) damage surface.old surface.new }
-    ensures counted { IsCounted ((2 * count_of tree.now.tree + 1) * area_in surface.old damage) surface.old surface.new work.old work.new }
+    ensures painted { IsPainted (λ x y under. pixel_color (geometry_of tree.now) (plain_of tree.now) x y)
+        damage surface.old surface.new }
+    ensures counted { IsCounted ((2 * count_of tree.now.tree + 1) * area_in surface.old damage) surface.old
+        surface.new work.old work.new }
     ensures least { min (work.old.painted + area_in surface.old damage) (2 ^ 64 - 1) ≤ work.new.painted }
 {
     surface.fill(damage, BLACK, work);
@@ -38,8 +40,10 @@ pub fn paint(tree: &ViewTree, surface: &mut Surface, damage: Rect, work: &mut Wo
 fn paint_view(tree: &ViewTree, view: Key, surface: &mut Surface, canvas: Canvas, work: &mut Work)
     requires live { IsLive tree.now view }
     requires canvas { IsCanvas (2 ^ 37) canvas }
-    ensures painted { PaintedIn canvas (painted (placed_rows (held_of tree.now) (first_tree (part_from view tree.now.tree)))) surface.old surface.new }
-    ensures counted { IsCounted (share_of (area_in surface.old canvas.clip) (first_tree (part_from view tree.now.tree))) surface.old surface.new work.old work.new }
+    ensures painted { PaintedIn canvas
+        (painted (placed_rows (held_of tree.now) (first_tree (part_from view tree.now.tree)))) surface.old surface.new }
+    ensures counted { IsCounted (share_of (area_in surface.old canvas.clip) (first_tree (part_from view tree.now.tree)))
+        surface.old surface.new work.old work.new }
 {
     let Some(bounds) = tree.state(view).bounds else {
         return;
@@ -60,8 +64,10 @@ fn paint_children(
 )
     requires live { IsLive tree.now view }
     requires canvas { IsCanvas (2 ^ 37) canvas }
-    ensures painted { PaintedIn canvas (painted (placed_rows (held_of tree.now) (children_of_first (part_from view tree.now.tree)))) surface.old surface.new }
-    ensures counted { IsCounted (share_of (area_in surface.old canvas.clip) (children_of_first (part_from view tree.now.tree))) surface.old surface.new work.old work.new }
+    ensures painted { PaintedIn canvas (painted
+        (placed_rows (held_of tree.now) (children_of_first (part_from view tree.now.tree)))) surface.old surface.new }
+    ensures counted { IsCounted (share_of (area_in surface.old canvas.clip)
+        (children_of_first (part_from view tree.now.tree))) surface.old surface.new work.old work.new }
 {
     let mut next = tree.first(view);
     while let Some(child) = next {

@@ -71,7 +71,8 @@ fn ink_line(line: &[char], surface: &mut Surface, canvas: Canvas, ink: Argb, wor
     requires few { length line.now < 2 ^ 31 }
     requires near { IsCanvas (2 ^ 36) canvas }
     ensures painted { PaintedIn canvas (line_ink ink line.now 0) surface.old surface.new }
-    ensures counted { IsCounted (strip_between surface.old canvas.clip canvas.top (canvas.top +ℤ pos 8)) surface.old surface.new work.old work.new }
+    ensures counted { IsCounted (strip_between surface.old canvas.clip canvas.top (canvas.top +ℤ pos 8)) surface.old
+        surface.new work.old work.new }
 {
     if ends_above(canvas) {
         return;

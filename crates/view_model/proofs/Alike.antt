@@ -3,7 +3,7 @@
 use Rattle.std.proofs.Common.{◌≡◌, ℕ, zero, suc, Bool, true, false, Option, None, List, [], ◌∷◌, ◌++◌, ap, ◌∙◌, sym, refl, subst, inl, inr}
 use Rattle.std.proofs.lemmas.Bool.{cases_Bool}
 use Rattle.std.specs.Prelude.{if◌then◌else◌, filter}
-use Rattle.view_model.specs.Course.{Child, Course, Progress, Requested, after_phase, after_turn, asked_for, begun, course_of, measured_of, one_phase, phases_on, size_in, sizes_of}
+use Rattle.view_model.specs.Course.{Child, Course, MeasuringProgress, Requested, after_phase, after_turn, asked_for, begun, course_of, measured_of, one_phase, phases_on, size_in, sizes_of}
 use Rattle.view_model.specs.Facts.{is_shown}
 use Rattle.view_model.specs.Measuring.{Measured, Rule, Specs}
 
@@ -59,11 +59,11 @@ phase_alike ask taken (a ∷ some) (b ∷ more) h =
           ∙ ap (λ more. size_in (after_turn ask taken b) ++ more) (rest.sizes ∙ ap (λ next. sizes_of (after_phase ask (taken ++ next) more)) t.1.1);
     }
 
-record ProgressAlike (some more : Progress) : Type 0 where
+record ProgressAlike (some more : MeasuringProgress) : Type 0 where
   pub past : some.past ≡ more.past
   pub kids : Alike some.kids more.kids
 
-one_alike : (rule : Rule) (some more : Progress) → ProgressAlike some more → ProgressAlike (one_phase rule some) (one_phase rule more)
+one_alike : (rule : Rule) (some more : MeasuringProgress) → ProgressAlike some more → ProgressAlike (one_phase rule some) (one_phase rule more)
 one_alike rule some more h =
     let p = phase_alike (rule.ask some.past) [] some.kids more.kids h.kids in
     let P : List (List Measured) → Type 0 = λ past. Alike (after_phase (rule.ask some.past) [] some.kids) (after_phase (rule.ask past) [] more.kids) in
@@ -73,7 +73,7 @@ one_alike rule some more h =
       kids = subst P h.past p.alike;
     }
 
-phases_alike : (left : ℕ) (rule : Rule) (some more : Progress) → ProgressAlike some more → ProgressAlike (phases_on left rule some) (phases_on left rule more)
+phases_alike : (left : ℕ) (rule : Rule) (some more : MeasuringProgress) → ProgressAlike some more → ProgressAlike (phases_on left rule some) (phases_on left rule more)
 phases_alike zero rule some more h = h
 phases_alike (suc left) rule some more h =
     by_test (rule.turns some.past) (rule.turns more.past) (ap rule.turns h.past) (phases_alike left rule (one_phase rule some) (one_phase rule more) (one_alike rule some more h))

@@ -3,7 +3,7 @@ use Rattle.std.proofs.Common.{◌≡◌, ℕ, zero, suc, Bool, true, false, Opti
 use Rattle.std.specs.Prelude.{if◌then◌else◌, map}
 use Rattle.view_model.specs.declared.facts.Facts.{Facts}
 use Rattle.view_model.proofs.RelativeAlike.{requested_child}
-use Rattle.view_model.specs.Course.{Child, Progress, Requested, after_phase, after_turn, asked_for, begun, course_of, measured_of, one_phase, phases_on, size_in}
+use Rattle.view_model.specs.Course.{Child, MeasuringProgress, Requested, after_phase, after_turn, asked_for, begun, course_of, measured_of, one_phase, phases_on, size_in}
 use Rattle.view_model.specs.Facts.{is_shown}
 use Rattle.view_model.specs.Layout.{course_in}
 use Rattle.view_model.specs.Measuring.{Manner, ByRule, BySiblings, Measured, Rule, Specs}
@@ -30,7 +30,7 @@ unasked-phase ask taken (kid ∷ kids) =
     ap (λ (own : Requested). own ∷ unasked_all rest) (unasked-turn (is_shown kid.child.facts) (ask taken (measured_of kid)) kid)
     ∙ ap (λ more. unasked kid ∷ more) (unasked-phase ask (taken ++ size_in (after_turn ask taken kid)) kids)
 
-unasked-phases : (left : ℕ) (rule : Rule) (progress : Progress) → unasked_all (phases_on left rule progress).kids ≡ unasked_all progress.kids
+unasked-phases : (left : ℕ) (rule : Rule) (progress : MeasuringProgress) → unasked_all (phases_on left rule progress).kids ≡ unasked_all progress.kids
 unasked-phases zero rule progress = refl
 unasked-phases (suc left) rule progress =
     by_test (rule.turns progress.past) (unasked-phases left rule (one_phase rule progress) ∙ unasked-phase (rule.ask progress.past) [] progress.kids)

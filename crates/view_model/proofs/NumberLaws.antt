@@ -1,4 +1,4 @@
--- The numbers of the code are those of the definitions.
+-- For its own sake: the numbers of the code are those of the definitions.
 use Rattle.std.specs.Prelude.{◌≡◌, [], ◌∷◌, refl}
 use Rattle.view_model.specs.declared.font.TheConstants.{FIRST_GLYPH, FONT, OTHER_GLYPH}
 use Rattle.view_model.specs.declared.limits.TheConstants.{CELL_HEIGHT, CELL_WIDTH, MAX_DEPTH, MAX_EDITS, MAX_FILE, MAX_HOOKS, MAX_INSET, MAX_RESOURCES, MAX_SIZE, MAX_VIEWS, MAX_WEIGHT, MIN_MARGIN, NORMAL_DPI, NUMBERS_END}

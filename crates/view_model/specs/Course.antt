@@ -58,26 +58,26 @@ after_phase ask taken [] = []
 after_phase ask taken (kid ∷ kids) = after_turn ask taken kid ∷ after_phase ask (taken ++ size_in (after_turn ask taken kid)) kids
 
 -- how far a measuring in phases has come: the sizes of the children at the end of each phase so far, and the children
-pub record Progress : Type 0 where
+pub record MeasuringProgress : Type 0 where
   pub past : List (List Measured)
   pub kids : List Requested
 
-abbrev pub begun : List Child → Progress
+abbrev pub begun : List Child → MeasuringProgress
 begun kids = record { past = []; kids = map (λ (kid : Child). record { child = kid; requests = []; edges = None }) kids }
 
 -- after one phase more
-abbrev pub one_phase : Rule → Progress → Progress
+abbrev pub one_phase : Rule → MeasuringProgress → MeasuringProgress
 one_phase rule progress =
     let kids = after_phase (rule.ask progress.past) [] progress.kids in
     record { past = progress.past ++ sizes_of kids ∷ []; kids = kids }
 
 -- after as many more phases as follow, up to this number
-abbrev pub phases_on : ℕ → Rule → Progress → Progress
+abbrev pub phases_on : ℕ → Rule → MeasuringProgress → MeasuringProgress
 phases_on zero rule progress = progress
 phases_on (suc left) rule progress = if rule.turns progress.past then phases_on left rule (one_phase rule progress) else progress
 
 -- after all phases: no group has more than three
-abbrev pub ended : Rule → List Child → Progress
+abbrev pub ended : Rule → List Child → MeasuringProgress
 ended rule kids = phases_on 2 rule (one_phase rule (begun kids))
 
 -- a measuring of a view: its children at the end, its size, and what they take along its axis. A child that is gone

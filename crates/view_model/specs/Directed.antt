@@ -1,5 +1,5 @@
 -- How the directions of views go down a tree.
-use Rattle.std.specs.Prelude.{◌≡◌, ℕ, Bool, true, false, if◌then◌else◌, not, List, [], ◌∷◌, ◌++◌, Option, Some, None, map}
+use Rattle.std.specs.Prelude.{◌≡◌, ℕ, Bool, false, if◌then◌else◌, not, List, [], ◌∷◌, ◌++◌, Option, Some, None}
 use Rattle.view_model.specs.declared.facts.Facts.{Facts}
 use Rattle.view_model.specs.declared.placing.Direction.{Direction}
 use Rattle.view_model.specs.Direction.{dir}
@@ -45,8 +45,3 @@ rtl_at (Some number) tree = rtl_of (view_in tree number)
 -- the tree once the view of this number has a direction, which has not gone down it yet
 abbrev pub with_direction : ℕ → Direction → Forest PlainView → Forest PlainView
 with_direction number direction tree = with_facts number (λ facts. record facts { direction = direction }) tree
-
--- the views at which that requests layout: itself, and each that runs another way from then on
-abbrev pub asked_by_direction : ℕ → Direction → Forest PlainView → List ℕ
-asked_by_direction number direction tree =
-    number ∷ map (λ (view : PlainView). view.number) (turned (λ (view : PlainView). view.facts) false (with_direction number direction tree))

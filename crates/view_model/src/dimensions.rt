@@ -1,5 +1,5 @@
 //! Pixels and weights from the words of a layout file.
-ghost use Rattle.std.specs.Prelude.{◌≡◌, ◌<◌, ◌≤◌, ◌^◌, ℤ, pos, negsuc, ◌≤ℤ◌, ◌*ℤ◌, ◌+ℤ◌, IfSome};
+ghost use Rattle.std.specs.Prelude.{◌≡◌, ◌<◌, ◌≤◌, ℤ, pos, negsuc, ◌≤ℤ◌, ◌*ℤ◌, ◌+ℤ◌, IfSome};
 ghost use Rattle.std.specs.Int.{int_div_euclid};
 ghost use Rattle.view_model.specs.Dimensions.{pixels_in_bounds, weight_in_bounds, mantissa, nearest, never_lost, px_of, radix, unit_of, weight_near, weight_of};
 

@@ -96,7 +96,6 @@ pub struct Tied {
 }
 
 impl Axis {
-    ghost use Rattle.view_model.specs.Measuring.{Specs};
     ghost use Rattle.view_model.specs.RelativeLayout.{band_on, far_margin, length_on, near_margin, tied_on};
 
     /// A group with these facts under these specs.

@@ -19,7 +19,7 @@ use Rattle.view_tool.specs.declared.run.Stop.TheVariants as stop
 use Rattle.view_tool.specs.Refusals.{refused_line}
 use Rattle.view_tool.specs.Run.{HasCarriedOut, HasReadUpTo, HasTallied, StopsIn, WithFiles}
 use Rattle.view_tool.specs.Tally.{Tally, carried_in, tally_from, with_cost}
-use Rattle.view_tool.specs.Transcript.{Asks, MayWant, Progress, after_asked, after_line, after_from, after_reply, asked_by_line, at_start, is_idle, line_text, reply_text, reply_to_line}
+use Rattle.view_tool.specs.Transcript.{Asks, MayWant, ScriptProgress, after_asked, after_line, after_from, after_reply, asked_by_line, at_start, is_idle, line_text, reply_text, reply_to_line}
 use Rattle.view_tool.specs.Works.{HasFetched, Trace, Works, WorksBefore, WorksToFetch, WorksToWrite, raised_by}
 use Rattle.tool_io.specs.Counts.{raised}
 use Rattle.tool_io.specs.SinkState.{SinkState}
@@ -38,11 +38,11 @@ pub after_from-push : (start : Carried) (files : Files) (lines : List Line) (lin
 unfolding after_from
 after_from-push start files lines line = fold-append (after_line files) (at_start start) lines (line ∷ [])
 
-counted_reply : (progress : Progress) (reply : LineReply) → (after_reply progress reply).lines ≡ progress.lines + 1
+counted_reply : (progress : ScriptProgress) (reply : LineReply) → (after_reply progress reply).lines ≡ progress.lines + 1
 counted_reply progress (Done carried text) = refl
 counted_reply progress (Refused refusal) = refl
 
-counted_from : (files : Files) (progress : Progress) (lines : List Line) → (fold (after_line files) progress lines).lines ≡ progress.lines + length lines
+counted_from : (files : Files) (progress : ScriptProgress) (lines : List Line) → (fold (after_line files) progress lines).lines ≡ progress.lines + length lines
 counted_from files progress [] = (let e : progress.lines ≡ progress.lines + 0 = omega arith in e)
 counted_from files progress (line ∷ lines) =
     let more = counted_from files (after_line files progress line) lines in
@@ -60,7 +60,7 @@ counted_short start files bytes most short = omega (arith, short, after_from-lin
 pub lines_short : (bytes : List ℕ) (most : ℕ) → length bytes < most → length (cut_of bytes).lines < most
 lines_short bytes most short = omega (arith, short, cut_lines-length bytes)
 
-text_after : (progress : Progress) (reply : LineReply) → (after_reply progress reply).text ≡ progress.text ++ reply_text progress reply
+text_after : (progress : ScriptProgress) (reply : LineReply) → (after_reply progress reply).text ≡ progress.text ++ reply_text progress reply
 text_after progress (Done carried text) = refl
 text_after progress (Refused refusal) = refl
 
@@ -68,9 +68,9 @@ text_after progress (Refused refusal) = refl
 pub line_after : (start : Carried) (files : Files) (lines : List Line) (line : Line) → (after_from start files (lines ++ line ∷ [])).text ≡ (after_from start files lines).text ++ line_text files (after_from start files lines) line
 line_after start files lines line =
     let so_far = after_from start files lines in
-    ap (λ (p : Progress). p.text) (after_from-push start files lines line) ∙ text_after so_far (reply_to_line files so_far.carried line)
+    ap (λ (p : ScriptProgress). p.text) (after_from-push start files lines line) ∙ text_after so_far (reply_to_line files so_far.carried line)
 
-text_from : (files : Files) (progress : Progress) (lines : List Line) → (more : List ℕ) × ((fold (after_line files) progress lines).text ≡ progress.text ++ more)
+text_from : (files : Files) (progress : ScriptProgress) (lines : List Line) → (more : List ℕ) × ((fold (after_line files) progress lines).text ≡ progress.text ++ more)
 text_from files progress [] = ([], sym (append-nil progress.text))
 text_from files progress (line ∷ lines) =
     let rest = text_from files (after_line files progress line) lines in
@@ -82,7 +82,7 @@ pub after_from-text : (start : Carried) (files : Files) (before after : List Lin
 unfolding after_from
 after_from-text start files before after =
     let more = text_from files (fold (after_line files) (at_start start) before) after in
-    (more.0, ap (λ (p : Progress). p.text) (fold-append (after_line files) (at_start start) before after) ∙ more.1)
+    (more.0, ap (λ (p : ScriptProgress). p.text) (fold-append (after_line files) (at_start start) before after) ∙ more.1)
 
 -- a front part of the text of some lines is one of the text of all
 pub prefix_lines : (start : Carried) (files : Files) (first now : Option (List ℕ)) (lines more all : List Line) → lines ++ more ≡ all → AppendsPrefix first now (after_from start files lines).text → AppendsPrefix first now (after_from start files all).text
@@ -132,7 +132,7 @@ raised_more asked None calls = refl
 raised_more asked (Some name) calls = refl
 
 -- once a line was carried out, by what the code has
-fetched_at : (files : Files) (first mid now : Trace) (runner : LineRunner) (progress : Progress) (tally : Tally) (line : Line) → HasCarriedOut first mid runner progress tally
+fetched_at : (files : Files) (first mid now : Trace) (runner : LineRunner) (progress : ScriptProgress) (tally : Tally) (line : Line) → HasCarriedOut first mid runner progress tally
     → now.fetches ≡ fetches_after (asked_by_line (carried_of runner.carrier) line) mid.fetches → now.fetches ≡ raised_by (after_line files progress line).asked first.fetches
 fetched_at files first mid now runner progress tally line at fetched =
     fetched
@@ -144,7 +144,7 @@ fetched_in : (start : Carried) (files : Files) (first mid now : Trace) (runner :
     → now.fetches ≡ fetches_after (asked_by_line (carried_of runner.carrier) line) mid.fetches → HasFetched start files (lines ++ line ∷ []) first now
 fetched_in start files first mid now runner lines line at fetched =
     fetched_at files first mid now runner (after_from start files lines) (tally_from start files lines) line at fetched
-    ∙ ap (λ (p : Progress). raised_by p.asked first.fetches) (sym (after_from-push start files lines line))
+    ∙ ap (λ (p : ScriptProgress). raised_by p.asked first.fetches) (sym (after_from-push start files lines line))
 
 -- a line that is passed over
 passed_asked : (carried : Carried) (line : Line) → is_idle line ≡ true → asked_by_line carried line ≡ None
@@ -157,7 +157,7 @@ unfolding reply_to_line
 passed_reply files carried LongLine e = absurd (cc)
 passed_reply files carried (Text bytes) e = rw e refl
 
-pub passed_line : (files : Files) (first now : Trace) (runner : LineRunner) (progress : Progress) (tally : Tally) (line : Line) (number : ℕ) → is_idle line ≡ true → number ≡ progress.lines + 1
+pub passed_line : (files : Files) (first now : Trace) (runner : LineRunner) (progress : ScriptProgress) (tally : Tally) (line : Line) (number : ℕ) → is_idle line ≡ true → number ≡ progress.lines + 1
     → HasCarriedOut first now runner progress tally → HasCarriedOut first now (record runner { lines = number }) (after_line files progress line) (with_cost files tally line)
 passed_line files first now runner progress tally line number passed counted at =
     let reply = passed_reply files progress.carried line passed in
@@ -204,11 +204,11 @@ pub carried_sink : (reply : LineReply) (new : Carried) (before after : SinkState
 carried_sink reply new before after fault e carried = subst (λ (f : StepFault). WritesLine reply new before after (Err f)) e carried
 
 -- the reply to a line, by what the code has
-reply_at : (files : Files) (first mid : Trace) (runner : LineRunner) (progress : Progress) (tally : Tally) (line : Line) (reply : LineReply) → HasCarriedOut first mid runner progress tally
+reply_at : (files : Files) (first mid : Trace) (runner : LineRunner) (progress : ScriptProgress) (tally : Tally) (line : Line) (reply : LineReply) → HasCarriedOut first mid runner progress tally
     → reply_to_line files (carried_of runner.carrier) line ≡ reply → reply_to_line files progress.carried line ≡ reply
 reply_at files first mid runner progress tally line reply at told = ap (λ (c : Carried). reply_to_line files c line) (sym at.carried) ∙ told
 
-tally_reply_at : (files : Files) (first mid : Trace) (runner : LineRunner) (progress : Progress) (tally : Tally) (line : Line) (reply : LineReply) → HasCarriedOut first mid runner progress tally
+tally_reply_at : (files : Files) (first mid : Trace) (runner : LineRunner) (progress : ScriptProgress) (tally : Tally) (line : Line) (reply : LineReply) → HasCarriedOut first mid runner progress tally
     → reply_to_line files (carried_of runner.carrier) line ≡ reply → reply_to_line files (carried_in tally.watched) line ≡ reply
 tally_reply_at files first mid runner progress tally line reply at told = ap (λ (c : Carried). reply_to_line files c line) (sym (watching_same runner.carrier tally.watched at.tallied.watched)) ∙ told
 
@@ -234,7 +234,7 @@ refused_part start files first mid now runner lines line number refusal at refus
     }
 
 -- a line was refused, and that was written
-pub refused_at : (files : Files) (first mid now : Trace) (runner : LineRunner) (carrier : Carrier) (text : BufferedText) (progress : Progress) (tally : Tally) (line : Line) (number count : ℕ) (refusal : PlainRefusal)
+pub refused_at : (files : Files) (first mid now : Trace) (runner : LineRunner) (carrier : Carrier) (text : BufferedText) (progress : ScriptProgress) (tally : Tally) (line : Line) (number count : ℕ) (refusal : PlainRefusal)
     → HasCarriedOut first mid runner progress tally → carrier ≡ runner.carrier → now.work ≡ mid.work → now.fetches ≡ fetches_after (asked_by_line (carried_of runner.carrier) line) mid.fetches → reply_to_line files (carried_of runner.carrier) line ≡ Refused refusal → number ≡ progress.lines + 1
     → count ≡ progress.refused + 1 → Appends mid.gone now.gone (refused_line number refusal)
     → HasCarriedOut first now (record { carrier = carrier; lines = number; refused = count; text = text }) (after_line files progress line) (with_cost files tally line)
@@ -255,7 +255,7 @@ refused_at files first mid now runner carrier text progress tally line number co
     })
 
 -- a line was carried out, and its text was written
-pub done_at : (files : Files) (first mid now : Trace) (runner : LineRunner) (carrier : Carrier) (progress : Progress) (tally : Tally) (line : Line) (number : ℕ) (text : List ℕ) → HasCarriedOut first mid runner progress tally
+pub done_at : (files : Files) (first mid now : Trace) (runner : LineRunner) (carrier : Carrier) (progress : ScriptProgress) (tally : Tally) (line : Line) (number : ℕ) (text : List ℕ) → HasCarriedOut first mid runner progress tally
     → reply_to_line files (carried_of runner.carrier) line ≡ Done (carried_of carrier) text → number ≡ progress.lines + 1 → Appends mid.gone now.gone text → HasTallied first.work now.work carrier (with_cost files tally line)
     → now.fetches ≡ fetches_after (asked_by_line (carried_of runner.carrier) line) mid.fetches → HasCarriedOut first now (record runner { carrier = carrier; lines = number }) (after_line files progress line) (with_cost files tally line)
 done_at files first mid now runner carrier progress tally line number text at done counted gone tallied fetched =

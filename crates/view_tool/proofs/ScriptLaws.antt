@@ -88,15 +88,15 @@ ends_stopped start files first last new script taken bytes left stop lost count 
     stops_further start files first last (cut_of (taken ++ take left bytes)).lines more.0 (carried_lines script) stop more.1 stops
 
 -- what a run has taken of a source, of which at most n more bytes are taken
-pub record HasTaken (start : Carried) (shelf : Option Files) (before after : Option (List ℕ)) (first now : Trace) (run : Run) (left : ℕ) : Type 0 where
+pub record HasTakenBytes (start : Carried) (shelf : Option Files) (before after : Option (List ℕ)) (first now : Trace) (run : Run) (left : ℕ) : Type 0 where
   pub bytes : List ℕ
   pub consumed : Consumes before after bytes
   pub count : length bytes + left ≡ max_script
   pub behind : HasReadUpTo start shelf first now run bytes
 
 -- and once one piece more was read and carried out
-pub taken_on : (start : Carried) (shelf : Option Files) (before mid new : Option (List ℕ)) (first last now : Trace) (old run : Run) (left n : ℕ) (t : HasTaken start shelf before mid first last old left) → n ≤ left
-    → ReadsPiece start shelf first t.bytes left mid new now run (Ok n) → HasTaken start shelf before new first now run (left - n)
+pub taken_on : (start : Carried) (shelf : Option Files) (before mid new : Option (List ℕ)) (first last now : Trace) (old run : Run) (left n : ℕ) (t : HasTakenBytes start shelf before mid first last old left) → n ≤ left
+    → ReadsPiece start shelf first t.bytes left mid new now run (Ok n) → HasTakenBytes start shelf before new first now run (left - n)
 taken_on start shelf before mid new first last now old run left n t within p = record {
   bytes = t.bytes ++ p.bytes;
   consumed = Consumes-Consumes before mid new t.bytes p.bytes t.consumed p.consumed;

@@ -12,7 +12,7 @@ use Rattle.tool_io.specs.Fetched.{Files}
 use Rattle.view_tool.specs.Carried.{Carried, Stacked, LineReply, of_stack, reply_to_read}
 use Rattle.view_tool.specs.Carried as reply
 use Rattle.view_tool.specs.StackPage.{IsPageIsolated, all_asked, asked_of, read_or_none}
-use Rattle.view_tool.specs.Transcript.{Progress, after_from, after_line, after_reply, at_start, reply_to_line}
+use Rattle.view_tool.specs.Transcript.{ScriptProgress, after_from, after_line, after_reply, at_start, reply_to_line}
 use Rattle.window_stack.specs.StackLines.{PlainLine, stack_line_of}
 
 -- the stacks that lines make, one after another
@@ -23,7 +23,7 @@ abbrev carried_or : Carried → LineReply → Carried
 carried_or carried (reply.Done after text) = after
 carried_or carried (reply.Refused refusal) = carried
 
-after_carried : (progress : Progress) (reply : LineReply) → (after_reply progress reply).carried ≡ carried_or progress.carried reply
+after_carried : (progress : ScriptProgress) (reply : LineReply) → (after_reply progress reply).carried ≡ carried_or progress.carried reply
 after_carried progress (reply.Done after text) = refl
 after_carried progress (reply.Refused refusal) = refl
 
@@ -43,7 +43,7 @@ line_stack files stack (Text bytes) = elim (cases_Bool (is_passed_over bytes)) [
   | inr e ↦ rw e (read_stack files stack (stack_line_of bytes))
 ]
 
-lines_stack : (files : Files) (progress : Progress) (stack : PlainStack) (lines : List Line) → progress.carried ≡ Stacked stack
+lines_stack : (files : Files) (progress : ScriptProgress) (stack : PlainStack) (lines : List Line) → progress.carried ≡ Stacked stack
     → (fold (after_line files) progress lines).carried ≡ Stacked (stacks files stack (all_asked lines))
 lines_stack files progress stack [] e = e
 lines_stack files progress stack (line ∷ lines) e =

@@ -30,7 +30,7 @@ use Rattle.view_world.specs.Carried.{IsDone, WritesReply}
 use Rattle.view_world.specs.KeyedWorld.{KeyedWorld, world_of}
 use Rattle.view_world.specs.Step.{Reply, step}
 use Rattle.view_world.specs.Step as world
-use Rattle.view_world.specs.Watched.{Costs, HasBox, IsWatched, IsWorth, Watched, costs_of, watched_after, watched_in}
+use Rattle.view_world.specs.Watched.{LineCosts, HasBox, IsWatched, IsWorth, Watched, costs_of, watched_after, watched_in}
 use Rattle.view_world.specs.World.{World}
 use Rattle.view_world.specs.declared.fault.StepFault.{StepFault}
 use Rattle.view_world.specs.declared.fault.StepFault.TheVariants as fault
@@ -51,7 +51,7 @@ refused_in_world : (reply : Reply) (refusal : PlainRefusal) → of_world reply �
 refused_in_world (world.Done after text) refusal e = absurd (cc)
 refused_in_world (world.Refused other) refusal e = cc
 
-refused_command : (files : Files) (costs : Costs) (watched : Watched) (refusal : PlainRefusal) (command : Result PlainCommand LineFault) → reply_to_command files watched.world command ≡ world.Refused refusal
+refused_command : (files : Files) (costs : LineCosts) (watched : Watched) (refusal : PlainRefusal) (command : Result PlainCommand LineFault) → reply_to_command files watched.world command ≡ world.Refused refusal
     → after_command files costs watched command ≡ record { watched = WatchedWorld watched; costs = costs }
 refused_command files costs watched refusal (Ok command) e = ap (after_done costs watched command) e
 refused_command files costs watched refusal (Err fault) e = refl
@@ -60,12 +60,12 @@ refused_in_stack : (reply : StackReply) (refusal : PlainRefusal) → of_stack re
 refused_in_stack (stack_reply.Done after text) refusal e = absurd (cc)
 refused_in_stack (stack_reply.Refused other) refusal e = cc
 
-refused_read : (files : Files) (costs : Costs) (watched : WatchedStack) (refusal : PlainRefusal) (line : Result PlainLine LineFault) → reply_to_read files (plain_stack watched) line ≡ stack_reply.Refused refusal
+refused_read : (files : Files) (costs : LineCosts) (watched : WatchedStack) (refusal : PlainRefusal) (line : Result PlainLine LineFault) → reply_to_read files (plain_stack watched) line ≡ stack_reply.Refused refusal
     → after_read files costs watched line ≡ record { watched = WatchedWindows watched; costs = costs }
 refused_read files costs watched refusal (Ok line) e = ap (after_change files costs watched line) e
 refused_read files costs watched refusal (Err fault) e = refl
 
-refused_bytes : (files : Files) (costs : Costs) (watching : Watching) (refusal : PlainRefusal) (bytes : List ℕ) → reply_to_bytes files (carried_in watching) bytes ≡ Refused refusal
+refused_bytes : (files : Files) (costs : LineCosts) (watching : Watching) (refusal : PlainRefusal) (bytes : List ℕ) → reply_to_bytes files (carried_in watching) bytes ≡ Refused refusal
     → after_bytes files costs watching bytes ≡ record { watched = watching; costs = costs }
 refused_bytes files costs (WatchedWorld watched) refusal bytes e = refused_command files costs watched refusal (command_of bytes) (refused_in_world _ refusal e)
 refused_bytes files costs (WatchedWindows watched) refusal bytes e = refused_read files costs watched refusal (stack_line_of bytes) (refused_in_stack _ refusal e)
@@ -93,7 +93,7 @@ done_reply reply new before after (Err fault.Sink) w done = (w.0, w.1)
 done_reply reply new before after (Err fault.Shelf) w done = absurd done
 
 -- a line that a world carried out costs what its command does
-pub tallied_world : (files : Files) (first old new : Work) (before after : KeyedWorld) (costs : Costs) (watching : Watching) (bytes text : List ℕ) (command : PlainCommand)
+pub tallied_world : (files : Files) (first old new : Work) (before after : KeyedWorld) (costs : LineCosts) (watching : Watching) (bytes text : List ℕ) (command : PlainCommand)
     → command_of bytes ≡ Ok command → IsWatching (carrier.Alone before) watching → IsWorth costs first old → step files (world_of before) command ≡ world.Done (world_of after) text
     → ((box : Rect) → HasBox before box → IsWatched after (watched_after (watched_in before box) command (world_of after)))
     → ((box : Rect) → HasBox before box → IsWorth (costs_of (watched_in before box) command) old new)
@@ -116,7 +116,7 @@ done_in_stack reply new before after (Err fault.NoMemory) w done = absurd done
 done_in_stack reply new before after (Err fault.Sink) w done = (w.0, w.1)
 done_in_stack reply new before after (Err fault.Shelf) w done = absurd done
 
-pub tallied_stack : (files : Files) (first old new : Work) (before after : KeyedStack) (costs : Costs) (watching : Watching) (bytes text : List ℕ) (line : PlainLine) (result : Result (Unit {0}) StepFault)
+pub tallied_stack : (files : Files) (first old new : Work) (before after : KeyedStack) (costs : LineCosts) (watching : Watching) (bytes text : List ℕ) (line : PlainLine) (result : Result (Unit {0}) StepFault)
     → stack_line_of bytes ≡ Ok line → IsWatching (carrier.Stacked before) watching → IsWorth costs first old → stack_step files (stack_of before) line ≡ stack_reply.Done (stack_of after) text
     → WorksBy (way_of (stack_of before) line) before after result old new → IsDone result
     → HasTallied first new (carrier.Stacked after) (after_bytes files costs watching bytes)

@@ -6,10 +6,10 @@ use Rattle.script_lines.specs.Lines.{lines_of}
 use Rattle.sha2.specs.Sha256.{sha256}
 use Rattle.text_lines.specs.Joined.{◌⧺◌}
 use Rattle.view_tool.specs.declared.loading.Outcome.{Outcome}
-use Rattle.view_tool.specs.Transcript.{Progress, after_lines}
+use Rattle.view_tool.specs.Transcript.{ScriptProgress, after_lines}
 
 -- the results of lines
-abbrev pub outcome_after : Progress → Outcome
+abbrev pub outcome_after : ScriptProgress → Outcome
 outcome_after progress = record { lines = progress.lines; refused = progress.refused; digest = sha256 progress.text }
 
 -- the results of the load of a size, in a world of its own, without files

@@ -15,7 +15,7 @@ use Rattle.view_tool.specs.declared.run.Run.{Run}
 use Rattle.view_tool.specs.declared.run.Stop.{Stop}
 use Rattle.view_tool.specs.declared.run.Stop.TheVariants as stop
 use Rattle.view_tool.specs.Tally.{Tally, tally_from}
-use Rattle.view_tool.specs.Transcript.{Asks, MayWant, Progress, after_from}
+use Rattle.view_tool.specs.Transcript.{Asks, MayWant, ScriptProgress, after_from}
 use Rattle.view_tool.specs.Works.{Trace, raised_by, WorksBefore, WorksToFetch, WorksToWrite}
 use Rattle.view_world.specs.Watched.{IsWorth}
 use Rattle.view_world.specs.World.{empty_world}
@@ -41,7 +41,7 @@ pub record HasTallied (first now : Work) (carrier : Carrier) (tally : Tally) : T
 
 -- the state of a run so far: since its start its text was written, what was counted is worth what its lines cost, and
 -- the shelf was asked as often as its lines ask
-pub record HasCarriedOut (first now : Trace) (runner : LineRunner) (progress : Progress) (tally : Tally) : Type 0 where
+pub record HasCarriedOut (first now : Trace) (runner : LineRunner) (progress : ScriptProgress) (tally : Tally) : Type 0 where
   pub lines : runner.lines ≡ progress.lines
   pub carried : carried_of runner.carrier ≡ progress.carried
   pub refused : runner.refused ≡ progress.refused

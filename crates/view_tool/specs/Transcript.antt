@@ -30,18 +30,18 @@ Asks carried line = asked_by_line carried line ≢ None
 
 -- the lines so far: how many they are, what they made, what was written for them, how many were refused, and how many
 -- asked the shelf for a file
-pub record Progress : Type 0 where
+pub record ScriptProgress : Type 0 where
   pub lines : ℕ
   pub carried : Carried
   pub text : List ℕ
   pub refused : ℕ
   pub asked : ℕ
 
-abbrev pub at_start : Carried → Progress
+abbrev pub at_start : Carried → ScriptProgress
 at_start start = record { lines = 0; carried = start; text = []; refused = 0; asked = 0 }
 
 -- a refused line leaves everything as it was
-abbrev pub after_reply : Progress → LineReply → Progress
+abbrev pub after_reply : ScriptProgress → LineReply → ScriptProgress
 after_reply progress (Done carried text) = record progress { lines = progress.lines + 1; carried = carried; text = progress.text ++ text }
 after_reply progress (Refused refusal) =
     record progress { lines = progress.lines + 1; text = progress.text ++ refused_line (progress.lines + 1) refusal; refused = progress.refused + 1 }
@@ -52,25 +52,25 @@ after_asked asked None = asked
 after_asked asked (Some name) = suc asked
 
 -- the text of a reply to the next line
-abbrev pub reply_text : Progress → LineReply → List ℕ
+abbrev pub reply_text : ScriptProgress → LineReply → List ℕ
 reply_text progress (Done carried text) = text
 reply_text progress (Refused refusal) = refused_line (progress.lines + 1) refusal
 
 -- the text of the next line
-abbrev pub line_text : Files → Progress → Line → List ℕ
+abbrev pub line_text : Files → ScriptProgress → Line → List ℕ
 line_text files progress line = reply_text progress (reply_to_line files progress.carried line)
 
-abbrev pub after_line : Files → Progress → Line → Progress
+abbrev pub after_line : Files → ScriptProgress → Line → ScriptProgress
 after_line files progress line =
     let next = after_reply progress (reply_to_line files progress.carried line) in
     record next { asked = after_asked progress.asked (asked_by_line progress.carried line) }
 
 -- after these lines, from this start
-unfoldable pub after_from : Carried → Files → List Line → Progress
+unfoldable pub after_from : Carried → Files → List Line → ScriptProgress
 after_from start files lines = fold (after_line files) (at_start start) lines
 
 -- after these lines, from the empty world
-abbrev pub after_lines : Files → List Line → Progress
+abbrev pub after_lines : Files → List Line → ScriptProgress
 after_lines files lines = after_from (Alone empty_world) files lines
 
 -- the transcript of a script, with these files at hand

@@ -9,7 +9,7 @@ use Rattle.tool_io.specs.Fetched.{Files}
 use Rattle.view_model.specs.Visible.{no_rect}
 use Rattle.view_world.specs.Marks.{no_marks}
 use Rattle.view_world.specs.Step.{Reply, Done, Refused, step}
-use Rattle.view_world.specs.Watched.{Costs, Watched, costs_of, no_costs, watched_after}
+use Rattle.view_world.specs.Watched.{LineCosts, Watched, costs_of, no_costs, watched_after}
 use Rattle.view_world.specs.World.{World, empty_world}
 use Rattle.window_stack.specs.PlainPanes.{PlainPanes, is_open}
 
@@ -55,11 +55,11 @@ after_way files stack (RefusedBy number) = stack.worlds
 after_way files stack (ToStack change) = after_own stack change
 
 -- what a line costs that was carried out: only a command of a window costs anything
-abbrev pub costs_in : Option Watched → PlainCommand → Costs
+abbrev pub costs_in : Option Watched → PlainCommand → LineCosts
 costs_in None said = no_costs
 costs_in (Some watched) said = costs_of watched said
 
-abbrev pub costs_of_way : WatchedStack → PlainWay → Costs
+abbrev pub costs_of_way : WatchedStack → PlainWay → LineCosts
 costs_of_way stack (Given holder k said) = costs_in (watched_at stack.worlds k) said
 costs_of_way stack Missed = no_costs
 costs_of_way stack (RefusedBy number) = no_costs

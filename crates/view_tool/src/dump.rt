@@ -59,7 +59,8 @@ fn dump_found<K: Sink>(alloc: Global, found: Found, bytes: &[u8], sink: &mut K) 
 
 /// Prints a file, or reports what is wrong with it.
 fn dump_bytes<K: Sink>(alloc: Global, bytes: &[u8], sink: &mut K) -> u8
-    ensures dumps { Dumps (decoded_text (decoded bytes.now)) (is_fault (decoded bytes.now)) (K.state sink.old) (K.state sink.new) result }
+    ensures dumps { Dumps (decoded_text (decoded bytes.now)) (is_fault (decoded bytes.now))
+        (K.state sink.old) (K.state sink.new) result }
     ensures known { IsOneOf result (0 ∷ 1 ∷ 4 ∷ 5 ∷ []) }
     ensures nothing_written { result ≡ 5 → sink.new ≡ sink.old }
     ensures sink_failed { (K.state sink.new).faults

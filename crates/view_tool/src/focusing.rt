@@ -17,7 +17,6 @@ use crate::refusals::{put_counted, put_refused};
 use crate::run::{Run, Stop};
 use crate::script::{End, run_to_end};
 use focus_finder::{Side, next};
-use geom_core::Size;
 use script_lines::Name;
 use std::alloc::Global;
 use text_lines::TextBuffer;
@@ -44,7 +43,9 @@ pub fn focus_source<S: Source, K: Sink, F: Shelf>(
     sink: &mut K,
     work: &mut Work,
 ) -> Result<bool, End>
-    ensures asks { AsksFrom (F.files shelf.old) question (S.left source.old) (S.left source.new) (trace (K.state sink.old) work.old (F.fetches shelf.old)) (trace (K.state sink.new) work.new (F.fetches shelf.new)) result }
+    ensures asks { AsksFrom (F.files shelf.old) question
+        (S.left source.old) (S.left source.new) (trace (K.state sink.old) work.old (F.fetches shelf.old))
+        (trace (K.state sink.new) work.new (F.fetches shelf.new)) result }
     ensures files_stay { F.files shelf.new ≡ F.files shelf.old }
     ensures shelf_failed { CountsEnd (F.faults shelf.old) (F.faults shelf.new) result }
     ensures painted { work.old.painted ≤ work.new.painted }

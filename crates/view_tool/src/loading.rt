@@ -1,6 +1,6 @@
 //! The load, run in a world of its own.
 
-ghost use Rattle.std.specs.Prelude.{◌≡◌, ◌≢◌, ◌≤◌, ◌^◌, ◌==◌, ◌⊎◌, min, false, ◌-◌, [], ◌∷◌, None, Some, IfOk, IfErr, IfSome, length, if◌then◌else◌};
+ghost use Rattle.std.specs.Prelude.{◌≡◌, ◌≢◌, ◌≤◌, ◌^◌, ◌==◌, min, false, ◌-◌, [], ◌∷◌, None, Some, IfOk, IfErr, IfSome, length, if◌then◌else◌};
 ghost use Rattle.hex.specs.Hex.{encode_lower};
 ghost use Rattle.load_maker.specs.Load.{load};
 ghost use Rattle.script_lines.specs.Lines.{lines_of};
@@ -91,7 +91,10 @@ fn carried_out(
 ) -> Result<Run, Stop>
     requires short { length script.now ≤ max_script }
     ensures stopped { IfErr result (λ stop. WorksPart [] work.old work.new (lines_of script.now)) }
-    ensures runs { IfOk result (λ run. HasCarriedOut (record { gone = Some page.old.gone; work = work.old; fetches = None }) (record { gone = Some page.new.gone; work = work.new; fetches = None }) run.runner (after_lines [] (lines_of script.now)) (tally_from (Alone empty_world) [] (lines_of script.now))) }
+    ensures runs { IfOk result
+        (λ run. HasCarriedOut (record { gone = Some page.old.gone; work = work.old; fetches = None })
+        (record { gone = Some page.new.gone; work = work.new; fetches = None }) run.runner
+        (after_lines [] (lines_of script.now)) (tally_from (Alone empty_world) [] (lines_of script.now))) }
     ensures painted { work.old.painted ≤ work.new.painted }
     ensures measured { min work.old.measured (2 ^ 64 - 1) ≤ work.new.measured }
 {
@@ -104,7 +107,8 @@ fn carried_out(
 
 /// The results of a script that was carried out, of which this is the page.
 fn outcome_of(run: &Run, page: &MemorySink) -> Outcome
-    ensures { result ≡ record { lines = run.now.runner.lines; refused = run.now.runner.refused; digest = sha256 page.now.gone } }
+    ensures { result
+        ≡ record { lines = run.now.runner.lines; refused = run.now.runner.refused; digest = sha256 page.now.gone } }
 {
     let (lines, refused) = run.counts();
     Outcome {

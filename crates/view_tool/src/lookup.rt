@@ -36,7 +36,8 @@ pub fn lookup<K: Sink, F: Shelf>(
 ) -> u8
     ensures looks_up { (files : Files)
         → F.files shelf.old ≡ Some files
-        → Dumps (lookup_page files name.now (resource_ids ids.now)) (refuses_table files name.now) (K.state sink.old) (K.state sink.new) result }
+        → Dumps (lookup_page files name.now (resource_ids ids.now)) (refuses_table files name.now)
+        (K.state sink.old) (K.state sink.new) result }
     ensures known { IsOneOf result (0 ∷ 1 ∷ 4 ∷ 5 ∷ 6 ∷ []) }
     ensures nothing_written { (result ≡ 5) ⊎ (result ≡ 6) → sink.new ≡ sink.old }
     ensures sink_failed { (K.state sink.new).faults
@@ -65,7 +66,8 @@ fn lookup_found<K: Sink>(
 ) -> u8
     ensures looks_up { (files : Files) (name : List ℕ)
         → Fetched files name max_table found bytes.now
-        → Dumps (lookup_page files name (resource_ids ids.now)) (refuses_table files name) (K.state sink.old) (K.state sink.new) result }
+        → Dumps (lookup_page files name (resource_ids ids.now)) (refuses_table files name)
+        (K.state sink.old) (K.state sink.new) result }
     ensures known { IsOneOf result (0 ∷ 1 ∷ 4 ∷ 5 ∷ []) }
     ensures nothing_written { result ≡ 5 → sink.new ≡ sink.old }
     ensures sink_failed { (K.state sink.new).faults
@@ -80,7 +82,8 @@ fn lookup_found<K: Sink>(
 
 /// Writes what resources hold in the table of a file, or what is wrong with it.
 fn lookup_bytes<K: Sink>(alloc: Global, bytes: &[u8], ids: &[String], sink: &mut K) -> u8
-    ensures looks_up { Dumps (looked_up (resource_ids ids.now) (table_of bytes.now)) (is_broken (table_of bytes.now)) (K.state sink.old) (K.state sink.new) result }
+    ensures looks_up { Dumps (looked_up (resource_ids ids.now) (table_of bytes.now)) (is_broken (table_of bytes.now))
+        (K.state sink.old) (K.state sink.new) result }
     ensures known { IsOneOf result (0 ∷ 1 ∷ 4 ∷ 5 ∷ []) }
     ensures nothing_written { result ≡ 5 → sink.new ≡ sink.old }
     ensures sink_failed { (K.state sink.new).faults
@@ -103,7 +106,8 @@ fn write_values<K: Sink>(table: &Table, ids: &[String], sink: &mut K) -> Result<
 }
 
 fn put_values<K: Sink>(reply: &mut TextBuffer, sink: &mut K, table: &Table, ids: &[String])
-    ensures { Sends (K.state sink.old) (K.state sink.new) reply.old reply.new (value_lines table.now (resource_ids ids.now)) }
+    ensures { Sends (K.state sink.old) (K.state sink.new) reply.old reply.new
+        (value_lines table.now (resource_ids ids.now)) }
 {
     for word in ids {
         table.put_value(reply, sink, resource_id(word));

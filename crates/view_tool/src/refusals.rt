@@ -27,7 +27,8 @@ pub fn write_refusal<K: Sink>(
 }
 
 fn put_refusal<K: Sink>(reply: &mut TextBuffer, sink: &mut K, line: u64, refusal: &Refusal)
-    ensures { Sends (K.state sink.old) (K.state sink.new) reply.old reply.new (refused_line line (plain_refusal refusal.now)) }
+    ensures { Sends (K.state sink.old) (K.state sink.new) reply.old reply.new
+        (refused_line line (plain_refusal refusal.now)) }
 {
     reply.put(sink, b"line ");
     reply.natural(sink, line);

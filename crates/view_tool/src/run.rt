@@ -10,7 +10,7 @@ ghost use Rattle.view_tool.specs.Carried.{Carried};
 ghost use Rattle.view_tool.specs.Carrier.{IsFirst, WritesLine, carried_of, next_of};
 ghost use Rattle.view_tool.specs.Run.{CountsFetches, HasCarriedOut, HasReadUpTo, HasTallied, IsShort, StopsIn, WithFiles, line_now, lines_now, writes_counted};
 ghost use Rattle.view_tool.specs.Tally.{Tally, tally_from, with_cost};
-ghost use Rattle.view_tool.specs.Transcript.{Asks, MayWant, Progress, after_line, after_from, asked_by_line, is_idle, reply_to_line};
+ghost use Rattle.view_tool.specs.Transcript.{Asks, MayWant, ScriptProgress, after_line, after_from, asked_by_line, is_idle, reply_to_line};
 ghost use Rattle.view_tool.specs.Works.{Trace, trace};
 ghost use Rattle.view_world.specs.Carried.{CountsShelf, IsDone, faults_after_line, fetches_after};
 
@@ -58,16 +58,19 @@ impl LineRunner {
     ) -> Result<(), Stop>
         requires numbered { next_of self.old.carrier < NUMBERS_END }
         requires short { IsShort line }
-        ensures done { (files : Files) (first : Trace) (progress : Progress) (tally : Tally)
+        ensures done { (files : Files) (first : Trace) (progress : ScriptProgress) (tally : Tally)
             → F.files shelf.old ≡ Some files
             → progress.lines < 2 ^ 63
             → HasCarriedOut first (trace (K.state sink.old) work.old (F.fetches shelf.old)) self.old progress tally
-            → OnOk result (HasCarriedOut first (trace (K.state sink.new) work.new (F.fetches shelf.new)) self.new (after_line files progress (line_now line.entry)) (with_cost files tally (line_now line.entry))) }
+            → OnOk result (HasCarriedOut first (trace (K.state sink.new) work.new (F.fetches shelf.new)) self.new
+            (after_line files progress (line_now line.entry)) (with_cost files tally (line_now line.entry))) }
         ensures stopped { (start : Carried) (files : Files) (first : Trace) (lines : List Line)
             → F.files shelf.old ≡ Some files
             → length lines < 2 ^ 63
-            → HasCarriedOut first (trace (K.state sink.old) work.old (F.fetches shelf.old)) self.old (after_from start files lines) (tally_from start files lines)
-            → IfErr result (StopsIn start files first (trace (K.state sink.new) work.new (F.fetches shelf.new)) (lines ++ line_now line.entry ∷ [])) }
+            → HasCarriedOut first (trace (K.state sink.old) work.old (F.fetches shelf.old)) self.old
+            (after_from start files lines) (tally_from start files lines)
+            → IfErr result (StopsIn start files first (trace (K.state sink.new) work.new (F.fetches shelf.new))
+            (lines ++ line_now line.entry ∷ [])) }
         ensures numbers { next_of self.new.carrier ≤ next_of self.old.carrier + MAX_VIEWS }
         ensures files_stay { F.files shelf.new ≡ F.files shelf.old }
         ensures shelf_failed { CountsFetches (F.faults shelf.old) (F.faults shelf.new) result }
@@ -123,7 +126,8 @@ fn carry_out<K: Sink, F: Shelf>(
     requires counts { is_idle (line_now bytes) ≡ false }
     ensures carried { (files : Files)
         → F.files shelf.old ≡ Some files
-        → WritesLine (reply_to_line files (carried_of carrier.old) (line_now bytes.entry)) (carried_of carrier.new) (K.state sink.old) (K.state sink.new) result }
+        → WritesLine (reply_to_line files (carried_of carrier.old) (line_now bytes.entry)) (carried_of carrier.new)
+        (K.state sink.old) (K.state sink.new) result }
     ensures unchanged { IsDone result ⊎ ((carrier.new ≡ carrier.old) × (sink.new ≡ sink.old)) }
     ensures tallied { (files : Files) (tally : Tally) (first : Work)
         → F.files shelf.old ≡ Some files
@@ -227,12 +231,16 @@ impl Run {
         ensures some { 0 < length piece.now → IfOk result (λ n. 0 < n) }
         ensures done { (start : Carried) (first : Trace) (before : List ℕ)
             → length before < 2 ^ 63
-            → HasReadUpTo start (F.files shelf.old) first (trace (K.state sink.old) work.old (F.fetches shelf.old)) self.old before
-            → IfOk result (λ n. HasReadUpTo start (F.files shelf.old) first (trace (K.state sink.new) work.new (F.fetches shelf.new)) self.new (before ++ take n piece.now)) }
+            → HasReadUpTo start (F.files shelf.old) first
+            (trace (K.state sink.old) work.old (F.fetches shelf.old)) self.old before
+            → IfOk result (λ n. HasReadUpTo start (F.files shelf.old) first
+            (trace (K.state sink.new) work.new (F.fetches shelf.new)) self.new (before ++ take n piece.now)) }
         ensures stopped { (start : Carried) (first : Trace) (before : List ℕ)
             → length before < 2 ^ 63
-            → HasReadUpTo start (F.files shelf.old) first (trace (K.state sink.old) work.old (F.fetches shelf.old)) self.old before
-            → IfErr result (λ stop. WithFiles (F.files shelf.old) (λ files. StopsIn start files first (trace (K.state sink.new) work.new (F.fetches shelf.new)) (cut_of (before ++ piece.now)).lines stop)) }
+            → HasReadUpTo start (F.files shelf.old) first
+            (trace (K.state sink.old) work.old (F.fetches shelf.old)) self.old before
+            → IfErr result (λ stop. WithFiles (F.files shelf.old) (λ files. StopsIn start files first
+            (trace (K.state sink.new) work.new (F.fetches shelf.new)) (cut_of (before ++ piece.now)).lines stop)) }
         ensures numbers { next_of self.new.runner.carrier ≤ next_of self.old.runner.carrier + MAX_VIEWS }
         ensures files_stay { F.files shelf.new ≡ F.files shelf.old }
         ensures shelf_failed { CountsFetches (F.faults shelf.old) (F.faults shelf.new) result }
@@ -260,13 +268,18 @@ impl Run {
         requires { next_of self.old.runner.carrier + MAX_VIEWS * length piece.now < NUMBERS_END }
         ensures done { (start : Carried) (first : Trace) (before : List ℕ)
             → length (before ++ piece.now) < 2 ^ 63
-            → HasReadUpTo start (F.files shelf.old) first (trace (K.state sink.old) work.old (F.fetches shelf.old)) self.old before
-            → OnOk result (HasReadUpTo start (F.files shelf.old) first (trace (K.state sink.new) work.new (F.fetches shelf.new)) self.new (before ++ piece.now)) }
+            → HasReadUpTo start (F.files shelf.old) first
+            (trace (K.state sink.old) work.old (F.fetches shelf.old)) self.old before
+            → OnOk result (HasReadUpTo start (F.files shelf.old) first
+            (trace (K.state sink.new) work.new (F.fetches shelf.new)) self.new (before ++ piece.now)) }
         ensures stopped { (start : Carried) (first : Trace) (before : List ℕ)
             → length (before ++ piece.now) < 2 ^ 63
-            → HasReadUpTo start (F.files shelf.old) first (trace (K.state sink.old) work.old (F.fetches shelf.old)) self.old before
-            → IfErr result (λ stop. WithFiles (F.files shelf.old) (λ files. StopsIn start files first (trace (K.state sink.new) work.new (F.fetches shelf.new)) (cut_of (before ++ piece.now)).lines stop)) }
-        ensures numbers { next_of self.new.runner.carrier ≤ next_of self.old.runner.carrier + MAX_VIEWS * length piece.now }
+            → HasReadUpTo start (F.files shelf.old) first
+            (trace (K.state sink.old) work.old (F.fetches shelf.old)) self.old before
+            → IfErr result (λ stop. WithFiles (F.files shelf.old) (λ files. StopsIn start files first
+            (trace (K.state sink.new) work.new (F.fetches shelf.new)) (cut_of (before ++ piece.now)).lines stop)) }
+        ensures numbers { next_of self.new.runner.carrier
+            ≤ next_of self.old.runner.carrier + MAX_VIEWS * length piece.now }
         ensures files_stay { F.files shelf.new ≡ F.files shelf.old }
         ensures shelf_failed { CountsFetches (F.faults shelf.old) (F.faults shelf.new) result }
         ensures painted { work.old.painted ≤ work.new.painted }
@@ -292,13 +305,17 @@ impl Run {
         ensures done { (start : Carried) (files : Files) (first : Trace) (script : List ℕ)
             → F.files shelf.old ≡ Some files
             → length script < 2 ^ 63
-            → HasReadUpTo start (F.files shelf.old) first (trace (K.state sink.old) work.old (F.fetches shelf.old)) self.old script
-            → OnOk result (HasCarriedOut first (trace (K.state sink.new) work.new (F.fetches shelf.new)) self.new.runner (after_from start files (lines_of script)) (tally_from start files (lines_of script))) }
+            → HasReadUpTo start (F.files shelf.old) first
+            (trace (K.state sink.old) work.old (F.fetches shelf.old)) self.old script
+            → OnOk result (HasCarriedOut first (trace (K.state sink.new) work.new (F.fetches shelf.new)) self.new.runner
+            (after_from start files (lines_of script)) (tally_from start files (lines_of script))) }
         ensures stopped { (start : Carried) (files : Files) (first : Trace) (script : List ℕ)
             → F.files shelf.old ≡ Some files
             → length script < 2 ^ 63
-            → HasReadUpTo start (F.files shelf.old) first (trace (K.state sink.old) work.old (F.fetches shelf.old)) self.old script
-            → IfErr result (StopsIn start files first (trace (K.state sink.new) work.new (F.fetches shelf.new)) (lines_of script)) }
+            → HasReadUpTo start (F.files shelf.old) first
+            (trace (K.state sink.old) work.old (F.fetches shelf.old)) self.old script
+            → IfErr result
+            (StopsIn start files first (trace (K.state sink.new) work.new (F.fetches shelf.new)) (lines_of script)) }
         ensures files_stay { F.files shelf.new ≡ F.files shelf.old }
         ensures shelf_failed { CountsFetches (F.faults shelf.old) (F.faults shelf.new) result }
         ensures painted { work.old.painted ≤ work.new.painted }

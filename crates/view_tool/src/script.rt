@@ -58,11 +58,14 @@ fn carry_piece<K: Sink, F: Shelf>(
     requires numbers { next_of run.old.runner.carrier + MAX_VIEWS * (left + 1) < NUMBERS_END }
     ensures comes { (start : Carried) (first : Trace) (before : List ℕ)
         → length before + left ≡ MAX_SCRIPT
-        → HasReadUpTo start (F.files shelf.old) first (trace (K.state sink.old) work.old (F.fetches shelf.old)) run.old before
-        → Comes start (F.files shelf.old) first before left piece.now (trace (K.state sink.new) work.new (F.fetches shelf.new)) run.new result }
+        → HasReadUpTo start (F.files shelf.old) first
+        (trace (K.state sink.old) work.old (F.fetches shelf.old)) run.old before
+        → Comes start (F.files shelf.old) first before left piece.now
+        (trace (K.state sink.new) work.new (F.fetches shelf.new)) run.new result }
     ensures count { IfOk result (λ n. n ≡ length piece.now) }
     ensures most { IfOk result (λ n. n ≤ left) }
-    ensures numbers { IfOk result (λ n. next_of run.new.runner.carrier ≤ next_of run.old.runner.carrier + MAX_VIEWS * n) }
+    ensures numbers { IfOk result (λ n. next_of run.new.runner.carrier
+        ≤ next_of run.old.runner.carrier + MAX_VIEWS * n) }
     ensures files_stay { F.files shelf.new ≡ F.files shelf.old }
     ensures shelf_failed { CountsEnd (F.faults shelf.old) (F.faults shelf.new) result }
     ensures painted { work.old.painted ≤ work.new.painted }
@@ -96,11 +99,14 @@ fn read_piece<S: Source, K: Sink, F: Shelf>(
     requires numbers { next_of run.old.runner.carrier + MAX_VIEWS * (left + 1) < NUMBERS_END }
     ensures reads { (start : Carried) (first : Trace) (before : List ℕ)
         → length before + left ≡ MAX_SCRIPT
-        → HasReadUpTo start (F.files shelf.old) first (trace (K.state sink.old) work.old (F.fetches shelf.old)) run.old before
-        → ReadsPiece start (F.files shelf.old) first before left (S.left source.old) (S.left source.new) (trace (K.state sink.new) work.new (F.fetches shelf.new)) run.new result }
+        → HasReadUpTo start (F.files shelf.old) first
+        (trace (K.state sink.old) work.old (F.fetches shelf.old)) run.old before
+        → ReadsPiece start (F.files shelf.old) first before left (S.left source.old) (S.left source.new)
+        (trace (K.state sink.new) work.new (F.fetches shelf.new)) run.new result }
     ensures end { result ≡ Ok 0 → IsAtEnd (S.left source.new) }
     ensures most { IfOk result (λ n. n ≤ left) }
-    ensures numbers { IfOk result (λ n. next_of run.new.runner.carrier ≤ next_of run.old.runner.carrier + MAX_VIEWS * n) }
+    ensures numbers { IfOk result (λ n. next_of run.new.runner.carrier
+        ≤ next_of run.old.runner.carrier + MAX_VIEWS * n) }
     ensures files_stay { F.files shelf.new ≡ F.files shelf.old }
     ensures shelf_failed { CountsEnd (F.faults shelf.old) (F.faults shelf.new) result }
     ensures painted { work.old.painted ≤ work.new.painted }
@@ -124,13 +130,17 @@ pub fn run_to_end<S: Source, K: Sink, F: Shelf>(
     sink: &mut K,
     work: &mut Work,
 ) -> Result<bool, End>
-    requires behind { (files : Option Files) (first : Trace) → HasReadUpTo (carried_of run.old.runner.carrier) files first first run.old [] }
+    requires behind { (files : Option Files) (first : Trace)
+        → HasReadUpTo (carried_of run.old.runner.carrier) files first first run.old [] }
     requires numbers { next_of run.old.runner.carrier ≡ 1 }
-    ensures runs { RunsFrom (carried_of run.old.runner.carrier) (F.files shelf.old) (S.left source.old) (S.left source.new) (trace (K.state sink.old) work.old (F.fetches shelf.old)) (trace (K.state sink.new) work.new (F.fetches shelf.new)) result }
+    ensures runs { RunsFrom (carried_of run.old.runner.carrier) (F.files shelf.old)
+        (S.left source.old) (S.left source.new) (trace (K.state sink.old) work.old (F.fetches shelf.old))
+        (trace (K.state sink.new) work.new (F.fetches shelf.new)) result }
     ensures world { (files : Files) (script : List ℕ)
         → F.files shelf.old ≡ Some files
         → S.left source.old ≡ Some script
-        → OnOk result (carried_of run.new.runner.carrier ≡ (after_from (carried_of run.old.runner.carrier) files (lines_of script)).carried) }
+        → OnOk result (carried_of run.new.runner.carrier
+        ≡ (after_from (carried_of run.old.runner.carrier) files (lines_of script)).carried) }
     ensures files_stay { F.files shelf.new ≡ F.files shelf.old }
     ensures shelf_failed { CountsEnd (F.faults shelf.old) (F.faults shelf.new) result }
     ensures painted { work.old.painted ≤ work.new.painted }

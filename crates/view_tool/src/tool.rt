@@ -54,9 +54,9 @@ pub fn tool<S: Source, K: Sink, F: Shelf>(
     // the dispatch rules alone; if memory runs out, or the given source, sink or shelf fails, they are a prefix of
     // these.
     //
-    // It covers all lines: a tree of views is built, edited, inflated from layout files, measured, laid out, painted and
-    // touched, hooks change it in the middle of a frame, offsets and texts are saved and restored, and bounds, colours and digests
-    // are printed.
+    // It covers all lines: a tree of views is built, edited, inflated from layout files, measured, laid out, painted
+    // and touched, hooks change it in the middle of a frame, offsets and texts are saved and restored, and bounds,
+    // colours and digests are printed.
     ensures headline { (script : List ℕ) (files : Files)
         → IsRunOf (usage words.now) (S.left source.old) (F.files shelf.old) script files
         → length script ≤ max_script
@@ -101,7 +101,8 @@ pub fn tool<S: Source, K: Sink, F: Shelf>(
     // The call that failed is the one that the status reports, and after it nothing more is asked of that object: its
     // count of failed calls is one higher, and each other count is as it was. Running out of memory may count as a
     // failed fetch.
-    ensures source_failed { S.faults source.new ≡ (if result == 3 then raised (S.faults source.old) else S.faults source.old) }
+    ensures source_failed { S.faults source.new
+        ≡ (if result == 3 then raised (S.faults source.old) else S.faults source.old) }
     ensures sink_failed { (K.state sink.new).faults
         ≡ (if result == 4 then raised (K.state sink.old).faults else (K.state sink.old).faults) }
     ensures shelf_failed { result ≢ 5
@@ -157,19 +158,23 @@ pub fn tool<S: Source, K: Sink, F: Shelf>(
     ensures measured_later { min work.old.measured (2 ^ 64 - 1) ≤ work.new.measured }
     ensures dump_measures_nothing { (name : List ℕ) → usage words.now ≡ Dump name → work.new ≡ work.old }
 
-    // The work of a run, in whatever way it ends: of the frames that were carried out it measures at most as many views, and
-    // paints at least and at most as many pixels, as they cost in the plain world. All lines of the script were carried out
-    // where the run ended by itself, and else the first ones: the very lines whose texts were written. The work of a load
-    // is that of its script. Of a script with a question after it `focus_ends` says the same, of one for a stack of windows
-    // `stack_works`, and nothing else is counted.
+    // The work of a run, in whatever way it ends: of the frames that were carried out it measures at most as many
+    // views, and paints at least and at most as many pixels, as they cost in the plain world. All lines of the script
+    // were carried out where the run ended by itself, and else the first ones: the very lines whose texts were written.
+    // The work of a load is that of its script. Of a script with a question after it `focus_ends` says the same, of one
+    // for a stack of windows `stack_works`, and nothing else is counted.
     ensures worth { (script : List ℕ) (files : Files)
         → IsRunOf (usage words.now) (S.left source.old) (F.files shelf.old) script files
         → IsComplete result
         → IsWorth (costs_of_script script files) work.old work.new }
     ensures works { (script : List ℕ) (files : Files)
         → IsRunOf (usage words.now) (S.left source.old) (F.files shelf.old) script files
-        → WorksWith files script (S.left source.new) (trace (K.state sink.old) work.old (F.fetches shelf.old)) (trace (K.state sink.new) work.new (F.fetches shelf.new)) result }
-    ensures gen_worth { (n : ℕ) → usage words.now ≡ Gen n → result ≢ 5 → IsWorth (costs_of_script (load n) []) work.old work.new }
+        → WorksWith files script (S.left source.new) (trace (K.state sink.old) work.old (F.fetches shelf.old))
+        (trace (K.state sink.new) work.new (F.fetches shelf.new)) result }
+    ensures gen_worth { (n : ℕ)
+        → usage words.now ≡ Gen n
+        → result ≢ 5
+        → IsWorth (costs_of_script (load n) []) work.old work.new }
     ensures gen_works { (n : ℕ) → usage words.now ≡ Gen n → WorksPart [] work.old work.new (lines_of (load n)) }
     ensures uncounted { usage words.now ≢ Run
         → usage words.now ≢ Stack
@@ -178,7 +183,9 @@ pub fn tool<S: Source, K: Sink, F: Shelf>(
         → work.new ≡ work.old }
 
     // The results of the load of a size, in a world of its own. Neither the source nor the shelf is asked.
-    ensures load { (n : ℕ) → usage words.now ≡ Gen n → Writes result (K.state sink.old).gone (K.state sink.new).gone (gen_page n) }
+    ensures load { (n : ℕ)
+        → usage words.now ≡ Gen n
+        → Writes result (K.state sink.old).gone (K.state sink.new).gone (gen_page n) }
     ensures gen_accepts { (n : ℕ) → usage words.now ≡ Gen n → IsComplete result → result ≡ 0 }
     ensures gen_alone { (n : ℕ) → usage words.now ≡ Gen n → (source.new ≡ source.old) × (shelf.new ≡ shelf.old) }
     ensures gen_no_memory { (n : ℕ) → usage words.now ≡ Gen n → result ≡ 5 → sink.new ≡ sink.old }
@@ -213,10 +220,10 @@ pub fn tool<S: Source, K: Sink, F: Shelf>(
         → (Rose (F.faults shelf.old) (F.faults shelf.new) → ⊥)
         → IsComplete result ⊎ (result ≡ 5) }
 
-    // Which view gets the focus next after a script: its transcript and then the answer, which is that of the plain world
-    // after its lines, or the refusal of a `bounds` line of the same view. Where the run ends by another status than 0 or 1,
-    // no question is answered, and what was written, counted, read and fetched is as of the run alone; but a write may fail
-    // at the answer too.
+    // Which view gets the focus next after a script: its transcript and then the answer, which is that of the plain
+    // world after its lines, or the refusal of a `bounds` line of the same view. Where the run ends by another status
+    // than 0 or 1, no question is answered, and what was written, counted, read and fetched is as of the run alone; but
+    // a write may fail at the answer too.
     ensures focus { (script : List ℕ) (files : Files) (question : Question)
         → IsFocusOf (usage words.now) (S.left source.old) (F.files shelf.old) script files question
         → length script ≤ max_script
@@ -225,10 +232,14 @@ pub fn tool<S: Source, K: Sink, F: Shelf>(
         → IsFocusOf (usage words.now) (S.left source.old) (F.files shelf.old) script files question
         → IsComplete result
         → result ≡ (if refuses_focus script files question then 1 else 0) }
-    ensures focus_read_to_end { (question : Question) → usage words.now ≡ Focus question → IsComplete result → IsAtEnd (S.left source.new) }
+    ensures focus_read_to_end { (question : Question)
+        → usage words.now ≡ Focus question
+        → IsComplete result
+        → IsAtEnd (S.left source.new) }
     ensures focus_ends { (script : List ℕ) (files : Files) (question : Question)
         → IsFocusOf (usage words.now) (S.left source.old) (F.files shelf.old) script files question
-        → AsksWith files script question (S.left source.new) (trace (K.state sink.old) work.old (F.fetches shelf.old)) (trace (K.state sink.new) work.new (F.fetches shelf.new)) result }
+        → AsksWith files script question (S.left source.new) (trace (K.state sink.old) work.old (F.fetches shelf.old))
+        (trace (K.state sink.new) work.new (F.fetches shelf.new)) result }
     ensures focus_worth { (script : List ℕ) (files : Files) (question : Question)
         → IsFocusOf (usage words.now) (S.left source.old) (F.files shelf.old) script files question
         → IsComplete result
@@ -281,17 +292,20 @@ pub fn tool<S: Source, K: Sink, F: Shelf>(
         → (Rose (F.faults shelf.old) (F.faults shelf.new) → ⊥)
         → IsComplete result ⊎ (result ≡ 5) }
 
-    // How often the shelf is asked, if it counts that: by a run once for each line that is carried out and asks for a file,
-    // whatever comes of it, by a print or a look-up once, and by a load not at all. Of a run that stopped `works` says it,
-    // and of the others `focus_ends` and `stack_works`: the line in which it stopped has asked too, if it asks.
+    // How often the shelf is asked, if it counts that: by a run once for each line that is carried out and asks for a
+    // file, whatever comes of it, by a print or a look-up once, and by a load not at all. Of a run that stopped `works`
+    // says it, and of the others `focus_ends` and `stack_works`: the line in which it stopped has asked too, if it
+    // asks.
     ensures fetched { (script : List ℕ) (files : Files)
         → IsRunOf (usage words.now) (S.left source.old) (F.files shelf.old) script files
         → IsComplete result
-        → F.fetches shelf.new ≡ raised_by (fetches_from (Alone empty_world) files (lines_of script)) (F.fetches shelf.old) }
+        → F.fetches shelf.new ≡ raised_by
+        (fetches_from (Alone empty_world) files (lines_of script)) (F.fetches shelf.old) }
     ensures stack_fetched { (script : List ℕ) (files : Files)
         → IsStackOf (usage words.now) (S.left source.old) (F.files shelf.old) script files
         → IsComplete result
-        → F.fetches shelf.new ≡ raised_by (fetches_from (Stacked empty_stack) files (lines_of script)) (F.fetches shelf.old) }
+        → F.fetches shelf.new ≡ raised_by
+        (fetches_from (Stacked empty_stack) files (lines_of script)) (F.fetches shelf.old) }
     ensures dump_fetched { (name : List ℕ)
         → usage words.now ≡ Dump name
         → F.fetches shelf.new ≡ one_more (F.fetches shelf.old) }
@@ -321,18 +335,21 @@ fn run<S: Source, K: Sink, F: Shelf>(
     ensures runs { (files : Files) (script : List ℕ)
         → F.files shelf.old ≡ Some files
         → S.left source.old ≡ Some script
-        → RunsWith (Alone empty_world) files script (S.left source.new) (K.state sink.old).gone (K.state sink.new).gone result }
+        → RunsWith (Alone empty_world) files script (S.left source.new) (K.state sink.old).gone
+        (K.state sink.new).gone result }
     ensures works { (files : Files) (script : List ℕ)
         → F.files shelf.old ≡ Some files
         → S.left source.old ≡ Some script
-        → WorksWith files script (S.left source.new) (trace (K.state sink.old) work.old (F.fetches shelf.old)) (trace (K.state sink.new) work.new (F.fetches shelf.new)) result }
+        → WorksWith files script (S.left source.new) (trace (K.state sink.old) work.old (F.fetches shelf.old))
+        (trace (K.state sink.new) work.new (F.fetches shelf.new)) result }
     ensures known { IsOneOf result (0 ∷ 1 ∷ 3 ∷ 4 ∷ 5 ∷ 6 ∷ 7 ∷ []) }
     ensures whole { result ≢ 3 → result ≢ 4 → result ≢ 6 → result ≢ 7 → IsComplete result ⊎ (result ≡ 5) }
     ensures read_to_end { IsComplete result → IsAtEnd (S.left source.new) }
     ensures taken { (taken : List ℕ)
         × Consumes (S.left source.old) (S.left source.new) taken
         × (length taken ≤ max_script + 1) }
-    ensures source_failed { S.faults source.new ≡ (if result == 3 then raised (S.faults source.old) else S.faults source.old) }
+    ensures source_failed { S.faults source.new
+        ≡ (if result == 3 then raised (S.faults source.old) else S.faults source.old) }
     ensures sink_failed { (K.state sink.new).faults
         ≡ (if result == 4 then raised (K.state sink.old).faults else (K.state sink.old).faults) }
     ensures shelf_failed { result ≢ 5
@@ -398,14 +415,16 @@ fn focus<S: Source, K: Sink, F: Shelf>(
     ensures asks { (files : Files) (script : List ℕ)
         → F.files shelf.old ≡ Some files
         → S.left source.old ≡ Some script
-        → AsksWith files script question (S.left source.new) (trace (K.state sink.old) work.old (F.fetches shelf.old)) (trace (K.state sink.new) work.new (F.fetches shelf.new)) result }
+        → AsksWith files script question (S.left source.new) (trace (K.state sink.old) work.old (F.fetches shelf.old))
+        (trace (K.state sink.new) work.new (F.fetches shelf.new)) result }
     ensures known { IsOneOf result (0 ∷ 1 ∷ 3 ∷ 4 ∷ 5 ∷ 6 ∷ 7 ∷ []) }
     ensures whole { result ≢ 3 → result ≢ 4 → result ≢ 6 → result ≢ 7 → IsComplete result ⊎ (result ≡ 5) }
     ensures read_to_end { IsComplete result → IsAtEnd (S.left source.new) }
     ensures taken { (taken : List ℕ)
         × Consumes (S.left source.old) (S.left source.new) taken
         × (length taken ≤ max_script + 1) }
-    ensures source_failed { S.faults source.new ≡ (if result == 3 then raised (S.faults source.old) else S.faults source.old) }
+    ensures source_failed { S.faults source.new
+        ≡ (if result == 3 then raised (S.faults source.old) else S.faults source.old) }
     ensures sink_failed { (K.state sink.new).faults
         ≡ (if result == 4 then raised (K.state sink.old).faults else (K.state sink.old).faults) }
     ensures shelf_failed { result ≢ 5

@@ -1,6 +1,6 @@
 //! What the words after the name of the tool ask for.
 
-ghost use Rattle.std.specs.Prelude.{◌≡◌, ◌≤◌, Some, IfSome, string_bytes};
+ghost use Rattle.std.specs.Prelude.{◌≡◌, Some, IfSome, string_bytes};
 ghost use Rattle.std.specs.Str.{bytes_eq};
 ghost use Rattle.view_tool.specs.Usage.{HasSize, are_ids, dump_usage, focus_usage, form_now, gen_of, gen_usage, is_resource_id, long_usage, lookup_usage, name_from, pair_usage, resource_id, run_usage, side_of, usage};
 

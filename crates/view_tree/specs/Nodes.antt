@@ -1,7 +1,7 @@
 -- How the nodes of a tree represent its views.
 use Rattle.std.specs.declared.hash.BuildHasherDefault.{BuildHasherDefault}
 use Rattle.std.specs.declared.hash.FoldHasher.{FoldHasher}
-use Rattle.std.specs.Prelude.{ℕ, zero, suc, ◌≡◌, ◌<◌, ◌≤◌, ◌==◌, ◌^◌, nat_eq, map, Bool, false, [], Option, Some, None, if◌then◌else◌, option_map, ◌⊎◌}
+use Rattle.std.specs.Prelude.{ℕ, zero, suc, ◌≡◌, ◌<◌, ◌≤◌, ◌==◌, nat_eq, map, Bool, false, [], Option, Some, None, if◌then◌else◌, option_map, ◌⊎◌}
 use Rattle.slab.specs.Slab.{Slab, get, slab_len}
 use Rattle.slab_link.specs.declared.link.TheConstants.{LINKS_END}
 use Rattle.indexmap.specs.IndexMap.{IndexMap, get as get_key, hasher_of}
@@ -184,7 +184,7 @@ pub record IsPlanted (inside : Inside) : Type 0 where
   pub small : (key : ℕ) → 0 < count_of_key key (tree_of inside) → key < LINKS_END
 
 -- and what is kept of each relative layout is right, and nothing else is kept
-pub record IsSound (inside : Inside) : Type 0 where
+pub record IsSoundTree (inside : Inside) : Type 0 where
   pub planted : IsPlanted inside
   pub grouped : IsGrouped (group_at inside.groups) (plain_of (value_of inside))
   pub only : HasNoOther (group_at inside.groups) (tree_of inside)

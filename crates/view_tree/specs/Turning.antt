@@ -1,6 +1,6 @@
 -- How the nodes of a tree turn with their parents.
-use Rattle.std.specs.Prelude.{◌≡◌, ℕ, suc, ◌<◌, ◌≤◌, Bool, true, if◌then◌else◌, not, [], Option, Some, option_map}
-use Rattle.slab.specs.Slab.{Slab, get}
+use Rattle.std.specs.Prelude.{◌≡◌, ℕ, suc, ◌≤◌, Bool, true, if◌then◌else◌, not, [], Option, Some, option_map}
+use Rattle.slab.specs.Slab.{Slab}
 use Rattle.view_model.specs.declared.limits.TheConstants.{MAX_VIEWS}
 use Rattle.view_model.specs.Direction.{dir}
 use Rattle.view_model.specs.Forest.{Forest, Nothing, Branch, count_of}

@@ -73,7 +73,9 @@ fn push_kid(group: &mut Group, kid: u64)
 pub fn add_kid(groups: &mut IndexMap<u64, Group>, parent: u64, kid: u64)
     requires room { IfSome (held_at nat_eq groups.old parent) HasKidRoom }
     requires few { IfSome (group_at groups.old parent) (λ group. length group.kids < 2 ^ 32) }
-    ensures groups { (k : ℕ) → group_at groups.new k ≡ (if nat_eq parent k then option_map (with_kid kid) (group_at groups.old k) else group_at groups.old k) }
+    ensures groups { (k : ℕ)
+        → group_at groups.new k
+        ≡ (if nat_eq parent k then option_map (with_kid kid) (group_at groups.old k) else group_at groups.old k) }
     ensures spare { spare groups.new ≡ spare groups.old }
 {
     if let Some(group) = groups.get_mut(&parent) {
@@ -143,7 +145,8 @@ pub fn make_group_room(
 /// Inserts a group under its number.
 pub fn note_group(groups: &mut IndexMap<u64, Group>, number: u64, group: Group)
     requires { 0 < spare groups.old }
-    ensures groups { (k : ℕ) → group_at groups.new k ≡ (if nat_eq number k then Some (plain_group group) else group_at groups.old k) }
+    ensures groups { (k : ℕ)
+        → group_at groups.new k ≡ (if nat_eq number k then Some (plain_group group) else group_at groups.old k) }
     ensures spare { spare groups.old ≤ spare groups.new + 1 }
 {
     match groups.insert(number, group) {
@@ -182,9 +185,15 @@ pub fn join_group(groups: &mut IndexMap<u64, Group>, parent: Option<u64>, number
     requires room { (k : ℕ) → parent ≡ Some k → IfSome (held_at nat_eq groups.old k) HasKidRoom }
     requires few { (k : ℕ) → parent ≡ Some k → IfSome (group_at groups.old k) (λ group. length group.kids < 2 ^ 32) }
     ensures own { is_relative class ≡ true → group_at groups.new number ≡ Some no_group }
-    ensures parent { (k : ℕ) → parent ≡ Some k → k ≢ number → group_at groups.new k ≡ option_map (with_kid number) (group_at groups.old k) }
+    ensures parent { (k : ℕ)
+        → parent ≡ Some k
+        → k ≢ number
+        → group_at groups.new k ≡ option_map (with_kid number) (group_at groups.old k) }
     ensures others { (k : ℕ) → parent ≢ Some k → k ≢ number → group_at groups.new k ≡ group_at groups.old k }
-    ensures unused { (k : ℕ) → (is_relative class ≡ true → k ≢ number) → group_at groups.old k ≡ None → group_at groups.new k ≡ None }
+    ensures unused { (k : ℕ)
+        → (is_relative class ≡ true → k ≢ number)
+        → group_at groups.old k ≡ None
+        → group_at groups.new k ≡ None }
 {
     if let Some(parent) = parent {
         add_kid(groups, parent, number);
@@ -197,7 +206,10 @@ pub fn join_group(groups: &mut IndexMap<u64, Group>, parent: Option<u64>, number
 
 /// Records that a view is taken out, a child of the view of the number `parent`, if it had a parent.
 pub fn leave_group(groups: &mut IndexMap<u64, Group>, parent: Option<u64>, number: u64)
-    ensures own { (k : ℕ) → parent ≡ Some k → k ≢ number → IsTakenAt number (group_at groups.old k) (group_at groups.new k) }
+    ensures own { (k : ℕ)
+        → parent ≡ Some k
+        → k ≢ number
+        → IsTakenAt number (group_at groups.old k) (group_at groups.new k) }
     ensures others { (k : ℕ) → parent ≢ Some k → k ≢ number → group_at groups.new k ≡ group_at groups.old k }
     ensures unused { group_at groups.new number ≡ None }
 {
@@ -207,7 +219,10 @@ pub fn leave_group(groups: &mut IndexMap<u64, Group>, parent: Option<u64>, numbe
 
 /// Sets the orders of the relative layout of a number; if none are given, nothing changes.
 pub fn set_orders(groups: &mut IndexMap<u64, Group>, number: Option<u64>, orders: Option<Orders>)
-    ensures own { (k : ℕ) (new : Orders) → number ≡ Some k → orders ≡ Some new → group_at groups.new k ≡ option_map (with_orders (plain_orders new)) (group_at groups.old k) }
+    ensures own { (k : ℕ) (new : Orders)
+        → number ≡ Some k
+        → orders ≡ Some new
+        → group_at groups.new k ≡ option_map (with_orders (plain_orders new)) (group_at groups.old k) }
     ensures others { (k : ℕ) → number ≢ Some k → group_at groups.new k ≡ group_at groups.old k }
     ensures none { orders ≡ None → (k : ℕ) → group_at groups.new k ≡ group_at groups.old k }
     ensures unused { (k : ℕ) → group_at groups.old k ≡ None → group_at groups.new k ≡ None }

@@ -91,7 +91,8 @@ pub fn rename(
 ) -> Result<(), AttachFault>
     requires { IfSome (holders_at nat_eq ids.old new) (λ holders. holders.count ≤ MAX_VIEWS) }
     ensures refused { IsRefusedExactlyFor None result }
-    ensures renamed { OnOk result ((i : ℕ) → holders_at nat_eq ids.new i ≡ renamed (holders_at nat_eq ids.old i) old new key i) }
+    ensures renamed { OnOk result ((i : ℕ)
+        → holders_at nat_eq ids.new i ≡ renamed (holders_at nat_eq ids.old i) old new key i) }
     ensures unchanged { OnErr result (ids.new.entries ≡ ids.old.entries) }
 {
     if new == old {

@@ -85,7 +85,8 @@ fn members_at(
 ) -> Result<Vec<Member>, AllocError>
     requires inside { (p : ℕ) → p < length places.now → slice_index places.now p < length numbers.now }
     requires near { (p : ℕ) → p < length numbers.now → slice_index numbers.now p < next + MAX_VIEWS }
-    ensures { IfOk result (λ members. members.items ≡ map (λ place. member_from next (slice_index numbers.now place)) places.now) }
+    ensures { IfOk result (λ members. members.items
+        ≡ map (λ place. member_from next (slice_index numbers.now place)) places.now) }
 {
     let mut members = Vec::new(alloc);
     for place in places {

@@ -16,7 +16,8 @@ use view_model::{Class, Facts, Text};
 /// Sets the next sibling of a node, if there is one.
 fn set_next(nodes: &mut Slab<Node>, key: Option<usize>, next: Link)
     requires { (k : ℕ) → key ≡ Some k → ContainsKey nodes.old k }
-    ensures links { (x : ℕ) → links_at nodes.new x ≡ changed_at (links_at nodes.old) key (λ node. record node { next = next }) x }
+    ensures links { (x : ℕ)
+        → links_at nodes.new x ≡ changed_at (links_at nodes.old) key (λ node. record node { next = next }) x }
     ensures held { (x : ℕ) → held_in (get nodes.new x) ≡ held_in (get nodes.old x) }
     ensures len { slab_len nodes.new ≡ slab_len nodes.old }
     ensures capacity { nodes.new.capacity ≡ nodes.old.capacity }
@@ -30,7 +31,8 @@ fn set_next(nodes: &mut Slab<Node>, key: Option<usize>, next: Link)
 /// Sets the previous sibling of a node, if there is one.
 fn set_previous(nodes: &mut Slab<Node>, key: Option<usize>, previous: Link)
     requires { (k : ℕ) → key ≡ Some k → ContainsKey nodes.old k }
-    ensures links { (x : ℕ) → links_at nodes.new x ≡ changed_at (links_at nodes.old) key (λ node. record node { previous = previous }) x }
+    ensures links { (x : ℕ)
+        → links_at nodes.new x ≡ changed_at (links_at nodes.old) key (λ node. record node { previous = previous }) x }
     ensures held { (x : ℕ) → held_in (get nodes.new x) ≡ held_in (get nodes.old x) }
     ensures len { slab_len nodes.new ≡ slab_len nodes.old }
     ensures capacity { nodes.new.capacity ≡ nodes.old.capacity }
@@ -45,7 +47,9 @@ fn set_previous(nodes: &mut Slab<Node>, key: Option<usize>, previous: Link)
 fn set_last(nodes: &mut Slab<Node>, parent: Option<usize>, kid: usize)
     requires there { (k : ℕ) → parent ≡ Some k → ContainsKey nodes.old k }
     requires small { kid < LINKS_END }
-    ensures links { (x : ℕ) → links_at nodes.new x ≡ changed_at (links_at nodes.old) parent (λ node. record node { first = key_or node.first kid; last = Some kid }) x }
+    ensures links { (x : ℕ)
+        → links_at nodes.new x ≡ changed_at (links_at nodes.old) parent
+        (λ node. record node { first = key_or node.first kid; last = Some kid }) x }
     ensures held { (x : ℕ) → held_in (get nodes.new x) ≡ held_in (get nodes.old x) }
     ensures len { slab_len nodes.new ≡ slab_len nodes.old }
     ensures capacity { nodes.new.capacity ≡ nodes.old.capacity }
@@ -63,7 +67,11 @@ fn set_last(nodes: &mut Slab<Node>, parent: Option<usize>, kid: usize)
 /// Sets the first and the last child of a node, once a child between these is taken out.
 fn set_ends(nodes: &mut Slab<Node>, parent: Option<usize>, previous: Link, next: Link)
     requires { (k : ℕ) → parent ≡ Some k → ContainsKey nodes.old k }
-    ensures links { (x : ℕ) → links_at nodes.new x ≡ changed_at (links_at nodes.old) parent (λ node. record node { first = replaced_if_none previous next node.first; last = replaced_if_none next previous node.last }) x }
+    ensures links { (x : ℕ)
+        → links_at nodes.new x ≡ changed_at (links_at nodes.old) parent (λ node. record node {
+          first = replaced_if_none previous next node.first;
+          last = replaced_if_none next previous node.last;
+        }) x }
     ensures held { (x : ℕ) → held_in (get nodes.new x) ≡ held_in (get nodes.old x) }
     ensures len { slab_len nodes.new ≡ slab_len nodes.old }
     ensures capacity { nodes.new.capacity ≡ nodes.old.capacity }
@@ -106,7 +114,10 @@ pub fn link_last(
     requires last { (k : ℕ) → last_child (links_at nodes.old) parent ≡ Some k → ContainsKey nodes.old k }
     ensures unused { get nodes.old result ≡ None }
     ensures small { result < LINKS_END }
-    ensures links { (x : ℕ) → links_at nodes.new x ≡ linked (links_at nodes.old) parent result (record { number = number; class = class; facts = facts; text = text }) (last_child (links_at nodes.old) parent) x }
+    ensures links { (x : ℕ)
+        → links_at nodes.new x ≡ linked
+        (links_at nodes.old) parent result (record { number = number; class = class; facts = facts; text = text })
+        (last_child (links_at nodes.old) parent) x }
     ensures held { held_in (get nodes.new result) ≡ Some (fresh_held facts.offset) }
     ensures others { (x : ℕ) → x ≢ result → held_in (get nodes.new x) ≡ held_in (get nodes.old x) }
     ensures len { slab_len nodes.new ≡ slab_len nodes.old + 1 }
@@ -136,9 +147,15 @@ pub fn link_last(
 /// Takes a node out from among its neighbours.
 pub fn unlink(nodes: &mut Slab<Node>, key: usize) -> Node
     requires there { ContainsKey nodes.old key }
-    requires around { (node : PlainNode) (k : ℕ) → links_at nodes.old key ≡ Some node → IsAround node k → ContainsKey nodes.old k × (k ≢ key) }
+    requires around { (node : PlainNode) (k : ℕ)
+        → links_at nodes.old key ≡ Some node
+        → IsAround node k
+        → ContainsKey nodes.old k × (k ≢ key) }
     ensures node { get nodes.old key ≡ Some result }
-    ensures links { (node : PlainNode) → links_at nodes.old key ≡ Some node → (x : ℕ) → links_at nodes.new x ≡ unlinked (links_at nodes.old) key node x }
+    ensures links { (node : PlainNode)
+        → links_at nodes.old key ≡ Some node
+        → (x : ℕ)
+        → links_at nodes.new x ≡ unlinked (links_at nodes.old) key node x }
     ensures held { (x : ℕ) → x ≢ key → held_in (get nodes.new x) ≡ held_in (get nodes.old x) }
     ensures len { slab_len nodes.new + 1 ≡ slab_len nodes.old }
 {

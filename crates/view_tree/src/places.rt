@@ -17,7 +17,8 @@ pub fn remove_place(order: &mut Vec<u32>, gone: usize)
 
 /// Where a place is in an order, or past its end.
 fn place_of(order: &[u32], gone: usize) -> usize
-    ensures { ((p : ℕ) × (p < length order.now) × (slice_index order.now p ≡ gone)) → (result < length order.now) × (slice_index order.now result ≡ gone) }
+    ensures { ((p : ℕ) × (p < length order.now) × (slice_index order.now p ≡ gone))
+        → (result < length order.now) × (slice_index order.now result ≡ gone) }
 {
     for (p, place) in order.iter().enumerate() {
         if *place as usize == gone {

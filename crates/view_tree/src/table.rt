@@ -15,7 +15,8 @@ use slab_link::LINKS_END;
 /// Records the key of a number, for which there is room.
 pub fn note_key(keys: &mut IndexMap<u64, usize>, number: u64, key: usize)
     requires { 0 < spare keys.old }
-    ensures noted { (n : ℕ) → key_of nat_eq keys.new n ≡ (if nat_eq number n then Some key else key_of nat_eq keys.old n) }
+    ensures noted { (n : ℕ)
+        → key_of nat_eq keys.new n ≡ (if nat_eq number n then Some key else key_of nat_eq keys.old n) }
     ensures spare { spare keys.old ≤ spare keys.new + 1 }
 {
     match keys.insert(number, key) {

@@ -54,11 +54,11 @@ impl Model for ViewTree {
 
     ghost coded = { views_code };
 
-    ghost use Rattle.view_tree.specs.Nodes.{value_of, IsSound};
+    ghost use Rattle.view_tree.specs.Nodes.{value_of, IsSoundTree};
 
     ghost view = { value_of };
 
-    ghost invariant = { IsSound };
+    ghost invariant = { IsSoundTree };
 }
 
 impl ViewTree {

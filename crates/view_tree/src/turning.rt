@@ -15,7 +15,9 @@ use slab::Slab;
 pub fn turn(nodes: &mut Slab<Node>, view: usize, above: bool)
     requires { IsPart (links_at nodes.old) view (part_at nodes.old view) }
     ensures turned { HaveTurned (get nodes.old) (get nodes.new) above (first_tree (part_at nodes.old view)) }
-    ensures others { (key : ℕ) → count_of_key key (first_tree (part_at nodes.old view)) ≡ 0 → get nodes.new key ≡ get nodes.old key }
+    ensures others { (key : ℕ)
+        → count_of_key key (first_tree (part_at nodes.old view)) ≡ 0
+        → get nodes.new key ≡ get nodes.old key }
     ensures len { slab_len nodes.new ≡ slab_len nodes.old }
 {
     let facts = nodes[view].facts;

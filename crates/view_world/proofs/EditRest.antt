@@ -14,7 +14,7 @@ use Rattle.tree_edits.specs.Applied.{AppliesEdit, IsEdit, numbered}
 use Rattle.tree_edits.specs.Asking.{LeavesUnasked as EditLeaves, acted_view, change_requests, flag_requests, requests_layout}
 use Rattle.tree_edits.specs.Editing.{Outcome, ActOn, cycle_of_act, hides, outcome_of_act, outcome_of_edit, outcome_unless, takes, turns}
 use Rattle.tree_edits.specs.Keeping.{KeepsViews, spread}
-use Rattle.tree_edits.specs.Scene.{Scene, scene_of as edited_of}
+use Rattle.tree_edits.specs.Scene.{EditScene, scene_of as edited_of}
 use Rattle.tree_edits.specs.declared.edits.Edit.{Edit}
 use Rattle.tree_edits.specs.declared.edits.Edit.TheVariants as edit
 use Rattle.tree_edits.specs.declared.fault.EditFault.{EditFault}
@@ -145,7 +145,7 @@ abbrev Lies : List Laid → Outcome → Type 0
 Lies geometry (Ok outcome) = outcome.0.geometry ≡ geometry
 Lies geometry (Err refusal) = Unit {0}
 
-lies_act : (scene : Scene) (number : ℕ) (act : Act) (view : Option PlainView) → hides act ≡ false → Lies scene.geometry (outcome_of_act scene number act view)
+lies_act : (scene : EditScene) (number : ℕ) (act : Act) (view : Option PlainView) → hides act ≡ false → Lies scene.geometry (outcome_of_act scene number act view)
 lies_act scene number act None stays = refl
 lies_act scene number act (Some view) stays = elim (cases_Bool (takes view.class act)) [
   | inl e ↦ rw e (unless (cycle_of_act scene.tree number act))

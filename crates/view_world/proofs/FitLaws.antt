@@ -6,7 +6,7 @@ use Rattle.std.specs.List.{list_any}
 use Rattle.traversal.specs.Changing.{FitAll}
 use Rattle.tree_edits.specs.Applied.{AppliesEdit}
 use Rattle.tree_edits.specs.Editing.{NumberedEdit, Add, Remove, ActOn, SetText, Outcome, after_act, cycle_of_act, has_text, hides, outcome_of_act, outcome_of_add, outcome_of_edit, outcome_of_text, outcome_unless, takes}
-use Rattle.tree_edits.specs.Scene.{Scene, scene_of}
+use Rattle.tree_edits.specs.Scene.{EditScene, scene_of}
 use Rattle.tree_edits.specs.declared.fault.EditFault.{EditFault}
 use Rattle.view_model.specs.declared.changes.Act.{Act}
 use Rattle.view_model.specs.declared.kinds.Class.{Class}
@@ -27,32 +27,32 @@ abbrev FitOutcome : Outcome → Type 0
 FitOutcome (Ok outcome) = FitAll outcome.0.geometry
 FitOutcome (Err refusal) = Unit {0}
 
-fit_added : (scene : Scene) (parent : Option ℕ) (class : Class) (width height : ℤ) (reason : Option PlainRefusal) → FitAll scene.geometry → FitOutcome (outcome_of_add scene parent class width height reason)
+fit_added : (scene : EditScene) (parent : Option ℕ) (class : Class) (width height : ℤ) (reason : Option PlainRefusal) → FitAll scene.geometry → FitOutcome (outcome_of_add scene parent class width height reason)
 fit_added scene parent class width height None fit = fit
 fit_added scene parent class width height (Some refusal) fit = tt
 
-fit_act : (scene : Scene) (number : ℕ) (act : Act) → FitAll scene.geometry → FitAll (after_act scene number act).geometry
+fit_act : (scene : EditScene) (number : ℕ) (act : Act) → FitAll scene.geometry → FitAll (after_act scene number act).geometry
 fit_act scene number act fit = elim (cases_Bool (hides act)) [
   | inl e ↦ rw e (fit_without (numbers_of (part_of number scene.tree)) scene.geometry fit)
   | inr e ↦ rw e fit
 ]
 
-fit_unless : (scene : Scene) (number : ℕ) (act : Act) (reason : Option PlainRefusal) → FitAll scene.geometry → FitOutcome (outcome_unless scene number act reason)
+fit_unless : (scene : EditScene) (number : ℕ) (act : Act) (reason : Option PlainRefusal) → FitAll scene.geometry → FitOutcome (outcome_unless scene number act reason)
 fit_unless scene number act None fit = fit_act scene number act fit
 fit_unless scene number act (Some refusal) fit = tt
 
-fit_done : (scene : Scene) (number : ℕ) (act : Act) (view : Option PlainView) → FitAll scene.geometry → FitOutcome (outcome_of_act scene number act view)
+fit_done : (scene : EditScene) (number : ℕ) (act : Act) (view : Option PlainView) → FitAll scene.geometry → FitOutcome (outcome_of_act scene number act view)
 fit_done scene number act None fit = fit
 fit_done scene number act (Some view) fit = elim (cases_Bool (takes view.class act)) [
   | inl e ↦ rw e (fit_unless scene number act (cycle_of_act scene.tree number act) fit)
   | inr e ↦ rw e tt
 ]
 
-fit_written : (scene : Scene) (number : ℕ) (text : List ℕ) (view : Option PlainView) → FitAll scene.geometry → FitOutcome (outcome_of_text scene number text view)
+fit_written : (scene : EditScene) (number : ℕ) (text : List ℕ) (view : Option PlainView) → FitAll scene.geometry → FitOutcome (outcome_of_text scene number text view)
 fit_written scene number text None fit = fit
 fit_written scene number text (Some view) fit = elim (cases_Bool (has_text view.class)) [ inl e ↦ rw e fit | inr e ↦ rw e tt ]
 
-fit_edited : (scene : Scene) (edit : NumberedEdit) → FitAll scene.geometry → FitOutcome (outcome_of_edit scene edit)
+fit_edited : (scene : EditScene) (edit : NumberedEdit) → FitAll scene.geometry → FitOutcome (outcome_of_edit scene edit)
 fit_edited scene (Add parent class width height) fit = fit_added scene parent class width height (refusal_at scene.tree parent) fit
 fit_edited scene (Remove number) fit = fit_without (numbers_of (part_of number scene.tree)) scene.geometry fit
 fit_edited scene (ActOn number act) fit = fit_done scene number act (view_in scene.tree number) fit

@@ -27,7 +27,7 @@ use Rattle.touch_dispatch.specs.TreeEvents.{IsGestureIn}
 use Rattle.traversal.proofs.FrameLaws.{unsettled_nowhere}
 use Rattle.traversal.proofs.ShapeLaws.{bare_view, count_of-same, count_of_key-same, number_of-same, sum-same, views_of-same}
 use Rattle.traversal.specs.Changing.{FitAll, IsFramed, SameShape}
-use Rattle.traversal.specs.Counting.{IsCounted}
+use Rattle.traversal.specs.Counting.{IsMeasuringCounted}
 use Rattle.traversal.specs.Frames.{Framed, after_frame as frame_of, fired_in, frame_calls as calls_of_frame}
 use Rattle.measure_pass.specs.Caches.{Grew}
 use Rattle.traversal.specs.Growing.{IsMeasuredByFrame, IsUnedited, frame_edits}
@@ -197,7 +197,7 @@ pub frame_done : (old : KeyedScreen) (new : Views) (hooks : List Hook) (surface 
     → new.counts.laid ≤ old.views.counts.laid + 2 * count_of old.views.tree
     → ((key : ℕ) → IsLive old.views key → IsUnedited old.views.tree (frame_edits (plain_of old.views) old.hooks size) key
     → Grew (IsMeasuredByFrame (plain_of old.views) old.hooks size (number_of old.views key)) (cache_of old.views key) (cache_of new key))
-    → IsCounted old.views new before mid → after.measured ≡ mid.measured
+    → IsMeasuringCounted old.views new before mid → after.measured ≡ mid.measured
     → (stage ≡ Settled → IsAtRest new size × (fired_in hooks (geometry_of new) ≡ None)) → (stage ≡ Settled → is_empty damage ≡ true)
     → FramePaints old (record old { views = new; hooks = hooks; surface = surface; damage = damage; stage = stage }) before after → IsFrameDone old (record old { views = new; hooks = hooks; surface = surface; damage = damage; stage = stage }) before after
 frame_done old new hooks surface damage stage size outcome before mid after window wide framed measured calm laid twice caches counted same rest clean paints =

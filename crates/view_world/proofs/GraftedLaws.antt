@@ -19,16 +19,12 @@ use Rattle.view_tree.specs.Requests.{among, asking, forced_one, requested}
 use Rattle.view_tree.specs.Rows.{Row, count_of_key}
 use Rattle.view_tree.specs.Views.{Held, IsLive, IsTree, SameTree, Views, held_of, laid_rows, number_of, plain_of, plain_rows}
 use Rattle.view_world.specs.Places.{HasGained}
+use Rattle.tree_edits.proofs.RequestLaws.{KeepsPlace}
 
 -- the parent is still there
 pub place_live : (old mid : Views) (sapling : Forest Seed) (place : Option ℕ) (key : ℕ) → IfSome place (λ (view : ℕ). IsLive old view) → Grafted old place sapling key mid → IfSome place (λ (view : ℕ). IsLive mid view)
 place_live old mid sapling None key live came = tt
 place_live old mid sapling (Some parent) key live came = grafted_live old mid sapling parent key live came
-
--- a request leaves the bounds of views, and how far they are scrolled
-record KeepsPlace (old new : Held) : Type 0 where
-  bounds : new.state.bounds ≡ old.state.bounds
-  offset : new.offset ≡ old.offset
 
 pressed_place : (own : Held) (forced : Bool) → KeepsPlace own (if forced then forced_one own else own)
 pressed_place own true = record { bounds = refl; offset = refl }

@@ -17,7 +17,7 @@ use Rattle.traversal.specs.Changing.{FitAll}
 use Rattle.tree_edits.specs.Applied.{AppliesEdit, IsAddable}
 use Rattle.tree_edits.specs.Editing.{Add, new_view, outcome_of_add, outcome_of_edit}
 use Rattle.tree_edits.specs.Keeping.{KeepsViews}
-use Rattle.tree_edits.specs.Scene.{Scene, scene_of}
+use Rattle.tree_edits.specs.Scene.{EditScene, scene_of}
 use Rattle.tree_edits.specs.declared.edits.Edit.TheVariants as edit
 use Rattle.tree_edits.specs.declared.fault.EditFault.{EditFault}
 use Rattle.view_model.specs.Directed.{rtl_at, running}
@@ -121,21 +121,21 @@ placed_root views (Some parent) root e = absurd (cc)
 pub plain_root : (views : Views) (parent : Option ℕ) → (parent ≡ None → views.tree ≡ Nothing) → option_map (number_of views) parent ≡ None → plain_of views ≡ Nothing
 plain_root views parent root e = ap (plain_rows (held_of views)) (placed_root views parent root e)
 
-added_tree : (scene after : Scene) (parent : Option ℕ) (class : Class) (width height : ℤ) (number : Option ℕ) (reason : Option PlainRefusal)
+added_tree : (scene after : EditScene) (parent : Option ℕ) (class : Class) (width height : ℤ) (number : Option ℕ) (reason : Option PlainRefusal)
     → outcome_of_add scene parent class width height reason ≡ Ok (after, number)
     → after.tree ≡ grown_at parent (single (running (rtl_at parent scene.tree) (new_view scene.next class width height))) scene.tree
 added_tree scene after parent class width height number (Some refusal) e = absurd (cc)
-added_tree scene after parent class width height number None e = sym (ap (λ (p : Scene × Option ℕ). p.0.tree) (same_outcome e))
+added_tree scene after parent class width height number None e = sym (ap (λ (p : EditScene × Option ℕ). p.0.tree) (same_outcome e))
   where
-    same_outcome : {one other : Scene × Option ℕ} → (let o : Result (Scene × Option ℕ) PlainRefusal = Ok one in o) ≡ Ok other → one ≡ other
+    same_outcome : {one other : EditScene × Option ℕ} → (let o : Result (EditScene × Option ℕ) PlainRefusal = Ok one in o) ≡ Ok other → one ≡ other
     same_outcome e = cc
 
-added_geometry : (scene after : Scene) (parent : Option ℕ) (class : Class) (width height : ℤ) (number : Option ℕ) (reason : Option PlainRefusal)
+added_geometry : (scene after : EditScene) (parent : Option ℕ) (class : Class) (width height : ℤ) (number : Option ℕ) (reason : Option PlainRefusal)
     → outcome_of_add scene parent class width height reason ≡ Ok (after, number) → after.geometry ≡ scene.geometry
 added_geometry scene after parent class width height number (Some refusal) e = absurd (cc)
-added_geometry scene after parent class width height number None e = sym (ap (λ (p : Scene × Option ℕ). p.0.geometry) (same_outcome e))
+added_geometry scene after parent class width height number None e = sym (ap (λ (p : EditScene × Option ℕ). p.0.geometry) (same_outcome e))
   where
-    same_outcome : {one other : Scene × Option ℕ} → (let o : Result (Scene × Option ℕ) PlainRefusal = Ok one in o) ≡ Ok other → one ≡ other
+    same_outcome : {one other : EditScene × Option ℕ} → (let o : Result (EditScene × Option ℕ) PlainRefusal = Ok one in o) ≡ Ok other → one ≡ other
     same_outcome e = cc
 
 -- a new view has no bounds

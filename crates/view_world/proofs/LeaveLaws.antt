@@ -15,7 +15,7 @@ use Rattle.touch_dispatch.specs.declared.log.Log.{Log}
 use Rattle.touch_event.specs.declared.event.Point.{Point}
 use Rattle.tree_edits.specs.Applied.{AppliesEdit}
 use Rattle.tree_edits.specs.Editing.{ActOn, Outcome, Remove, hides, names_views, outcome_of_act, outcome_of_edit}
-use Rattle.tree_edits.specs.Scene.{Scene as Edited, scene_of as edited_of}
+use Rattle.tree_edits.specs.Scene.{EditScene as Edited, scene_of as edited_of}
 use Rattle.tree_edits.specs.declared.fault.EditFault.{EditFault}
 use Rattle.tree_edits.specs.declared.fault.EditFault.TheVariants as fault
 use Rattle.view_model.specs.Facts.{is_shown}

@@ -18,7 +18,7 @@ use Rattle.traversal.specs.declared.outcome.Frame.{Frame}
 use Rattle.script_lines.specs.Changes.{IsActInBounds}
 use Rattle.tree_edits.specs.Applied.{AppliesEdit, numbered}
 use Rattle.tree_edits.specs.Editing.{cycle_of_act, hides, outcome_of_act, outcome_of_add, outcome_of_edit, outcome_of_text, outcome_unless, takes, has_text, new_view, turns}
-use Rattle.tree_edits.specs.Scene.{Scene, scene_of}
+use Rattle.tree_edits.specs.Scene.{EditScene, scene_of}
 use Rattle.tree_edits.specs.declared.edits.Edit.{Edit}
 use Rattle.tree_edits.specs.declared.edits.Edit.TheVariants as edit
 use Rattle.tree_edits.specs.declared.fault.EditFault.{EditFault}
@@ -117,11 +117,11 @@ fits_acted (act.Answer answer) view bounds fits = fits
 fits_acted (act.Intercept actions) view bounds fits = fits
 fits_acted (act.Scroll offset) view bounds fits = λ moves. bounds
 
-abbrev Fits : Result (Scene × Option ℕ) PlainRefusal → Type 0
+abbrev Fits : Result (EditScene × Option ℕ) PlainRefusal → Type 0
 Fits (Ok after) = OffsetsFit after.0.tree
 Fits (Err refusal) = Unit {0}
 
-fits_added : (scene : Scene) (parent : Option ℕ) (class : Class) (width height : ℤ) (reason : Option PlainRefusal) → OffsetsFit scene.tree → Fits (outcome_of_add scene parent class width height reason)
+fits_added : (scene : EditScene) (parent : Option ℕ) (class : Class) (width height : ℤ) (reason : Option PlainRefusal) → OffsetsFit scene.tree → Fits (outcome_of_add scene parent class width height reason)
 fits_added scene parent class width height (Some refusal) every = tt
 fits_added scene parent class width height None every =
     let view = running (rtl_at parent scene.tree) (new_view scene.next class width height) in
@@ -135,21 +135,21 @@ fits_spread act tree every = by (turns act)
     by true = every-directed FitsOffset (λ rtl view fits. fits) false tree every
     by false = every
 
-fits_unless : (scene : Scene) (number : ℕ) (act : Act) (reason : Option PlainRefusal) → ScrollsWithin act → OffsetsFit scene.tree → Fits (outcome_unless scene number act reason)
+fits_unless : (scene : EditScene) (number : ℕ) (act : Act) (reason : Option PlainRefusal) → ScrollsWithin act → OffsetsFit scene.tree → Fits (outcome_unless scene number act reason)
 fits_unless scene number act (Some refusal) within every = tt
 fits_unless scene number act None within every =
     fits_spread act (with_facts number (facts_after_act act) scene.tree)
     (fits_changed (λ (view : PlainView). view.number == number) (λ (view : PlainView). record view { facts = facts_after_act act view.facts })
     (λ view fits. fits_acted act view within fits) scene.tree every)
 
-fits_act : (scene : Scene) (number : ℕ) (act : Act) (found : Option PlainView) → ScrollsWithin act → OffsetsFit scene.tree → Fits (outcome_of_act scene number act found)
+fits_act : (scene : EditScene) (number : ℕ) (act : Act) (found : Option PlainView) → ScrollsWithin act → OffsetsFit scene.tree → Fits (outcome_of_act scene number act found)
 fits_act scene number act None within every = every
 fits_act scene number act (Some view) within every = elim (cases_Bool (takes view.class act)) [
   | inl e ↦ rw e (fits_unless scene number act (cycle_of_act scene.tree number act) within every)
   | inr e ↦ rw e tt
 ]
 
-fits_text : (scene : Scene) (number : ℕ) (text : List ℕ) (found : Option PlainView) → OffsetsFit scene.tree → Fits (outcome_of_text scene number text found)
+fits_text : (scene : EditScene) (number : ℕ) (text : List ℕ) (found : Option PlainView) → OffsetsFit scene.tree → Fits (outcome_of_text scene number text found)
 fits_text scene number text None every = every
 fits_text scene number text (Some view) every = elim (cases_Bool (has_text view.class)) [
   | inl e ↦ rw e (fits_changed (λ (view : PlainView). view.number == number) (λ (view : PlainView). record view { text = text }) (λ view fits. fits) scene.tree every)

@@ -19,7 +19,7 @@ use Rattle.view_model.specs.Growth.{growth_refusal}
 use Rattle.view_model.specs.Visible.{no_rect}
 use Rattle.view_world.specs.Step.{Reply, Done, Refused, step}
 use Rattle.view_world.specs.Marks.{no_marks}
-use Rattle.view_world.specs.Watched.{Costs, Watched, costs_of, no_costs, painted_least, painted_most, watched_after}
+use Rattle.view_world.specs.Watched.{LineCosts, Watched, costs_of, no_costs, painted_least, painted_most, watched_after}
 use Rattle.view_world.specs.World.{empty_world}
 
 unfoldable pub watched_reply : Watched → PlainCommand → Reply → Watched
@@ -31,7 +31,7 @@ watched_from lines =
     fold (λ (watched : Watched) (line : PlainCommand). watched_reply watched line (step [] watched.world line)) (record { world = empty_world; marks = no_marks; box = no_rect; shown = [] }) lines
 
 -- what a frame costs after these lines
-unfoldable pub cost_after : List PlainCommand → Costs
+unfoldable pub cost_after : List PlainCommand → LineCosts
 cost_after lines = costs_of (watched_from lines) Frame
 
 abbrev sides : Insets

@@ -36,7 +36,7 @@ use Rattle.view_world.specs.Resting.{AreSeenIn, CountsMeasures, FramePaints, IsF
 use Rattle.view_world.specs.Seen.{act_paints, box_around, changed_views, has_any_scrolled, line_box, line_deliveries, moved_views, seen}
 use Rattle.view_world.specs.Step.{Reply, Done, after_frame, framed, picture_after, stage_after}
 use Rattle.view_world.specs.Touching.{is_among}
-use Rattle.view_world.specs.Watched.{Costs, HasBox, IsWatched, IsWorth, Watched, box_after, costs_of, costs_of_frame, frame_box, layers, max_count, no_costs, painted_least, painted_most, points_most, shown_after, watched_after, watched_in}
+use Rattle.view_world.specs.Watched.{LineCosts, HasBox, IsWatched, IsWorth, Watched, box_after, costs_of, costs_of_frame, frame_box, layers, max_count, no_costs, painted_least, painted_most, points_most, shown_after, watched_after, watched_in}
 use Rattle.view_world.specs.World.{World}
 use Rattle.view_world.specs.declared.fault.StepFault.{StepFault}
 use Rattle.view_world.specs.declared.fault.StepFault.TheVariants as fault
@@ -178,7 +178,7 @@ worth_none old new same =
     record { measured = omega (arith, measured); measured_later = omega (arith, measured); least = omega (arith, painted); most = omega (arith, painted) }
 
 pub worth_other : (watched : Watched) (line : PlainCommand) (old new : Work) → line ≢ command.Frame → new ≡ old → IsWorth (costs_of watched line) old new
-worth_other watched line old new ne same = subst (λ (costs : Costs). IsWorth costs old new) (sym (costs_none watched line ne)) (worth_none old new same)
+worth_other watched line old new ne same = subst (λ (costs : LineCosts). IsWorth costs old new) (sym (costs_none watched line ne)) (worth_none old new same)
 
 -- the box
 

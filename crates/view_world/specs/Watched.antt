@@ -1,5 +1,5 @@
 -- The work of frames: what is known besides a world from line to line, and how much a line measures and paints.
-use Rattle.std.specs.Prelude.{◌≡◌, ℕ, ◌+◌, ◌*◌, ◌-◌, ◌^◌, ◌≤◌, ◌==◌, Bool, true, ◌&&◌, ◌||◌, not, min, if◌then◌else◌, List, [], Option, Some, None}
+use Rattle.std.specs.Prelude.{◌≡◌, ℕ, ◌+◌, ◌*◌, ◌-◌, ◌^◌, ◌≤◌, ◌==◌, Bool, true, ◌&&◌, ◌||◌, not, min, if◌then◌else◌, List, Option, Some, None}
 use Rattle.damage_rect.specs.Within.{LiesIn}
 use Rattle.damage_rect.specs.Areas.{rect_area}
 use Rattle.geom_core.specs.Rects.{hull_of}
@@ -65,12 +65,12 @@ pub record IsWatched (world : KeyedWorld) (watched : Watched) : Type 0 where
   pub box : HasBox world watched.box
 
 -- what lines cost: at most this many views measured, and between these numbers of pixels painted
-pub record Costs : Type 0 where
+pub record LineCosts : Type 0 where
   pub measured : ℕ
   pub least : ℕ
   pub most : ℕ
 
-abbrev pub no_costs : Costs
+abbrev pub no_costs : LineCosts
 no_costs = record { measured = 0; least = 0; most = 0 }
 
 -- how many pixels a frame paints at least: each whose colour differs from the one that is shown
@@ -94,14 +94,14 @@ points_most watched window frame =
 unfoldable pub painted_most : Watched → Size → Framed → ℕ
 painted_most watched window frame = if watched.marks.idle || not frame.settled then 0 else layers watched.world * points_most watched window frame
 
-abbrev pub costs_of_frame : Watched → Option Size → Costs
+abbrev pub costs_of_frame : Watched → Option Size → LineCosts
 costs_of_frame watched None = no_costs
 costs_of_frame watched (Some window) =
     let frame = frame_of watched.world.tree watched.world.hooks window in
     record { measured = measure_bound watched.world watched.marks; least = painted_least watched.shown window frame; most = painted_most watched window frame }
 
 -- what a line costs that was carried out: only a frame costs anything
-abbrev pub costs_of : Watched → PlainCommand → Costs
+abbrev pub costs_of : Watched → PlainCommand → LineCosts
 costs_of watched command.Frame = costs_of_frame watched watched.world.window
 costs_of watched line = no_costs
 
@@ -110,7 +110,7 @@ abbrev pub max_count : ℕ
 max_count = 2 ^ 64 - 1
 
 -- what was counted is worth these costs; a count that has reached the greatest number rises no more
-pub record IsWorth (costs : Costs) (old new : Work) : Type 0 where
+pub record IsWorth (costs : LineCosts) (old new : Work) : Type 0 where
   pub measured : new.measured ≤ old.measured + costs.measured
   pub measured_later : min old.measured max_count ≤ new.measured
   pub least : min (old.painted + costs.least) max_count ≤ new.painted

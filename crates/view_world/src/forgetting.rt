@@ -15,9 +15,13 @@ use view_tree::{Key, ViewTree};
 /// Removes the hooks of a view and of all below it, and what is kept of them for touches.
 pub fn forget(tree: &ViewTree, hooks: &mut Hooks, gesture: &mut Gesture, view: Key)
     requires { IsLive tree.now view }
-    ensures hooks { hooks.new ≡ all_disarmed (numbers_of (views_of (first_tree (part_from view tree.now.tree)))) hooks.old }
-    ensures gesture { gesture_of gesture.new ≡ all_closed (numbers_of (views_of (first_tree (part_from view tree.now.tree)))) (gesture_of gesture.old) }
-    ensures opened { (other : ℕ) → is_open gesture.new other ≡ (is_open gesture.old other && not (is_among other (numbers_of (views_of (first_tree (part_from view tree.now.tree)))))) }
+    ensures hooks { hooks.new ≡ all_disarmed
+        (numbers_of (views_of (first_tree (part_from view tree.now.tree)))) hooks.old }
+    ensures gesture { gesture_of gesture.new
+        ≡ all_closed (numbers_of (views_of (first_tree (part_from view tree.now.tree)))) (gesture_of gesture.old) }
+    ensures opened { (other : ℕ)
+        → is_open gesture.new other ≡ (is_open gesture.old other
+        && not (is_among other (numbers_of (views_of (first_tree (part_from view tree.now.tree)))))) }
 {
     let number = tree.number(view);
     hooks.disarm(number);

@@ -1,5 +1,5 @@
 //! Views that are added to a tree.
-ghost use Rattle.std.specs.Prelude.{◌≡◌, ◌<◌, ◌≤◌, ◌+◌, ℕ, false, OnErr, OnOk, None, IfOk, IfSome};
+ghost use Rattle.std.specs.Prelude.{◌≡◌, ◌<◌, ◌≤◌, ◌+◌, ℕ, false, OnErr, OnOk, None, IfSome};
 ghost use Rattle.std.specs.Option.{option_map};
 ghost use Rattle.kept_views.specs.Kept.{IsConsistent};
 ghost use Rattle.tree_edits.specs.Asking.{is_on_paths, listed};
@@ -23,13 +23,16 @@ pub fn graft(tree: &mut ViewTree, place: Option<Key>, sapling: Sapling) -> Resul
     requires root { place ≡ None → tree.old.tree ≡ Nothing }
     requires numbers { tree.old.next < NUMBERS_END }
     ensures gained { OnOk result (HasGained tree.old place (seeds_of sapling.sprouts.items) tree.new) }
-    ensures refused { IsRefusedOrCyclic (graft_refusal (plain_of tree.old) (option_map (number_of tree.old) place) (seeds_of sapling.sprouts.items))
-        (graft_cycle (plain_of tree.old) (option_map (number_of tree.old) place) tree.old.next (seeds_of sapling.sprouts.items)) result }
+    ensures refused { IsRefusedOrCyclic
+        (graft_refusal (plain_of tree.old) (option_map (number_of tree.old) place) (seeds_of sapling.sprouts.items))
+        (graft_cycle (plain_of tree.old) (option_map (number_of tree.old) place) tree.old.next
+        (seeds_of sapling.sprouts.items)) result }
     ensures few { tree.new.next ≤ tree.old.next + MAX_VIEWS }
     ensures consistent { IsConsistent tree.old → IsConsistent tree.new }
     ensures unchanged { OnErr result (tree.new ≡ tree.old) }
     ensures counts { tree.new.counts ≡ tree.old.counts }
-    ensures asked { OnOk result ((key : ℕ) → IsLive tree.old key → is_on_paths (listed place) tree.old.tree key ≡ false → held_of tree.new key ≡ held_of tree.old key) }
+    ensures asked { OnOk result ((key : ℕ) → IsLive tree.old key → is_on_paths (listed place) tree.old.tree key ≡ false
+        → held_of tree.new key ≡ held_of tree.old key) }
 {
     tell_tree(tree);
     let first = tree.graft(place, sapling)?;

@@ -43,7 +43,8 @@ pub fn numbered_edits(tree: &ViewTree, asked: &[Asked]) -> Option<ArrayVec<NumEd
 
 /// Whether each view has what its edit changes.
 pub fn may_change_all(tree: &ViewTree, edits: &[NumEdit]) -> bool
-    ensures { result ≡ list_all (λ (edit : PlainEdit). may_change (view_in (plain_of tree.now) edit.view) edit.change) edits.now }
+    ensures { result ≡ list_all
+        (λ (edit : PlainEdit). may_change (view_in (plain_of tree.now) edit.view) edit.change) edits.now }
 {
     for edit in edits {
         if !may_change(tree, *edit) {

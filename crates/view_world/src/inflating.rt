@@ -25,7 +25,8 @@ use view_model::{Detail, Refusal};
 
 /// The file of an `inflate` line, and the view below which its tree goes, `None` if it is the whole tree.
 pub fn inflation_of<'a>(command: &Command<'a>) -> Option<(&'a str, Option<Name>)>
-    ensures { option_map (λ inflation. (inflation.0.now, inflation.1)) result ≡ inflation_of (plain_command command.now) }
+    ensures { option_map (λ inflation. (inflation.0.now, inflation.1)) result
+        ≡ inflation_of (plain_command command.now) }
 {
     match *command {
         Command::Inflate { name, into } => Some((name, into)),
@@ -53,7 +54,9 @@ pub fn inflation_of<'a>(command: &Command<'a>) -> Option<(&'a str, Option<Name>)
 
 /// The bytes of the file of this name.
 pub fn fetch<F: Shelf>(alloc: Global, shelf: &mut F, name: &str) -> Result<Vec<u8>, StepFault>
-    ensures bytes { (files : Files) → F.files shelf.old ≡ Some files → Gives HasBytes (bytes_in (file_of files name.now)) result }
+    ensures bytes { (files : Files)
+        → F.files shelf.old ≡ Some files
+        → Gives HasBytes (bytes_in (file_of files name.now)) result }
     ensures files_stay { F.files shelf.new ≡ F.files shelf.old }
     ensures shelf_failed { CountsShelf (F.faults shelf.old) (F.faults shelf.new) result }
     ensures fetched { F.fetches shelf.new ≡ one_more (F.fetches shelf.old) }

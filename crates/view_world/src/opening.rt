@@ -32,7 +32,11 @@ pub fn open_all(gesture: &mut Gesture, first: u64, count: usize) -> Result<(), A
 /// Removes the places of this many views again, the last one first.
 pub fn close_all(gesture: &mut Gesture, first: u64, count: usize)
     requires { first + count < 2 ^ 64 }
-    ensures { (before : Kept) → gesture.old ≡ with_places first count before → AreFree first before → AreUnknown first count before → gesture.new ≡ before }
+    ensures { (before : Kept)
+        → gesture.old ≡ with_places first count before
+        → AreFree first before
+        → AreUnknown first count before
+        → gesture.new ≡ before }
 {
     let mut left = count;
     while 0 < left {

@@ -97,7 +97,8 @@ fn put_word<K: Sink>(
     requires part { IsPartOf surface.now part }
     requires column { column < part.width }
     requires row { row < part.height }
-    ensures { Sends (K.state sink.old) (K.state sink.new) text.old text.new (separator column ⧺ pixel_text (color_of surface.now part column row)) }
+    ensures { Sends (K.state sink.old) (K.state sink.new) text.old text.new
+        (separator column ⧺ pixel_text (color_of surface.now part column row)) }
 {
     put_separator(text, sink, column);
     put_color(text, sink, color_of(surface, part, column, row));
@@ -107,7 +108,8 @@ fn put_word<K: Sink>(
 fn put_row<K: Sink>(text: &mut TextBuffer, sink: &mut K, surface: &Surface, part: Part, row: usize)
     requires part { IsPartOf surface.now part }
     requires row { row < part.height }
-    ensures { Sends (K.state sink.old) (K.state sink.new) text.old text.new (row_text (λ column. color_of surface.now part column row) part.width) }
+    ensures { Sends (K.state sink.old) (K.state sink.new) text.old text.new
+        (row_text (λ column. color_of surface.now part column row) part.width) }
 {
     let mut column = 0;
     while column < part.width {
@@ -120,7 +122,8 @@ fn put_row<K: Sink>(text: &mut TextBuffer, sink: &mut K, surface: &Surface, part
 /// The colours of a part of a picture, one line per row.
 pub fn put_pixels<K: Sink>(text: &mut TextBuffer, sink: &mut K, surface: &Surface, part: Part)
     requires { IsPartOf surface.now part }
-    ensures { Sends (K.state sink.old) (K.state sink.new) text.old text.new (pixels_text (color_of surface.now part) part.width part.height) }
+    ensures { Sends (K.state sink.old) (K.state sink.new) text.old text.new
+        (pixels_text (color_of surface.now part) part.width part.height) }
 {
     let mut row = 0;
     while row < part.height {
@@ -140,7 +143,8 @@ fn digits_of(digest: [u8; 32]) -> [u8; 64]
 
 /// The digest of a picture, in hexadecimal digits.
 pub fn put_digest<K: Sink>(text: &mut TextBuffer, sink: &mut K, surface: &Surface)
-    ensures { Sends (K.state sink.old) (K.state sink.new) text.old text.new (digest_text (digest_of surface.now.pixels)) }
+    ensures { Sends (K.state sink.old) (K.state sink.new) text.old text.new
+        (digest_text (digest_of surface.now.pixels)) }
 {
     text.put(sink, &digits_of(surface.digest()));
     text.put(sink, b"\n");

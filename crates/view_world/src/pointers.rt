@@ -1,6 +1,6 @@
 //! The pointers that are down, and the events that lines make of them.
 
-ghost use Rattle.std.specs.Prelude.{◌≡◌, ◌↔◌, ◌<◌, ◌≤◌, ◌+◌, ◌++◌, ℕ, [], false, length};
+ghost use Rattle.std.specs.Prelude.{◌≡◌, ◌↔◌, ◌<◌, ◌≤◌, ◌+◌, ◌++◌, ℕ, [], length};
 ghost use Rattle.touch_event.specs.declared.event.TheConstants.{MAX_POINTERS};
 ghost use Rattle.touch_event.specs.PointerSets.{has_id};
 ghost use Rattle.view_world.specs.Pointers.{AreDown, down_action, event_of, is_pressed, points_above, points_below, up_action, with_point, without_point};

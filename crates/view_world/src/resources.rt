@@ -6,7 +6,6 @@ ghost use Rattle.script_lines.specs.Escapes.{unescaped};
 ghost use Rattle.script_lines.specs.PlainCommands.{given_text_length, plain_given};
 ghost use Rattle.view_world.specs.Step.{resource_given};
 
-use crate::fault::StepFault;
 use res_values::Value;
 use script_lines::{Given, Unescaped};
 use std::alloc::{AllocError, Global};

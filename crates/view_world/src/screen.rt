@@ -1,7 +1,5 @@
 //! The screen of a script: what its lines so far have made, and what each line does to it.
-ghost use Rattle.std.specs.Prelude.{pos, ◌≡◌, ◌≢◌, ◌⊎◌, true, ℕ, ◌+◌, ◌-◌, ◌≤◌, ◌<◌, ◌^◌, min, [], length, Option, None, Some, Err, OnErr, OnOk, IfOk, IfSome};
-ghost use Rattle.inflater.specs.Answers.{IsGrown};
-ghost use Rattle.inflater.specs.Inflating.{Plan};
+ghost use Rattle.std.specs.Prelude.{pos, ◌≡◌, ◌≢◌, ◌⊎◌, true, ◌+◌, ◌-◌, ◌≤◌, ◌<◌, ◌^◌, [], length, Option, None, Some, Err, OnErr, OnOk, IfOk};
 ghost use Rattle.script_lines.specs.PlainCommands.{Frame, Inflate, Add, Remove, Act, SetText, Bounds, Pixels, Digest, given_text_length, plain_command, plain_given, text_length};
 ghost use Rattle.script_lines.specs.Changes.{IsActInBounds};
 ghost use Rattle.script_lines.specs.Commands.{IsInBounds};
@@ -15,16 +13,16 @@ ghost use Rattle.view_model.specs.declared.limits.TheConstants.{MAX_VIEWS, NUMBE
 ghost use Rattle.view_model.specs.Forest.{Nothing};
 ghost use Rattle.view_model.specs.Resources.{definition_refusal_of};
 ghost use Rattle.view_world.specs.World.{World as PlainWorld};
-ghost use Rattle.view_tree.specs.Views.{IsLive, plain_of};
+ghost use Rattle.view_tree.specs.Views.{plain_of};
 ghost use Rattle.view_world.specs.AfterLine.{Reports};
 ghost use Rattle.view_world.specs.Carried.{AreAtHand, CountsShelf, IsDone, MayWantMemory, WritesReply, faults_after_line, fetches_after};
-ghost use Rattle.view_world.specs.Changed.{CarriesOut, Inflates, IsPlace, LeavesViews, Pictured};
+ghost use Rattle.view_world.specs.Changed.{CarriesOut, Inflates, LeavesViews, Pictured};
 ghost use Rattle.view_world.specs.Counting.{RisesWithin, paint_bound};
 ghost use Rattle.view_world.specs.Inflating.{asked_file, asked_for, inflation_of};
 ghost use Rattle.view_world.specs.Offsets.{EditsWithin};
 ghost use Rattle.view_world.specs.Responses.{IsTellable, response_text};
 ghost use Rattle.view_world.specs.Seen.{black_picture, has_any_scrolled};
-ghost use Rattle.view_world.specs.Step.{Done, after_edit, defined, dpi_told, graft_reason, grafted, inflation, resource_given, step, with_window};
+ghost use Rattle.view_world.specs.Step.{Done, after_edit, defined, dpi_told, inflation, resource_given, step, with_window};
 ghost use Rattle.view_world.specs.KeyedScreen.{new_screen, window_of, world_of};
 ghost use Rattle.view_world.specs.Marks.{has_settled};
 ghost use Rattle.view_world.specs.Resting.{IsFrameDone, IsIdle, IsShown, KeepsEdit, KeepsLine};
@@ -42,13 +40,12 @@ use crate::naming::{find, place_of, resolve, tell_tree};
 use crate::pixels::part_in;
 use crate::resources::value_of;
 use crate::response::{Response, respond, write_response};
-use crate::stage::{Stage, stage_after};
+use crate::stage::Stage;
 use crate::texts::resolved;
 use crate::touching::{has_any_scrolled, hides};
 use arrayvec::ArrayVec;
 use damage_rect::Damage;
 use geom_core::Size;
-use inflater::Grown;
 use pixel_raster::Surface;
 use res_values::{ResFault, Resources};
 use saved_state::States;
@@ -68,7 +65,7 @@ use view_model::refusals::{
     HAS_ROOT, LATE_DPI, NO_FRAME, NO_ROOT, NO_VIEW, NO_WINDOW, OUT_OF_RANGE, UNSETTLED,
 };
 use view_model::{Act as ViewAct, Class, Refusal, Work};
-use view_tree::{AttachFault, Key, ViewTree};
+use view_tree::ViewTree;
 
 /// The screen of a script: what its lines so far have made.
 #[derive(Drop)]
@@ -149,7 +146,8 @@ impl Screen {
         requires short { text_length (plain_command command.now) < 2 ^ 31 }
         ensures carried { (files : Files)
             → AreAtHand files (F.files shelf.old) (asked_file (world_of self.old) (plain_command command.now))
-            → WritesReply (step files (world_of self.old) (plain_command command.now)) (world_of self.new) (K.state sink.old) (K.state sink.new) result }
+            → WritesReply (step files (world_of self.old) (plain_command command.now)) (world_of self.new)
+            (K.state sink.old) (K.state sink.new) result }
         ensures unchanged { IsDone result ⊎ ((self.new ≡ self.old) × (sink.new ≡ sink.old)) }
         ensures reports { IsDone result → Reports self.new (K.state sink.old) (K.state sink.new) result }
         ensures silent { (files : Files) (world : PlainWorld)
@@ -159,15 +157,21 @@ impl Screen {
         ensures files_stay { F.files shelf.new ≡ F.files shelf.old }
         ensures unasked { asked_file (world_of self.old) (plain_command command.now) ≡ None → shelf.new ≡ shelf.old }
         ensures shelf_failed { CountsShelf (F.faults shelf.old) (F.faults shelf.new) result }
-        ensures asked { result ≡ Err StepFault.Shelf → asked_file (world_of self.old) (plain_command command.now) ≢ None }
-        ensures fetched { F.fetches shelf.new ≡ fetches_after (asked_file (world_of self.old) (plain_command command.now)) (F.fetches shelf.old) }
+        ensures asked { result ≡ Err StepFault.Shelf
+            → asked_file (world_of self.old) (plain_command command.now) ≢ None }
+        ensures fetched { F.fetches shelf.new
+            ≡ fetches_after (asked_file (world_of self.old) (plain_command command.now)) (F.fetches shelf.old) }
         ensures memory { result ≡ Err StepFault.NoMemory → MayWantMemory (plain_command command.now) }
         ensures numbers { self.new.views.next ≤ self.old.views.next + MAX_VIEWS }
         ensures work { plain_command command.now ≢ Frame → work.new ≡ work.old }
         ensures idle { IsDone result ⊎ (work.new ≡ work.old) }
         ensures still { plain_command command.now ≡ Frame → IsShown self.old → work.new ≡ work.old }
-        ensures framed { plain_command command.now ≡ Frame → IsDone result → IsFrameDone self.old self.new work.old work.new }
-        ensures keeps { plain_command command.now ≢ Frame → IsDone result → KeepsLine (plain_command command.now) self.old self.new }
+        ensures framed { plain_command command.now ≡ Frame
+            → IsDone result
+            → IsFrameDone self.old self.new work.old work.new }
+        ensures keeps { plain_command command.now ≢ Frame
+            → IsDone result
+            → KeepsLine (plain_command command.now) self.old self.new }
         ensures painted { RisesWithin (paint_bound (world_of self.old)) work.old.painted work.new.painted }
         ensures sink_failed { (K.state sink.new).faults ≡ faults_after_line result (K.state sink.old).faults }
     {
@@ -213,17 +217,24 @@ impl Screen {
         requires numbers { self.old.views.next < NUMBERS_END }
         requires bounds { IsInBounds (plain_command command.now) }
         requires short { text_length (plain_command command.now) < 2 ^ 31 }
-        ensures carried { WritesReply (step [] (world_of self.old) (plain_command command.now)) (world_of self.new) (K.state sink.old) (K.state sink.new) result }
+        ensures carried { WritesReply (step [] (world_of self.old) (plain_command command.now)) (world_of self.new)
+            (K.state sink.old) (K.state sink.new) result }
         ensures unchanged { IsDone result ⊎ ((self.new ≡ self.old) × (sink.new ≡ sink.old)) }
         ensures reports { IsDone result → Reports self.new (K.state sink.old) (K.state sink.new) result }
-        ensures silent { (world : PlainWorld) → step [] (world_of self.old) (plain_command command.now) ≡ Done world [] → sink.new ≡ sink.old }
+        ensures silent { (world : PlainWorld)
+            → step [] (world_of self.old) (plain_command command.now) ≡ Done world []
+            → sink.new ≡ sink.old }
         ensures memory { result ≡ Err StepFault.NoMemory → MayWantMemory (plain_command command.now) }
         ensures numbers { self.new.views.next ≤ self.old.views.next + 1 }
         ensures work { plain_command command.now ≢ Frame → work.new ≡ work.old }
         ensures idle { IsDone result ⊎ (work.new ≡ work.old) }
         ensures still { plain_command command.now ≡ Frame → IsShown self.old → work.new ≡ work.old }
-        ensures framed { plain_command command.now ≡ Frame → IsDone result → IsFrameDone self.old self.new work.old work.new }
-        ensures keeps { plain_command command.now ≢ Frame → IsDone result → KeepsLine (plain_command command.now) self.old self.new }
+        ensures framed { plain_command command.now ≡ Frame
+            → IsDone result
+            → IsFrameDone self.old self.new work.old work.new }
+        ensures keeps { plain_command command.now ≢ Frame
+            → IsDone result
+            → KeepsLine (plain_command command.now) self.old self.new }
         ensures painted { RisesWithin (paint_bound (world_of self.old)) work.old.painted work.new.painted }
         ensures sink_failed { (K.state sink.new).faults ≡ faults_after_line result (K.state sink.old).faults }
         ensures no_shelf { result ≢ Err StepFault.Shelf }
@@ -244,14 +255,17 @@ impl Screen {
         requires numbers { self.old.views.next < NUMBERS_END }
         ensures carried { (files : Files)
             → AreAtHand files (F.files shelf.old) (asked_for (plain_of self.old.views) (Some (name.now, into)))
-            → WritesReply (inflation files (world_of self.old) name.now into) (world_of self.new) (K.state sink.old) (K.state sink.new) result }
+            → WritesReply (inflation files (world_of self.old) name.now into) (world_of self.new)
+            (K.state sink.old) (K.state sink.new) result }
         ensures unchanged { IsDone result ⊎ ((self.new ≡ self.old) × (sink.new ≡ sink.old)) }
         ensures reports { IsDone result → Reports self.new (K.state sink.old) (K.state sink.new) result }
         ensures files_stay { F.files shelf.new ≡ F.files shelf.old }
         ensures unasked { asked_for (plain_of self.old.views) (Some (name.now, into)) ≡ None → shelf.new ≡ shelf.old }
         ensures shelf_failed { CountsShelf (F.faults shelf.old) (F.faults shelf.new) result }
-        ensures asked { result ≡ Err StepFault.Shelf → asked_for (plain_of self.old.views) (Some (name.now, into)) ≢ None }
-        ensures fetched { F.fetches shelf.new ≡ fetches_after (asked_for (plain_of self.old.views) (Some (name.now, into))) (F.fetches shelf.old) }
+        ensures asked { result ≡ Err StepFault.Shelf
+            → asked_for (plain_of self.old.views) (Some (name.now, into)) ≢ None }
+        ensures fetched { F.fetches shelf.new
+            ≡ fetches_after (asked_for (plain_of self.old.views) (Some (name.now, into))) (F.fetches shelf.old) }
         ensures numbers { self.new.views.next ≤ self.old.views.next + MAX_VIEWS }
         ensures keeps { IsDone result → KeepsLine (Inflate name.now into) self.old self.new }
         ensures sink_failed { (K.state sink.new).faults ≡ faults_after_line result (K.state sink.old).faults }
@@ -263,8 +277,10 @@ impl Screen {
     /// Writes the text of a line that was carried out.
     fn tell<K: Sink>(&mut self, response: Response, sink: &mut K) -> Result<(), StepFault>
         requires { IsTellable self.old.views self.old.surface self.old.told self.old.saved response }
-        ensures carried { WritesReply (Done (world_of self.old) (response_text self.old.views self.old.surface self.old.told self.old.saved response)) (world_of self.new) (K.state sink.old) (K.state sink.new) result }
-        ensures silent { response_text self.old.views self.old.surface self.old.told self.old.saved response ≡ [] → sink.new ≡ sink.old }
+        ensures carried { WritesReply (Done (world_of self.old) (response_text self.old.views self.old.surface
+            self.old.told self.old.saved response)) (world_of self.new) (K.state sink.old) (K.state sink.new) result }
+        ensures silent { response_text self.old.views self.old.surface self.old.told self.old.saved response ≡ []
+            → sink.new ≡ sink.old }
         ensures done { IsDone result }
         ensures same { self.new ≡ self.old }
         ensures sink_failed { (K.state sink.new).faults ≡ faults_after_line result (K.state sink.old).faults }
@@ -295,13 +311,16 @@ impl Screen {
         ensures changed { (files : Files)
             → AreAtHand files (F.files shelf.old) (asked_for (plain_of self.old.views) (Some (name.now, into)))
             → Inflates (inflation files (world_of self.old) name.now into) self.new result }
-        ensures told { IfOk result (λ response. IsTellable self.new.views self.new.surface self.new.told self.new.saved response) }
+        ensures told { IfOk result
+            (λ response. IsTellable self.new.views self.new.surface self.new.told self.new.saved response) }
         ensures unchanged { OnErr result (self.new ≡ self.old) }
         ensures files_stay { F.files shelf.new ≡ F.files shelf.old }
         ensures unasked { asked_for (plain_of self.old.views) (Some (name.now, into)) ≡ None → shelf.new ≡ shelf.old }
         ensures shelf_failed { CountsShelf (F.faults shelf.old) (F.faults shelf.new) result }
-        ensures asked { result ≡ Err StepFault.Shelf → asked_for (plain_of self.old.views) (Some (name.now, into)) ≢ None }
-        ensures fetched { F.fetches shelf.new ≡ fetches_after (asked_for (plain_of self.old.views) (Some (name.now, into))) (F.fetches shelf.old) }
+        ensures asked { result ≡ Err StepFault.Shelf
+            → asked_for (plain_of self.old.views) (Some (name.now, into)) ≢ None }
+        ensures fetched { F.fetches shelf.new
+            ≡ fetches_after (asked_for (plain_of self.old.views) (Some (name.now, into))) (F.fetches shelf.old) }
         ensures numbers { self.new.views.next ≤ self.old.views.next + MAX_VIEWS }
         ensures keeps { OnOk result (KeepsLine (Inflate name.now into) self.old self.new) }
         ensures no_sink { result ≢ Err StepFault.Sink }
@@ -330,8 +349,10 @@ impl Screen {
         ensures work { plain_command command.now ≢ Frame → work.new ≡ work.old }
         ensures idle { OnErr result (work.new ≡ work.old) }
         ensures still { plain_command command.now ≡ Frame → IsShown self.old → work.new ≡ work.old }
-        ensures framed { plain_command command.now ≡ Frame → OnOk result (IsFrameDone self.old self.new work.old work.new) }
-        ensures keeps { plain_command command.now ≢ Frame → OnOk result (KeepsLine (plain_command command.now) self.old self.new) }
+        ensures framed { plain_command command.now ≡ Frame
+            → OnOk result (IsFrameDone self.old self.new work.old work.new) }
+        ensures keeps { plain_command command.now ≢ Frame
+            → OnOk result (KeepsLine (plain_command command.now) self.old self.new) }
         ensures painted { RisesWithin (paint_bound (world_of self.old)) work.old.painted work.new.painted }
     {
         match *command {
@@ -417,7 +438,8 @@ impl Screen {
     /// Defines a resource, or gives one that is there another value.
     fn define(&mut self, alloc: Global, id: u32, given: Given<'_>) -> Result<Response, StepFault>
         requires short { given_text_length (plain_given given) < 2 ^ 31 }
-        ensures changed { CarriesOut (defined (world_of self.old) id (resource_given (plain_given given.entry)) (definition_refusal_of self.old.resources id)) self.new result }
+        ensures changed { CarriesOut (defined (world_of self.old) id (resource_given (plain_given given.entry))
+            (definition_refusal_of self.old.resources id)) self.new result }
         ensures unchanged { OnErr result (self.new ≡ self.old) }
         ensures numbers { self.new.views.next ≡ self.old.views.next }
         ensures keeps { OnOk result (IsIdle self.old self.new) }
@@ -435,7 +457,8 @@ impl Screen {
         requires edit { IsEdit self.old.views edit }
         requires leaves { LeavesViews edit }
         requires scrolls { EditsWithin edit }
-        ensures changed { CarriesOut (after_edit (world_of self.old) (numbered self.old.views edit.entry)) self.new result }
+        ensures changed { CarriesOut
+            (after_edit (world_of self.old) (numbered self.old.views edit.entry)) self.new result }
         ensures unchanged { OnErr result (self.new ≡ self.old) }
         ensures memory { result ≡ Err StepFault.NoMemory → EditMayWantMemory edit.entry }
         ensures numbers { self.new.views.next ≤ self.old.views.next + 1 }

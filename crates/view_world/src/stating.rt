@@ -96,14 +96,19 @@ pub fn take_up(
 ) -> Result<Response, StepFault>
     ensures shown { KeepsShown window damage.old.rect damage.new.rect tree.old tree.new }
     ensures undamaged { OnErr result (damage.new ≡ damage.old) }
-    ensures within { (box : Rect) → LiesIn damage.old.rect box → GivenIn states.now window box tree.new → LiesIn damage.new.rect box }
+    ensures within { (box : Rect)
+        → LiesIn damage.old.rect box
+        → GivenIn states.now window box tree.new
+        → LiesIn damage.new.rect box }
     ensures taken { TakesUp (is_for_other_class states.now (rows (plain_of tree.old))) result }
     ensures plain { OnOk result (plain_of tree.new ≡ restored states.now (plain_of tree.old)) }
     ensures unchanged { OnErr result (tree.new ≡ tree.old) }
     ensures retells { OnOk result (Retells states.now tree.old tree.new) }
     ensures is_tree { IsTree tree.new }
     ensures counts { tree.new.counts ≡ tree.old.counts }
-    ensures asked { (key : ℕ) → on_paths key (set_by states.now tree.old.tree) tree.old.tree ≡ false → held_of tree.new key ≡ held_of tree.old key }
+    ensures asked { (key : ℕ)
+        → on_paths key (set_by states.now tree.old.tree) tree.old.tree ≡ false
+        → held_of tree.new key ≡ held_of tree.old key }
     ensures geometry { geometry_of tree.new ≡ geometry_of tree.old }
     ensures consistent { IsConsistent tree.old → IsConsistent tree.new }
     ensures fits { OffsetsFit (plain_of tree.old) → OffsetsFit (plain_of tree.new) }

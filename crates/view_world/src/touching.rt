@@ -53,7 +53,8 @@ pub fn disallow_from(tree: &ViewTree, gesture: &mut Gesture, view: Key, on: bool
     requires live { IsLive tree.now view }
     requires is_tree { IsTree tree.now }
     requires caught { IsGestureIn tree.now.tree gesture.old }
-    ensures gesture { gesture_of gesture.new ≡ all_disallowed on (number_of tree.now view ∷ ancestors_of (number_of tree.now view) (plain_of tree.now)) (gesture_of gesture.old) }
+    ensures gesture { gesture_of gesture.new ≡ all_disallowed on (number_of tree.now view
+        ∷ ancestors_of (number_of tree.now view) (plain_of tree.now)) (gesture_of gesture.old) }
     ensures opened { (other : ℕ) → is_open gesture.new other ≡ is_open gesture.old other }
 {
     let mut next = Some(view);

@@ -110,16 +110,16 @@ few panes are =
     omega arith
 
 -- the windows up to an index have their new corners, and those from it on are as they were
-pub record Placed (to : Pane) (old now : List Pane) (index : ℕ) : Type 0 where
+pub record PlacedUpTo (to : Pane) (old now : List Pane) (index : ℕ) : Type 0 where
   pub all : length now ≡ length old
   pub done : take index now ≡ map (placed to) (take index old)
   pub rest : drop index now ≡ drop index old
 
-pub placed_none : (to : Pane) (old : List Pane) → Placed to old old 0
+pub placed_none : (to : Pane) (old : List Pane) → PlacedUpTo to old old 0
 placed_none to old = record { all = refl; done = refl; rest = refl }
 
-pub placed_more : (to : Pane) (old now : List Pane) (index : ℕ) (item pane : Pane) → Placed to old now index → index < length old
-    → pane ≡ placed to (get_or now index item) → Placed to old (set now index pane) (index + 1)
+pub placed_more : (to : Pane) (old now : List Pane) (index : ℕ) (item pane : Pane) → PlacedUpTo to old now index → index < length old
+    → pane ≡ placed to (get_or now index item) → PlacedUpTo to old (set now index pane) (index + 1)
 placed_more to old now index item pane is within own =
     let there : index < length now = rw is.all within in
     let both : get_or now index item ∷ drop (index + 1) now ≡ get_or old index item ∷ drop (index + 1) old =
@@ -144,7 +144,7 @@ placed_more to old now index item pane is within own =
     others [] = []
     others (pane ∷ panes) = panes
 
-pub placed_all : (to : Pane) (old now : List Pane) (index : ℕ) → Placed to old now index → length old ≤ index → now ≡ map (placed to) old
+pub placed_all : (to : Pane) (old now : List Pane) (index : ℕ) → PlacedUpTo to old now index → length old ≤ index → now ≡ map (placed to) old
 placed_all to old now index is over =
     sym (take_all index now (rw is.all over)) ∙ is.done ∙ ap (map (placed to)) (take_all index old over)
 

@@ -53,7 +53,8 @@ impl Stack {
         sink: &mut K,
     ) -> Result<(), Failed>
         requires { IsPart x y w h }
-        ensures { Delivered (K.state sink.old) (K.state sink.new) result (composed_text (stack_of self.now) (unsigned_abs x) (unsigned_abs y) (unsigned_abs w) (unsigned_abs h)) }
+        ensures { Delivered (K.state sink.old) (K.state sink.new) result
+            (composed_text (stack_of self.now) (unsigned_abs x) (unsigned_abs y) (unsigned_abs w) (unsigned_abs h)) }
     {
         let composed = Composed {
             stack: self,
@@ -135,7 +136,8 @@ fn color_of(surface: &Surface, column: usize, row: usize) -> Argb
 impl Composed<'_> {
     fn put_rows<K: Sink>(&self, text: &mut TextBuffer, sink: &mut K)
         requires { IsComposed self.now }
-        ensures { Sends (K.state sink.old) (K.state sink.new) text.old text.new (pixels_text (composed_in self.now) self.now.part.width self.now.part.height) }
+        ensures { Sends (K.state sink.old) (K.state sink.new) text.old text.new
+            (pixels_text (composed_in self.now) self.now.part.width self.now.part.height) }
     {
         let mut row = 0;
         while row < self.part.height {
@@ -148,7 +150,8 @@ impl Composed<'_> {
     fn put_row<K: Sink>(&self, text: &mut TextBuffer, sink: &mut K, row: u16)
         requires composed { IsComposed self.now }
         requires row { row < self.now.part.height }
-        ensures { Sends (K.state sink.old) (K.state sink.new) text.old text.new (row_text (λ column. composed_in self.now column row) self.now.part.width) }
+        ensures { Sends (K.state sink.old) (K.state sink.new) text.old text.new
+            (row_text (λ column. composed_in self.now column row) self.now.part.width) }
     {
         let mut column = 0;
         while column < self.part.width {
@@ -163,7 +166,8 @@ impl Composed<'_> {
         requires composed { IsComposed self.now }
         requires column { column < self.now.part.width }
         requires row { row < self.now.part.height }
-        ensures { Sends (K.state sink.old) (K.state sink.new) text.old text.new (separator column ⧺ pixel_text (composed_in self.now column row)) }
+        ensures { Sends (K.state sink.old) (K.state sink.new) text.old text.new
+            (separator column ⧺ pixel_text (composed_in self.now column row)) }
     {
         put_separator(text, sink, column);
         text.hex(sink, self.color(column, row).0, 6);

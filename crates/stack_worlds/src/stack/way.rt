@@ -7,7 +7,7 @@ ghost use Rattle.script_lines.specs.Numbers.{IsWithin};
 ghost use Rattle.script_lines.specs.Touches.{IsTouchInBounds};
 ghost use Rattle.stack_worlds.specs.KeptStack.{stack_of};
 ghost use Rattle.stack_worlds.specs.PlainStack.{Given as GivenTo, ToStack, from_corner, from_edge, target_of, way_down, way_held, way_move, way_of, way_open};
-ghost use Rattle.stack_worlds.specs.StackCarried.{IsOwnSound, IsWaySound, IsWindow, plain_way};
+ghost use Rattle.stack_worlds.specs.StackCarried.{IsOwnSound, IsWaySound, plain_way};
 ghost use Rattle.window_stack.specs.PlainPanes.{corner_of, is_open};
 ghost use Rattle.window_stack.specs.StackLines.{IsLineInBounds, plain_line, text_length_in};
 ghost use Rattle.window_stack.specs.declared.lines.TheConstants.{MAX_PANE};
@@ -94,7 +94,8 @@ impl Stack {
         requires name { k ≤ MAX_PANE }
         requires bounds { IsInBounds (plain_command command) }
         requires short { text_length (plain_command command) < 2 ^ 31 }
-        ensures value { plain_way result ≡ way_open (stack_of self.now) k (GivenTo self.now.panes.holder k (plain_command command.entry)) }
+        ensures value { plain_way result
+            ≡ way_open (stack_of self.now) k (GivenTo self.now.panes.holder k (plain_command command.entry)) }
         ensures sound { IsWaySound (stack_of self.now) (plain_way result) }
     {
         if !self.is_open(k) {
@@ -110,7 +111,8 @@ impl Stack {
     /// The way of a pointer that goes down: to the window that has the gesture, or else to the topmost one there.
     fn way_down<'a>(&self, p: u8, x: i32, y: i32) -> Way<'a>
         requires { IsTouchInBounds p x y }
-        ensures value { plain_way result ≡ way_down (stack_of self.now) p x y (target_of (stack_of self.now) x y self.now.panes.holder) }
+        ensures value { plain_way result
+            ≡ way_down (stack_of self.now) p x y (target_of (stack_of self.now) x y self.now.panes.holder) }
         ensures sound { IsWaySound (stack_of self.now) (plain_way result) }
     {
         let k = match self.panes.holder() {
@@ -157,7 +159,8 @@ impl Stack {
     /// A point of the stack by the coordinates of a window, if a touch can be there.
     fn from_corner(&self, k: u8, x: i32, y: i32) -> Option<(i32, i32)>
         ensures value { result ≡ from_corner (corner_of self.now.panes k) x y }
-        ensures within { IfSome result (λ point. IsWithin MIN_TOUCH MAX_TOUCH point.0 × IsWithin MIN_TOUCH MAX_TOUCH point.1) }
+        ensures within { IfSome result
+            (λ point. IsWithin MIN_TOUCH MAX_TOUCH point.0 × IsWithin MIN_TOUCH MAX_TOUCH point.1) }
     {
         let (left, top) = self.panes.corner(k)?;
         let x = from_edge(left, x)?;

@@ -1,6 +1,6 @@
 //! The worlds of the windows of a stack, each in the place of its window.
 
-ghost use Rattle.std.specs.Prelude.{◌≡◌, ◌≢◌, ◌⊎◌, ◌+◌, ◌<◌, ◌≤◌, ◌^◌, ℕ, [], true, Err, IfSome, None, Ok, OnErr, Option, Some, slice_set};
+ghost use Rattle.std.specs.Prelude.{◌≡◌, ◌≢◌, ◌⊎◌, ◌<◌, ◌≤◌, ◌^◌, [], true, Err, IfSome, None, Ok, OnErr, Option, Some, slice_set};
 ghost use Rattle.std.specs.Option.{is_some, option_map};
 ghost use Rattle.script_lines.specs.Commands.{IsInBounds};
 ghost use Rattle.script_lines.specs.PlainCommands.{plain_command, text_length};
@@ -58,7 +58,8 @@ pub fn line_at<K: Sink, F: Shelf>(
         → AreAtHand files (F.files shelf.old) (asked_file (world_of world) (plain_command command.entry))
         → (after : KeyedWorld)
         × (kept_world place.new ≡ Some after)
-        × WritesReply (step files (world_of world) (plain_command command.entry)) (world_of after) (K.state sink.old) (K.state sink.new) result }
+        × WritesReply (step files (world_of world) (plain_command command.entry)) (world_of after)
+        (K.state sink.old) (K.state sink.new) result }
     ensures works { (world : KeyedWorld)
         → kept_world place.old ≡ Some world
         → (after : KeyedWorld)
@@ -114,7 +115,8 @@ impl Stack {
             → AreAtHand files (F.files shelf.old) (asked_file (world_of world) (plain_command command.entry))
             → (after : KeyedWorld)
             × (self.new ≡ record self.old { worlds = slice_set self.old.worlds k (Some after) })
-            × WritesReply (step files (world_of world) (plain_command command.entry)) (world_of after) (K.state sink.old) (K.state sink.new) result }
+            × WritesReply (step files (world_of world) (plain_command command.entry)) (world_of after)
+            (K.state sink.old) (K.state sink.new) result }
         ensures works { (world : KeyedWorld)
             → keyed_at self.old k ≡ Some world
             → (after : KeyedWorld)
@@ -169,7 +171,9 @@ impl Stack {
     /// Whether no pointer is down in a window.
     pub fn is_untouched(&self, k: u8) -> bool
         requires { k ≤ MAX_PANE }
-        ensures { (world : KeyedWorld) → keyed_at self.now k ≡ Some world → result ≡ is_none_down (world_of world).pointers }
+        ensures { (world : KeyedWorld)
+            → keyed_at self.now k ≡ Some world
+            → result ≡ is_none_down (world_of world).pointers }
     {
         match self.world(k) {
             None => true,

@@ -23,7 +23,7 @@ ghost use Rattle.view_model.specs.Visible.{canvas_below, seen_in};
 ghost use Rattle.view_tree.specs.Rows.{first_tree, children_of_first, part_from};
 ghost use Rattle.scroll_offsets.specs.Bringing.{range_at};
 ghost use Rattle.view_tree.specs.Views.{IsLive, IsTree, KeepsOthers, KeepsOutside, SameTree, class_of, facts_of, held_of, offset_of, specs_of, state_of};
-ghost use Rattle.traversal.specs.Counting.{IsCounted};
+ghost use Rattle.traversal.specs.Counting.{IsMeasuringCounted};
 ghost use Rattle.traversal.specs.Following.{GrowsWithin, KeepsSightIn};
 ghost use Rattle.traversal.specs.Growing.{LastAt};
 ghost use Rattle.traversal.specs.Narrow.{AreNarrow, IsNarrow, IsNarrowFor, IsStretch};
@@ -61,15 +61,20 @@ pub fn lay(
     requires narrow { IsNarrow rect }
     requires near { IfSome canvas.now (IsCanvas (2 ^ 37)) }
     ensures grew { LiesIn damage.old.rect damage.new.rect }
-    ensures sight { KeepsSightIn canvas.now damage.new.rect (held_of tree.old) (held_of tree.new) (first_tree (part_from view tree.old.tree)) }
-    ensures within { GrowsWithin canvas.now damage.old.rect damage.new.rect (held_of tree.old) (held_of tree.new) (first_tree (part_from view tree.old.tree)) }
+    ensures sight { KeepsSightIn canvas.now damage.new.rect (held_of tree.old) (held_of tree.new)
+        (first_tree (part_from view tree.old.tree)) }
+    ensures within { GrowsWithin canvas.now damage.old.rect damage.new.rect (held_of tree.old) (held_of tree.new)
+        (first_tree (part_from view tree.old.tree)) }
     ensures same { SameTree tree.old tree.new }
     ensures put { IsPut (held_of tree.old) (held_of tree.new) view (part_from view tree.old.tree) rect }
     ensures others { KeepsOutside (held_of tree.old) (held_of tree.new) (first_tree (part_from view tree.old.tree)) }
-    ensures measured { work.new.measured ≤ work.old.measured + owed (held_of tree.old) (first_tree (part_from view tree.old.tree)) }
-    ensures laid { tree.new.counts.laid ≤ tree.old.counts.laid + differ (held_of tree.old) (held_of tree.new) (first_tree (part_from view tree.old.tree)) }
-    ensures counted { IsCounted tree.old tree.new work.old work.new }
-    ensures caches { Grown (λ place other. other ≡ specs_of (state_of tree.old view)) (held_of tree.old) (held_of tree.new) (first_tree (part_from view tree.old.tree)) }
+    ensures measured { work.new.measured
+        ≤ work.old.measured + owed (held_of tree.old) (first_tree (part_from view tree.old.tree)) }
+    ensures laid { tree.new.counts.laid ≤ tree.old.counts.laid
+        + differ (held_of tree.old) (held_of tree.new) (first_tree (part_from view tree.old.tree)) }
+    ensures counted { IsMeasuringCounted tree.old tree.new work.old work.new }
+    ensures caches { Grown (λ place other. other ≡ specs_of (state_of tree.old view)) (held_of tree.old)
+        (held_of tree.new) (first_tree (part_from view tree.old.tree)) }
 {
     lay_open(tree, view, rect, canvas, damage, work);
     settle(tree, view);
@@ -90,15 +95,21 @@ pub fn lay_open(
     requires narrow { IsNarrow rect }
     requires near { IfSome canvas.now (IsCanvas (2 ^ 37)) }
     ensures grew { LiesIn damage.old.rect damage.new.rect }
-    ensures sight { KeepsSightIn canvas.now damage.new.rect (held_of tree.old) (held_of tree.new) (first_tree (part_from view tree.old.tree)) }
-    ensures within { GrowsWithin canvas.now damage.old.rect damage.new.rect (held_of tree.old) (held_of tree.new) (first_tree (part_from view tree.old.tree)) }
+    ensures sight { KeepsSightIn canvas.now damage.new.rect (held_of tree.old) (held_of tree.new)
+        (first_tree (part_from view tree.old.tree)) }
+    ensures within { GrowsWithin canvas.now damage.old.rect damage.new.rect (held_of tree.old) (held_of tree.new)
+        (first_tree (part_from view tree.old.tree)) }
     ensures same { SameTree tree.old tree.new }
-    ensures put { IsPut (held_of tree.old) (settled_at view (held_of tree.new)) view (part_from view tree.old.tree) rect }
+    ensures put { IsPut (held_of tree.old) (settled_at view (held_of tree.new)) view
+        (part_from view tree.old.tree) rect }
     ensures others { KeepsOutside (held_of tree.old) (held_of tree.new) (first_tree (part_from view tree.old.tree)) }
-    ensures measured { work.new.measured ≤ work.old.measured + owed (held_of tree.old) (first_tree (part_from view tree.old.tree)) }
-    ensures laid { tree.new.counts.laid ≤ tree.old.counts.laid + differ (held_of tree.old) (held_of tree.new) (first_tree (part_from view tree.old.tree)) }
-    ensures counted { IsCounted tree.old tree.new work.old work.new }
-    ensures caches { Grown (λ place other. other ≡ specs_of (state_of tree.old view)) (held_of tree.old) (held_of tree.new) (first_tree (part_from view tree.old.tree)) }
+    ensures measured { work.new.measured
+        ≤ work.old.measured + owed (held_of tree.old) (first_tree (part_from view tree.old.tree)) }
+    ensures laid { tree.new.counts.laid ≤ tree.old.counts.laid
+        + differ (held_of tree.old) (held_of tree.new) (first_tree (part_from view tree.old.tree)) }
+    ensures counted { IsMeasuringCounted tree.old tree.new work.old work.new }
+    ensures caches { Grown (λ place other. other ≡ specs_of (state_of tree.old view)) (held_of tree.old)
+        (held_of tree.new) (first_tree (part_from view tree.old.tree)) }
     ensures still { IsAtPlace (state_of tree.old view) rect → (tree.new ≡ tree.old) × (work.new ≡ work.old) }
 {
     make_fit(tree, view, work);
@@ -129,12 +140,15 @@ fn follow_in(
     requires { IfSome canvas.now (IsCanvas (2 ^ 37)) }
     ensures grew { LiesIn damage.old.rect damage.new.rect }
     ensures near { IfSome result (IsCanvas (2 ^ 37)) }
-    ensures follows { IfSome canvas.now (λ canvas. Follows facts.now before rect (as_seen canvas) damage.new.rect result) }
+    ensures follows { IfSome canvas.now
+        (λ canvas. Follows facts.now before rect (as_seen canvas) damage.new.rect result) }
     ensures within { (box : Rect) → LiesIn damage.old.rect box
-        → IfSome canvas.now (λ canvas. before ≢ Some rect → LiesIn (seen_in before (as_seen canvas)) box × LiesIn (seen_in (Some rect) (as_seen canvas)) box)
+        → IfSome canvas.now (λ canvas. before ≢ Some rect
+        → LiesIn (seen_in before (as_seen canvas)) box × LiesIn (seen_in (Some rect) (as_seen canvas)) box)
         → LiesIn damage.new.rect box }
     ensures unfollowed { canvas.now ≡ None → result ≡ None }
-    ensures stays { IfSome result (λ inner. (before ≡ Some rect) × IfSome canvas.now (λ canvas. as_seen inner ≡ canvas_below (Some rect) facts.now (as_seen canvas))) }
+    ensures stays { IfSome result (λ inner. (before ≡ Some rect)
+        × IfSome canvas.now (λ canvas. as_seen inner ≡ canvas_below (Some rect) facts.now (as_seen canvas))) }
 {
     match canvas {
         None => None,
@@ -156,9 +170,11 @@ fn follow_seen(
     ensures near { IfSome result (IsCanvas (2 ^ 37)) }
     ensures follows { Follows facts.now before rect (as_seen canvas.now) damage.new.rect result }
     ensures within { (box : Rect) → LiesIn damage.old.rect box
-        → (before ≢ Some rect → LiesIn (seen_in before (as_seen canvas.now)) box × LiesIn (seen_in (Some rect) (as_seen canvas.now)) box)
+        → (before ≢ Some rect → LiesIn (seen_in before (as_seen canvas.now)) box
+        × LiesIn (seen_in (Some rect) (as_seen canvas.now)) box)
         → LiesIn damage.new.rect box }
-    ensures stays { IfSome result (λ inner. (before ≡ Some rect) × (as_seen inner ≡ canvas_below (Some rect) facts.now (as_seen canvas.now))) }
+    ensures stays { IfSome result (λ inner. (before ≡ Some rect)
+        × (as_seen inner ≡ canvas_below (Some rect) facts.now (as_seen canvas.now))) }
 {
     follow(facts, before, rect, Some(*canvas), damage)
 }
@@ -169,14 +185,16 @@ fn bring(tree: &mut ViewTree, view: Key, rect: Rect, canvas: &Option<Canvas>, da
     requires live { IsLive tree.old view }
     requires near { IfSome canvas.now (IsCanvas (2 ^ 37)) }
     ensures same { SameTree tree.old tree.new }
-    ensures held { held_of tree.new view ≡ record (held_of tree.old view) { offset = brought (range_at tree.old view) (offset_of tree.old view) } }
+    ensures held { held_of tree.new view
+        ≡ record (held_of tree.old view) { offset = brought (range_at tree.old view) (offset_of tree.old view) } }
     ensures others { KeepsOthers tree.old tree.new view }
     ensures counts { tree.new.counts ≡ tree.old.counts }
     ensures grew { LiesIn damage.old.rect damage.new.rect }
     ensures seen { IfSome canvas.now (λ canvas. (offset_of tree.new view ≡ offset_of tree.old view)
         ⊎ ((x y : ℤ) → holds damage.new.rect x y ≡ false → holds (seen_in (Some rect) (as_seen canvas)) x y ≡ false)) }
     ensures within { (box : Rect) → LiesIn damage.old.rect box
-        → IfSome canvas.now (λ canvas. offset_of tree.new view ≢ offset_of tree.old view → LiesIn (seen_in (Some rect) (as_seen canvas)) box)
+        → IfSome canvas.now (λ canvas. offset_of tree.new view ≢ offset_of tree.old view
+        → LiesIn (seen_in (Some rect) (as_seen canvas)) box)
         → LiesIn damage.new.rect box }
 {
     if !bring_one(tree, view) {
@@ -213,10 +231,12 @@ fn make_fit(tree: &mut ViewTree, view: Key, work: &mut Work)
     ensures fit { Fit (held_of tree.new) (first_tree (part_from view tree.old.tree)) }
     ensures keeps { Keeps (held_of tree.old) (held_of tree.new) }
     ensures others { KeepsOutside (held_of tree.old) (held_of tree.new) (first_tree (part_from view tree.old.tree)) }
-    ensures measured { work.new.measured + owed (held_of tree.new) (first_tree (part_from view tree.old.tree)) ≤ work.old.measured + owed (held_of tree.old) (first_tree (part_from view tree.old.tree)) }
+    ensures measured { work.new.measured + owed (held_of tree.new) (first_tree (part_from view tree.old.tree))
+        ≤ work.old.measured + owed (held_of tree.old) (first_tree (part_from view tree.old.tree)) }
     ensures laid { tree.new.counts.laid ≡ tree.old.counts.laid }
-    ensures counted { IsCounted tree.old tree.new work.old work.new }
-    ensures caches { Grown (λ place other. other ≡ specs_of (state_of tree.old view)) (held_of tree.old) (held_of tree.new) (first_tree (part_from view tree.old.tree)) }
+    ensures counted { IsMeasuringCounted tree.old tree.new work.old work.new }
+    ensures caches { Grown (λ place other. other ≡ specs_of (state_of tree.old view)) (held_of tree.old)
+        (held_of tree.new) (first_tree (part_from view tree.old.tree)) }
     ensures still { (state_of tree.old view).measure_first ≡ false → (tree.new ≡ tree.old) × (work.new ≡ work.old) }
 {
     let _in_range = work.measured;
@@ -252,7 +272,8 @@ fn move_to(tree: &mut ViewTree, view: Key, rect: Rect) -> bool
     requires { IsLive tree.old view }
     ensures moved { same_place (state_of tree.old view).bounds rect ≡ (if result then false else true) }
     ensures same { SameTree tree.old tree.new }
-    ensures held { held_of tree.new view ≡ (if result then moved_to (held_of tree.old view) rect else held_of tree.old view) }
+    ensures held { held_of tree.new view
+        ≡ (if result then moved_to (held_of tree.old view) rect else held_of tree.old view) }
     ensures others { KeepsOthers tree.old tree.new view }
     ensures laid { tree.new.counts.laid ≤ tree.old.counts.laid + (if result then 1 else 0) }
     ensures measures { tree.new.counts.measures ≡ tree.old.counts.measures }
@@ -273,7 +294,9 @@ pub fn settle(tree: &mut ViewTree, view: Key)
     ensures held { held_of tree.new view ≡ settled (held_of tree.old view) }
     ensures others { KeepsOthers tree.old tree.new view }
     ensures counts { tree.new.counts ≡ tree.old.counts }
-    ensures still { (state_of tree.old view).forced ≡ false → (state_of tree.old view).layout_needed ≡ false → tree.new ≡ tree.old }
+    ensures still { (state_of tree.old view).forced ≡ false
+        → (state_of tree.old view).layout_needed ≡ false
+        → tree.new ≡ tree.old }
 {
     let mut state = tree.state(view);
     if is_calm(false, state.forced, state.layout_needed) {
@@ -291,18 +314,26 @@ pub fn settle(tree: &mut ViewTree, view: Key)
 fn lay_kids(tree: &mut ViewTree, view: Key, inside: &Inside, damage: &mut Damage, work: &mut Work)
     requires live { IsLive tree.old view }
     requires fit { Fit (held_of tree.old) (children_of_first (part_from view tree.old.tree)) }
-    requires narrow { class_of tree.old view ≡ RelativeLayout → AreNarrow (held_of tree.old) (children_of_first (part_from view tree.old.tree)) }
+    requires narrow { class_of tree.old view ≡ RelativeLayout
+        → AreNarrow (held_of tree.old) (children_of_first (part_from view tree.old.tree)) }
     requires near { IfSome inside.now.canvas (IsCanvas (2 ^ 37)) }
     ensures grew { LiesIn damage.old.rect damage.new.rect }
-    ensures sight { KeepsSightIn inside.now.canvas damage.new.rect (held_of tree.old) (held_of tree.new) (children_of_first (part_from view tree.old.tree)) }
-    ensures within { GrowsWithin inside.now.canvas damage.old.rect damage.new.rect (held_of tree.old) (held_of tree.new) (children_of_first (part_from view tree.old.tree)) }
+    ensures sight { KeepsSightIn inside.now.canvas damage.new.rect (held_of tree.old) (held_of tree.new)
+        (children_of_first (part_from view tree.old.tree)) }
+    ensures within { GrowsWithin inside.now.canvas damage.old.rect damage.new.rect (held_of tree.old) (held_of tree.new)
+        (children_of_first (part_from view tree.old.tree)) }
     ensures same { SameTree tree.old tree.new }
-    ensures quiet { IsQuietAll (held_of tree.new) (spot_of (part_from view tree.old.tree) (held_of tree.old view) inside.now.size) (held_of tree.old) (children_of_first (part_from view tree.old.tree)) }
-    ensures others { KeepsOutside (held_of tree.old) (held_of tree.new) (children_of_first (part_from view tree.old.tree)) }
-    ensures measured { work.new.measured ≤ work.old.measured + owed (held_of tree.old) (children_of_first (part_from view tree.old.tree)) }
-    ensures laid { tree.new.counts.laid ≤ tree.old.counts.laid + differ (held_of tree.old) (held_of tree.new) (children_of_first (part_from view tree.old.tree)) }
-    ensures counted { IsCounted tree.old tree.new work.old work.new }
-    ensures caches { Grown (LastAt (held_of tree.old) (children_of_first (part_from view tree.old.tree))) (held_of tree.old) (held_of tree.new) (children_of_first (part_from view tree.old.tree)) }
+    ensures quiet { IsQuietAll (held_of tree.new) (spot_of (part_from view tree.old.tree)
+        (held_of tree.old view) inside.now.size) (held_of tree.old) (children_of_first (part_from view tree.old.tree)) }
+    ensures others { KeepsOutside (held_of tree.old) (held_of tree.new)
+        (children_of_first (part_from view tree.old.tree)) }
+    ensures measured { work.new.measured
+        ≤ work.old.measured + owed (held_of tree.old) (children_of_first (part_from view tree.old.tree)) }
+    ensures laid { tree.new.counts.laid ≤ tree.old.counts.laid
+        + differ (held_of tree.old) (held_of tree.new) (children_of_first (part_from view tree.old.tree)) }
+    ensures counted { IsMeasuringCounted tree.old tree.new work.old work.new }
+    ensures caches { Grown (LastAt (held_of tree.old) (children_of_first (part_from view tree.old.tree)))
+        (held_of tree.old) (held_of tree.new) (children_of_first (part_from view tree.old.tree)) }
 {
     if tree.first(view).is_none() {
         return;
@@ -327,18 +358,26 @@ fn lay_over(tree: &mut ViewTree, view: Key, inside: &Inside, damage: &mut Damage
     requires live { IsLive tree.old view }
     requires class { lays_over (class_of tree.old view) ≡ true }
     requires fit { Fit (held_of tree.old) (children_of_first (part_from view tree.old.tree)) }
-    requires narrow { class_of tree.old view ≡ RelativeLayout → AreNarrow (held_of tree.old) (children_of_first (part_from view tree.old.tree)) }
+    requires narrow { class_of tree.old view ≡ RelativeLayout
+        → AreNarrow (held_of tree.old) (children_of_first (part_from view tree.old.tree)) }
     requires near { IfSome inside.now.canvas (IsCanvas (2 ^ 37)) }
     ensures grew { LiesIn damage.old.rect damage.new.rect }
-    ensures sight { KeepsSightIn inside.now.canvas damage.new.rect (held_of tree.old) (held_of tree.new) (children_of_first (part_from view tree.old.tree)) }
-    ensures within { GrowsWithin inside.now.canvas damage.old.rect damage.new.rect (held_of tree.old) (held_of tree.new) (children_of_first (part_from view tree.old.tree)) }
+    ensures sight { KeepsSightIn inside.now.canvas damage.new.rect (held_of tree.old) (held_of tree.new)
+        (children_of_first (part_from view tree.old.tree)) }
+    ensures within { GrowsWithin inside.now.canvas damage.old.rect damage.new.rect (held_of tree.old) (held_of tree.new)
+        (children_of_first (part_from view tree.old.tree)) }
     ensures same { SameTree tree.old tree.new }
-    ensures quiet { IsQuiet (held_of tree.new) (spot_of (part_from view tree.old.tree) (held_of tree.old view) inside.now.size) [] (held_of tree.old) (children_of_first (part_from view tree.old.tree)) }
-    ensures others { KeepsOutside (held_of tree.old) (held_of tree.new) (children_of_first (part_from view tree.old.tree)) }
-    ensures measured { work.new.measured ≤ work.old.measured + owed (held_of tree.old) (children_of_first (part_from view tree.old.tree)) }
-    ensures laid { tree.new.counts.laid ≤ tree.old.counts.laid + differ (held_of tree.old) (held_of tree.new) (children_of_first (part_from view tree.old.tree)) }
-    ensures counted { IsCounted tree.old tree.new work.old work.new }
-    ensures caches { Grown (LastAt (held_of tree.old) (children_of_first (part_from view tree.old.tree))) (held_of tree.old) (held_of tree.new) (children_of_first (part_from view tree.old.tree)) }
+    ensures quiet { IsQuiet (held_of tree.new) (spot_of (part_from view tree.old.tree) (held_of tree.old view)
+        inside.now.size) [] (held_of tree.old) (children_of_first (part_from view tree.old.tree)) }
+    ensures others { KeepsOutside (held_of tree.old) (held_of tree.new)
+        (children_of_first (part_from view tree.old.tree)) }
+    ensures measured { work.new.measured
+        ≤ work.old.measured + owed (held_of tree.old) (children_of_first (part_from view tree.old.tree)) }
+    ensures laid { tree.new.counts.laid ≤ tree.old.counts.laid
+        + differ (held_of tree.old) (held_of tree.new) (children_of_first (part_from view tree.old.tree)) }
+    ensures counted { IsMeasuringCounted tree.old tree.new work.old work.new }
+    ensures caches { Grown (LastAt (held_of tree.old) (children_of_first (part_from view tree.old.tree)))
+        (held_of tree.old) (held_of tree.new) (children_of_first (part_from view tree.old.tree)) }
 {
     let mut placer = Placer::over(tree, view, inside.size);
     lay_forwards(tree, view, &mut placer, inside, damage, work);
@@ -357,18 +396,26 @@ fn lay_in_line(
     requires live { IsLive tree.old view }
     requires class { class_of tree.old view ≡ LinearLayout }
     requires fit { Fit (held_of tree.old) (children_of_first (part_from view tree.old.tree)) }
-    requires narrow { class_of tree.old view ≡ RelativeLayout → AreNarrow (held_of tree.old) (children_of_first (part_from view tree.old.tree)) }
+    requires narrow { class_of tree.old view ≡ RelativeLayout
+        → AreNarrow (held_of tree.old) (children_of_first (part_from view tree.old.tree)) }
     requires near { IfSome inside.now.canvas (IsCanvas (2 ^ 37)) }
     ensures grew { LiesIn damage.old.rect damage.new.rect }
-    ensures sight { KeepsSightIn inside.now.canvas damage.new.rect (held_of tree.old) (held_of tree.new) (children_of_first (part_from view tree.old.tree)) }
-    ensures within { GrowsWithin inside.now.canvas damage.old.rect damage.new.rect (held_of tree.old) (held_of tree.new) (children_of_first (part_from view tree.old.tree)) }
+    ensures sight { KeepsSightIn inside.now.canvas damage.new.rect (held_of tree.old) (held_of tree.new)
+        (children_of_first (part_from view tree.old.tree)) }
+    ensures within { GrowsWithin inside.now.canvas damage.old.rect damage.new.rect (held_of tree.old) (held_of tree.new)
+        (children_of_first (part_from view tree.old.tree)) }
     ensures same { SameTree tree.old tree.new }
-    ensures quiet { IsQuiet (held_of tree.new) (spot_of (part_from view tree.old.tree) (held_of tree.old view) inside.now.size) [] (held_of tree.old) (children_of_first (part_from view tree.old.tree)) }
-    ensures others { KeepsOutside (held_of tree.old) (held_of tree.new) (children_of_first (part_from view tree.old.tree)) }
-    ensures measured { work.new.measured ≤ work.old.measured + owed (held_of tree.old) (children_of_first (part_from view tree.old.tree)) }
-    ensures laid { tree.new.counts.laid ≤ tree.old.counts.laid + differ (held_of tree.old) (held_of tree.new) (children_of_first (part_from view tree.old.tree)) }
-    ensures counted { IsCounted tree.old tree.new work.old work.new }
-    ensures caches { Grown (LastAt (held_of tree.old) (children_of_first (part_from view tree.old.tree))) (held_of tree.old) (held_of tree.new) (children_of_first (part_from view tree.old.tree)) }
+    ensures quiet { IsQuiet (held_of tree.new) (spot_of (part_from view tree.old.tree) (held_of tree.old view)
+        inside.now.size) [] (held_of tree.old) (children_of_first (part_from view tree.old.tree)) }
+    ensures others { KeepsOutside (held_of tree.old) (held_of tree.new)
+        (children_of_first (part_from view tree.old.tree)) }
+    ensures measured { work.new.measured
+        ≤ work.old.measured + owed (held_of tree.old) (children_of_first (part_from view tree.old.tree)) }
+    ensures laid { tree.new.counts.laid ≤ tree.old.counts.laid
+        + differ (held_of tree.old) (held_of tree.new) (children_of_first (part_from view tree.old.tree)) }
+    ensures counted { IsMeasuringCounted tree.old tree.new work.old work.new }
+    ensures caches { Grown (LastAt (held_of tree.old) (children_of_first (part_from view tree.old.tree)))
+        (held_of tree.old) (held_of tree.new) (children_of_first (part_from view tree.old.tree)) }
 {
     let mut placer = Placer::in_line(tree, view, inside.size);
     lay_forwards(tree, view, &mut placer, inside, damage, work);
@@ -387,18 +434,26 @@ fn lay_between(
     requires live { IsLive tree.old view }
     requires class { class_of tree.old view ≡ RelativeLayout }
     requires fit { Fit (held_of tree.old) (children_of_first (part_from view tree.old.tree)) }
-    requires narrow { class_of tree.old view ≡ RelativeLayout → AreNarrow (held_of tree.old) (children_of_first (part_from view tree.old.tree)) }
+    requires narrow { class_of tree.old view ≡ RelativeLayout
+        → AreNarrow (held_of tree.old) (children_of_first (part_from view tree.old.tree)) }
     requires near { IfSome inside.now.canvas (IsCanvas (2 ^ 37)) }
     ensures grew { LiesIn damage.old.rect damage.new.rect }
-    ensures sight { KeepsSightIn inside.now.canvas damage.new.rect (held_of tree.old) (held_of tree.new) (children_of_first (part_from view tree.old.tree)) }
-    ensures within { GrowsWithin inside.now.canvas damage.old.rect damage.new.rect (held_of tree.old) (held_of tree.new) (children_of_first (part_from view tree.old.tree)) }
+    ensures sight { KeepsSightIn inside.now.canvas damage.new.rect (held_of tree.old) (held_of tree.new)
+        (children_of_first (part_from view tree.old.tree)) }
+    ensures within { GrowsWithin inside.now.canvas damage.old.rect damage.new.rect (held_of tree.old) (held_of tree.new)
+        (children_of_first (part_from view tree.old.tree)) }
     ensures same { SameTree tree.old tree.new }
-    ensures quiet { IsQuiet (held_of tree.new) (spot_of (part_from view tree.old.tree) (held_of tree.old view) inside.now.size) [] (held_of tree.old) (children_of_first (part_from view tree.old.tree)) }
-    ensures others { KeepsOutside (held_of tree.old) (held_of tree.new) (children_of_first (part_from view tree.old.tree)) }
-    ensures measured { work.new.measured ≤ work.old.measured + owed (held_of tree.old) (children_of_first (part_from view tree.old.tree)) }
-    ensures laid { tree.new.counts.laid ≤ tree.old.counts.laid + differ (held_of tree.old) (held_of tree.new) (children_of_first (part_from view tree.old.tree)) }
-    ensures counted { IsCounted tree.old tree.new work.old work.new }
-    ensures caches { Grown (LastAt (held_of tree.old) (children_of_first (part_from view tree.old.tree))) (held_of tree.old) (held_of tree.new) (children_of_first (part_from view tree.old.tree)) }
+    ensures quiet { IsQuiet (held_of tree.new) (spot_of (part_from view tree.old.tree) (held_of tree.old view)
+        inside.now.size) [] (held_of tree.old) (children_of_first (part_from view tree.old.tree)) }
+    ensures others { KeepsOutside (held_of tree.old) (held_of tree.new)
+        (children_of_first (part_from view tree.old.tree)) }
+    ensures measured { work.new.measured
+        ≤ work.old.measured + owed (held_of tree.old) (children_of_first (part_from view tree.old.tree)) }
+    ensures laid { tree.new.counts.laid ≤ tree.old.counts.laid
+        + differ (held_of tree.old) (held_of tree.new) (children_of_first (part_from view tree.old.tree)) }
+    ensures counted { IsMeasuringCounted tree.old tree.new work.old work.new }
+    ensures caches { Grown (LastAt (held_of tree.old) (children_of_first (part_from view tree.old.tree)))
+        (held_of tree.old) (held_of tree.new) (children_of_first (part_from view tree.old.tree)) }
 {
     let mut placer = Placer::Between;
     lay_forwards(tree, view, &mut placer, inside, damage, work);
@@ -416,20 +471,29 @@ fn lay_forwards(
     work: &mut Work,
 )
     requires live { IsLive tree.old view }
-    requires places { PlacesAs placer.old (spot_of (part_from view tree.old.tree) (held_of tree.old view) inside.now.size) [] }
+    requires places { PlacesAs placer.old
+        (spot_of (part_from view tree.old.tree) (held_of tree.old view) inside.now.size) [] }
     requires fit { Fit (held_of tree.old) (children_of_first (part_from view tree.old.tree)) }
-    requires narrow { class_of tree.old view ≡ RelativeLayout → AreNarrow (held_of tree.old) (children_of_first (part_from view tree.old.tree)) }
+    requires narrow { class_of tree.old view ≡ RelativeLayout
+        → AreNarrow (held_of tree.old) (children_of_first (part_from view tree.old.tree)) }
     requires near { IfSome inside.now.canvas (IsCanvas (2 ^ 37)) }
     ensures grew { LiesIn damage.old.rect damage.new.rect }
-    ensures sight { KeepsSightIn inside.now.canvas damage.new.rect (held_of tree.old) (held_of tree.new) (children_of_first (part_from view tree.old.tree)) }
-    ensures within { GrowsWithin inside.now.canvas damage.old.rect damage.new.rect (held_of tree.old) (held_of tree.new) (children_of_first (part_from view tree.old.tree)) }
+    ensures sight { KeepsSightIn inside.now.canvas damage.new.rect (held_of tree.old) (held_of tree.new)
+        (children_of_first (part_from view tree.old.tree)) }
+    ensures within { GrowsWithin inside.now.canvas damage.old.rect damage.new.rect (held_of tree.old) (held_of tree.new)
+        (children_of_first (part_from view tree.old.tree)) }
     ensures same { SameTree tree.old tree.new }
-    ensures quiet { IsQuiet (held_of tree.new) (spot_of (part_from view tree.old.tree) (held_of tree.old view) inside.now.size) [] (held_of tree.old) (children_of_first (part_from view tree.old.tree)) }
-    ensures others { KeepsOutside (held_of tree.old) (held_of tree.new) (children_of_first (part_from view tree.old.tree)) }
-    ensures measured { work.new.measured ≤ work.old.measured + owed (held_of tree.old) (children_of_first (part_from view tree.old.tree)) }
-    ensures laid { tree.new.counts.laid ≤ tree.old.counts.laid + differ (held_of tree.old) (held_of tree.new) (children_of_first (part_from view tree.old.tree)) }
-    ensures counted { IsCounted tree.old tree.new work.old work.new }
-    ensures caches { Grown (LastAt (held_of tree.old) (children_of_first (part_from view tree.old.tree))) (held_of tree.old) (held_of tree.new) (children_of_first (part_from view tree.old.tree)) }
+    ensures quiet { IsQuiet (held_of tree.new) (spot_of (part_from view tree.old.tree) (held_of tree.old view)
+        inside.now.size) [] (held_of tree.old) (children_of_first (part_from view tree.old.tree)) }
+    ensures others { KeepsOutside (held_of tree.old) (held_of tree.new)
+        (children_of_first (part_from view tree.old.tree)) }
+    ensures measured { work.new.measured
+        ≤ work.old.measured + owed (held_of tree.old) (children_of_first (part_from view tree.old.tree)) }
+    ensures laid { tree.new.counts.laid ≤ tree.old.counts.laid
+        + differ (held_of tree.old) (held_of tree.new) (children_of_first (part_from view tree.old.tree)) }
+    ensures counted { IsMeasuringCounted tree.old tree.new work.old work.new }
+    ensures caches { Grown (LastAt (held_of tree.old) (children_of_first (part_from view tree.old.tree)))
+        (held_of tree.old) (held_of tree.new) (children_of_first (part_from view tree.old.tree)) }
 {
     let _in_range = work.measured;
     let mut next = tree.first(view);
@@ -452,18 +516,26 @@ fn lay_backwards(
     requires live { IsLive tree.old view }
     requires class { class_of tree.old view ≡ LinearLayout }
     requires fit { Fit (held_of tree.old) (children_of_first (part_from view tree.old.tree)) }
-    requires narrow { class_of tree.old view ≡ RelativeLayout → AreNarrow (held_of tree.old) (children_of_first (part_from view tree.old.tree)) }
+    requires narrow { class_of tree.old view ≡ RelativeLayout
+        → AreNarrow (held_of tree.old) (children_of_first (part_from view tree.old.tree)) }
     requires near { IfSome inside.now.canvas (IsCanvas (2 ^ 37)) }
     ensures grew { LiesIn damage.old.rect damage.new.rect }
-    ensures sight { KeepsSightIn inside.now.canvas damage.new.rect (held_of tree.old) (held_of tree.new) (children_of_first (part_from view tree.old.tree)) }
-    ensures within { GrowsWithin inside.now.canvas damage.old.rect damage.new.rect (held_of tree.old) (held_of tree.new) (children_of_first (part_from view tree.old.tree)) }
+    ensures sight { KeepsSightIn inside.now.canvas damage.new.rect (held_of tree.old) (held_of tree.new)
+        (children_of_first (part_from view tree.old.tree)) }
+    ensures within { GrowsWithin inside.now.canvas damage.old.rect damage.new.rect (held_of tree.old) (held_of tree.new)
+        (children_of_first (part_from view tree.old.tree)) }
     ensures same { SameTree tree.old tree.new }
-    ensures quiet { IsQuietBack (held_of tree.new) (spot_of (part_from view tree.old.tree) (held_of tree.old view) inside.now.size) (held_of tree.old) (children_of_first (part_from view tree.old.tree)) }
-    ensures others { KeepsOutside (held_of tree.old) (held_of tree.new) (children_of_first (part_from view tree.old.tree)) }
-    ensures measured { work.new.measured ≤ work.old.measured + owed (held_of tree.old) (children_of_first (part_from view tree.old.tree)) }
-    ensures laid { tree.new.counts.laid ≤ tree.old.counts.laid + differ (held_of tree.old) (held_of tree.new) (children_of_first (part_from view tree.old.tree)) }
-    ensures counted { IsCounted tree.old tree.new work.old work.new }
-    ensures caches { Grown (LastAt (held_of tree.old) (children_of_first (part_from view tree.old.tree))) (held_of tree.old) (held_of tree.new) (children_of_first (part_from view tree.old.tree)) }
+    ensures quiet { IsQuietBack (held_of tree.new) (spot_of (part_from view tree.old.tree)
+        (held_of tree.old view) inside.now.size) (held_of tree.old) (children_of_first (part_from view tree.old.tree)) }
+    ensures others { KeepsOutside (held_of tree.old) (held_of tree.new)
+        (children_of_first (part_from view tree.old.tree)) }
+    ensures measured { work.new.measured
+        ≤ work.old.measured + owed (held_of tree.old) (children_of_first (part_from view tree.old.tree)) }
+    ensures laid { tree.new.counts.laid ≤ tree.old.counts.laid
+        + differ (held_of tree.old) (held_of tree.new) (children_of_first (part_from view tree.old.tree)) }
+    ensures counted { IsMeasuringCounted tree.old tree.new work.old work.new }
+    ensures caches { Grown (LastAt (held_of tree.old) (children_of_first (part_from view tree.old.tree)))
+        (held_of tree.old) (held_of tree.new) (children_of_first (part_from view tree.old.tree)) }
 {
     let _in_range = work.measured;
     let mut placer = Placer::in_line(tree, view, inside.size);
@@ -487,21 +559,28 @@ fn lay_kid(
 )
     requires live { IsLive tree.old kid }
     requires fit { Fit (held_of tree.old) (first_tree (part_from kid tree.old.tree)) }
-    requires narrow { is_shown (facts_of tree.old kid) ≡ true → IsNarrowFor placer.old (sides_of (state_of tree.old kid).edges) }
+    requires narrow { is_shown (facts_of tree.old kid) ≡ true
+        → IsNarrowFor placer.old (sides_of (state_of tree.old kid).edges) }
     requires near { IfSome canvas.now (IsCanvas (2 ^ 37)) }
     ensures grew { LiesIn damage.old.rect damage.new.rect }
-    ensures sight { KeepsSightIn canvas.now damage.new.rect (held_of tree.old) (held_of tree.new) (first_tree (part_from kid tree.old.tree)) }
-    ensures within { GrowsWithin canvas.now damage.old.rect damage.new.rect (held_of tree.old) (held_of tree.new) (first_tree (part_from kid tree.old.tree)) }
+    ensures sight { KeepsSightIn canvas.now damage.new.rect (held_of tree.old) (held_of tree.new)
+        (first_tree (part_from kid tree.old.tree)) }
+    ensures within { GrowsWithin canvas.now damage.old.rect damage.new.rect (held_of tree.old) (held_of tree.new)
+        (first_tree (part_from kid tree.old.tree)) }
     ensures same { SameTree tree.old tree.new }
     ensures quiet { (spot : Spot) (before : List Measured)
         → PlacesAs placer.old spot before
         → length before + count_of (first_tree (part_from kid tree.old.tree)) ≤ MAX_VIEWS
-        → LaidKids placer.new spot before (held_of tree.old) (held_of tree.new) (first_tree (part_from kid tree.old.tree)) }
+        → LaidKids placer.new spot before (held_of tree.old) (held_of tree.new)
+        (first_tree (part_from kid tree.old.tree)) }
     ensures others { KeepsOutside (held_of tree.old) (held_of tree.new) (first_tree (part_from kid tree.old.tree)) }
-    ensures measured { work.new.measured ≤ work.old.measured + owed (held_of tree.old) (first_tree (part_from kid tree.old.tree)) }
-    ensures laid { tree.new.counts.laid ≤ tree.old.counts.laid + differ (held_of tree.old) (held_of tree.new) (first_tree (part_from kid tree.old.tree)) }
-    ensures counted { IsCounted tree.old tree.new work.old work.new }
-    ensures caches { Grown (LastAt (held_of tree.old) (first_tree (part_from kid tree.old.tree))) (held_of tree.old) (held_of tree.new) (first_tree (part_from kid tree.old.tree)) }
+    ensures measured { work.new.measured
+        ≤ work.old.measured + owed (held_of tree.old) (first_tree (part_from kid tree.old.tree)) }
+    ensures laid { tree.new.counts.laid ≤ tree.old.counts.laid
+        + differ (held_of tree.old) (held_of tree.new) (first_tree (part_from kid tree.old.tree)) }
+    ensures counted { IsMeasuringCounted tree.old tree.new work.old work.new }
+    ensures caches { Grown (LastAt (held_of tree.old) (first_tree (part_from kid tree.old.tree))) (held_of tree.old)
+        (held_of tree.new) (first_tree (part_from kid tree.old.tree)) }
 {
     let _in_range = work.measured;
     let facts = tree.facts(kid);

@@ -1,5 +1,5 @@
 //! The layout of a whole tree.
-ghost use Rattle.std.specs.Prelude.{◌≡◌, ◌≤◌, ◌+◌, ℕ, pos, Some, [], true};
+ghost use Rattle.std.specs.Prelude.{◌≡◌, ◌≤◌, ◌+◌, pos, Some, [], true};
 ghost use Rattle.damage_rect.specs.Within.{LiesIn};
 ghost use Rattle.geom_core.specs.declared.geometry.Rect.{Rect};
 ghost use Rattle.geom_core.specs.declared.measuring.Mode.TheVariants.{Exactly};
@@ -17,7 +17,7 @@ ghost use Rattle.view_model.specs.Offsets.{ranged};
 ghost use Rattle.view_model.specs.Visible.{whole_window};
 ghost use Rattle.view_tree.specs.Rows.{first_key, head_view};
 ghost use Rattle.view_tree.specs.Views.{IsTree, SameTree, geometry_of, held_of, plain_of, specs_of, state_of};
-ghost use Rattle.traversal.specs.Counting.{IsCounted};
+ghost use Rattle.traversal.specs.Counting.{IsMeasuringCounted};
 ghost use Rattle.traversal.specs.Covering.{Covered};
 ghost use Rattle.traversal.specs.Resting.{IsRootAtRest};
 
@@ -36,8 +36,12 @@ pub fn lay_root(tree: &mut ViewTree, root: Key, window: Size, damage: &mut Damag
     requires root { first_key tree.old.tree ≡ Some root }
     requires shown { is_shown (head_view tree.old.tree).facts ≡ true }
     requires consistent { IsConsistent tree.old }
-    ensures sight { KeepsSight (whole_window window) damage.new.rect (held_of tree.old) (held_of tree.new) tree.old.tree }
-    ensures within { (box : Rect) → LiesIn damage.old.rect box → Covered (whole_window window) box (held_of tree.old) (held_of tree.new) tree.old.tree → LiesIn damage.new.rect box }
+    ensures sight { KeepsSight (whole_window window) damage.new.rect (held_of tree.old)
+        (held_of tree.new) tree.old.tree }
+    ensures within { (box : Rect)
+        → LiesIn damage.old.rect box
+        → Covered (whole_window window) box (held_of tree.old) (held_of tree.new) tree.old.tree
+        → LiesIn damage.new.rect box }
     ensures geometry { geometry_of tree.new ≡ full_layout (plain_of tree.old) window }
     ensures plain { plain_of tree.new ≡ ranged (full_layout (plain_of tree.old) window) (plain_of tree.old) }
     ensures same { SameTree tree.old tree.new }
@@ -45,12 +49,16 @@ pub fn lay_root(tree: &mut ViewTree, root: Key, window: Size, damage: &mut Damag
     ensures in_pass { InPass [] root (held_of tree.new) tree.old.tree }
     ensures last { specs_of (state_of tree.new root) ≡ root_specs window (head_view tree.old.tree).facts }
     ensures lies { (state_of tree.new root).bounds ≡ Some (rect_at (pos 0) (pos 0) (state_of tree.new root).measured) }
-    ensures still { IsRootAtRest (state_of tree.old root) (head_view tree.old.tree).facts window → (tree.new ≡ tree.old) × (work.new ≡ work.old) }
-    ensures idle { current (state_of tree.old root) (root_specs window (head_view tree.old.tree).facts) ≡ true → work.new.measured ≤ work.old.measured }
+    ensures still { IsRootAtRest (state_of tree.old root) (head_view tree.old.tree).facts window
+        → (tree.new ≡ tree.old) × (work.new ≡ work.old) }
+    ensures idle { current (state_of tree.old root) (root_specs window (head_view tree.old.tree).facts) ≡ true
+        → work.new.measured ≤ work.old.measured }
     ensures measured { work.new.measured ≤ work.old.measured + root_calls (plain_of tree.old) window }
-    ensures laid { tree.new.counts.laid ≤ tree.old.counts.laid + differ (held_of tree.old) (held_of tree.new) tree.old.tree }
-    ensures counted { IsCounted tree.old tree.new work.old work.new }
-    ensures caches { Grown (λ place other. other ≡ root_specs window (head_view tree.old.tree).facts) (held_of tree.old) (held_of tree.new) tree.old.tree }
+    ensures laid { tree.new.counts.laid
+        ≤ tree.old.counts.laid + differ (held_of tree.old) (held_of tree.new) tree.old.tree }
+    ensures counted { IsMeasuringCounted tree.old tree.new work.old work.new }
+    ensures caches { Grown (λ place other. other ≡ root_specs window (head_view tree.old.tree).facts) (held_of tree.old)
+        (held_of tree.new) tree.old.tree }
 {
     let (ws, hs) = specs_in(window, tree.facts(root));
     let size = measure(tree, root, ws, hs, work);

@@ -31,7 +31,7 @@ pub record Emptied (start now : Forest Row) (view : ℕ) (old new : ℕ → Held
   pub others : (q : ℕ) → count_of_key q (first_tree (part_from view start)) ≡ 0 → new q ≡ old q
 
 -- the first child of a view is removed
-pub record Step (t t' : Forest Row) (view : ℕ) : Type 0 where
+pub record RemovesFirst (t t' : Forest Row) (view : ℕ) : Type 0 where
   pub live : 0 < count_of_key view t'
   pub end : pruned_at_key view t' ≡ pruned_at_key view t
   pub fewer : count_of (children_of_first (part_from view t')) < count_of (children_of_first (part_from view t))
@@ -59,7 +59,7 @@ module _ (t : Forest Row) (once : (x : ℕ) → count_of_key x t ≤ 1) (view k 
   pub from_is : part_from view (pruned_at_key k t) ≡ Branch f.row g.siblings f.siblings
   from_is = ap (part_from view) gone ∙ part_from-edit view (pruned_at_key k) f.row f.kids f.siblings f.key_is f.within (once view) ∙ ap (λ kids. Branch f.row kids f.siblings) left
 
-  pub step : Step t (pruned_at_key k t) view
+  pub step : RemovesFirst t (pruned_at_key k t) view
   step =
       let e = count_of_key-edit view view (pruned_at_key k) f.row f.kids f.siblings f.key_is f.within (once view) in
       let own = own_more f.row f.kids f.siblings view f.key_is in

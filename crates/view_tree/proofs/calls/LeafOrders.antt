@@ -6,7 +6,7 @@ use Rattle.view_model.specs.Cycles.{is_relative, numbers_in}
 use Rattle.view_model.specs.Forest.{Forest, Nothing, Branch}
 use Rattle.view_model.specs.PlainTree.{PlainView}
 use Rattle.view_tree.specs.Detached.{AreLowered, Detached, parent_of, place_below}
-use Rattle.view_tree.specs.Nodes.{IsSound, tree_of, value_of}
+use Rattle.view_tree.specs.Nodes.{IsSoundTree, tree_of, value_of}
 use Rattle.view_tree.specs.Ordering.{HasNoOther, IsGrouped, IsKeptOf, IsTakenAt, PlainGroup, group_at, place_in}
 use Rattle.view_tree.specs.Places.{IsLowered}
 use Rattle.view_tree.specs.Rows.{ancestors, children_of_first, count_of_number, first_tree, part_from, pruned_at_key}
@@ -34,7 +34,7 @@ lowered_at number kids (Some old) (Some new) among kept taken =
       down = subst (λ place. IsLowered place old.orders.down new.orders.down) same one.down;
     }
 
-module _ (a b : Inside) (v : Views) (key number : ℕ) (told group : Option ℕ) (sound : IsSound a) (e : value_of a ≡ v) (live : IsLive v key)
+module _ (a b : Inside) (v : Views) (key number : ℕ) (told group : Option ℕ) (sound : IsSoundTree a) (e : value_of a ≡ v) (live : IsLive v key)
     (leaf : children_of_first (part_from key v.tree) ≡ Nothing) (tree : tree_of b ≡ pruned_at_key key v.tree)
     (path : MatchOption told (ancestors key v.tree ≡ []) (λ parent. ancestors key v.tree ≡ parent ∷ ancestors parent v.tree)) (alive : IfSome told (λ parent. IsLive v parent))
     (group_is : group ≡ group_number v told) (number_is : number ≡ number_of v key)

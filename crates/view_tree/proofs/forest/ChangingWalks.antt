@@ -1,12 +1,12 @@
 -- Walks that change what is kept of each view that they pass, where changing twice is the same as changing once.
-use Rattle.std.proofs.Common.{◌≡◌, ◌≢◌, ℕ, ◌+◌, ◌<◌, Option, Some, None, refl, sym, ◌∙◌, ap, arith, inl, inr}
+use Rattle.std.proofs.Common.{◌≡◌, ◌≢◌, ℕ, ◌+◌, ◌<◌, Option, Some, None, sym, ◌∙◌, ap, arith, inl, inr}
 use Rattle.std.proofs.lemmas.Bool.{cases_eq, eq-eqb, ne_eqb}
 use Rattle.std.specs.Prelude.{◌==◌, IfSome, if◌then◌else◌}
 use Rattle.view_model.specs.Forest.{Forest, Nothing, Branch}
 use Rattle.view_tree.specs.Rows.{Row, later_siblings, first_tree, children_of_first, part_from, rest_from, count_of_key}
 use Rattle.view_tree.specs.Views.{Held}
 use Rattle.view_tree.proofs.forest.KeyLaws.{located}
-use Rattle.view_tree.proofs.forest.Walks.{Walk, count_of_key-parts, walk_on, walk_start}
+use Rattle.view_tree.proofs.forest.Walks.{Walk, count_of_key-parts, walk_on}
 
 -- what is kept of a view that is passed this often
 abbrev pub changed_times : (Held → Held) → ℕ → Held → Held
@@ -36,10 +36,6 @@ changed_twice change once key m n held =
             ∙ once key held)
       ]
     ]
-
-pub changing_start : (change : ℕ → Held → Held) (tree kids : Forest Row) (start : ℕ → Held) (next : Option ℕ) → rest_from next tree ≡ kids
-    → IfSome next (λ kid. 0 < count_of_key kid tree) → ChangingWalk change tree kids start next start
-changing_start change tree kids start next is live = record { walk = walk_start tree kids next is live; rest = λ key. rw is refl }
 
 -- one child more has changed
 pub changing_on : (change : ℕ → Held → Held) → IsOnce change → (tree kids : Forest Row) (start : ℕ → Held) (kid : ℕ) (old new : ℕ → Held) (next : Option ℕ)

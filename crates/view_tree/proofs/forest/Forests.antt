@@ -63,11 +63,11 @@ seen at k p q t s h =
     record { found = f; parent = w.parent; before = w.before; is = ap at (sym f.key_is) ∙ w.stand.0 }
 
 -- the part that begins at the first view of a part
-pub record Part (o : Option ℕ) (t u : Forest Row) : Type 0 where
+pub record IsRestFrom (o : Option ℕ) (t u : Forest Row) : Type 0 where
   pub is : rest_from o t ≡ u
   pub live : IfSome o (λ k. 0 < count_of_key k t)
 
-pub part : (t : Forest Row) → ((k : ℕ) → count_of_key k t ≤ 1) → (u : Forest Row) → Within u t → Part (first_key u) t u
+pub part : (t : Forest Row) → ((k : ℕ) → count_of_key k t ≤ 1) → (u : Forest Row) → Within u t → IsRestFrom (first_key u) t u
 part t once Nothing w = record { is = refl; live = tt }
 part t once (Branch row kids siblings) w =
     let n = count_of_key-within row.key w in

@@ -11,13 +11,13 @@ use Rattle.view_model.specs.Grafts.{at_element}
 use Rattle.view_model.specs.Growth.{growth_refusal}
 use Rattle.view_model.specs.Refusals.{PlainRefusal}
 use Rattle.view_model.specs.Sprouts.{follows}
-use Rattle.view_tree.proofs.grafts.Paths.{Follows, followed, last_earlier, last_own, with_last}
+use Rattle.view_tree.proofs.grafts.Paths.{FollowsDepth, followed, last_earlier, last_own, with_last}
 use Rattle.view_tree.proofs.grafts.Refusing.{at_none, refusal_along}
 use Rattle.view_tree.proofs.values.KeptLaws.{grows}
 
 -- what is left to check, if all that was checked may be added: `classes` has the class of the last view of each place,
 -- and the last view of all has the depth `before`
-pub record Left (depth : ℕ) (total : Option PlainRefusal) (before : ℕ) (classes : List Class) (count element : ℕ) (rest : List Sprout) : Type 0 where
+pub record IsLeftToCheck (depth : ℕ) (total : Option PlainRefusal) (before : ℕ) (classes : List Class) (count element : ℕ) (rest : List Sprout) : Type 0 where
   pub path : ℕ → Class
   pub read : (place : ℕ) → place < before → slice_index_or classes place class.View ≡ path place
   pub shallow : before ≤ MAX_DEPTH
@@ -28,7 +28,7 @@ pub record Left (depth : ℕ) (total : Option PlainRefusal) (before : ℕ) (clas
   pub few : count ≤ MAX_VIEWS + 1
 
 pub left_start : (depth count : ℕ) (own : Class) (classes : List Class) (sprouts : List Sprout) → classes ≡ replicate MAX_DEPTH own → count ≤ MAX_VIEWS + 1 → follows 1 sprouts ≡ true
-    → Left depth (refusal_along depth 1 (λ _. own) count 2 sprouts) 1 classes count 2 sprouts
+    → IsLeftToCheck depth (refusal_along depth 1 (λ _. own) count 2 sprouts) 1 classes count 2 sprouts
 left_start depth count own classes sprouts all few follow = record {
   path = λ _. own;
   read = λ place less. rw all (get_or-replicate MAX_DEPTH place own class.View (omega arith));
@@ -41,8 +41,8 @@ left_start depth count own classes sprouts all few follow = record {
 }
 
 module _ (depth : ℕ) (total : Option PlainRefusal) (before : ℕ) (classes : List Class) (count element : ℕ) (sprout : Sprout) (more : List Sprout)
-    (left : Left depth total before classes count element (sprout ∷ more)) where
-  pub next : Follows before sprout more
+    (left : IsLeftToCheck depth total before classes count element (sprout ∷ more)) where
+  pub next : FollowsDepth before sprout more
   next = followed before sprout more left.follow
 
   -- the class of the view below which it is added
@@ -60,7 +60,7 @@ module _ (depth : ℕ) (total : Option PlainRefusal) (before : ℕ) (classes : L
     pub low : (depth + (sprout.depth - 2) < MAX_DEPTH) × (count < MAX_VIEWS)
     low = let g = grows (slice_index_or classes (sprout.depth - 2) class.View) (nat_le sprout.depth before) (depth + (sprout.depth - 2)) count (at_none element _ taken) in (g.1, g.2)
 
-    pub left_on : (place : ℕ) → place ≡ sprout.depth - 1 → 1 ≤ depth → Left depth total sprout.depth (slice_set classes place sprout.class) (count + 1) (element + 1) more
+    pub left_on : (place : ℕ) → place ≡ sprout.depth - 1 → 1 ≤ depth → IsLeftToCheck depth total sprout.depth (slice_set classes place sprout.class) (count + 1) (element + 1) more
     left_on place at deep =
         let d = next.deep in
         let n = next.next in

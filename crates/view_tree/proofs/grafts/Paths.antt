@@ -21,12 +21,12 @@ both true b is = (refl, is)
 both false b is = absurd (cc)
 
 -- where the next sprout goes, after one of this depth
-pub record Follows (before : ℕ) (sprout : Sprout) (more : List Sprout) : Type 0 where
+pub record FollowsDepth (before : ℕ) (sprout : Sprout) (more : List Sprout) : Type 0 where
   pub deep : 1 < sprout.depth
   pub next : sprout.depth ≤ before + 1
   pub rest : follows sprout.depth more ≡ true
 
-pub followed : (before : ℕ) (sprout : Sprout) (more : List Sprout) → follows before (sprout ∷ more) ≡ true → Follows before sprout more
+pub followed : (before : ℕ) (sprout : Sprout) (more : List Sprout) → follows before (sprout ∷ more) ≡ true → FollowsDepth before sprout more
 followed before sprout more follow =
     let one = both (nat_lt 1 sprout.depth) _ follow in
     let two = both (nat_le sprout.depth (before + 1)) _ one.1 in

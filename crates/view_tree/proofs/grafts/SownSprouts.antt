@@ -24,7 +24,7 @@ use Rattle.view_tree.proofs.forest.GrownParts.{count_of_key-grown_more, head_vie
 use Rattle.view_tree.proofs.forest.KeyLaws.{number_live, number_self}
 use Rattle.view_tree.proofs.forest.NumberLaws.{count-grown, count-leaf, count_of_key-grown_some, count_of_key-leaf_other, count_of_key-leaf_own}
 use Rattle.view_tree.proofs.grafts.GainLaws.{gained_more, gained_nothing}
-use Rattle.view_tree.proofs.grafts.Paths.{Follows, followed, last_earlier, last_own, with_last}
+use Rattle.view_tree.proofs.grafts.Paths.{FollowsDepth, followed, last_earlier, last_own, with_last}
 use Rattle.view_tree.proofs.grafts.Refusing.{first_none, refusal_along, refusal_is}
 use Rattle.view_tree.proofs.grafts.Sown.{Earlier, sown, sown_is}
 use Rattle.view_tree.proofs.values.KeptLaws.{grows, refusal_live}
@@ -139,7 +139,7 @@ sowing_start start outermost all keys live every follow fits =
     }
 
 -- what the next view needs
-pub record Ready (keys : List ℕ) (sprout : Sprout) (now : Views) : Type 0 where
+pub record IsReadyToSow (keys : List ℕ) (sprout : Sprout) (now : Views) : Type 0 where
   pub deep : 1 < sprout.depth
   pub shallow : sprout.depth ≤ MAX_DEPTH
   pub live : IsLive now (slice_index_or keys (sprout.depth - 2) 0)
@@ -153,7 +153,7 @@ module _ (start : Views) (outermost : ℕ) (all : List Sprout) (keys : List ℕ)
   abbrev parent : ℕ
   parent = slice_index_or keys (sprout.depth - 2) 0
 
-  place_of : Follows so_far.before sprout more
+  place_of : FollowsDepth so_far.before sprout more
   place_of = followed so_far.before sprout more so_far.follow
 
   entry : Entry now parent (so_far.numbers (sprout.depth - 2)) (so_far.classes (sprout.depth - 2)) (so_far.ways (sprout.depth - 2)) (high + (sprout.depth - 2))
@@ -182,7 +182,7 @@ module _ (start : Views) (outermost : ℕ) (all : List Sprout) (keys : List ℕ)
       let d = place_of.deep in
       omega arith
 
-  pub ready : Ready keys sprout now
+  pub ready : IsReadyToSow keys sprout now
   ready = record {
     deep = place_of.deep;
     shallow = shallow_here;

@@ -12,7 +12,7 @@ use Rattle.view_tree.specs.Views.{Views, Held, IsLive, IsTree, held_of, held_or,
 use Rattle.view_tree.specs.declared.node.Node.{Node}
 use Rattle.view_tree.specs.declared.tree.ViewTree.TheInside.{Inside}
 use Rattle.view_tree.proofs.forest.KeyLaws.{here, Located}
-use Rattle.view_tree.proofs.forest.Forests.{part, Part, Within-children_of_first, Within-later_siblings, seen, some_is}
+use Rattle.view_tree.proofs.forest.Forests.{part, IsRestFrom, Within-children_of_first, Within-later_siblings, seen, some_is}
 use Rattle.view_tree.proofs.forest.AncestorLaws.{Up, up_is}
 use Rattle.view_tree.proofs.forest.SiblingLaws.{previous_is, previous_live, last_live}
 
@@ -101,11 +101,11 @@ facts_is a v k sound e live n at =
 
 -- the children of a view
 pub first_is : (a : Inside) (v : Views) (k : ℕ) → IsPlanted a → value_of a ≡ v → IsLive v k → (n : Node) → get a.nodes k ≡ Some n
-    → (n.links.first ≡ first_key (children_of_first (part_from k v.tree))) × Part n.links.first v.tree (children_of_first (part_from k v.tree))
+    → (n.links.first ≡ first_key (children_of_first (part_from k v.tree))) × IsRestFrom n.links.first v.tree (children_of_first (part_from k v.tree))
 first_is a v k sound e live n at =
     let o = node_says a v k sound e live n at in
     let h : n.links.first ≡ first_key o.found.kids = ap (λ (s : PlainNode). s.first) o.all in
-    rw o.found.is (h, subst (λ x. Part x v.tree o.found.kids) (sym h) (part v.tree (is_tree a v sound e).keys o.found.kids (Within-children_of_first o.found.within)))
+    rw o.found.is (h, subst (λ x. IsRestFrom x v.tree o.found.kids) (sym h) (part v.tree (is_tree a v sound e).keys o.found.kids (Within-children_of_first o.found.within)))
 
 pub last_is : (a : Inside) (v : Views) (k : ℕ) → IsPlanted a → value_of a ≡ v → IsLive v k → (n : Node) → get a.nodes k ≡ Some n
     → n.links.last ≡ last_key (children_of_first (part_from k v.tree))
@@ -115,21 +115,21 @@ last_is a v k sound e live n at =
 
 -- its later siblings
 pub next_is : (a : Inside) (v : Views) (k : ℕ) → IsPlanted a → value_of a ≡ v → IsLive v k → (n : Node) → get a.nodes k ≡ Some n
-    → (n.links.next ≡ first_key (later_siblings (part_from k v.tree))) × Part n.links.next v.tree (later_siblings (part_from k v.tree))
+    → (n.links.next ≡ first_key (later_siblings (part_from k v.tree))) × IsRestFrom n.links.next v.tree (later_siblings (part_from k v.tree))
 next_is a v k sound e live n at =
     let o = node_says a v k sound e live n at in
     let h : n.links.next ≡ first_key o.found.siblings = ap (λ (s : PlainNode). s.next) o.all in
-    rw o.found.is (h, subst (λ x. Part x v.tree o.found.siblings) (sym h) (part v.tree (is_tree a v sound e).keys o.found.siblings (Within-later_siblings o.found.within)))
+    rw o.found.is (h, subst (λ x. IsRestFrom x v.tree o.found.siblings) (sym h) (part v.tree (is_tree a v sound e).keys o.found.siblings (Within-later_siblings o.found.within)))
 
 -- the parent of a view
 pub parent_of : (a : Inside) (v : Views) (k : ℕ) → IsPlanted a → value_of a ≡ v → IsLive v k → (n : Node) → get a.nodes k ≡ Some n → Up n.links.parent k v.tree
 parent_of a v k sound e live n at = up_is (links_at a.nodes) a.root a.next v.tree k _ (stands_for a v sound e) live (ap links_in at)
 
 -- the root
-pub root_is : (a : Inside) (v : Views) → IsPlanted a → value_of a ≡ v → (a.root ≡ first_key v.tree) × Part a.root v.tree v.tree
+pub root_is : (a : Inside) (v : Views) → IsPlanted a → value_of a ≡ v → (a.root ≡ first_key v.tree) × IsRestFrom a.root v.tree v.tree
 root_is a v sound e =
     let s = stands_for a v sound e in
-    (sym s.outer, subst (λ o. Part o v.tree v.tree) s.outer (part v.tree s.distinct v.tree here))
+    (sym s.outer, subst (λ o. IsRestFrom o v.tree v.tree) s.outer (part v.tree s.distinct v.tree here))
 
 -- the sibling before a view
 pub previous_of : (a : Inside) (v : Views) (k : ℕ) → IsPlanted a → value_of a ≡ v → IsLive v k → (n : Node) → get a.nodes k ≡ Some n

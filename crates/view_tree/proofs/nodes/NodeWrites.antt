@@ -12,7 +12,7 @@ use Rattle.view_model.specs.Forest.{Forest, count_of}
 use Rattle.view_model.specs.PlainTree.{PlainView}
 use Rattle.view_tree.specs.Holders.{renamed}
 use Rattle.view_tree.specs.Rows.{Row, part_from, head_view, key_where, changed_at_key, count_of_key}
-use Rattle.view_tree.specs.Nodes.{PlainNode, links_in, links_of, links_at, held_by, held_in, RepresentsTree, forest, tree_of, value_of, view_of_node, IsPlanted, IsSound, holders_of}
+use Rattle.view_tree.specs.Nodes.{PlainNode, links_in, links_of, links_at, held_by, held_in, RepresentsTree, forest, tree_of, value_of, view_of_node, IsPlanted, IsSoundTree, holders_of}
 use Rattle.view_tree.specs.Ordering.{group_at}
 use Rattle.view_tree.proofs.orders.OnlyLayouts.{only-same}
 use Rattle.view_tree.proofs.orders.RowLaws.{grouped_kept}
@@ -34,7 +34,7 @@ len_write : (slots : List (Option Node)) (k : ℕ) (m : Node) → IsSome (slice_
 len_write slots k m h = grind (arith, common_steps)
 
 -- what a write of the node m for the node n under the key k leaves with the views
-pub record Kept (old new : Views) (k : ℕ) (n m : Node) : Type 0 where
+pub record WritesNode (old new : Views) (k : ℕ) (n m : Node) : Type 0 where
   pub before : held_of old k ≡ held_by n
   pub after : held_of new k ≡ held_by m
   pub others : KeepsOthers old new k
@@ -42,7 +42,7 @@ pub record Kept (old new : Views) (k : ℕ) (n m : Node) : Type 0 where
 abbrev pub written : Inside → ℕ → Node → Inside
 written a k m = record a { nodes = with_value a.nodes k m }
 
-pub kept-write : (a : Inside) (v : Views) (k : ℕ) (n m : Node) → value_of a ≡ v → get a.nodes k ≡ Some n → Kept v (value_of (written a k m)) k n m
+pub kept-write : (a : Inside) (v : Views) (k : ℕ) (n m : Node) → value_of a ≡ v → get a.nodes k ≡ Some n → WritesNode v (value_of (written a k m)) k n m
 kept-write a v k n m e at =
     let u = Updates-with_value a.nodes k m (rw at) in
     record {
@@ -56,7 +56,7 @@ kept-write a v k n m e at =
     }
 
 -- if the two nodes leave the same, so does the write
-pub all_kept : (old new : Views) (k : ℕ) (n m : Node) → Kept old new k n m → held_by m ≡ held_by n → (key : ℕ) → held_of new key ≡ held_of old key
+pub all_kept : (old new : Views) (k : ℕ) (n m : Node) → WritesNode old new k n m → held_by m ≡ held_by n → (key : ℕ) → held_of new key ≡ held_of old key
 all_kept old new k n m kept same key = elim (cases_eq key k) [
   | inl is ↦ rw is (kept.after ∙ same ∙ sym kept.before)
   | inr ne ↦ kept.others key ne
@@ -86,7 +86,7 @@ module _ (a : Inside) (k : ℕ) (n m : Node) (at : get a.nodes k ≡ Some n) (sa
   }
 
   -- and what is kept of relative layouts
-  pub whole-write : IsSound a → IsSound (written a k m)
+  pub whole-write : IsSoundTree a → IsSoundTree (written a k m)
   whole-write sound = record {
     planted = sound-write sound.planted;
     grouped = grouped_kept (group_at a.groups) (value_of a) (value_of (written a k m)) tree-write sound.grouped;
@@ -97,7 +97,7 @@ module _ (a : Inside) (k : ℕ) (n m : Node) (at : get a.nodes k ≡ Some n) (sa
   same-write v e = record { tree = tree-write ∙ ap (λ (v : Views). v.tree) e; orders = ap (λ (v : Views). v.orders) e; next = ap (λ (v : Views). v.next) e }
 
 -- counts that change
-pub sound-counts : (a : Inside) (counts : Counts) → IsSound a → IsSound (record a { counts = counts })
+pub sound-counts : (a : Inside) (counts : Counts) → IsSoundTree a → IsSoundTree (record a { counts = counts })
 sound-counts a counts sound = record {
   planted = record {
     stands = sound.planted.stands;

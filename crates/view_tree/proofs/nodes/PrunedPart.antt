@@ -3,7 +3,7 @@ use Rattle.std.proofs.Common.{◌≡◌, ◌≢◌, ℕ, ◌+◌, ◌<◌, ◌�
 use Rattle.std.proofs.lemmas.Bool.{eq-eqb, ne_eqb, cases_eq}
 use Rattle.std.specs.Prelude.{◌==◌, if◌then◌else◌}
 use Rattle.view_model.specs.Forest.{Forest, Nothing, Branch, count_of, or_else}
-use Rattle.view_tree.specs.Rows.{Row, count_of_key, first_key, last_key_or, pruned_at_key, part_from, children_of_first}
+use Rattle.view_tree.specs.Rows.{Row, count_of_key, first_key, last_key_or, pruned_at_key, part_from, children_of_first, At_first, Later, Later_on}
 use Rattle.view_tree.specs.Nodes.{PlainNode, RepresentsPart, links_for, replaced_if_none}
 use Rattle.view_tree.proofs.forest.KeyLaws.{Within, here, in_below, in_after, count_of_key-within, times_self, located, absent}
 use Rattle.view_tree.proofs.nodes.ChildEdits.{edit_kids, RepresentsPart-along, edit_absent, edit_here, edit_there}
@@ -12,11 +12,6 @@ use Rattle.view_tree.proofs.forest.NumberLaws.{cut_absent}
 
 pub own_more : (row : Row) (kids siblings : Forest Row) (x : ℕ) → row.key ≡ x → count_of_key x kids + count_of_key x siblings < count_of_key x (Branch row kids siblings)
 own_more row kids siblings x e = rw (eq-eqb row.key x e) (omega arith)
-
--- u is what is left of the list of siblings, from one of them on
-pub data Later (u : Forest Row) : Forest Row → Type 0 where
-  at_first : Later u u
-  later : {row : Row} {kids siblings : Forest Row} → Later u siblings → Later u (Branch row kids siblings)
 
 -- u is among the children of a view
 pub record Home (u t : Forest Row) : Type 0 where
@@ -27,27 +22,27 @@ pub record Home (u t : Forest Row) : Type 0 where
   pub later : Later u kids
 
 pub up : {u t : Forest Row} → Within u t → Later u t ⊎ Home u t
-up here = inl at_first
+up here = inl At_first
 up (in_below {row = row} {kids = kids} {siblings = siblings} w) = elim (up w) [
   | inl l ↦ inr (record { row = row; kids = kids; siblings = siblings; within = here; later = l })
   | inr h ↦ inr (record { row = h.row; kids = h.kids; siblings = h.siblings; within = in_below h.within; later = h.later })
 ]
 up (in_after w) = elim (up w) [
-  | inl l ↦ inl (later l)
+  | inl l ↦ inl (Later_on l)
   | inr h ↦ inr (record { row = h.row; kids = h.kids; siblings = h.siblings; within = in_after h.within; later = h.later })
 ]
 
 pub count_of_key-later : {u t : Forest Row} (x : ℕ) → Later u t → count_of_key x u ≤ count_of_key x t
-count_of_key-later x at_first = omega arith
-count_of_key-later x (later l) = let h = count_of_key-later x l in omega arith
+count_of_key-later x At_first = omega arith
+count_of_key-later x (Later_on l) = let h = count_of_key-later x l in omega arith
 
 pub record Beside (at : ℕ → Option PlainNode) (p : Option ℕ) (u : Forest Row) : Type 0 where
   pub before : Option ℕ
   pub stand : RepresentsPart at p before u
 
 pub RepresentsPart-later : {u t : Forest Row} (at : ℕ → Option PlainNode) (p q : Option ℕ) → Later u t → RepresentsPart at p q t → Beside at p u
-RepresentsPart-later at p q at_first s = record { before = q; stand = s }
-RepresentsPart-later at p q (later {row = row} l) s = RepresentsPart-later at p (Some row.key) l s.2
+RepresentsPart-later at p q At_first s = record { before = q; stand = s }
+RepresentsPart-later at p q (Later_on {row = row} l) s = RepresentsPart-later at p (Some row.key) l s.2
 
 pub cut_here : (k : ℕ) (row : Row) (kids siblings : Forest Row) → row.key ≡ k → pruned_at_key k (Branch row kids siblings) ≡ siblings
 cut_here k row kids siblings e = rw (eq-eqb row.key k e)
@@ -90,10 +85,10 @@ module _ (at : ℕ → Option PlainNode) (p : Option ℕ) (k : ℕ) (row : Row) 
   -- the node before it is among these
   before_in : (q : Option ℕ) (row1 : Row) (kids1 siblings1 : Forest Row) (x : ℕ) → Later u siblings1 → RepresentsPart at p q (Branch row1 kids1 siblings1)
       → n.previous ≡ Some x → 0 < count_of_key x (Branch row1 Nothing siblings1)
-  before_in q row1 kids1 _ x at_first s e =
+  before_in q row1 kids1 _ x At_first s e =
       let h : row1.key ≡ x = some_is (ap (λ (n : PlainNode). n.previous) (sym (node_is (Some row1.key) s.2)) ∙ e) in
       subst (λ x. 0 < count_of_key x (Branch row1 Nothing u)) h (times_self row1 Nothing u)
-  before_in q row1 kids1 _ x (later {row = row2} {kids = kids2} {siblings = siblings2} l) s e = let h = before_in (Some row1.key) row2 kids2 siblings2 x l s.2 e in omega arith
+  before_in q row1 kids1 _ x (Later_on {row = row2} {kids = kids2} {siblings = siblings2} l) s e = let h = before_in (Some row1.key) row2 kids2 siblings2 x l s.2 e in omega arith
 
   next_in : (q : Option ℕ) (kids : Forest Row) (x : ℕ) → Later u kids → RepresentsPart at p q kids → n.next ≡ Some x → 0 < count_of_key x siblings
   next_in q kids x l s e =
@@ -106,39 +101,39 @@ module _ (at : ℕ → Option PlainNode) (p : Option ℕ) (k : ℕ) (row : Row) 
   -- what was before it is not among these
   pub before_out : (kids : Forest Row) (q : Option ℕ) (x : ℕ) → Later u kids → ((x : ℕ) → count_of_key x kids ≤ 1) → ((x : ℕ) → q ≡ Some x → count_of_key x kids ≡ 0)
       → RepresentsPart at p q kids → n.previous ≡ Some x → count_of_key x u ≡ 0
-  before_out _ q x at_first once apart s e = apart x (ap (λ (n : PlainNode). n.previous) (sym (node_is q s)) ∙ e)
-  before_out _ q x (later {row = row1} {kids = kids1} {siblings = siblings1} l) once apart s e =
+  before_out _ q x At_first once apart s e = apart x (ap (λ (n : PlainNode). n.previous) (sym (node_is q s)) ∙ e)
+  before_out _ q x (Later_on {row = row1} {kids = kids1} {siblings = siblings1} l) once apart s e =
       before_out siblings1 (Some row1.key) x l (λ x. let o = once x in omega arith) (λ x i. let o = once x in
       let w = own_more row1 kids1 siblings1 x (some_is i) in omega arith) s.2 e
 
   pub before_there : (kids : Forest Row) (x : ℕ) → Later u kids → RepresentsPart at p None kids → n.previous ≡ Some x → 0 < count_of_key x kids
-  before_there _ x at_first s e = let f : None ≡ Some x = ap (λ (n : PlainNode). n.previous) (sym (node_is None s)) ∙ e in absurd (cc)
-  before_there _ x (later {row = row1} {kids = kids1} {siblings = siblings1} l) s e = let h = before_in None row1 kids1 siblings1 x l s e in omega arith
+  before_there _ x At_first s e = let f : None ≡ Some x = ap (λ (n : PlainNode). n.previous) (sym (node_is None s)) ∙ e in absurd (cc)
+  before_there _ x (Later_on {row = row1} {kids = kids1} {siblings = siblings1} l) s e = let h = before_in None row1 kids1 siblings1 x l s e in omega arith
 
   pub next_there : (kids : Forest Row) (q : Option ℕ) (x : ℕ) → Later u kids → RepresentsPart at p q kids → n.next ≡ Some x → 0 < count_of_key x siblings
   next_there kids q x l s e = next_in q kids x l s e
 
   kept_first : (q : Option ℕ) (row1 : Row) (kids1 siblings1 : Forest Row) (f : Option ℕ) → Later u siblings1 → RepresentsPart at p q (Branch row1 kids1 siblings1)
       → f ≡ replaced_if_none n.previous n.next f
-  kept_first q row1 kids1 _ f at_first s = let e : n.previous ≡ Some row1.key = ap (λ (n : PlainNode). n.previous) (node_is (Some row1.key) s.2) in rw e
-  kept_first q row1 kids1 _ f (later {row = row2} {kids = kids2} {siblings = siblings2} l) s = kept_first (Some row1.key) row2 kids2 siblings2 f l s.2
+  kept_first q row1 kids1 _ f At_first s = let e : n.previous ≡ Some row1.key = ap (λ (n : PlainNode). n.previous) (node_is (Some row1.key) s.2) in rw e
+  kept_first q row1 kids1 _ f (Later_on {row = row2} {kids = kids2} {siblings = siblings2} l) s = kept_first (Some row1.key) row2 kids2 siblings2 f l s.2
 
   pub cut_first : (kids : Forest Row) → Later u kids → ((x : ℕ) → count_of_key x kids ≤ 1) → RepresentsPart at p None kids
       → first_key (pruned_at_key k kids) ≡ replaced_if_none n.previous n.next (first_key kids)
-  cut_first _ at_first once s =
+  cut_first _ At_first once s =
       let e = node_is None s in
       rw (cut_here k row c siblings is, ap (λ (n : PlainNode). n.previous) e, ap (λ (n : PlainNode). n.next) e)
-  cut_first _ (later {row = row1} {kids = kids1} {siblings = siblings1} l) once s =
+  cut_first _ (Later_on {row = row1} {kids = kids1} {siblings = siblings1} l) once s =
       let kl = count_of_key-later k l in
       let ne : row1.key ≡ k → ⊥ = λ i. let o = once k in let w = own_more row1 kids1 siblings1 k i in let h = k_in in absurd (omega arith) in
       rw (cut_there k row1 kids1 siblings1 ne) (kept_first None row1 kids1 siblings1 (Some row1.key) l s)
 
   pub cut_last : (kids : Forest Row) (q : Option ℕ) → Later u kids → ((x : ℕ) → count_of_key x kids ≤ 1) → RepresentsPart at p q kids
       → last_key_or q (pruned_at_key k kids) ≡ replaced_if_none n.next n.previous (last_key_or q kids)
-  cut_last _ q at_first once s =
+  cut_last _ q At_first once s =
       let e = node_is q s in
       rw (cut_here k row c siblings is, ap (λ (n : PlainNode). n.previous) e, ap (λ (n : PlainNode). n.next) e) (last_instead q (Some row.key) siblings)
-  cut_last _ q (later {row = row1} {kids = kids1} {siblings = siblings1} l) once s =
+  cut_last _ q (Later_on {row = row1} {kids = kids1} {siblings = siblings1} l) once s =
       let kl = count_of_key-later k l in
       let ne : row1.key ≡ k → ⊥ = λ i. let o = once k in let w = own_more row1 kids1 siblings1 k i in let h = k_in in absurd (omega arith) in
       rw (cut_there k row1 kids1 siblings1 ne) (cut_last siblings1 (Some row1.key) l (λ x. let o = once x in omega arith) s.2)
@@ -149,7 +144,7 @@ module _ (at : ℕ → Option PlainNode) (p : Option ℕ) (k : ℕ) (row : Row) 
     pub RepresentsPart-pruned_at_key : (kids : Forest Row) (q : Option ℕ) → Later u kids → ((x : ℕ) → count_of_key x kids ≤ 1) → ((x : ℕ) → q ≡ Some x → count_of_key x kids ≡ 0)
         → ((x : ℕ) → 0 < count_of_key x kids → x ≢ k → n.previous ≢ Some x → n.next ≢ Some x → new x ≡ at x)
         → RepresentsPart at p q kids → RepresentsPart new p q (pruned_at_key k kids)
-    RepresentsPart-pruned_at_key _ q at_first once apart others_same s =
+    RepresentsPart-pruned_at_key _ q At_first once apart others_same s =
         let e = node_is q s in
         rw (cut_here k row c siblings is) (
         tail_ok at new p q (Some row.key) n siblings (ap (λ (n : PlainNode). n.next) e) (ap (λ (n : PlainNode). n.previous) e) behind_new
@@ -160,7 +155,7 @@ module _ (at : ℕ → Option PlainNode) (p : Option ℕ) (k : ℕ) (row : Row) 
         (λ x. let o = once x in omega arith)
         s.2
         )
-    RepresentsPart-pruned_at_key _ q (later {row = row1} {kids = kids1} at_first) once apart others_same s =
+    RepresentsPart-pruned_at_key _ q (Later_on {row = row1} {kids = kids1} At_first) once apart others_same s =
         let e = node_is (Some row1.key) s.2 in
         let ne : row1.key ≡ k → ⊥ = λ i. let o = once k in let w = own_more row1 kids1 u k i in let h = k_in in absurd (omega arith) in
         let z : count_of_key k kids1 ≡ 0 = let o = once k in let h = k_in in omega arith in
@@ -182,7 +177,7 @@ module _ (at : ℕ → Option PlainNode) (p : Option ℕ) (k : ℕ) (row : Row) 
               (λ x. let o = once x in omega arith)
               s.2.2,
         )
-    RepresentsPart-pruned_at_key _ q (later {row = row1} {kids = kids1} (later {row = row2} {kids = kids2} {siblings = siblings2} l)) once apart others_same s =
+    RepresentsPart-pruned_at_key _ q (Later_on {row = row1} {kids = kids1} (Later_on {row = row2} {kids = kids2} {siblings = siblings2} l)) once apart others_same s =
         let kl = count_of_key-later k l in
         let ne : row1.key ≡ k → ⊥ = λ i. let o = once k in let w = own_more row1 kids1 (Branch row2 kids2 siblings2) k i in let h = k_in in absurd (omega arith) in
         let ne2 : row2.key ≡ k → ⊥ = λ i. let o = once k in let w = own_more row2 kids2 siblings2 k i in let h = k_in in absurd (omega arith) in
@@ -193,17 +188,17 @@ module _ (at : ℕ → Option PlainNode) (p : Option ℕ) (k : ℕ) (row : Row) 
               (λ i. let o = once row1.key in let w = own_more row1 kids1 (Branch row2 kids2 siblings2) row1.key refl in
               let h = before_in (Some row1.key) row2 kids2 siblings2 row1.key l s.2 i in absurd (omega arith))
               (λ i. let o = once row1.key in let w = own_more row1 kids1 (Branch row2 kids2 siblings2) row1.key refl in
-              let h = next_in (Some row1.key) (Branch row2 kids2 siblings2) row1.key (later l) s.2 i in
-              let m = a_in row1.key (Branch row2 kids2 siblings2) (later l) in absurd (omega arith))
+              let h = next_in (Some row1.key) (Branch row2 kids2 siblings2) row1.key (Later_on l) s.2 i in
+              let m = a_in row1.key (Branch row2 kids2 siblings2) (Later_on l) in absurd (omega arith))
               ∙ s.0 ∙ ap (λ (o : Option ℕ). Some (record (links_for row1 p q kids1 (Branch row2 kids2 siblings2)) { next = o })) (sym same),
           RepresentsPart-along at new (Some row1.key) None kids1
               (λ x h. others_same x (omega arith)
               (λ i. let h' : 0 < count_of_key k kids1 = rw i at h in absurd (omega arith))
               (λ i. let o = once x in let h' = before_in (Some row1.key) row2 kids2 siblings2 x l s.2 i in absurd (omega arith))
-              (λ i. let o = once x in let h' = next_in (Some row1.key) (Branch row2 kids2 siblings2) x (later l) s.2 i in
-              let m = a_in x (Branch row2 kids2 siblings2) (later l) in absurd (omega arith)))
+              (λ i. let o = once x in let h' = next_in (Some row1.key) (Branch row2 kids2 siblings2) x (Later_on l) s.2 i in
+              let m = a_in x (Branch row2 kids2 siblings2) (Later_on l) in absurd (omega arith)))
               s.1,
-          RepresentsPart-pruned_at_key (Branch row2 kids2 siblings2) (Some row1.key) (later l) (λ x. let o = once x in omega arith)
+          RepresentsPart-pruned_at_key (Branch row2 kids2 siblings2) (Some row1.key) (Later_on l) (λ x. let o = once x in omega arith)
               (λ x i. let o = once x in let w = own_more row1 kids1 (Branch row2 kids2 siblings2) x (some_is i) in omega arith)
               (λ x h. others_same x (omega arith))
               s.2,

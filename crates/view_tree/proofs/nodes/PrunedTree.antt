@@ -1,13 +1,13 @@
 -- The tree after a view was taken out: all of it.
 use Rattle.std.proofs.Common.{◌≡◌, ◌≢◌, ℕ, ◌<◌, ◌≤◌, Option, Some, None, refl, sym, ◌∙◌, ap, subst, arith, inl, inr}
 use Rattle.view_model.specs.Forest.{Forest, Nothing, Branch}
-use Rattle.view_tree.specs.Rows.{Row, count_of_key, first_key, pruned_at_key, later_siblings}
+use Rattle.view_tree.specs.Rows.{Row, count_of_key, first_key, pruned_at_key, later_siblings, Later_on, At_first, Later}
 use Rattle.view_tree.proofs.nodes.ChangedNodes.{changed_not, changed_is, without_not}
 use Rattle.view_tree.specs.Nodes.{PlainNode, RepresentsPart, RepresentsTree, links_for, replaced_if_none, unlinked, IsAround}
 use Rattle.view_tree.proofs.forest.KeyLaws.{count_of_key-within, times_self, located, Located}
 use Rattle.view_tree.proofs.forest.Forests.{RepresentsPart-within, some_is}
 use Rattle.view_tree.proofs.nodes.ChildEdits.{edit_kids, RepresentsPart-edit, later_siblings-edit, first_key-edit}
-use Rattle.view_tree.proofs.nodes.PrunedPart.{own_more, Later, at_first, later, Home, up, count_of_key-later, Beside, RepresentsPart-later, RepresentsPart-pruned_at_key, before_out, before_there, next_there, cut_first, cut_last, cut_edit, cut_here}
+use Rattle.view_tree.proofs.nodes.PrunedPart.{own_more, Home, up, count_of_key-later, Beside, RepresentsPart-later, RepresentsPart-pruned_at_key, before_out, before_there, next_there, cut_first, cut_last, cut_edit, cut_here}
 use Rattle.view_tree.proofs.forest.NumberLaws.{count_of_key-cut_le, count-cut_le}
 
 -- if the parent and the siblings beside it are apart, what each node holds
@@ -47,13 +47,13 @@ module _ (at new : ℕ → Option PlainNode) (k : ℕ) (n : PlainNode) (eq : (x 
       ∙ without_not at k x ne
 
 -- what is around a view
-pub record Around (k : ℕ) (n : PlainNode) (t : Forest Row) : Type 0 where
+pub record HasLiveNeighbours (k : ℕ) (n : PlainNode) (t : Forest Row) : Type 0 where
   pub apart : Apart k n
   pub live : (x : ℕ) → IsAround n x → 0 < count_of_key x t
 
 top_only : (row : Row) (kids siblings t : Forest Row) → Later (Branch row kids siblings) t → later_siblings t ≡ Nothing → t ≡ Branch row kids siblings
-top_only row kids siblings _ at_first e = refl
-top_only row kids siblings _ (later {row = row'} {kids = kids'} {siblings = siblings'} l) e =
+top_only row kids siblings _ At_first e = refl
+top_only row kids siblings _ (Later_on {row = row'} {kids = kids'} {siblings = siblings'} l) e =
     let h = count_of_key-later row.key l in let o = times_self row kids siblings in
     let z : count_of_key row.key siblings' ≡ 0 = ap (count_of_key row.key) e in
     absurd (omega arith)
@@ -88,7 +88,7 @@ module _ (at : ℕ → Option PlainNode) (root : Option ℕ) (next : ℕ) (t : F
     k_u : 0 < count_of_key k (Branch f.row f.kids f.siblings)
     k_u = subst (λ k. 0 < count_of_key k (Branch f.row f.kids f.siblings)) f.key_is (times_self f.row f.kids f.siblings)
 
-    pub around : Around k n t
+    pub around : HasLiveNeighbours k n t
     around = record {
       apart = record {
         not_k = λ x i. elim i [
@@ -176,7 +176,7 @@ module _ (at : ℕ → Option PlainNode) (root : Option ℕ) (next : ℕ) (t : F
         let s : RepresentsPart at None None (Branch f.row f.kids f.siblings) = subst (λ t. RepresentsPart at None None t) whole stands.stand in
         some_is (sym says ∙ ap at (sym f.key_is) ∙ s.0) ∙ ap (λ siblings. links_for f.row None None f.kids siblings) no_more
 
-    pub around_top : Around k n t
+    pub around_top : HasLiveNeighbours k n t
     around_top =
         let none_around : (x : ℕ) → IsAround n x → ⊥ = λ x i.
         elim i [
@@ -204,7 +204,7 @@ module _ (at : ℕ → Option PlainNode) (root : Option ℕ) (next : ℕ) (t : F
         let few = stands.few in
         rw (parent, gone) (record { outer = refl; single = refl; stand = tt; distinct = λ x. omega arith; few = omega arith })
 
-  pub gone_around : Around k n t
+  pub gone_around : HasLiveNeighbours k n t
   gone_around = elim (up f.within) [ inl l ↦ around_top l | inr h ↦ around h ]
 
   pub gone_stands : (new : ℕ → Option PlainNode) → ((x : ℕ) → new x ≡ unlinked at k n x) → RepresentsTree new (replaced_if_none n.parent None root) next (pruned_at_key k t)

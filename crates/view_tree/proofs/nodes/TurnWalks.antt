@@ -1,11 +1,11 @@
 -- A walk over the children of a view, while each turns with it.
-use Rattle.std.proofs.Common.{◌≡◌, ◌≢◌, ℕ, suc, ◌+◌, ◌<◌, ◌≤◌, Bool, true, false, Option, Some, None, IsSome, refl, sym, ◌∙◌, ap, subst, arith, inl, inr}
+use Rattle.std.proofs.Common.{◌≡◌, ◌≢◌, ℕ, suc, ◌<◌, ◌≤◌, Bool, Option, Some, None, refl, sym, ◌∙◌, ap, subst, arith}
 use Rattle.std.specs.Prelude.{option_map}
 use Rattle.slab.specs.Slab.{ContainsKey, Slab, get}
 use Rattle.view_model.specs.declared.limits.TheConstants.{MAX_VIEWS}
 use Rattle.view_model.specs.Direction.{dir}
 use Rattle.view_model.specs.Forest.{Forest, Nothing, Branch, count_of}
-use Rattle.view_tree.specs.Nodes.{PlainNode, RepresentsPart, forest, links_at, links_for, links_in, links_of}
+use Rattle.view_tree.specs.Nodes.{PlainNode, RepresentsPart, forest, links_at, links_for, links_in}
 use Rattle.view_tree.specs.Rows.{Row, children_of_first, count_of_key, first_key, first_tree, rest_from}
 use Rattle.view_tree.specs.Turning.{HaveTurned, IsPart, RunsBelow, part_at, running_node, turned_node}
 use Rattle.view_tree.specs.Views.{AreDirected}
@@ -15,7 +15,7 @@ use Rattle.view_tree.proofs.forest.KeyLaws.{Within, count_of_key-within, here, i
 use Rattle.view_tree.proofs.nodes.ChildEdits.{RepresentsPart-along}
 use Rattle.view_tree.proofs.nodes.NodeReads.{Says, says}
 use Rattle.view_tree.proofs.nodes.PrunedPart.{own_more}
-use Rattle.view_tree.proofs.nodes.TurnedNodes.{At_rest, Past, TurnedUntil, still_turned, turned_other, turned_still, until_end, until_few, until_on}
+use Rattle.view_tree.proofs.nodes.TurnedNodes.{At_rest, Past, TurnedUntil, still_turned, turned_other, turned_still, until_end, until_on}
 
 -- a part by its first view
 pub record First (part : Forest Row) (view : ℕ) : Type 0 where

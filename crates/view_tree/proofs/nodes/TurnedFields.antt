@@ -14,7 +14,7 @@ use Rattle.view_model.specs.Direction.{dir}
 use Rattle.view_model.specs.Forest.{Forest, Nothing, Branch, count_of}
 use Rattle.view_model.specs.PlainTree.{PlainView}
 use Rattle.view_tree.specs.Directions.{directed_rows, is_rtl_above, with_direction}
-use Rattle.view_tree.specs.Nodes.{IsPlanted, IsSound, PlainNode, RepresentsPart, RepresentsTree, forest, held_in, holders_of, links_at, links_in, links_of, tree_of, value_of}
+use Rattle.view_tree.specs.Nodes.{IsPlanted, IsSoundTree, PlainNode, RepresentsPart, RepresentsTree, forest, held_in, holders_of, links_at, links_in, links_of, tree_of, value_of}
 use Rattle.view_tree.specs.Ordering.{HasNoOther, IsGrouped, group_at}
 use Rattle.view_tree.specs.Rows.{Row, changed_at_key, count_of_key, first_key, first_tree, key_where, later_siblings, part_from}
 use Rattle.view_tree.specs.Turning.{HaveTurned, IsPart, RunsBelow, part_at}
@@ -162,7 +162,7 @@ module _ (a : Inside) (v : Views) (view : ℕ) (direction : Direction) (n : Node
           small = λ key there. link_for a v planted e key (rw (count_of_key-alike key now) at there);
         }
 
-    pub sound-turned : IsSound a → IsSound turned_inside
+    pub sound-turned : IsSoundTree a → IsSoundTree turned_inside
     sound-turned sound =
         let now : Alike v.tree (tree_of turned_inside) = subst (Alike v.tree) (sym tree-turned) alike in
         record {

@@ -1,20 +1,18 @@
 -- What nodes say once they have turned with their parents.
-use Rattle.std.proofs.Common.{◌≡◌, ◌≢◌, ℕ, ◌+◌, ◌<◌, ◌≤◌, Bool, true, false, Option, Some, None, refl, sym, ◌∙◌, ap, subst, arith, inl, inr}
+use Rattle.std.proofs.Common.{◌≡◌, ◌≢◌, ℕ, ◌<◌, ◌≤◌, Bool, true, false, Option, Some, None, refl, sym, ◌∙◌, ap, subst, arith, inl, inr}
 use Rattle.std.proofs.lemmas.Bool.{cases_Bool}
-use Rattle.std.specs.Prelude.{IfSome, if◌then◌else◌, not, option_map}
-use Rattle.view_model.specs.declared.facts.Facts.{Facts}
+use Rattle.std.specs.Prelude.{option_map}
 use Rattle.view_model.specs.Direction.{dir}
 use Rattle.view_model.specs.Directed.{running}
-use Rattle.view_model.specs.Forest.{Forest, Nothing, Branch, count_of}
-use Rattle.view_model.specs.PlainTree.{PlainView}
+use Rattle.view_model.specs.Forest.{Forest, Nothing, Branch}
 use Rattle.view_tree.specs.Directions.{directed_rows, row_running}
 use Rattle.view_tree.specs.Nodes.{PlainNode, RepresentsPart, links_for, links_in, links_of}
-use Rattle.view_tree.specs.Rows.{Row, count_of_key, first_key, last_key, last_key_or}
+use Rattle.view_tree.specs.Rows.{Row, count_of_key, first_key, last_key_or}
 use Rattle.view_tree.specs.Turning.{HaveTurned, running_node, runs_so, turned_node}
 use Rattle.view_tree.specs.Views.{AreDirected}
 use Rattle.view_tree.specs.declared.node.Node.{Node}
 use Rattle.view_tree.proofs.forest.KeyLaws.{times_self}
-use Rattle.view_tree.proofs.nodes.NodeReads.{Says, says}
+use Rattle.view_tree.proofs.nodes.NodeReads.{says}
 
 -- a way in which a view runs is the one that it is to run in, or not
 pub runs_same : (rtl own : Bool) → own ≡ rtl → runs_so rtl own ≡ true
@@ -109,10 +107,6 @@ pub until_count : {old new : ℕ → Option Node} {above : Bool} {rest list : Fo
 until_count key At_rest = omega arith
 until_count key (Past turned u) = let h = until_count key u in omega arith
 
-pub until_few : {old new : ℕ → Option Node} {above : Bool} {rest list : Forest Row} → TurnedUntil old new above rest list → count_of rest ≤ count_of list
-until_few At_rest = omega arith
-until_few (Past turned u) = let h = until_few u in omega arith
-
 -- once one more has turned
 pub until_on : (old new new' : ℕ → Option Node) (above : Bool) (row : Row) (kids siblings : Forest Row) {list : Forest Row} → ((key : ℕ) → count_of_key key list ≤ 1)
     → TurnedUntil old new above (Branch row kids siblings) list → HaveTurned old new' above (Branch row kids Nothing)
@@ -128,17 +122,3 @@ until_on old new new' above row kids siblings once (Past {row = r} {kids = b} {s
 pub until_end : (old new : ℕ → Option Node) (above : Bool) {list : Forest Row} → TurnedUntil old new above Nothing list → HaveTurned old new above list
 until_end old new above At_rest = tt
 until_end old new above (Past turned u) = (turned.0, turned.1, until_end old new above u)
-
--- the rest of a list is after one of its views
-pub record StandsAt (at : ℕ → Option PlainNode) (parent : Option ℕ) (rest : Forest Row) : Type 0 where
-  pub before : Option ℕ
-  pub stand : RepresentsPart at parent before rest
-
--- the children of a view so far
-pub record TurnWalk (old now : ℕ → Option Node) (rtl : Bool) (view : ℕ) (kids : Forest Row) (next : Option ℕ) : Type 0 where
-  pub rest : Forest Row
-  pub first : first_key rest ≡ next
-  pub stand : StandsAt (λ key. links_in (now key)) (Some view) rest
-  pub done : TurnedUntil old now rtl rest kids
-  pub still : (key : ℕ) → 0 < count_of_key key rest → now key ≡ old key
-  pub out : (key : ℕ) → count_of_key key kids ≡ 0 → now key ≡ old key

@@ -1,15 +1,15 @@
 -- Requests for layout at a view and at each that turns with it, one after the other.
-use Rattle.std.proofs.Common.{◌≡◌, ◌≢◌, ℕ, ◌+◌, ◌<◌, ◌≤◌, Bool, true, false, List, [], ◌∷◌, ◌++◌, refl, sym, ◌∙◌, ap, subst, arith, inl, inr}
+use Rattle.std.proofs.Common.{◌≡◌, ℕ, ◌+◌, ◌<◌, ◌≤◌, Bool, true, false, List, [], ◌∷◌, ◌++◌, refl, sym, ◌∙◌, ap, subst, arith, inl, inr}
 use mathlib.Core.Path.{fun_ext}
-use Rattle.std.proofs.lemmas.Bool.{cases_Bool, cases_eq, eq-eqb, ne_eqb}
-use Rattle.std.specs.Prelude.{◌==◌, if◌then◌else◌}
+use Rattle.std.proofs.lemmas.Bool.{cases_Bool, eq-eqb, ne_eqb}
+use Rattle.std.specs.Prelude.{◌==◌}
 use Rattle.view_model.specs.declared.placing.Direction.{Direction}
 use Rattle.view_model.specs.Direction.{dir}
 use Rattle.view_model.specs.Forest.{Forest, Nothing, Branch}
 use Rattle.view_tree.specs.Directions.{with_direction}
-use Rattle.view_tree.specs.Requests.{among, asking, forced_one, pressed, requested, unforced}
+use Rattle.view_tree.specs.Requests.{among, asking, pressed, requested, unforced}
 use Rattle.view_tree.specs.Rows.{Row, ancestors, around, changed_at_key, count_of_key, first_tree, part_from}
-use Rattle.view_tree.specs.Turning.{RunsBelow, runs_so}
+use Rattle.view_tree.specs.Turning.{runs_so}
 use Rattle.view_tree.specs.Views.{AreDirected, Held}
 use Rattle.std.proofs.lemmas.List.{append-nil}
 use Rattle.view_tree.proofs.forest.DirectedLaws.{directed-within}
@@ -22,9 +22,6 @@ use Rattle.view_tree.proofs.nodes.TurnedWhole.{above_in, part_few, part_with}
 requested-append : (held : ℕ → Held) (xs ys : List ℕ) (tree : Forest Row) → requested held (xs ++ ys) tree ≡ requested (requested held xs tree) ys tree
 requested-append held [] ys tree = refl
 requested-append held (x ∷ xs) ys tree = requested-append (pressed held (asking held x tree)) xs ys tree
-
-pressed_none : (held : ℕ → Held) → pressed held [] ≡ held
-pressed_none held = refl
 
 pressed-append : (held : ℕ → Held) (xs ys : List ℕ) → pressed (pressed held xs) ys ≡ pressed held (xs ++ ys)
 pressed-append held xs ys = fun_ext (λ key. elim (cases_Bool (among key xs)) [

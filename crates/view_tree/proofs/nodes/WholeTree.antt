@@ -4,7 +4,7 @@ use mathlib.Core.Path.{fun_ext}
 use Rattle.std.specs.Prelude.{[], ◌∷◌}
 use Rattle.view_model.specs.PlainTree.{PlainView}
 use Rattle.view_tree.specs.Attached.{Attached}
-use Rattle.view_tree.specs.Nodes.{IsPlanted, IsSound, fields, tree_of, value_of}
+use Rattle.view_tree.specs.Nodes.{IsPlanted, IsSoundTree, fields, tree_of, value_of}
 use Rattle.view_tree.specs.Ordering.{IsGrouped, PlainGroup, PlainOrders, group_at, orders_in}
 use Rattle.view_tree.specs.Sowing.{GainedBelow}
 use Rattle.view_tree.specs.Views.{Views, plain_of}
@@ -63,7 +63,7 @@ same_parent (Some one) (Some other) path above first second = let e : one ∷ ab
 
 -- the fields after room was made, for nodes and for groups
 pub whole-room : (a b : Inside) → b.nodes ≡ record a.nodes { capacity = b.nodes.capacity } → b.keys.entries ≡ a.keys.entries → b.ids.entries ≡ a.ids.entries
-    → orders_in b.groups.entries ≡ orders_in a.groups.entries → ((k : ℕ) → group_at b.groups k ≡ group_at a.groups k) → b.root ≡ a.root → b.next ≡ a.next → b.counts ≡ a.counts → IsSound a → IsSound b
+    → orders_in b.groups.entries ≡ orders_in a.groups.entries → ((k : ℕ) → group_at b.groups k ≡ group_at a.groups k) → b.root ≡ a.root → b.next ≡ a.next → b.counts ≡ a.counts → IsSoundTree a → IsSoundTree b
 whole-room a b nodes keys ids orders groups root next counts is = record {
   planted = sound-room a b nodes keys ids orders root next counts is.planted;
   grouped = groups_along (group_at a.groups) (group_at b.groups) (value_of b) groups

@@ -4,14 +4,14 @@ use Rattle.std.specs.Prelude.{nat_eq, option_map}
 use Rattle.std.specs.Map.{lookup}
 use Rattle.view_tree.specs.declared.groups.Group.{Group}
 use Rattle.view_tree.specs.declared.tree.ViewTree.TheInside.{Inside}
-use Rattle.view_tree.specs.Nodes.{IsSound, value_of}
+use Rattle.view_tree.specs.Nodes.{IsSoundTree, value_of}
 use Rattle.view_model.specs.Cycles.{is_relative, links_in, numbers_in}
 use Rattle.view_tree.specs.Ordering.{AreOrders, IsGroupOf, IsGrouped, IsKeptOf, group_at, plain_group, plain_orders}
 use Rattle.view_tree.specs.Rows.{children_of_first, part_from, views_of}
 use Rattle.view_tree.specs.Views.{IsLive, Views, class_of, held_of, number_of, orders_of, plain_of, plain_rows}
 use Rattle.view_tree.proofs.orders.RowLaws.{group_there, links-plain, numbers-plain, orders_are}
 
-module _ (a : Inside) (v : Views) (key number : ℕ) (sound : IsSound a) (e : value_of a ≡ v) (live : IsLive v key) (relative : is_relative (class_of v key) ≡ true)
+module _ (a : Inside) (v : Views) (key number : ℕ) (sound : IsSoundTree a) (e : value_of a ≡ v) (live : IsLive v key) (relative : is_relative (class_of v key) ≡ true)
     (is : number ≡ number_of v key) where
   kept : IsKeptOf (plain_rows (held_of v) (children_of_first (part_from key v.tree))) (group_at a.groups number)
   kept = subst (λ n. IsKeptOf (plain_rows (held_of v) (children_of_first (part_from key v.tree))) (group_at a.groups n)) (sym is)

@@ -121,11 +121,6 @@ read_any [] place one other small = absurd (omega arith)
 read_any (first ∷ list) zero one other small = refl
 read_any (first ∷ list) (suc place) one other small = read_any list place one other (omega arith)
 
--- what every branch has
-pub every_of : {R : Type 0} (P : R → Forest R → Type 0) (tree : Forest R) → ((row : R) (below : Forest R) → P row below) → EveryBranch P tree
-every_of P Nothing all = tt
-every_of P (Branch row below after) all = (all row below, every_of P below all, every_of P after all)
-
 pub every_by : {R : Type 0} (P Q : R → Forest R → Type 0) (tree : Forest R) → ((row : R) (below : Forest R) → P row below → Q row below) → EveryBranch P tree → EveryBranch Q tree
 every_by P Q Nothing all every = tt
 every_by P Q (Branch row below after) all every = (all row below every.0, every_by P Q below all every.1, every_by P Q after all every.2)

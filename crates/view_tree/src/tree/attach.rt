@@ -34,10 +34,13 @@ impl ViewTree {
         requires root { parent ≡ None → self.old.tree ≡ Nothing }
         requires unnamed { (facts.id ≡ 0) × (facts.rules.values ≡ replicate 21 0) }
         requires numbers { self.old.next < NUMBERS_END }
-        ensures attached { let view : PlainView = record { number = self.old.next; class = class; facts = facts; text = text } in
+        ensures attached { let view : PlainView =
+            record { number = self.old.next; class = class; facts = facts; text = text } in
             IfOk result (λ key. Attached self.old parent (running_below parent self.old.tree view) key self.new) }
-        ensures orders { OnOk result ((k : ℕ) → group_number self.old parent ≢ Some k → k ≢ self.old.next → orders_under self.new k ≡ orders_under self.old k) }
-        ensures refused { IsRefusedExactlyFor (refusal_at (plain_of self.old) (option_map (number_of self.old) parent)) result }
+        ensures orders { OnOk result ((k : ℕ) → group_number self.old parent ≢ Some k → k ≢ self.old.next
+            → orders_under self.new k ≡ orders_under self.old k) }
+        ensures refused { IsRefusedExactlyFor
+            (refusal_at (plain_of self.old) (option_map (number_of self.old) parent)) result }
         ensures unchanged { OnErr result (self.new ≡ self.old) }
         ensures counts { self.new.counts ≡ self.old.counts }
     {

@@ -15,11 +15,15 @@ impl ViewTree {
     /// view, and at each view that runs another way from now on. It takes no memory, and time for what is below the view.
     pub fn set_direction(&mut self, view: Key, direction: Direction)
         requires { IsLive self.old view }
-        ensures tree { self.new.tree ≡ directed_rows false (changed_at_key view (with_direction direction) self.old.tree) }
-        ensures plain { plain_of self.new ≡ directed false (plain_with_direction (number_of self.old view) direction (plain_of self.old)) }
+        ensures tree { self.new.tree ≡ directed_rows false
+            (changed_at_key view (with_direction direction) self.old.tree) }
+        ensures plain { plain_of self.new
+            ≡ directed false (plain_with_direction (number_of self.old view) direction (plain_of self.old)) }
         ensures orders { self.new.orders ≡ self.old.orders }
         ensures next { self.new.next ≡ self.old.next }
-        ensures held { (key : ℕ) → held_of self.new key ≡ requested (held_of self.old) (asked_by_direction view direction self.old.tree) self.old.tree key }
+        ensures held { (key : ℕ)
+            → held_of self.new key ≡ requested (held_of self.old)
+            (asked_by_direction view direction self.old.tree) self.old.tree key }
         ensures counts { self.new.counts ≡ self.old.counts }
         ensures is_tree { IsTree self.old }
     {

@@ -2,7 +2,7 @@
 ghost use Rattle.std.specs.Prelude.{◌≡◌, ◌≢◌, ◌≤◌, ◌+◌, ◌<◌, ◌∷◌, [], ℕ, true, false, length, None, Some, IfOk, IfSome, OnErr};
 ghost use Rattle.std.specs.Option.{option_map};
 ghost use Rattle.view_model.specs.declared.limits.TheConstants.{MAX_DEPTH, MAX_VIEWS, NUMBERS_END};
-ghost use Rattle.view_model.specs.Cycles.{graft_cycle, is_relative, member_from};
+ghost use Rattle.view_model.specs.Cycles.{graft_cycle, member_from};
 ghost use Rattle.view_model.specs.Forest.{Forest, Nothing, count_of};
 ghost use Rattle.view_model.specs.Grafts.{at_element, graft_refusal, refusal_below};
 ghost use Rattle.view_model.specs.Growth.{growth_refusal};
@@ -33,9 +33,14 @@ impl ViewTree {
         requires root { parent ≡ None → self.old.tree ≡ Nothing }
         requires numbers { self.old.next < NUMBERS_END }
         ensures grafted { IfOk result (λ key. Grafted self.old parent (seeds_of sapling.sprouts.items) key self.new) }
-        ensures orders { (k : ℕ) → group_number self.old parent ≢ Some k → k < self.old.next → orders_under self.new k ≡ orders_under self.old k }
-        ensures refused { IsRefusedOrCyclic (graft_refusal (plain_of self.old) (option_map (number_of self.old) parent) (seeds_of sapling.sprouts.items))
-            (graft_cycle (plain_of self.old) (option_map (number_of self.old) parent) self.old.next (seeds_of sapling.sprouts.items)) result }
+        ensures orders { (k : ℕ)
+            → group_number self.old parent ≢ Some k
+            → k < self.old.next
+            → orders_under self.new k ≡ orders_under self.old k }
+        ensures refused { IsRefusedOrCyclic (graft_refusal (plain_of self.old) (option_map (number_of self.old) parent)
+            (seeds_of sapling.sprouts.items))
+            (graft_cycle (plain_of self.old) (option_map (number_of self.old) parent) self.old.next
+            (seeds_of sapling.sprouts.items)) result }
         ensures few { self.new.next ≤ self.old.next + MAX_VIEWS }
         ensures unchanged { OnErr result (self.new ≡ self.old) }
         ensures counts { self.new.counts ≡ self.old.counts }
@@ -85,7 +90,8 @@ impl ViewTree {
         requires some { 0 < length sprouts.now }
         requires few { count_of self.now.tree + length sprouts.now ≤ MAX_VIEWS }
         requires numbers { self.now.next < NUMBERS_END }
-        ensures { IsMadeUnless (entries_cycle self.now parent sprouts.now) (λ entries. AreGrafted self.now parent sprouts.now entries.items) result }
+        ensures { IsMadeUnless (entries_cycle self.now parent sprouts.now)
+            (λ entries. AreGrafted self.now parent sprouts.now entries.items) result }
     {
         match self.parent_entry(parent, &sprouts[0]) {
             Ok(entries) => with_entries(entries, self.next, sprouts),
@@ -102,7 +108,8 @@ impl ViewTree {
         requires live { IfSome parent (λ parent. IsLive self.now parent) }
         requires few { count_of self.now.tree < MAX_VIEWS }
         requires numbers { self.now.next < NUMBERS_END }
-        ensures { IsMadeUnless (parent_cycle self.now parent sprout.now) (λ entries. IsParentEntry self.now parent sprout.now entries.items) result }
+        ensures { IsMadeUnless (parent_cycle self.now parent sprout.now)
+            (λ entries. IsParentEntry self.now parent sprout.now entries.items) result }
     {
         let alloc = *self.groups.allocator();
         let Some(parent) = parent else {
@@ -122,7 +129,8 @@ impl ViewTree {
         requires live { IsLive self.now parent }
         requires few { count_of self.now.tree < MAX_VIEWS }
         requires numbers { self.now.next < NUMBERS_END }
-        ensures { IsGroupOrCycle (member_from self.now.next) (links_then self.now parent link) (numbers_then self.now parent) result }
+        ensures { IsGroupOrCycle (member_from self.now.next) (links_then self.now parent link)
+            (numbers_then self.now parent) result }
     {
         match self.kids_then(parent, link) {
             Ok(kids) => group_of(*self.groups.allocator(), kids, self.next),
@@ -150,7 +158,8 @@ impl ViewTree {
     fn may_take(&self, parent: Option<Key>, sprouts: &[Sprout]) -> Result<(), Refusal>
         requires live { IfSome parent (λ parent. IsLive self.now parent) }
         requires preorder { IsPreorder sprouts.now }
-        ensures { RefusesExactlyFor (graft_refusal (plain_of self.now) (option_map (number_of self.now) parent) (seeds_of sprouts.now)) result }
+        ensures { RefusesExactlyFor
+            (graft_refusal (plain_of self.now) (option_map (number_of self.now) parent) (seeds_of sprouts.now)) result }
     {
         let mut depth = 1;
         if let Some(parent) = parent {
@@ -182,7 +191,9 @@ fn growth_below(class: Class, depth: usize, count: usize, sprouts: &[Sprout]) ->
     requires follow { follows 1 sprouts.now ≡ true }
     requires depth { (1 ≤ depth) × (depth ≤ MAX_DEPTH) }
     requires count { count ≤ MAX_VIEWS + 1 }
-    ensures { (kids : Forest Seed) → preorder 2 kids ≡ sprouts.now → RefusesExactlyFor (refusal_below class false depth count 2 kids) result }
+    ensures { (kids : Forest Seed)
+        → preorder 2 kids ≡ sprouts.now
+        → RefusesExactlyFor (refusal_below class false depth count 2 kids) result }
 {
     let mut path = [class; MAX_DEPTH];
     let mut count = count;

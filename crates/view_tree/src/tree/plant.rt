@@ -50,7 +50,8 @@ pub fn plant(
     requires numbers { next.old < 2 ^ 63 }
     ensures sound { IsPlanted (fields nodes.new keys.new ids.new root.new next.new) }
     ensures attached { let old = views_in nodes.old root.old next.old in
-        Attached old parent (running_below parent old.tree (view_of next.old (seed_of sprout))) result (views_in nodes.new root.new next.new) }
+        Attached old parent (running_below parent old.tree (view_of next.old (seed_of sprout))) result
+        (views_in nodes.new root.new next.new) }
     ensures len { slab_len nodes.new ≡ slab_len nodes.old + 1 }
     ensures capacity { nodes.new.capacity ≡ nodes.old.capacity }
     ensures spare { (spare keys.old ≤ spare keys.new + 1) × (spare ids.old ≤ spare ids.new + 1) }
@@ -108,15 +109,20 @@ pub fn sow(
     requires sound { IsPlanted (fields nodes.old keys.old ids.old root.old next.old) }
     requires room { HasRoomFor nodes.old (length (into_iter_items sprouts)) }
     requires small { nodes.old.capacity ≤ LINKS_END }
-    requires spare { (length (into_iter_items sprouts) ≤ spare keys.old) × (length (into_iter_items sprouts) ≤ spare ids.old) }
+    requires spare { (length (into_iter_items sprouts) ≤ spare keys.old)
+        × (length (into_iter_items sprouts) ≤ spare ids.old) }
     requires live { IsLive (views_in nodes.old root.old next.old) outermost }
     requires follow { follows 1 (into_iter_items sprouts) ≡ true }
     requires fits { FitsBelow (views_in nodes.old root.old next.old) outermost (into_iter_items sprouts) }
     requires numbers { next.old + length (into_iter_items sprouts) < 2 ^ 63 }
     ensures sound { IsPlanted (fields nodes.new keys.new ids.new root.new next.new) }
-    ensures gained { GainedBelow (views_in nodes.old root.old next.old) outermost (views_in nodes.new root.new next.new) }
-    ensures plain { (kids : Forest Seed) → preorder 2 kids ≡ into_iter_items sprouts → let old = views_in nodes.old root.old next.old in
-        plain_of (views_in nodes.new root.new next.new) ≡ grown (number_of old outermost) (directed (is_rtl_at (Some outermost) old.tree) (numbered next.old kids)) (plain_of old) }
+    ensures gained { GainedBelow (views_in nodes.old root.old next.old) outermost
+        (views_in nodes.new root.new next.new) }
+    ensures plain { (kids : Forest Seed)
+        → preorder 2 kids ≡ into_iter_items sprouts
+        → let old = views_in nodes.old root.old next.old in
+        plain_of (views_in nodes.new root.new next.new) ≡ grown (number_of old outermost)
+        (directed (is_rtl_at (Some outermost) old.tree) (numbered next.old kids)) (plain_of old) }
     ensures next { next.new ≡ next.old + length (into_iter_items sprouts) }
 {
     let mut sprouts = sprouts;

@@ -1,6 +1,6 @@
 //! What is kept of the relative layouts of a sapling.
 ghost use Rattle.std.specs.Prelude.{◌≡◌, ◌<◌, ◌≤◌, ◌+◌, ◌^◌, ◌++◌, ◌∷◌, [], None, suc, length, IfOk};
-ghost use Rattle.view_model.specs.Cycles.{is_relative, member_from};
+ghost use Rattle.view_model.specs.Cycles.{member_from};
 ghost use Rattle.view_model.specs.declared.limits.TheConstants.{MAX_VIEWS};
 ghost use Rattle.view_tree.specs.Grafting.{AreEntries, HasAdded, IsBehind, IsGroupOrCycle, IsMadeUnless, cycle_behind, cycle_in, links_behind, numbers_behind, sprout_link};
 
@@ -59,7 +59,8 @@ fn group_behind(
     requires few { number + 1 + length sprouts.now ≤ next + MAX_VIEWS }
     requires numbers { next + MAX_VIEWS < 2 ^ 64 }
     requires late { next ≤ number }
-    ensures { IsGroupOrCycle (member_from next) (links_behind depth (suc number) sprouts.now) (numbers_behind depth (suc number) sprouts.now) result }
+    ensures { IsGroupOrCycle (member_from next) (links_behind depth (suc number) sprouts.now)
+        (numbers_behind depth (suc number) sprouts.now) result }
 {
     match kids_behind(alloc, depth, number + 1, sprouts) {
         Ok(kids) => group_of(alloc, kids, next),
@@ -78,7 +79,8 @@ fn add_entry(
     requires few { number + 1 + length more.now ≤ next + MAX_VIEWS }
     requires numbers { next + MAX_VIEWS < 2 ^ 64 }
     requires late { next ≤ number }
-    ensures { IsMadeUnless (cycle_behind (member_from next) number sprout.now more.now) (λ _. HasAdded entries.old.items entries.new.items (IsBehind number sprout.now more.now)) result }
+    ensures { IsMadeUnless (cycle_behind (member_from next) number sprout.now more.now)
+        (λ _. HasAdded entries.old.items entries.new.items (IsBehind number sprout.now more.now)) result }
 {
     if !is_relative(sprout.class) {
         return Ok(());
@@ -111,7 +113,8 @@ pub fn with_entries(
 ) -> Result<Vec<(u64, Group)>, AttachFault>
     requires few { length sprouts.now ≤ MAX_VIEWS }
     requires numbers { next + MAX_VIEWS < 2 ^ 64 }
-    ensures { IsMadeUnless (cycle_in (member_from next) next sprouts.now) (λ all. HasAdded entries.items all.items (AreEntries next sprouts.now)) result }
+    ensures { IsMadeUnless (cycle_in (member_from next) next sprouts.now)
+        (λ all. HasAdded entries.items all.items (AreEntries next sprouts.now)) result }
 {
     let mut entries = entries;
     let mut number = next;

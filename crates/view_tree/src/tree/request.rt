@@ -13,7 +13,9 @@ impl ViewTree {
     pub fn request(&mut self, view: Key)
         requires { IsLive self.old view }
         ensures same { SameTree self.old self.new }
-        ensures held { (key : ℕ) → held_of self.new key ≡ (if among key (asking (held_of self.old) view self.old.tree) then forced_one (held_of self.old key) else held_of self.old key) }
+        ensures held { (key : ℕ)
+            → held_of self.new key ≡ (if among key (asking (held_of self.old) view self.old.tree)
+            then forced_one (held_of self.old key) else held_of self.old key) }
         ensures counts { self.new.counts ≡ self.old.counts }
     {
         self.request_above(view);
@@ -25,7 +27,9 @@ impl ViewTree {
     fn request_above(&mut self, view: Key)
         requires { IsLive self.old view }
         ensures same { SameTree self.old self.new }
-        ensures held { (key : ℕ) → held_of self.new key ≡ (if among key (unforced (held_of self.old) (ancestors view self.old.tree)) then forced_one (held_of self.old key) else held_of self.old key) }
+        ensures held { (key : ℕ)
+            → held_of self.new key ≡ (if among key (unforced (held_of self.old) (ancestors view self.old.tree))
+            then forced_one (held_of self.old key) else held_of self.old key) }
         ensures counts { self.new.counts ≡ self.old.counts }
     {
         match self.parent(view) {

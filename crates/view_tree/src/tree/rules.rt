@@ -23,12 +23,17 @@ impl ViewTree {
     /// orders of the children.
     pub fn set_rules(&mut self, view: Key, id: u32, rules: Rules) -> Result<(), AttachFault>
         requires { IsLive self.old view }
-        ensures tree { OnOk result (self.new.tree ≡ changed_at_key view (λ v. record v { facts = record v.facts { id = id; rules = rules } }) self.old.tree) }
-        ensures plain { OnOk result (plain_of self.new ≡ with_facts (number_of self.old view) (λ facts. record facts { id = id; rules = rules }) (plain_of self.old)) }
-        ensures orders { (k : ℕ) → group_number self.old (slice_get (ancestors view self.old.tree) 0) ≢ Some k → orders_under self.new k ≡ orders_under self.old k }
+        ensures tree { OnOk result (self.new.tree
+            ≡ changed_at_key view (λ v. record v { facts = record v.facts { id = id; rules = rules } }) self.old.tree) }
+        ensures plain { OnOk result (plain_of self.new ≡ with_facts (number_of self.old view)
+            (λ facts. record facts { id = id; rules = rules }) (plain_of self.old)) }
+        ensures orders { (k : ℕ)
+            → group_number self.old (slice_get (ancestors view self.old.tree) 0) ≢ Some k
+            → orders_under self.new k ≡ orders_under self.old k }
         ensures next { self.new.next ≡ self.old.next }
         ensures held { (key : ℕ) → held_of self.new key ≡ held_of self.old key }
-        ensures refused { IsRefusedOrCyclic None (first_cycle Member.View (with_facts (number_of self.old view) (λ facts. record facts { id = id; rules = rules }) (plain_of self.old))) result }
+        ensures refused { IsRefusedOrCyclic None (first_cycle Member.View (with_facts (number_of self.old view)
+            (λ facts. record facts { id = id; rules = rules }) (plain_of self.old))) result }
         ensures unchanged { OnErr result (self.new ≡ self.old) }
         ensures counts { self.new.counts ≡ self.old.counts }
     {
@@ -78,7 +83,8 @@ impl ViewTree {
     /// What rules read of the children of a view, once the one of this number is another.
     fn links_with(&self, parent: Key, number: u64, link: Link) -> Result<Vec<Link>, AllocError>
         requires { IsLive self.now parent }
-        ensures { IfOk result (λ links. links.items ≡ linked_in number link (views_of (children_of_first (part_from parent self.now.tree)))) }
+        ensures { IfOk result (λ links. links.items ≡ linked_in number link
+            (views_of (children_of_first (part_from parent self.now.tree)))) }
     {
         let mut links = Vec::new(*self.groups.allocator());
         let mut next = self.first(parent);
@@ -116,8 +122,12 @@ impl ViewTree {
     fn told(&self, parent: Key, down: bool, members: &[u32]) -> AttachFault
         requires live { IsLive self.now parent }
         requires relative { is_relative (class_of self.now parent) ≡ true }
-        requires inside { (p : ℕ) → p < length members.now → slice_index members.now p < length (numbers_in (views_of (children_of_first (part_from parent self.now.tree)))) }
-        ensures { IsToldOf (view_member (views_of (children_of_first (part_from parent self.now.tree)))) down members.now result }
+        requires inside { (p : ℕ)
+            → p < length members.now
+            → slice_index members.now p < length
+            (numbers_in (views_of (children_of_first (part_from parent self.now.tree)))) }
+        ensures { IsToldOf
+            (view_member (views_of (children_of_first (part_from parent self.now.tree)))) down members.now result }
     {
         match self.groups.get(&self.number(parent)) {
             None => unreachable!(),
@@ -135,7 +145,8 @@ impl ViewTree {
 /// The views at some places among those of a list.
 fn view_members(alloc: Global, kids: &[u64], places: &[u32]) -> Result<Vec<Member>, AllocError>
     requires { (p : ℕ) → p < length places.now → slice_index places.now p < length kids.now }
-    ensures { IfOk result (λ members. members.items ≡ map (λ place. Member.View (slice_index kids.now place)) places.now) }
+    ensures { IfOk result (λ members. members.items
+        ≡ map (λ place. Member.View (slice_index kids.now place)) places.now) }
 {
     let mut members = Vec::new(alloc);
     for place in places {

@@ -1,5 +1,5 @@
 //! Views that are made.
-ghost use Rattle.std.specs.Prelude.{◌≡◌, ◌≢◌, ◌<◌, ◌≤◌, ◌+◌, ℕ, [], OnErr, OnOk, Option, None, Some, IfOk, IfSome};
+ghost use Rattle.std.specs.Prelude.{◌≡◌, ◌≢◌, ◌<◌, ◌≤◌, ◌+◌, ℕ, [], OnErr, OnOk, Option, None, IfOk, IfSome};
 ghost use Rattle.std.specs.Option.{option_map};
 ghost use Rattle.inflater.specs.Answers.{IsGrown};
 ghost use Rattle.inflater.specs.Inflating.{Plan};
@@ -41,7 +41,8 @@ impl Screen {
         height: i32,
     ) -> Result<Response, StepFault>
         requires { IsAddable self.old.views parent }
-        ensures changed { CarriesOut (after_edit (world_of self.old) (Add (option_map (number_of self.old.views) parent) class width height)) self.new result }
+        ensures changed { CarriesOut (after_edit (world_of self.old)
+            (Add (option_map (number_of self.old.views) parent) class width height)) self.new result }
         ensures unchanged { OnErr result (self.new ≡ self.old) }
         ensures numbers { self.new.views.next ≤ self.old.views.next + 1 }
         ensures keeps { OnOk result (KeepsEdit (Edit.Add parent class width height) self.old self.new) }
@@ -75,11 +76,14 @@ impl Screen {
         ensures changed { (number : Option ℕ) (plan : Plan)
             → IsPlace self.old.views number place
             → IsGrown plan grown
-            → CarriesOut (grafted (world_of self.old) number plan (graft_reason (plain_of self.old.views) number self.old.views.next plan.seeds)) self.new result }
-        ensures told { IfOk result (λ response. IsTellable self.new.views self.new.surface self.new.told self.new.saved response) }
+            → CarriesOut (grafted (world_of self.old) number plan
+            (graft_reason (plain_of self.old.views) number self.old.views.next plan.seeds)) self.new result }
+        ensures told { IfOk result
+            (λ response. IsTellable self.new.views self.new.surface self.new.told self.new.saved response) }
         ensures unchanged { OnErr result (self.new ≡ self.old) }
         ensures numbers { self.new.views.next ≤ self.old.views.next + MAX_VIEWS }
-        ensures keeps { OnOk result (KeepsBut Asks (listed (option_map (number_of self.old.views) place)) [] [] self.old self.new) }
+        ensures keeps { OnOk result
+            (KeepsBut Asks (listed (option_map (number_of self.old.views) place)) [] [] self.old self.new) }
         ensures no_sink { result ≢ Err StepFault.Sink }
         ensures no_shelf { result ≢ Err StepFault.Shelf }
     {

@@ -54,7 +54,8 @@ impl Screen {
         edits: &ArrayVec<NumEdit, MAX_EDITS>,
     ) -> Result<Response, StepFault>
         requires { IsLive self.old.views view }
-        ensures changed { CarriesOut (hooked (world_of self.old) (number_of self.old.views view) edits.now.items) self.new result }
+        ensures changed { CarriesOut
+            (hooked (world_of self.old) (number_of self.old.views view) edits.now.items) self.new result }
         ensures unchanged { OnErr result (self.new ≡ self.old) }
         ensures memory { result ≢ Err StepFault.NoMemory }
         ensures numbers { self.new.views.next ≡ self.old.views.next }

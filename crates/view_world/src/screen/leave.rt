@@ -74,14 +74,16 @@ impl Screen {
     /// Cancels the gesture of a view that goes away, if needed.
     fn tell_leaving(&mut self, view: Key)
         requires { IsLive self.old.views view }
-        ensures world { world_of self.new ≡ after_progress (world_of self.old) (leaving (world_of self.old) (number_of self.old.views view)) }
+        ensures world { world_of self.new
+            ≡ after_progress (world_of self.old) (leaving (world_of self.old) (number_of self.old.views view)) }
         ensures told { self.new.told ≡ (leaving (world_of self.old) (number_of self.old.views view)).entries }
         ensures same { SameTree self.old.views self.new.views }
         ensures is_tree { IsTree self.new.views }
         ensures live { IsLive self.new.views view }
         ensures scrolls { OnlyScrolls self.old.views self.new.views }
         ensures plain { plain_of self.new.views ≡ plain_of self.old.views }
-        ensures rest { self.new ≡ record self.old { views = self.new.views; gesture = self.new.gesture; told = self.new.told } }
+        ensures rest { self.new
+            ≡ record self.old { views = self.new.views; gesture = self.new.gesture; told = self.new.told } }
     {
         self.log.clear();
         if self.is_told(view) {
@@ -99,7 +101,8 @@ impl Screen {
     /// down, and for another view its parent decides.
     fn is_told(&self, view: Key) -> bool
         requires { IsLive self.now.views view }
-        ensures told { result ≡ is_told (parent_of (number_of self.now.views view) (world_of self.now).tree) (facts_of self.now.views view) self.now.pointers }
+        ensures told { result ≡ is_told (parent_of (number_of self.now.views view) (world_of self.now).tree)
+            (facts_of self.now.views view) self.now.pointers }
         ensures is_tree { IsTree self.now.views }
     {
         let facts = self.tree.facts(view);

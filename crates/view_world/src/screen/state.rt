@@ -41,7 +41,8 @@ impl Screen {
         alloc: Global,
         text: Option<&str>,
     ) -> Result<Response, StepFault>
-        ensures changed { CarriesOut (step [] (world_of self.old) (Restore (option_map (λ text. text.now) text.entry))) self.new result }
+        ensures changed { CarriesOut
+            (step [] (world_of self.old) (Restore (option_map (λ text. text.now) text.entry))) self.new result }
         ensures unchanged { OnErr result (self.new ≡ self.old) }
         ensures numbers { self.new.views.next ≡ self.old.views.next }
         ensures keeps { OnOk result (KeepsLine (Restore (option_map (λ text. text.now) text.entry)) self.old self.new) }

@@ -2,7 +2,6 @@
 ghost use Rattle.std.specs.Prelude.{◌≡◌, ◌≢◌, ◌<◌, [], Err, Ok, OnErr, OnOk};
 ghost use Rattle.script_lines.specs.PlainCommands.{Cancel, Disallow, Down, Move, Up};
 ghost use Rattle.touch_event.specs.declared.event.TheConstants.{MAX_POINTERS};
-ghost use Rattle.view_tree.specs.Views.{plain_of};
 ghost use Rattle.view_world.specs.Changed.{CarriesOut, IsTouchable};
 ghost use Rattle.view_world.specs.KeyedScreen.{world_of};
 ghost use Rattle.view_world.specs.Pointers.{AreDown};
@@ -129,7 +128,8 @@ impl Screen {
         requires down { AreDown pointers.now }
         ensures changed { CarriesOut (after_event (world_of self.old) event.now pointers.now) self.new (Ok result) }
         ensures numbers { self.new.views.next ≡ self.old.views.next }
-        ensures keeps { KeepsBut Touches [] [] (scrolled_in (deliveries_of (world_of self.old) event.now)) self.old self.new }
+        ensures keeps { KeepsBut Touches [] []
+            (scrolled_in (deliveries_of (world_of self.old) event.now)) self.old self.new }
     {
         self.log.clear();
         let yes = dispatch(

@@ -18,7 +18,8 @@ use Rattle.measure_pass.proofs.Counts.{costs_twice, counted_fewer, counted_none,
 use Rattle.measure_pass.proofs.Edged.{costs-edged, grown-edged, ready-edged}
 use Rattle.measure_pass.proofs.Frames.{Ready-alone}
 use Rattle.measure_pass.proofs.MeasureKid.{measured_kid, gone_kid, skipped_kid, measured_leaf, measured_planned}
-use Rattle.measure_pass.proofs.Own.{Own, Wrote, current-is, hit_at, keeps_by, keeps_self, keeps_trans, measured_at, new_at, own_absent, sides_at, skip_at}
+use Rattle.measure_pass.proofs.Own.{Own, current-is, hit_at, keeps_by, keeps_self, keeps_trans, measured_at, new_at, own_absent, sides_at, skip_at}
+use Rattle.kept_views.specs.Laying.{Wrote}
 use Rattle.measure_pass.proofs.Parts.{facts_in}
 use Rattle.measure_pass.proofs.Places.{count_in_list, in_list, sizes_on}
 use Rattle.measure_pass.proofs.SettledLaws.{caches_both, settled_at, size_as}
@@ -32,7 +33,7 @@ use Rattle.view_model.specs.declared.facts.Facts.{Facts}
 use Rattle.view_model.specs.declared.kinds.Class.TheVariants.{View, TextView, FrameLayout, LinearLayout, ScrollView}
 use Rattle.view_model.specs.declared.work.Work.{Work}
 use Rattle.view_model.specs.declared.limits.TheConstants.{MAX_VIEWS}
-use Rattle.view_model.specs.Course.{Progress, Requested, one_phase}
+use Rattle.view_model.specs.Course.{MeasuringProgress, Requested, one_phase}
 use Rattle.view_model.specs.Facts.{is_shown, layout_facts}
 use Rattle.view_model.specs.Forest.{Branch, count_of}
 use Rattle.view_model.specs.Layout.{for_layout, manner_of}
@@ -254,7 +255,7 @@ frame_phases-returns-clause-counted t c =
 
 pub frame_phases-returns-then-left-eq0-clause-phases : goal.frame_phases-returns-then-left-eq0-clause-phases
 frame_phases-returns-then-left-eq0-clause-phases t c = λ group past kids stands course ready.
-    let before : Progress = record { past = past; kids = kids } in
+    let before : MeasuringProgress = record { past = past; kids = kids } in
     let phase = c.frame_kids.ensures.phase group past kids stands course (ready_now (rule_in group) c.args.left before ready) in
     phases_end (Frame c.frame_kids.new.plan) group c.args.left past kids (held_of c.args.tree.now) (held_of c.frame_kids.new.tree) (children_of_first (part_from c.args.view c.args.tree.now.tree)) c.frame_size.result (pos 0)
     c.args.work.now.measured c.frame_kids.new.work.measured
@@ -262,7 +263,7 @@ frame_phases-returns-then-left-eq0-clause-phases t c = λ group past kids stands
 
 pub frame_phases-returns-then-not-frame_turn-clause-phases : goal.frame_phases-returns-then-not-frame_turn-clause-phases
 frame_phases-returns-then-not-frame_turn-clause-phases t c = λ group past kids stands course ready.
-    let before : Progress = record { past = past; kids = kids } in
+    let before : MeasuringProgress = record { past = past; kids = kids } in
     let phase = c.frame_kids.ensures.phase group past kids stands course (ready_now (rule_in group) c.args.left before ready) in
     let turned = c.frame_turn.ensures group past _ phase.plan_stands in
     phases_end (Frame c.frame_kids.new.plan) group c.args.left past kids (held_of c.args.tree.now) (held_of c.frame_kids.new.tree) (children_of_first (part_from c.args.view c.args.tree.now.tree)) c.frame_size-then-not-frame_turn.result (pos 0)
@@ -275,7 +276,7 @@ pub frame_phases-returns-clause-phases : goal.frame_phases-returns-clause-phases
 frame_phases-returns-clause-phases t c = λ group past kids stands course ready.
     let rule = rule_in group in
     let list = children_of_first (part_from c.args.view c.args.tree.now.tree) in
-    let before : Progress = record { past = past; kids = kids } in
+    let before : MeasuringProgress = record { past = past; kids = kids } in
     let phase = c.frame_kids.ensures.phase group past kids stands course (ready_now rule c.args.left before ready) in
     let turned = c.frame_turn.ensures group past _ phase.plan_stands in
     let again = sym turned.answers ∙ c.if-not-frame_turn.false in
@@ -401,7 +402,7 @@ linear_phases-returns-clause-counted t c =
 
 pub linear_phases-returns-then-left-eq0-clause-phases : goal.linear_phases-returns-then-left-eq0-clause-phases
 linear_phases-returns-then-left-eq0-clause-phases t c = λ group past kids stands course ready.
-    let before : Progress = record { past = past; kids = kids } in
+    let before : MeasuringProgress = record { past = past; kids = kids } in
     let phase = c.linear_kids.ensures.phase group past kids stands course (ready_now (rule_in group) c.args.left before ready) in
     phases_end (Linear c.linear_kids.new.plan) group c.args.left past kids (held_of c.args.tree.now) (held_of c.linear_kids.new.tree) (children_of_first (part_from c.args.view c.args.tree.now.tree)) c.linear_outcome.result.size c.linear_outcome.result.total
     c.args.work.now.measured c.linear_kids.new.work.measured
@@ -409,7 +410,7 @@ linear_phases-returns-then-left-eq0-clause-phases t c = λ group past kids stand
 
 pub linear_phases-returns-then-not-linear_turn-clause-phases : goal.linear_phases-returns-then-not-linear_turn-clause-phases
 linear_phases-returns-then-not-linear_turn-clause-phases t c = λ group past kids stands course ready.
-    let before : Progress = record { past = past; kids = kids } in
+    let before : MeasuringProgress = record { past = past; kids = kids } in
     let phase = c.linear_kids.ensures.phase group past kids stands course (ready_now (rule_in group) c.args.left before ready) in
     let turned = c.linear_turn.ensures group past _ phase.plan_stands in
     phases_end (Linear c.linear_kids.new.plan) group c.args.left past kids (held_of c.args.tree.now) (held_of c.linear_kids.new.tree) (children_of_first (part_from c.args.view c.args.tree.now.tree)) c.linear_outcome-then-not-linear_turn.result.size c.linear_outcome-then-not-linear_turn.result.total
@@ -422,7 +423,7 @@ pub linear_phases-returns-clause-phases : goal.linear_phases-returns-clause-phas
 linear_phases-returns-clause-phases t c = λ group past kids stands course ready.
     let rule = rule_in group in
     let list = children_of_first (part_from c.args.view c.args.tree.now.tree) in
-    let before : Progress = record { past = past; kids = kids } in
+    let before : MeasuringProgress = record { past = past; kids = kids } in
     let phase = c.linear_kids.ensures.phase group past kids stands course (ready_now rule c.args.left before ready) in
     let turned = c.linear_turn.ensures group past _ phase.plan_stands in
     let again = sym turned.answers ∙ c.if-not-linear_turn.false in
@@ -548,7 +549,7 @@ scroll_phases-returns-clause-counted t c =
 
 pub scroll_phases-returns-then-left-eq0-clause-phases : goal.scroll_phases-returns-then-left-eq0-clause-phases
 scroll_phases-returns-then-left-eq0-clause-phases t c = λ group past kids stands course ready.
-    let before : Progress = record { past = past; kids = kids } in
+    let before : MeasuringProgress = record { past = past; kids = kids } in
     let phase = c.scroll_kids.ensures.phase group past kids stands course (ready_now (rule_in group) c.args.left before ready) in
     phases_end (Scroll c.scroll_kids.new.plan) group c.args.left past kids (held_of c.args.tree.now) (held_of c.scroll_kids.new.tree) (children_of_first (part_from c.args.view c.args.tree.now.tree)) c.scroll_size.result (pos 0)
     c.args.work.now.measured c.scroll_kids.new.work.measured
@@ -556,7 +557,7 @@ scroll_phases-returns-then-left-eq0-clause-phases t c = λ group past kids stand
 
 pub scroll_phases-returns-then-not-scroll_turn-clause-phases : goal.scroll_phases-returns-then-not-scroll_turn-clause-phases
 scroll_phases-returns-then-not-scroll_turn-clause-phases t c = λ group past kids stands course ready.
-    let before : Progress = record { past = past; kids = kids } in
+    let before : MeasuringProgress = record { past = past; kids = kids } in
     let phase = c.scroll_kids.ensures.phase group past kids stands course (ready_now (rule_in group) c.args.left before ready) in
     let turned = c.scroll_turn.ensures group past _ phase.plan_stands in
     phases_end (Scroll c.scroll_kids.new.plan) group c.args.left past kids (held_of c.args.tree.now) (held_of c.scroll_kids.new.tree) (children_of_first (part_from c.args.view c.args.tree.now.tree)) c.scroll_size-then-not-scroll_turn.result (pos 0)
@@ -569,7 +570,7 @@ pub scroll_phases-returns-clause-phases : goal.scroll_phases-returns-clause-phas
 scroll_phases-returns-clause-phases t c = λ group past kids stands course ready.
     let rule = rule_in group in
     let list = children_of_first (part_from c.args.view c.args.tree.now.tree) in
-    let before : Progress = record { past = past; kids = kids } in
+    let before : MeasuringProgress = record { past = past; kids = kids } in
     let phase = c.scroll_kids.ensures.phase group past kids stands course (ready_now rule c.args.left before ready) in
     let turned = c.scroll_turn.ensures group past _ phase.plan_stands in
     let again = sym turned.answers ∙ c.if-not-scroll_turn.false in

@@ -1,7 +1,8 @@
 use Rattle.std.proofs.Common.{◌≡◌, ◌+◌, ◌-◌, ◌*◌, ℕ, ap, ◌∙◌, arith}
 use Rattle.geom_core.specs.Color.{green_of}
 use Rattle.pixel_raster.specs.Shares.{part_of, share_of}
-use Rattle.pixel_raster.proofs.MixLaws.{channels, part_of-share}
+use Rattle.pixel_raster.proofs.MixLaws.{part_of-share}
+use Rattle.geom_core.proofs.ColorLaws.{channels}
 use Rattle.pixel_raster.proofs.blending.green_seen.Goals as goal
 
 pub returns-clause-value : goal.returns-clause-value

@@ -1,6 +1,7 @@
 use Rattle.std.proofs.Common.{◌-◌, arith}
 use Rattle.geom_core.specs.Color.{blue_of, red_of}
-use Rattle.pixel_raster.proofs.MixLaws.{blue-bound, channels, pair-fits, pair_of-shares, red-bound}
+use Rattle.pixel_raster.proofs.MixLaws.{blue-bound, pair-fits, pair_of-shares, red-bound}
+use Rattle.geom_core.proofs.ColorLaws.{channels}
 use Rattle.pixel_raster.proofs.blending.pair_shares.Goals as goal
 
 pub returns : goal.returns

@@ -1,7 +1,7 @@
 use Rattle.std.proofs.Common.{◌≡◌, ◌+◌, true, length, ap, refl, ◌∙◌, sym, subst, arith, inl, inr}
 use Rattle.touch_targets.specs.Nodes.{IsBehind, has_place, newest_of, places_by, places_from}
 use Rattle.touch_targets.proofs.Chains.{has_cases}
-use Rattle.touch_targets.proofs.Walks.{Walk, behind_here, here, no_more, rest_here, walk_on, walk_start}
+use Rattle.touch_targets.proofs.Walks.{LinkWalk, behind_here, here, no_more, rest_here, walk_on, walk_start}
 use Rattle.touch_targets.proofs.links.before.Goals as goal
 
 pub loop-at-init : goal.loop-at-init
@@ -15,21 +15,21 @@ loop-at-init c =
 pub returns-then-other-place : goal.returns-then-other-place
 returns-then-other-place c =
     let s = c.args.nodes.now in
-    let walk = subst (Walk s c.args.group c.loop-at.previous) c.in-Some.is c.loop-at.invariant.walk in
+    let walk = subst (LinkWalk s c.args.group c.loop-at.previous) c.in-Some.is c.loop-at.invariant.walk in
     let at = here s c.args.group c.loop-at.previous c.in-Some.other c.requires.linked c.requires.group walk in
     subst (λ p. IsBehind c.loop-at.previous p (places_by s c.args.group)) c.if-other-place.true (behind_here s c.args.group c.loop-at.previous c.in-Some.other walk at)
 
 pub index-requires-in-Some : goal.index-requires-in-Some
 index-requires-in-Some c =
     let s = c.args.nodes.now in
-    let walk = subst (Walk s c.args.group c.loop-at.previous) c.in-Some.is c.loop-at.invariant.walk in
+    let walk = subst (LinkWalk s c.args.group c.loop-at.previous) c.in-Some.is c.loop-at.invariant.walk in
     let at = here s c.args.group c.loop-at.previous c.in-Some.other c.requires.linked c.requires.group walk in
     rw at.is refl
 
 pub loop-at-smaller : goal.loop-at-smaller
 loop-at-smaller c =
     let s = c.args.nodes.now in
-    let walk = subst (Walk s c.args.group c.loop-at.previous) c.in-Some.is c.loop-at.invariant.walk in
+    let walk = subst (LinkWalk s c.args.group c.loop-at.previous) c.in-Some.is c.loop-at.invariant.walk in
     let at = here s c.args.group c.loop-at.previous c.in-Some.other c.requires.linked c.requires.group walk in
     let rest = ap (places_from s) c.in-Some.is ∙ rest_here s c.args.group c.loop-at.previous c.in-Some.other walk at c.index-in-Some.result.now c.index-in-Some.ensures in
     let longer : length (places_from s c.loop-at.at) ≡ length (places_from s c.key-at-in-Some.result) + 1 = rw (c.key-at-in-Some.ensures, rest) (omega arith) in
@@ -39,7 +39,7 @@ pub loop-at-preserved : goal.loop-at-preserved
 loop-at-preserved c =
     let s = c.args.nodes.now in
     let n = c.index-in-Some.result.now in
-    let walk = subst (Walk s c.args.group c.loop-at.previous) c.in-Some.is c.loop-at.invariant.walk in
+    let walk = subst (LinkWalk s c.args.group c.loop-at.previous) c.in-Some.is c.loop-at.invariant.walk in
     let at = here s c.args.group c.loop-at.previous c.in-Some.other c.requires.linked c.requires.group walk in
     let rest = ap (places_from s) c.in-Some.is ∙ rest_here s c.args.group c.loop-at.previous c.in-Some.other walk at n c.index-in-Some.ensures in
     rw c.key-at-in-Some.ensures record {

@@ -5,12 +5,11 @@ use Rattle.measure_pass.proofs.Grows.{Grew-refl}
 use Rattle.measure_pass.proofs.Own.{is-current}
 use Rattle.view_model.specs.Geometry.{rect_at}
 use Rattle.view_model.specs.Layout.{full_layout, root_specs}
-use Rattle.view_tree.specs.Rows.{first_key, head_view}
+use Rattle.view_tree.specs.Rows.{first_key, head_view, count_of_key}
 use Rattle.kept_views.specs.Laying.{differ}
 use Rattle.kept_views.specs.Passes.{settled_at}
 use Rattle.kept_views.proofs.LaidFrames.{differ-along}
 use Rattle.view_tree.specs.declared.counts.Counts.{Counts}
-use Rattle.view_tree.specs.Rows.{count_of_key}
 use Rattle.view_tree.specs.declared.state.State.{State}
 use Rattle.view_tree.specs.Views.{Held, Views, cache_of, geometry_of, held_of, number_of, plain_of, specs_of, state_of}
 use Rattle.seen_parts.specs.Meeting.{met_at}

@@ -1,6 +1,6 @@
 use Rattle.std.proofs.Common.{◌≡◌, Err, None, Ok, ap, false, rules, sym, true, ◌∙◌}
 use Rattle.tree_edits.specs.Editing.{after_act, cycle_of_act, names_views, outcome_of_act, outcome_unless}
-use Rattle.tree_edits.specs.Scene.{Scene, scene_of}
+use Rattle.tree_edits.specs.Scene.{EditScene, scene_of}
 use Rattle.view_model.specs.PlainTree.{view_in}
 use Rattle.view_tree.specs.Views.{number_of, plain_of}
 use Rattle.tree_edits.proofs.CycleLaws.{cycle_named, unnamed}
@@ -35,15 +35,15 @@ returns-clause-applied c =
           let names : names_views c.args.act ≡ true = search rules in
           ap (outcome_unless (scene_of c.args.tree.now) (number_of c.args.tree.now c.args.view) c.args.act)
           (cycle_named (scene_of c.args.tree.now) (number_of c.args.tree.now c.args.view) c.args.act names ∙ w.in_ok-set_names.ensures.refused)
-          ∙ rw w.tree-is (ap (λ (scene : Scene). Ok (scene, None)) (sym w.in_ok-set_names.ensures.scene))
+          ∙ rw w.tree-is (ap (λ (scene : EditScene). Ok (scene, None)) (sym w.in_ok-set_names.ensures.scene))
       | else-names_views+in-Direction w ↦
           let names : names_views c.args.act ≡ false = search rules in
           unnamed (scene_of c.args.tree.now) (number_of c.args.tree.now c.args.view) c.args.act names
-          ∙ rw w.tree-is (ap (λ (scene : Scene). Ok (scene, None)) (ap (after_act (scene_of c.args.tree.now) (number_of c.args.tree.now c.args.view)) w.in-Direction.is ∙ sym w.set_direction.ensures.scene))
+          ∙ rw w.tree-is (ap (λ (scene : EditScene). Ok (scene, None)) (ap (after_act (scene_of c.args.tree.now) (number_of c.args.tree.now c.args.view)) w.in-Direction.is ∙ sym w.set_direction.ensures.scene))
       | else-names_views+in_default w ↦
           let names : names_views c.args.act ≡ false = search rules in
           unnamed (scene_of c.args.tree.now) (number_of c.args.tree.now c.args.view) c.args.act names
-          ∙ rw w.tree-is (ap (λ (scene : Scene). Ok (scene, None)) (sym w.set_facts.ensures.scene))
+          ∙ rw w.tree-is (ap (λ (scene : EditScene). Ok (scene, None)) (sym w.set_facts.ensures.scene))
     ])
 
 pub returns-clause-asked : goal.returns-clause-asked

@@ -5,7 +5,7 @@ use Rattle.view_tree.specs.Attached.{Attached}
 use Rattle.view_tree.specs.Directions.{running_below}
 use Rattle.tree_edits.specs.Asking.{listed}
 use Rattle.tree_edits.specs.Editing.{new_view}
-use Rattle.tree_edits.specs.Scene.{Scene, scene_of}
+use Rattle.tree_edits.specs.Scene.{EditScene, scene_of}
 use Rattle.tree_edits.specs.declared.edits.Edit.TheVariants as edit
 use Rattle.tree_edits.proofs.ConsistentLaws.{attached_kept}
 use Rattle.tree_edits.proofs.EditLaws.{attached_new, attached_scene, not_attached}
@@ -35,7 +35,7 @@ pub returns-clause-applied : goal.returns-clause-applied
 returns-clause-applied c =
     attached_scene c.args.tree.now c.attach.new.self c.args.parent c.args.class c.args.width c.args.height c.in_ok-attach.field-0
     c.next_number-number.result c.note_tree.ensures c.requires.addable c.in_ok-attach.ensures.refused (attached c) c.next_number-number.ensures
-    ∙ ap (λ (scene : Scene). Ok (scene, Some c.next_number-number.result))
+    ∙ ap (λ (scene : EditScene). Ok (scene, Some c.next_number-number.result))
     (sym (requested_scene c.attach.new.self c.request_at.new.tree (listed c.args.parent) c.request_at.ensures.same c.request_at.ensures.held))
 
 pub returns-clause-kept : goal.returns-clause-kept

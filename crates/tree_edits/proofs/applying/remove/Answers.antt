@@ -1,6 +1,6 @@
 use Rattle.std.proofs.Common.{Ok, None, ap, sym, ◌∙◌}
 use Rattle.tree_edits.specs.Asking.{listed}
-use Rattle.tree_edits.specs.Scene.{Scene}
+use Rattle.tree_edits.specs.Scene.{EditScene}
 use Rattle.tree_edits.specs.declared.edits.Edit.TheVariants as edit
 use Rattle.tree_edits.proofs.ConsistentLaws.{detached_kept}
 use Rattle.tree_edits.proofs.EditLaws.{detached_scene}
@@ -18,7 +18,7 @@ pub returns-clause-scene : goal.returns-clause-scene
 returns-clause-scene c =
     detached_scene c.args.tree.now c.detach.new.self c.args.view c.detach.ensures.is_tree c.requires.live
     c.detach.ensures.tree c.detach.ensures.plain c.detach.ensures.next c.detach.ensures.others
-    ∙ ap (λ (scene : Scene). Ok (scene, None))
+    ∙ ap (λ (scene : EditScene). Ok (scene, None))
     (sym (requested_scene c.detach.new.self c.request_at.new.tree (listed c.parent-parent.result) c.request_at.ensures.same c.request_at.ensures.held))
 
 pub returns-clause-kept : goal.returns-clause-kept

@@ -4,7 +4,7 @@ use Rattle.view_model.specs.PlainTree.{PlainView, with_text}
 use Rattle.view_tree.specs.Rows.{changed_at_key, count_of_key}
 use Rattle.view_tree.proofs.forest.NumberLaws.{count_of_key-put}
 use Rattle.view_tree.specs.Views.{number_of, plain_of}
-use Rattle.tree_edits.specs.Scene.{Scene, scene_of}
+use Rattle.tree_edits.specs.Scene.{EditScene, scene_of}
 use Rattle.tree_edits.proofs.ConsistentLaws.{change_kept}
 use Rattle.tree_edits.proofs.EditLaws.{no_memory, text_scene, written_by}
 use Rattle.tree_edits.proofs.KeepLaws.{after_request, put_keeps}
@@ -42,7 +42,7 @@ pub returns-clause-applied : goal.returns-clause-applied
 returns-clause-applied c =
     let has : c.has_text.result ≡ true = search rules in
     written_by c.args.tree.now c.args.view (chars c.args.text.now) c.class.result c.has_text.result c.class.ensures.is_tree c.requires.live c.class.ensures.value c.has_text.ensures
-    ∙ rw has (ap (λ (scene : Scene). Ok (scene, None))
+    ∙ rw has (ap (λ (scene : EditScene). Ok (scene, None))
     (sym (requested_scene c.set_text.new.self c.request.new.self (c.args.view ∷ []) c.request.ensures.same c.request.ensures.held
     ∙ text_scene c.args.tree.now c.set_text.new.self c.args.view (chars c.args.text.now) c.in_ok-text.text (written c)
     c.set_text.ensures.tree c.set_text.ensures.plain c.set_text.ensures.next c.set_text.ensures.held)))

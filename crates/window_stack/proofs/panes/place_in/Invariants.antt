@@ -1,5 +1,5 @@
-use Rattle.window_stack.proofs.PaneLaws.{Placed}
+use Rattle.window_stack.proofs.PaneLaws.{PlacedUpTo}
 use Rattle.window_stack.proofs.panes.place_in.Given as goal
 
 abbrev pub invariant-loop-pane : goal.invariant-loop-pane
-invariant-loop-pane l = Placed l.to l.fn.panes l.panes l.pane-index
+invariant-loop-pane l = PlacedUpTo l.to l.fn.panes l.panes l.pane-index

@@ -1,13 +1,13 @@
 use Rattle.std.proofs.Common.{◌-◌, ◌≤◌}
 use Rattle.arsc_reader.specs.Meaning.{found}
 use Rattle.arsc_reader.specs.Reading.{in_table, all_chunks}
-use Rattle.arsc_reader.proofs.Loop.{Leads}
+use Rattle.arsc_reader.proofs.Loop.{StepsLead}
 use Rattle.arsc_reader.proofs.reading.Reading.read_chunks.Given as goal
 
 abbrev pub invariant-loop-at : goal.invariant-loop-at
 invariant-loop-at l = record {
   within : l.at ≤ l.end;
-  leads : Leads (in_table l.bytes) l.bytes l.end l.at (found l.self) (all_chunks (in_table l.bytes) l.bytes l.end l.place (found l.fn.self));
+  leads : StepsLead (in_table l.bytes) l.bytes l.end l.at (found l.self) (all_chunks (in_table l.bytes) l.bytes l.end l.place (found l.fn.self));
 }
 
 abbrev pub decreases-loop-at : goal.decreases-loop-at

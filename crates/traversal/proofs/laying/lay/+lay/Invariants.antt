@@ -4,7 +4,7 @@ use Rattle.kept_views.specs.Laying.{spot_of}
 use Rattle.view_model.specs.Forest.{count_of}
 use Rattle.view_tree.specs.Rows.{first_tree, children_of_first, part_from, rest_from}
 use Rattle.view_tree.specs.Views.{SameTree, held_of}
-use Rattle.traversal.specs.Counting.{IsCounted}
+use Rattle.traversal.specs.Counting.{IsMeasuringCounted}
 use Rattle.traversal.proofs.BackWalk.{BackWalk, before}
 use Rattle.traversal.proofs.FollowedViews.{CoverWalks, Walks}
 use Rattle.traversal.proofs.LaidStages.{stage_of}
@@ -41,7 +41,7 @@ decreases-lay_between l = 6 * count_of (first_tree (part_from l.view l.tree.now.
 abbrev pub invariant-lay_forwards-loop-next : goal.invariant-lay_forwards-loop-next
 invariant-lay_forwards-loop-next l = let tree = l.fn.tree.tree in record {
   same : SameTree l.fn.tree l.tree;
-  counted : IsCounted l.fn.tree l.tree l.fn.work l.work;
+  counted : IsMeasuringCounted l.fn.tree l.tree l.fn.work l.work;
   grew : LiesIn l.fn.damage.rect l.damage.rect;
   sight : Walks l.inside.canvas l.damage.rect tree (children_of_first (part_from l.view tree)) (held_of l.fn.tree) l.next (held_of l.tree);
   cover : CoverWalks l.inside.canvas l.fn.damage.rect l.damage.rect tree (children_of_first (part_from l.view tree)) (held_of l.fn.tree) l.next (held_of l.tree);
@@ -55,7 +55,7 @@ decreases-lay_forwards-loop-next l = count_of (rest_from l.next l.tree.tree)
 abbrev pub invariant-lay_backwards-loop-next : goal.invariant-lay_backwards-loop-next
 invariant-lay_backwards-loop-next l = let tree = l.fn.tree.tree in record {
   same : SameTree l.fn.tree l.tree;
-  counted : IsCounted l.fn.tree l.tree l.fn.work l.work;
+  counted : IsMeasuringCounted l.fn.tree l.tree l.fn.work l.work;
   walked : BackWalk tree (children_of_first (part_from l.view tree)) l.placer (spot_of (part_from l.view tree) (held_of l.fn.tree l.view) l.inside.size) l.inside.canvas
       (stage_of l.fn.tree l.fn.damage.rect l.fn.work) l.next (stage_of l.tree l.damage.rect l.work);
 }
