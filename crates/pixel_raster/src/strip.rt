@@ -58,7 +58,7 @@ fn inked(set: bool, color: Argb, under: Argb) -> Argb
 }
 
 /// Blends a colour over the set pixels of a strip of a picture whose rows have this many pixels. Returns how many they
-/// are. `written` are rows that aren't marked: afterwards those of the strip are among them.
+/// are. `written` is a band without a marked row, before and after.
 pub fn ink_strip(
     pixels: &mut [Argb],
     width: usize,

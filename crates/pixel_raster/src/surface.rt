@@ -24,7 +24,7 @@ pub struct Surface {
     height: usize,
     /// Row by row, from the top.
     pixels: Vec<Argb>,
-    /// Rows that aren't marked: those of the last strip, if nothing was filled since.
+    /// Rows that aren't marked, such as those of the last strip if nothing was filled since.
     written: Band,
     filled: u64,
     /// The digest of the pixels, if it was taken since the last of them was painted.
