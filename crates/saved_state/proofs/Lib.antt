@@ -1,6 +1,7 @@
 mod EntryLaws
 mod Examples
 mod FoundLaws
+mod LimitExamples
 mod OffsetLaws
 pub mod RestoredLaws
 mod ReadingLaws

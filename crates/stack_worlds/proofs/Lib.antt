@@ -3,6 +3,7 @@ mod ComposedLaws
 mod CountLaws
 mod GivenLaws
 pub mod IsolationLaws
+mod LimitExamples
 mod OpenLaws
 mod PlaceLaws
 mod SizeLaws

@@ -1,4 +1,5 @@
 mod Examples
+mod LimitExamples
 mod PaneLaws
 mod PassedLaws
 mod TextLaws
