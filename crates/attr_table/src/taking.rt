@@ -11,10 +11,10 @@ use crate::draft::Draft;
 use crate::fault::AttrFault;
 use crate::known::known_place;
 use crate::setting::{drafted, set};
+use crate::source::Source;
 use crate::table::{HEIGHT, WIDTH, slot_at, takes_at};
 use crate::types::THEME;
 use crate::values::{find_resource, given};
-use axml_chunks::Pool;
 use axml_reader::{Attr, Doc, Node};
 use res_values::Resources;
 use std::alloc::Global;
@@ -46,8 +46,9 @@ pub fn take(
         → slice_get doc.now.nodes.items node ≡ Some (Start line ns name first count)
         → IfOk result (λ taken. taken.ignored ≤ count) }
 {
+    let source = Source { doc, res, dpi };
     let mut draft = Draft::new(alloc);
-    take_attrs(alloc, &doc.pool, res, dpi, attrs_of(doc, node), &mut draft)?;
+    take_attrs(alloc, &source, attrs_of(doc, node), &mut draft)?;
     finish(draft)
 }
 
@@ -74,55 +75,47 @@ fn attrs_of(doc: &Doc, node: usize) -> &[Attr]
 /// Takes one attribute after the other, up to the first refusal.
 fn take_attrs(
     alloc: Global,
-    pool: &Pool,
-    res: &Resources,
-    dpi: u32,
+    source: &Source,
     attrs: &[Attr],
     draft: &mut Draft,
 ) -> Result<(), AttrFault>
     requires { draft.old.ignored + length attrs.now < 2 ^ 32 }
-    ensures value { DraftsAs (with_attrs pool.now res.now dpi attrs.now draft.old) draft.new result }
+    ensures value { DraftsAs
+        (with_attrs source.now.doc.now.pool source.now.res.now source.now.dpi attrs.now draft.old) draft.new result }
     ensures few { draft.new.ignored ≤ draft.old.ignored + length attrs.now }
 {
     for attr in attrs {
-        take_attr(alloc, pool, res, dpi, *attr, draft)?;
+        take_attr(alloc, source, *attr, draft)?;
     }
     Ok(())
 }
 
 /// Takes one attribute.
-fn take_attr(
-    alloc: Global,
-    pool: &Pool,
-    res: &Resources,
-    dpi: u32,
-    attr: Attr,
-    draft: &mut Draft,
-) -> Result<(), AttrFault>
+fn take_attr(alloc: Global, source: &Source, attr: Attr, draft: &mut Draft) -> Result<(), AttrFault>
     requires { draft.old.ignored + 1 < 2 ^ 32 }
-    ensures value { DraftsAs (with_attr pool.now res.now dpi attr draft.old) draft.new result }
+    ensures value { DraftsAs
+        (with_attr source.now.doc.now.pool source.now.res.now source.now.dpi attr draft.old) draft.new result }
     ensures few { draft.new.ignored ≤ draft.old.ignored + 1 }
 {
-    let Some(place) = known_place(pool, attr) else {
+    let Some(place) = known_place(&source.doc.pool, attr) else {
         draft.ignored += 1;
         return Ok(());
     };
-    take_known(alloc, pool, res, dpi, attr, place, draft)
+    take_known(alloc, source, attr, place, draft)
 }
 
 /// Takes an attribute that is known.
 #[tactic(auto, unfolding(crate::specs::Taking::with_known), using(crate::proofs::TableLaws::verbs))]
 fn take_known(
     alloc: Global,
-    pool: &Pool,
-    res: &Resources,
-    dpi: u32,
+    source: &Source,
     attr: Attr,
     place: usize,
     draft: &mut Draft,
 ) -> Result<(), AttrFault>
     requires { place < KNOWN }
-    ensures value { DraftsAs (with_known pool.now res.now dpi attr place draft.old) draft.new result }
+    ensures value { DraftsAs
+        (with_known source.now.doc.now.pool source.now.res.now source.now.dpi attr place draft.old) draft.new result }
     ensures ignored { draft.new.ignored ≡ draft.old.ignored }
 {
     if draft.came[place] {
@@ -132,8 +125,8 @@ fn take_known(
         return Err(Refusal::plain(THEME_REF).into());
     }
     let takes = takes_at(place);
-    let found = find_resource(res, takes, attr)?;
-    let Some(given) = given(alloc, pool, dpi, takes, attr, found)? else {
+    let found = find_resource(source.res, takes, attr)?;
+    let Some(given) = given(alloc, source, takes, attr, found)? else {
         return Err(Refusal::plain(BAD_VALUE).into());
     };
     set(slot_at(place), given, draft);

@@ -8,6 +8,7 @@ ghost use Rattle.attr_table.specs.Taken.{FoundAs};
 ghost use Rattle.attr_table.specs.Values.{below_given, boolean_given, color_of, dimension_of, extent_given, found_of, given_of, is_color, is_nothing, is_whole, pixels_within, reference_given, signed, takes_reference, text_of, weight_given, whole_given};
 
 use crate::given::Given;
+use crate::source::Source;
 use crate::table::Takes;
 use crate::types::{
     BOOLEAN, DECIMAL, DIMENSION, FIRST_COLOR, FLOAT, HEXADECIMAL, LAST_COLOR, NULL, REFERENCE,
@@ -53,18 +54,18 @@ fn takes_reference(takes: Takes) -> bool
 /// The meaning of an attribute's value, if the attribute takes such a value; `found` is the resource that it names.
 pub fn given(
     alloc: Global,
-    pool: &Pool,
-    dpi: u32,
+    source: &Source,
     takes: Takes,
     attr: Attr,
     found: Option<&Value>,
 ) -> Result<Option<Given>, AllocError>
-    ensures { IfOk result (λ given. given
-        ≡ given_of pool.now dpi takes attr.kind attr.word (option_map (λ value. resource value.now) found.entry)) }
+    ensures { IfOk result (λ given. given ≡ given_of source.now.doc.now.pool source.now.dpi takes attr.kind attr.word
+        (option_map (λ value. resource value.now) found.entry)) }
 {
     let Attr { kind, word, .. } = attr;
+    let dpi = source.dpi;
     match takes {
-        Takes::Text => text(alloc, pool, kind, word, found),
+        Takes::Text => text(alloc, &source.doc.pool, kind, word, found),
         Takes::Reference => Ok(reference(kind, word)),
         Takes::Extent => Ok(extent(dpi, kind, word, found)),
         Takes::Length { low, high } => Ok(pixels_within(

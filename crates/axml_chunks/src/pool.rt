@@ -31,6 +31,14 @@ pub(crate) struct Header {
     pub(crate) first: usize,
 }
 
+/// The chunk of a pool: its bytes, where in the file it begins, and the length of its header.
+#[derive(Clone, Copy, Debug)]
+struct PoolChunk<'a> {
+    bytes: &'a [u8],
+    at: usize,
+    head: usize,
+}
+
 /// The strings of a file. Each was found to be a text when the pool was read, and is kept in
 /// UTF-8.
 #[derive(Debug, Drop)]
@@ -62,9 +70,13 @@ impl Pool {
         ensures found { IfOk result (λ pool. IsPool bytes.now at chunk pool) }
         ensures only { (pool : StringPool) → IsPool bytes.now at chunk pool → Gives (λ pool. pool) result (Ok pool) }
     {
-        let whole = &bytes[at..at + chunk.size];
-        let header = header_of(whole, at, chunk.head)?;
-        let all = gather(alloc, whole, at, chunk.head, header)?;
+        let chunk = PoolChunk {
+            bytes: &bytes[at..at + chunk.size],
+            at,
+            head: chunk.head,
+        };
+        let header = header_of(&chunk)?;
+        let all = gather(alloc, &chunk, header)?;
         Ok(Pool {
             utf8: header.utf8,
             texts: all.texts,
@@ -98,13 +110,14 @@ impl Pool {
     }
 }
 
-/// The header of the pool whose chunk is at a place of the file.
+/// The header of a pool.
 #[tactic(auto, unfolding(crate::specs::Pool::header_of))]
-fn header_of(chunk: &[u8], at: usize, head: usize) -> Result<Header, Fault>
-    requires { head ≤ length chunk.now }
-    ensures value { result ≡ header_of chunk.now at head }
-    ensures bounds { IfOk result (λ header. IsHeader (length chunk.now) head header) }
+fn header_of(chunk: &PoolChunk) -> Result<Header, Fault>
+    requires { chunk.now.head ≤ length chunk.now.bytes.now }
+    ensures value { result ≡ header_of chunk.now.bytes.now chunk.now.at chunk.now.head }
+    ensures bounds { IfOk result (λ header. IsHeader (length chunk.now.bytes.now) chunk.now.head header) }
 {
+    let PoolChunk { bytes, at, head } = *chunk;
     let bad = Fault {
         cause: Cause::BadPool,
         at,
@@ -112,10 +125,10 @@ fn header_of(chunk: &[u8], at: usize, head: usize) -> Result<Header, Fault>
     if head < 28 {
         return Err(bad);
     }
-    let count = u32_at(chunk, 8) as usize;
-    let styles = u32_at(chunk, 12) as usize;
-    let first = u32_at(chunk, 20) as usize;
-    if chunk.len() < head + 4 * (count + styles) || chunk.len() < first {
+    let count = u32_at(bytes, 8) as usize;
+    let styles = u32_at(bytes, 12) as usize;
+    let first = u32_at(bytes, 20) as usize;
+    if bytes.len() < head + 4 * (count + styles) || bytes.len() < first {
         return Err(bad);
     }
     if MAX_STRINGS < count {
@@ -124,7 +137,7 @@ fn header_of(chunk: &[u8], at: usize, head: usize) -> Result<Header, Fault>
             at,
         });
     }
-    let utf8 = u32_at(chunk, 16) / 0x100 % 2 == 1;
+    let utf8 = u32_at(bytes, 16) / 0x100 % 2 == 1;
     Ok(Header { utf8, count, first })
 }
 
@@ -158,34 +171,28 @@ impl Gathering {
 fn add_text(
     alloc: Global,
     so_far: &mut Gathering,
-    chunk: &[u8],
-    at: usize,
-    head: usize,
+    chunk: &PoolChunk,
     header: Header,
     k: usize,
 ) -> Result<(), ReadFault>
     requires number { k < header.count }
-    requires header { IsHeader (length chunk.now) head header }
-    requires fits { at + length chunk.now < 2 ^ 63 }
-    ensures value { Does (gathering so_far.new) result (one_more chunk.now at head header (gathering so_far.old) k) }
+    requires header { IsHeader (length chunk.now.bytes.now) chunk.now.head header }
+    requires fits { chunk.now.at + length chunk.now.bytes.now < 2 ^ 63 }
+    ensures value { Does (gathering so_far.new) result
+        (one_more chunk.now.bytes.now chunk.now.at chunk.now.head header (gathering so_far.old) k) }
     ensures count { OnOk result (length so_far.new.texts.items ≡ length so_far.old.texts.items + 1) }
 {
-    let text = text_at(alloc, chunk, head, header, k)?;
-    so_far.add(at + head + 4 * k, text)
+    let text = text_at(alloc, chunk.bytes, chunk.head, header, k)?;
+    so_far.add(chunk.at + chunk.head + 4 * k, text)
 }
 
 /// All strings.
 #[tactic(auto, using(crate::proofs::Runs::upto_none, crate::proofs::Runs::upto_more))]
-fn gather(
-    alloc: Global,
-    chunk: &[u8],
-    at: usize,
-    head: usize,
-    header: Header,
-) -> Result<Gathering, ReadFault>
-    requires header { IsHeader (length chunk.now) head header }
-    requires fits { at + length chunk.now < 2 ^ 63 }
-    ensures value { Gives gathering result (gathered_upto chunk.now at head header header.count) }
+fn gather(alloc: Global, chunk: &PoolChunk, header: Header) -> Result<Gathering, ReadFault>
+    requires header { IsHeader (length chunk.now.bytes.now) chunk.now.head header }
+    requires fits { chunk.now.at + length chunk.now.bytes.now < 2 ^ 63 }
+    ensures value { Gives gathering result
+        (gathered_upto chunk.now.bytes.now chunk.now.at chunk.now.head header header.count) }
     ensures count { IfOk result (λ g. length g.texts.items ≡ header.count) }
 {
     let mut so_far = Gathering {
@@ -193,7 +200,7 @@ fn gather(
         sum: 0,
     };
     for k in 0..header.count {
-        add_text(alloc, &mut so_far, chunk, at, head, header, k)?;
+        add_text(alloc, &mut so_far, chunk, header, k)?;
     }
     Ok(so_far)
 }

@@ -15,6 +15,26 @@ use axml_chunks::Pool;
 use text_lines::TextBuffer;
 use tool_io::{Failed, Sink};
 
+/// The tag that begins an element: its line in the source, its string numbers, and how many
+/// attributes it has.
+#[derive(Clone, Copy, Debug)]
+struct StartTag {
+    line: u32,
+    ns: u32,
+    name: u32,
+    count: u32,
+}
+
+/// Character data: its line in the source, its string number, and the type and the word of its
+/// value.
+#[derive(Clone, Copy, Debug)]
+struct CharacterData {
+    line: u32,
+    string: u32,
+    kind: u8,
+    word: u32,
+}
+
 /// Sends a number.
 fn put_number<K: Sink>(text: &mut TextBuffer, sink: &mut K, n: u32)
     ensures { Sends (K.state sink.old) (K.state sink.new) text.old text.new (decimal n) }
@@ -232,21 +252,15 @@ fn put_attr_lines<K: Sink>(text: &mut TextBuffer, sink: &mut K, attrs: &[Attr])
 }
 
 /// Sends the line of an element that begins.
-fn put_start_line<K: Sink>(
-    text: &mut TextBuffer,
-    sink: &mut K,
-    line: u32,
-    ns: u32,
-    name: u32,
-    count: u32,
-)
-    ensures { Sends (K.state sink.old) (K.state sink.new) text.old text.new (start_line line ns name count) }
+fn put_start_line<K: Sink>(text: &mut TextBuffer, sink: &mut K, tag: StartTag)
+    ensures { Sends (K.state sink.old) (K.state sink.new) text.old text.new
+        (start_line tag.line tag.ns tag.name tag.count) }
 {
     text.put(sink, b"start");
-    put_number_field(text, sink, line);
-    put_name_field(text, sink, ns);
-    put_name_field(text, sink, name);
-    put_number_field(text, sink, count);
+    put_number_field(text, sink, tag.line);
+    put_name_field(text, sink, tag.ns);
+    put_name_field(text, sink, tag.name);
+    put_number_field(text, sink, tag.count);
     text.put(sink, b"\n");
 }
 
@@ -262,20 +276,14 @@ fn put_end_line<K: Sink>(text: &mut TextBuffer, sink: &mut K, line: u32, ns: u32
 }
 
 /// Sends the line of character data.
-fn put_chars_line<K: Sink>(
-    text: &mut TextBuffer,
-    sink: &mut K,
-    line: u32,
-    string: u32,
-    kind: u8,
-    word: u32,
-)
-    ensures { Sends (K.state sink.old) (K.state sink.new) text.old text.new (chars_line line string kind word) }
+fn put_chars_line<K: Sink>(text: &mut TextBuffer, sink: &mut K, chars: CharacterData)
+    ensures { Sends (K.state sink.old) (K.state sink.new) text.old text.new
+        (chars_line chars.line chars.string chars.kind chars.word) }
 {
     text.put(sink, b"text");
-    put_number_field(text, sink, line);
-    put_name_field(text, sink, string);
-    put_value_fields(text, sink, kind, word);
+    put_number_field(text, sink, chars.line);
+    put_name_field(text, sink, chars.string);
+    put_value_fields(text, sink, chars.kind, chars.word);
 }
 
 /// Sends a node's line, with those of its attributes.
@@ -293,7 +301,13 @@ fn put_node_lines<K: Sink>(text: &mut TextBuffer, sink: &mut K, attrs: &[Attr], 
             first,
             count,
         } => {
-            put_start_line(text, sink, line, ns, name, count);
+            let tag = StartTag {
+                line,
+                ns,
+                name,
+                count,
+            };
+            put_start_line(text, sink, tag);
             let first = first as usize;
             put_attr_lines(text, sink, &attrs[first..first + count as usize]);
         }
@@ -303,7 +317,15 @@ fn put_node_lines<K: Sink>(text: &mut TextBuffer, sink: &mut K, attrs: &[Attr], 
             text: string,
             kind,
             word,
-        } => put_chars_line(text, sink, line, string, kind, word),
+        } => {
+            let chars = CharacterData {
+                line,
+                string,
+                kind,
+                word,
+            };
+            put_chars_line(text, sink, chars);
+        }
     }
 }
 

@@ -4,7 +4,7 @@ ghost use Rattle.axml_chunks.specs.Chunks.{IsChunk};
 ghost use Rattle.axml_chunks.specs.Steps.{Does};
 ghost use Rattle.axml_reader.specs.Alike.{AreAlike};
 ghost use Rattle.axml_reader.specs.Brackets.{is_closed_by};
-ghost use Rattle.axml_reader.specs.Fields.{same_text};
+ghost use Rattle.axml_reader.specs.Fields.{same_text, strings};
 ghost use Rattle.axml_reader.specs.Nodes.{IsBody, StartFits, is_short, body_at, is_outside, pair_at, names_at, chars_at, start_at, pool_part, map_part, namespace_start_part, namespace_end_part, start_part, end_part, chars_part, part_at, joined};
 ghost use Rattle.axml_reader.specs.Meaning.{reading};
 
@@ -93,53 +93,6 @@ fn is_outside(body: usize, first: usize, step: usize, count: usize) -> bool
     count != 0 && (first < 20 || step < 20 || body < first + count * step)
 }
 
-/// An element that begins, without its attributes.
-#[tactic(auto, unfolding(crate::specs::Nodes::start_at))]
-fn start_at(
-    bytes: &[u8],
-    at: usize,
-    chunk: Chunk,
-    count: u32,
-    closed: bool,
-    starts: u32,
-) -> Result<StartHead, Fault>
-    requires { IsChunk at (length bytes.now) chunk }
-    ensures value { result ≡ start_at bytes.now at chunk count closed starts }
-    ensures bounds { IfOk result (λ head. StartFits (length bytes.now) starts chunk head) }
-{
-    let body = body_at(at, chunk, 20)?;
-    if closed {
-        return Err(Fault {
-            cause: Cause::TwoRoots,
-            at,
-        });
-    }
-    let attrs = u16_at(bytes, body + 12) as usize;
-    if starts >= MAX_ELEMENTS || MAX_ATTRS < attrs {
-        return Err(Fault {
-            cause: Cause::TooBig,
-            at,
-        });
-    }
-    let ns = reference_at(bytes, count, body)?;
-    let name = name_at(bytes, count, body + 4)?;
-    let first = u16_at(bytes, body + 8) as usize;
-    let step = u16_at(bytes, body + 10) as usize;
-    if is_outside(chunk.size - chunk.head, first, step, attrs) {
-        return Err(Fault {
-            cause: Cause::BadChunk,
-            at,
-        });
-    }
-    Ok(StartHead {
-        ns,
-        name,
-        place: body + first,
-        step,
-        count: attrs,
-    })
-}
-
 /// Whether the innermost open element has the text of this name.
 fn is_closed_by(pool: &Option<Pool>, alike: &mut [u32], opened: &[u32], name: u32) -> bool
     requires { AreAlike pool.now alike.old }
@@ -224,6 +177,47 @@ impl Reading {
         Ok(())
     }
 
+    /// An element that begins, without its attributes.
+    #[tactic(auto, unfolding(crate::specs::Nodes::start_at))]
+    fn start_at(&self, bytes: &[u8], at: usize, chunk: Chunk) -> Result<StartHead, Fault>
+        requires { IsChunk at (length bytes.now) chunk }
+        ensures value { result ≡ start_at bytes.now at chunk (strings self.now.pool) self.now.closed self.now.starts }
+        ensures bounds { IfOk result (λ head. StartFits (length bytes.now) self.now.starts chunk head) }
+    {
+        let body = body_at(at, chunk, 20)?;
+        if self.closed {
+            return Err(Fault {
+                cause: Cause::TwoRoots,
+                at,
+            });
+        }
+        let attrs = u16_at(bytes, body + 12) as usize;
+        if self.starts >= MAX_ELEMENTS || MAX_ATTRS < attrs {
+            return Err(Fault {
+                cause: Cause::TooBig,
+                at,
+            });
+        }
+        let count = string_count(&self.pool);
+        let ns = reference_at(bytes, count, body)?;
+        let name = name_at(bytes, count, body + 4)?;
+        let first = u16_at(bytes, body + 8) as usize;
+        let step = u16_at(bytes, body + 10) as usize;
+        if is_outside(chunk.size - chunk.head, first, step, attrs) {
+            return Err(Fault {
+                cause: Cause::BadChunk,
+                at,
+            });
+        }
+        Ok(StartHead {
+            ns,
+            name,
+            place: body + first,
+            step,
+            count: attrs,
+        })
+    }
+
     /// Adds an element that begins, with its attributes.
     #[tactic(auto, unfolding(crate::specs::Nodes::start_part), using(crate::proofs::Attrs::attrs_behind))]
     fn read_start(&mut self, bytes: &[u8], at: usize, chunk: Chunk) -> Result<(), ReadFault>
@@ -231,11 +225,10 @@ impl Reading {
         ensures { Does (reading self.new) result
             (joined (reading self.old) (start_part bytes.now at chunk (reading self.old))) }
     {
-        let count = string_count(&self.pool);
-        let head = start_at(bytes, at, chunk, count, self.closed, self.starts)?;
+        let head = self.start_at(bytes, at, chunk)?;
         let first = self.attrs.len() as u32;
         self.starts += 1;
-        push_attrs(&mut self.attrs, bytes, count, head)?;
+        push_attrs(&mut self.attrs, bytes, string_count(&self.pool), head)?;
         self.nodes.push(Node::Start {
             line: u32_at(bytes, at + 8),
             ns: head.ns,
