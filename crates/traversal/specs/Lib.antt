@@ -9,3 +9,4 @@ pub mod Placing
 pub mod Reporting
 pub mod Requesters
 pub mod Resting
+pub mod Subtrees

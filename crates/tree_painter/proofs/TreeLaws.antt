@@ -1,5 +1,5 @@
 -- What the views of a tree paint, and what a whole tree does.
-use Rattle.std.proofs.Common.{◌≡◌, ℕ, ◌+◌, ◌*◌, ◌<◌, ◌≤◌, ℤ, pos, ◌-ℤ◌, Bool, true, false, Option, Some, None, if◌then◌else◌, refl, sym, ap, ◌∙◌, arith}
+use Rattle.std.proofs.Common.{◌≡◌, ℕ, ◌+◌, ◌*◌, ◌<◌, ◌≤◌, ℤ, pos, ◌-ℤ◌, Bool, true, false, if◌then◌else◌, refl, sym, ap, ◌∙◌, arith}
 use Rattle.std.proofs.lemmas.Int.{ints}
 use Rattle.geom_core.specs.Color.{alpha_of, blend_of}
 use Rattle.geom_core.specs.Rects.{holds}
@@ -19,7 +19,7 @@ use Rattle.seen_parts.proofs.PlacedLaws.{placed_is}
 use Rattle.seen_parts.specs.Meeting.{placed_rows}
 use Rattle.tree_painter.specs.Painted.{IsCounted, IsPainted, PaintedIn, from_origin, share_of}
 use Rattle.tree_painter.proofs.AreaLaws.{counted_none, counted_then}
-use Rattle.tree_painter.proofs.PainterLaws.{painted_by, painted_nothing}
+use Rattle.tree_painter.proofs.PainterLaws.{painted_by}
 
 -- a view, and then its later siblings
 pub painted_parts : (held : ℕ → Held) (list : Forest Row) (x y : ℤ) (u : Argb)
@@ -63,19 +63,8 @@ module _ (views : Views) (view : ℕ) (live : IsLive views view) (canvas : Canva
   abbrev pub children_painter : Painter
   children_painter = painted (placed_rows (held_of views) (children_of_first (part_from view views.tree)))
 
-  own_at : (x y : ℤ) (u : Argb) (bounds : Option Rect) → (state_of views view).bounds ≡ bounds
-      → painted (placed_rows (held_of views) (first_tree (part_from view views.tree))) (x -ℤ canvas.left) (y -ℤ canvas.top) u
-      ≡ drawn_in bounds (view_at views view) children_painter (x -ℤ canvas.left) (y -ℤ canvas.top) u
-  own_at x y u bounds is =
-      view_painted views view live (x -ℤ canvas.left) (y -ℤ canvas.top) u
-      ∙ ap (λ (bounds : Option Rect). drawn_in bounds (view_at views view) children_painter (x -ℤ canvas.left) (y -ℤ canvas.top) u) is
-
-  pub own_nowhere : (at : Raster) → (state_of views view).bounds ≡ None → Own at at
-  own_nowhere at none = painted_nothing _ canvas.clip at (λ x y u h. own_at x y u None none)
-
-  pub own_drawn : (old new : Raster) (bounds : Rect) → (state_of views view).bounds ≡ Some bounds
-      → PaintedIn canvas (drawn_in (Some bounds) (view_at views view) children_painter) old new → Own old new
-  own_drawn old new bounds some h = painted_by _ _ canvas.clip old new (λ x y u. own_at x y u (Some bounds) some) h
+  pub own_drawn : (old new : Raster) → PaintedIn canvas (drawn_in (state_of views view).bounds (view_at views view) children_painter) old new → Own old new
+  own_drawn old new h = painted_by _ _ canvas.clip old new (λ x y u. view_painted views view live (x -ℤ canvas.left) (y -ℤ canvas.top) u) h
 
 -- the count of a view, and of its children in a narrower canvas
 pub counted_children : (tree : Forest Row) (view area inner : ℕ) (a b c : Raster) (u v w : Work) → 0 < count_of_key view tree → inner ≤ area → IsCounted (area + area) a b u v

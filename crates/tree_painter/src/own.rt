@@ -7,12 +7,12 @@ ghost use Rattle.view_model.specs.Facts.{padding_across, padding_left};
 ghost use Rattle.view_model.specs.Painting.{Painter, drawn_in, is_drawn, reaches_children, shows_text};
 ghost use Rattle.view_model.specs.Forest.{Nothing};
 ghost use Rattle.view_tree.specs.Rows.{children_of_first, part_from};
-ghost use Rattle.view_tree.specs.Views.{IsLive, view_at};
+ghost use Rattle.view_tree.specs.Views.{IsLive, state_of, view_at};
 ghost use Rattle.seen_parts.specs.Frames.{IsBelow, IsCanvas, IsInReach, IsSeen, canvas_holds, frame_size};
 ghost use Rattle.tree_painter.specs.Inks.{own_ink};
 ghost use Rattle.tree_painter.specs.Painted.{ChildrenPainted, IsCounted, IsPainted, PaintedIn, PaintsNothing, area_in, from_origin};
 
-use crate::text::ink_text;
+use crate::text::{TextStyle, ink_text};
 use cell_text::cells_in;
 use geom_core::Rect;
 use pixel_raster::Surface;
@@ -20,12 +20,18 @@ use seen_parts::{Canvas, Frame, before, inner_frame, moved, part_in, past};
 use view_model::{Class, Facts, Visibility, Work};
 use view_tree::{Key, ViewTree};
 
-/// Paints what a view shows itself with these bounds in a canvas. Returns where its children are to be painted, if it
-/// has any and they are seen anywhere. If nothing of the view is seen, only its bounds are read, so these come first.
+/// A frame of which something is seen, and the part of it that is.
+#[derive(Clone, Copy)]
+struct SeenFrame {
+    frame: Frame,
+    part: Rect,
+}
+
+/// Paints what a view shows itself in a canvas. Returns where its children are to be painted, if it has any and they
+/// are seen anywhere. If nothing of the view is seen, only its bounds are read, so these come first.
 pub fn paint_own(
     tree: &ViewTree,
     view: Key,
-    bounds: Rect,
     surface: &mut Surface,
     canvas: Canvas,
     work: &mut Work,
@@ -35,13 +41,17 @@ pub fn paint_own(
     ensures painted { (children : Painter) (end : Raster)
         → (children_of_first (part_from view tree.now.tree) ≡ Nothing → PaintsNothing children)
         → ChildrenPainted result children surface.new end
-        → PaintedIn canvas (drawn_in (Some bounds) (view_at tree.now view) children) surface.old end }
+        → PaintedIn canvas (drawn_in (state_of tree.now view).bounds (view_at tree.now view) children)
+        surface.old end }
     ensures size { (surface.new.width ≡ surface.old.width) × (surface.new.height ≡ surface.old.height) }
     ensures canvas { IfSome result (IsCanvas (2 ^ 37)) }
     ensures narrower { IfSome result (λ inner. area_in surface.old inner.clip ≤ area_in surface.old canvas.clip) }
     ensures counted { IsCounted (area_in surface.old canvas.clip + area_in surface.old canvas.clip) surface.old
         surface.new work.old work.new }
 {
+    let Some(bounds) = tree.state(view).bounds else {
+        return None;
+    };
     let frame = moved(bounds, canvas);
     let Some(part) = part_in(canvas.clip, frame) else {
         return None;
@@ -50,11 +60,12 @@ pub fn paint_own(
         return None;
     }
     surface.fill(part, tree.facts(view).background, work);
-    paint_ink(tree, view, frame, part, surface, work);
+    let seen = SeenFrame { frame, part };
+    paint_ink(tree, view, seen, surface, work);
     if !has_children(tree, view) {
         return None;
     }
-    children_canvas(tree.facts(view), frame, part)
+    children_canvas(tree.facts(view), seen)
 }
 
 /// Whether a view of this visibility is drawn.
@@ -79,23 +90,16 @@ fn has_children(tree: &ViewTree, view: Key) -> bool
 }
 
 /// Blends the ink of a view in this frame, within the part of it that is seen.
-fn paint_ink(
-    tree: &ViewTree,
-    view: Key,
-    frame: Frame,
-    part: Rect,
-    surface: &mut Surface,
-    work: &mut Work,
-)
+fn paint_ink(tree: &ViewTree, view: Key, seen: SeenFrame, surface: &mut Surface, work: &mut Work)
     requires live { IsLive tree.now view }
-    requires reach { IsInReach frame }
-    requires seen { IsSeen frame }
-    ensures painted { IsPainted (from_origin frame.left frame.top (own_ink (view_at tree.now view) (frame_size frame)))
-        part surface.old surface.new }
-    ensures counted { IsCounted (area_in surface.old part) surface.old surface.new work.old work.new }
+    requires reach { IsInReach seen.frame }
+    requires seen { IsSeen seen.frame }
+    ensures painted { IsPainted (from_origin seen.frame.left seen.frame.top
+        (own_ink (view_at tree.now view) (frame_size seen.frame))) seen.part surface.old surface.new }
+    ensures counted { IsCounted (area_in surface.old seen.part) surface.old surface.new work.old work.new }
 {
     if shows_text(tree.class(view)) {
-        paint_text(tree, view, frame, part, surface, work);
+        paint_text(tree, view, seen, surface, work);
     }
 }
 
@@ -114,34 +118,24 @@ fn shows_text(class: Class) -> bool
 }
 
 /// The same of a view that shows its text.
-fn paint_text(
-    tree: &ViewTree,
-    view: Key,
-    frame: Frame,
-    part: Rect,
-    surface: &mut Surface,
-    work: &mut Work,
-)
+fn paint_text(tree: &ViewTree, view: Key, seen: SeenFrame, surface: &mut Surface, work: &mut Work)
     requires live { IsLive tree.now view }
     requires shows { shows_text (view_at tree.now view).class ≡ true }
-    requires reach { IsInReach frame }
-    requires seen { IsSeen frame }
-    ensures painted { IsPainted (from_origin frame.left frame.top (own_ink (view_at tree.now view) (frame_size frame)))
-        part surface.old surface.new }
-    ensures counted { IsCounted (area_in surface.old part) surface.old surface.new work.old work.new }
+    requires reach { IsInReach seen.frame }
+    requires seen { IsSeen seen.frame }
+    ensures painted { IsPainted (from_origin seen.frame.left seen.frame.top
+        (own_ink (view_at tree.now view) (frame_size seen.frame))) seen.part surface.old surface.new }
+    ensures counted { IsCounted (area_in surface.old seen.part) surface.old surface.new work.old work.new }
 {
     let facts = tree.facts(view);
-    if let Some(clip) = part_in(part, inner_frame(facts, frame)) {
-        let cells = cells_in(room_across(facts, frame));
+    if let Some(clip) = part_in(seen.part, inner_frame(facts, seen.frame)) {
+        let style = TextStyle {
+            cells: cells_in(room_across(facts, seen.frame)),
+            ink: facts.ink,
+        };
         let text = tree.text(view).characters();
-        ink_text(
-            text,
-            cells,
-            surface,
-            text_canvas(facts, frame, clip),
-            facts.ink,
-            work,
-        );
+        let canvas = text_canvas(facts, seen.frame, clip);
+        ink_text(text, style, surface, canvas, work);
     }
 }
 
@@ -172,20 +166,21 @@ fn text_canvas(facts: &Facts, frame: Frame, clip: Rect) -> Canvas
 
 /// Where the children of a view in this frame are painted, if a part of it is seen: higher by the view's offset, and
 /// within its padding if that cuts them off.
-fn children_canvas(facts: &Facts, frame: Frame, part: Rect) -> Option<Canvas>
-    requires reach { IsInReach frame }
-    requires seen { IsSeen frame }
+fn children_canvas(facts: &Facts, seen: SeenFrame) -> Option<Canvas>
+    requires reach { IsInReach seen.frame }
+    requires seen { IsSeen seen.frame }
     ensures points { (x y : ℤ) → canvas_holds result x y
-        ≡ (holds part x y && reaches_children facts.now (frame_size frame) (x -ℤ frame.left) (y -ℤ frame.top)) }
-    ensures below { IfSome result (IsBelow frame facts.now.offset) }
+        ≡ (holds seen.part x y && reaches_children facts.now (frame_size seen.frame)
+        (x -ℤ seen.frame.left) (y -ℤ seen.frame.top)) }
+    ensures below { IfSome result (IsBelow seen.frame facts.now.offset) }
     ensures canvas { IfSome result (IsCanvas (2 ^ 37)) }
-    ensures inside { IfSome result (λ inner. IsInside part inner.clip) }
+    ensures inside { IfSome result (λ inner. IsInside seen.part inner.clip) }
 {
     if !facts.clip {
-        return Some(canvas_below(frame, facts.offset, part));
+        return Some(canvas_below(seen.frame, facts.offset, seen.part));
     }
-    match part_in(part, inner_frame(facts, frame)) {
-        Some(inner) => Some(canvas_below(frame, facts.offset, inner)),
+    match part_in(seen.part, inner_frame(facts, seen.frame)) {
+        Some(inner) => Some(canvas_below(seen.frame, facts.offset, inner)),
         None => None,
     }
 }

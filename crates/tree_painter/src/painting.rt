@@ -45,10 +45,7 @@ fn paint_view(tree: &ViewTree, view: Key, surface: &mut Surface, canvas: Canvas,
     ensures counted { IsCounted (share_of (area_in surface.old canvas.clip) (first_tree (part_from view tree.now.tree)))
         surface.old surface.new work.old work.new }
 {
-    let Some(bounds) = tree.state(view).bounds else {
-        return;
-    };
-    if let Some(inner) = paint_own(tree, view, bounds, surface, canvas, work) {
+    if let Some(inner) = paint_own(tree, view, surface, canvas, work) {
         paint_children(tree, view, surface, inner, work);
     }
 }

@@ -22,27 +22,33 @@ struct Columns {
     to: usize,
 }
 
-/// Blends ink over the set pixels of a text in lines of `n` cells. Its corner is the origin of the canvas.
+/// How a text is painted: in lines of this many cells, and in this ink.
+#[derive(Clone, Copy)]
+pub struct TextStyle {
+    pub cells: u32,
+    pub ink: Argb,
+}
+
+/// Blends ink over the set pixels of a text. Its corner is the origin of the canvas.
 pub fn ink_text(
     text: &[char],
-    n: u32,
+    style: TextStyle,
     surface: &mut Surface,
     canvas: Canvas,
-    ink: Argb,
     work: &mut Work,
 )
-    requires cells { 0 < n }
+    requires cells { 0 < style.cells }
     requires few { length text.now < 2 ^ 31 }
     requires near { IsCanvas (2 ^ 35) canvas }
-    ensures painted { PaintedIn canvas (text_ink ink n text.now) surface.old surface.new }
+    ensures painted { PaintedIn canvas (text_ink style.ink style.cells text.now) surface.old surface.new }
     ensures counted { IsCounted (area_in surface.old canvas.clip) surface.old surface.new work.old work.new }
 {
     let mut begin = 0;
     let mut at = canvas;
     while begin < text.len() && begins_above(at) {
         let rest = &text[begin..];
-        let line = first_line(rest, n);
-        ink_line(&rest[..line.end], surface, at, ink, work);
+        let line = first_line(rest, style.cells);
+        ink_line(&rest[..line.end], surface, at, style.ink, work);
         begin += line.next;
         at = below(at);
     }

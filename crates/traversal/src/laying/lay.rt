@@ -6,7 +6,7 @@ ghost use Rattle.geom_core.specs.declared.geometry.Rect.{Rect};
 ghost use Rattle.seen_parts.specs.Frames.{IsCanvas};
 ghost use Rattle.seen_parts.specs.Meeting.{Follows, as_seen};
 ghost use Rattle.kept_views.specs.Kept.{owed};
-ghost use Rattle.kept_views.specs.Laying.{Fit, IsPut, IsQuiet, IsQuietAll, IsQuietBack, differ, moved_to, same_place, spot_of};
+ghost use Rattle.kept_views.specs.Laying.{Fit, IsPut, IsQuiet, IsQuietAll, IsQuietBack, differ, moved_to, same_place};
 ghost use Rattle.kept_views.specs.Passes.{settled, settled_at};
 ghost use Rattle.measure_pass.specs.Caches.{Grown};
 ghost use Rattle.measure_pass.specs.Measured.{IsFit, Keeps};
@@ -20,7 +20,7 @@ ghost use Rattle.view_model.specs.Measuring.{Measured};
 ghost use Rattle.view_model.specs.Offsets.{brought};
 ghost use Rattle.view_model.specs.RelativeLayout.{sides_of};
 ghost use Rattle.view_model.specs.Visible.{canvas_below, seen_in};
-ghost use Rattle.view_tree.specs.Rows.{first_tree, children_of_first, part_from};
+ghost use Rattle.view_tree.specs.Rows.{part_from};
 ghost use Rattle.scroll_offsets.specs.Bringing.{range_at};
 ghost use Rattle.view_tree.specs.Views.{IsLive, IsTree, KeepsOthers, KeepsOutside, SameTree, class_of, facts_of, held_of, offset_of, specs_of, state_of};
 ghost use Rattle.traversal.specs.Counting.{IsMeasuringCounted};
@@ -29,6 +29,7 @@ ghost use Rattle.traversal.specs.Growing.{LastAt};
 ghost use Rattle.traversal.specs.Narrow.{AreNarrow, IsNarrow, IsNarrowFor, IsStretch};
 ghost use Rattle.traversal.specs.Placing.{LaidKids, PlacesAs, Unmarked, lays_over};
 ghost use Rattle.traversal.specs.Resting.{IsAtPlace};
+ghost use Rattle.traversal.specs.Subtrees.{children_at, spot_at, subtree_at};
 
 use super::placer::{Placer, places_backwards};
 use damage_rect::Damage;
@@ -46,6 +47,13 @@ pub struct Inside {
     canvas: Option<Canvas>,
 }
 
+/// What laying adds to: what has to be painted again, and the counts of work.
+#[derive(Clone, Copy)]
+pub struct LayoutContext {
+    pub damage: Damage,
+    pub work: Work,
+}
+
 /// Lays a shown view, which was measured, in a rectangle, and all below it, where they need that.
 #[cycle(lay)]
 #[inline(always)]
@@ -54,29 +62,28 @@ pub fn lay(
     view: Key,
     rect: Rect,
     canvas: &Option<Canvas>,
-    damage: &mut Damage,
-    work: &mut Work,
+    context: &mut LayoutContext,
 )
     requires fit { IsFit tree.old view }
     requires narrow { IsNarrow rect }
     requires near { IfSome canvas.now (IsCanvas (2 ^ 37)) }
-    ensures grew { LiesIn damage.old.rect damage.new.rect }
-    ensures sight { KeepsSightIn canvas.now damage.new.rect (held_of tree.old) (held_of tree.new)
-        (first_tree (part_from view tree.old.tree)) }
-    ensures within { GrowsWithin canvas.now damage.old.rect damage.new.rect (held_of tree.old) (held_of tree.new)
-        (first_tree (part_from view tree.old.tree)) }
+    ensures grew { LiesIn context.old.damage.rect context.new.damage.rect }
+    ensures sight { KeepsSightIn canvas.now context.new.damage.rect (held_of tree.old) (held_of tree.new)
+        (subtree_at tree.old view) }
+    ensures within { GrowsWithin canvas.now context.old.damage.rect context.new.damage.rect
+        (held_of tree.old) (held_of tree.new) (subtree_at tree.old view) }
     ensures same { SameTree tree.old tree.new }
     ensures put { IsPut (held_of tree.old) (held_of tree.new) view (part_from view tree.old.tree) rect }
-    ensures others { KeepsOutside (held_of tree.old) (held_of tree.new) (first_tree (part_from view tree.old.tree)) }
-    ensures measured { work.new.measured
-        ≤ work.old.measured + owed (held_of tree.old) (first_tree (part_from view tree.old.tree)) }
+    ensures others { KeepsOutside (held_of tree.old) (held_of tree.new) (subtree_at tree.old view) }
+    ensures measured { context.new.work.measured
+        ≤ context.old.work.measured + owed (held_of tree.old) (subtree_at tree.old view) }
     ensures laid { tree.new.counts.laid ≤ tree.old.counts.laid
-        + differ (held_of tree.old) (held_of tree.new) (first_tree (part_from view tree.old.tree)) }
-    ensures counted { IsMeasuringCounted tree.old tree.new work.old work.new }
+        + differ (held_of tree.old) (held_of tree.new) (subtree_at tree.old view) }
+    ensures counted { IsMeasuringCounted tree.old tree.new context.old.work context.new.work }
     ensures caches { Grown (λ place other. other ≡ specs_of (state_of tree.old view)) (held_of tree.old)
-        (held_of tree.new) (first_tree (part_from view tree.old.tree)) }
+        (held_of tree.new) (subtree_at tree.old view) }
 {
-    lay_open(tree, view, rect, canvas, damage, work);
+    lay_open(tree, view, rect, canvas, context);
     settle(tree, view);
 }
 
@@ -88,44 +95,44 @@ pub fn lay_open(
     view: Key,
     rect: Rect,
     canvas: &Option<Canvas>,
-    damage: &mut Damage,
-    work: &mut Work,
+    context: &mut LayoutContext,
 )
     requires fit { IsFit tree.old view }
     requires narrow { IsNarrow rect }
     requires near { IfSome canvas.now (IsCanvas (2 ^ 37)) }
-    ensures grew { LiesIn damage.old.rect damage.new.rect }
-    ensures sight { KeepsSightIn canvas.now damage.new.rect (held_of tree.old) (held_of tree.new)
-        (first_tree (part_from view tree.old.tree)) }
-    ensures within { GrowsWithin canvas.now damage.old.rect damage.new.rect (held_of tree.old) (held_of tree.new)
-        (first_tree (part_from view tree.old.tree)) }
+    ensures grew { LiesIn context.old.damage.rect context.new.damage.rect }
+    ensures sight { KeepsSightIn canvas.now context.new.damage.rect (held_of tree.old) (held_of tree.new)
+        (subtree_at tree.old view) }
+    ensures within { GrowsWithin canvas.now context.old.damage.rect context.new.damage.rect
+        (held_of tree.old) (held_of tree.new) (subtree_at tree.old view) }
     ensures same { SameTree tree.old tree.new }
     ensures put { IsPut (held_of tree.old) (settled_at view (held_of tree.new)) view
         (part_from view tree.old.tree) rect }
-    ensures others { KeepsOutside (held_of tree.old) (held_of tree.new) (first_tree (part_from view tree.old.tree)) }
-    ensures measured { work.new.measured
-        ≤ work.old.measured + owed (held_of tree.old) (first_tree (part_from view tree.old.tree)) }
+    ensures others { KeepsOutside (held_of tree.old) (held_of tree.new) (subtree_at tree.old view) }
+    ensures measured { context.new.work.measured
+        ≤ context.old.work.measured + owed (held_of tree.old) (subtree_at tree.old view) }
     ensures laid { tree.new.counts.laid ≤ tree.old.counts.laid
-        + differ (held_of tree.old) (held_of tree.new) (first_tree (part_from view tree.old.tree)) }
-    ensures counted { IsMeasuringCounted tree.old tree.new work.old work.new }
+        + differ (held_of tree.old) (held_of tree.new) (subtree_at tree.old view) }
+    ensures counted { IsMeasuringCounted tree.old tree.new context.old.work context.new.work }
     ensures caches { Grown (λ place other. other ≡ specs_of (state_of tree.old view)) (held_of tree.old)
-        (held_of tree.new) (first_tree (part_from view tree.old.tree)) }
-    ensures still { IsAtPlace (state_of tree.old view) rect → (tree.new ≡ tree.old) × (work.new ≡ work.old) }
+        (held_of tree.new) (subtree_at tree.old view) }
+    ensures still { IsAtPlace (state_of tree.old view) rect
+        → (tree.new ≡ tree.old) × (context.new.work ≡ context.old.work) }
 {
-    make_fit(tree, view, work);
+    make_fit(tree, view, &mut context.work);
     let before = tree.state(view).bounds;
     let moved = move_to(tree, view, rect);
     let state = tree.state(view);
     if is_calm(moved, state.forced, state.layout_needed) {
         return;
     }
-    let inner = follow_in(tree.facts(view), before, rect, canvas, damage);
+    let inner = follow_in(tree.facts(view), before, rect, canvas, &mut context.damage);
     let inside = Inside {
         size: extent(rect),
         canvas: inner,
     };
-    lay_kids(tree, view, &inside, damage, work);
-    bring(tree, view, rect, canvas, damage);
+    lay_kids(tree, view, &inside, context);
+    bring(tree, view, rect, canvas, &mut context.damage);
 }
 
 /// The same as `follow`, which is not called without a canvas.
@@ -228,15 +235,15 @@ fn make_fit(tree: &mut ViewTree, view: Key, work: &mut Work)
     ensures is_tree { IsTree tree.old }
     ensures same { SameTree tree.old tree.new }
     ensures unmarked { Unmarked (held_of tree.old view) (held_of tree.new view) }
-    ensures fit { Fit (held_of tree.new) (first_tree (part_from view tree.old.tree)) }
+    ensures fit { Fit (held_of tree.new) (subtree_at tree.old view) }
     ensures keeps { Keeps (held_of tree.old) (held_of tree.new) }
-    ensures others { KeepsOutside (held_of tree.old) (held_of tree.new) (first_tree (part_from view tree.old.tree)) }
-    ensures measured { work.new.measured + owed (held_of tree.new) (first_tree (part_from view tree.old.tree))
-        ≤ work.old.measured + owed (held_of tree.old) (first_tree (part_from view tree.old.tree)) }
+    ensures others { KeepsOutside (held_of tree.old) (held_of tree.new) (subtree_at tree.old view) }
+    ensures measured { work.new.measured + owed (held_of tree.new) (subtree_at tree.old view)
+        ≤ work.old.measured + owed (held_of tree.old) (subtree_at tree.old view) }
     ensures laid { tree.new.counts.laid ≡ tree.old.counts.laid }
     ensures counted { IsMeasuringCounted tree.old tree.new work.old work.new }
     ensures caches { Grown (λ place other. other ≡ specs_of (state_of tree.old view)) (held_of tree.old)
-        (held_of tree.new) (first_tree (part_from view tree.old.tree)) }
+        (held_of tree.new) (subtree_at tree.old view) }
     ensures still { (state_of tree.old view).measure_first ≡ false → (tree.new ≡ tree.old) × (work.new ≡ work.old) }
 {
     let _in_range = work.measured;
@@ -311,152 +318,136 @@ pub fn settle(tree: &mut ViewTree, view: Key)
 /// placer holds is cleared where the function that holds it begins, so each kind of placing has a function of its own.
 #[cycle(lay)]
 #[inline(always)]
-fn lay_kids(tree: &mut ViewTree, view: Key, inside: &Inside, damage: &mut Damage, work: &mut Work)
+fn lay_kids(tree: &mut ViewTree, view: Key, inside: &Inside, context: &mut LayoutContext)
     requires live { IsLive tree.old view }
-    requires fit { Fit (held_of tree.old) (children_of_first (part_from view tree.old.tree)) }
+    requires fit { Fit (held_of tree.old) (children_at tree.old view) }
     requires narrow { class_of tree.old view ≡ RelativeLayout
-        → AreNarrow (held_of tree.old) (children_of_first (part_from view tree.old.tree)) }
+        → AreNarrow (held_of tree.old) (children_at tree.old view) }
     requires near { IfSome inside.now.canvas (IsCanvas (2 ^ 37)) }
-    ensures grew { LiesIn damage.old.rect damage.new.rect }
-    ensures sight { KeepsSightIn inside.now.canvas damage.new.rect (held_of tree.old) (held_of tree.new)
-        (children_of_first (part_from view tree.old.tree)) }
-    ensures within { GrowsWithin inside.now.canvas damage.old.rect damage.new.rect (held_of tree.old) (held_of tree.new)
-        (children_of_first (part_from view tree.old.tree)) }
+    ensures grew { LiesIn context.old.damage.rect context.new.damage.rect }
+    ensures sight { KeepsSightIn inside.now.canvas context.new.damage.rect (held_of tree.old) (held_of tree.new)
+        (children_at tree.old view) }
+    ensures within { GrowsWithin inside.now.canvas context.old.damage.rect context.new.damage.rect
+        (held_of tree.old) (held_of tree.new) (children_at tree.old view) }
     ensures same { SameTree tree.old tree.new }
-    ensures quiet { IsQuietAll (held_of tree.new) (spot_of (part_from view tree.old.tree)
-        (held_of tree.old view) inside.now.size) (held_of tree.old) (children_of_first (part_from view tree.old.tree)) }
-    ensures others { KeepsOutside (held_of tree.old) (held_of tree.new)
-        (children_of_first (part_from view tree.old.tree)) }
-    ensures measured { work.new.measured
-        ≤ work.old.measured + owed (held_of tree.old) (children_of_first (part_from view tree.old.tree)) }
+    ensures quiet { IsQuietAll (held_of tree.new) (spot_at tree.old view inside.now.size)
+        (held_of tree.old) (children_at tree.old view) }
+    ensures others { KeepsOutside (held_of tree.old) (held_of tree.new) (children_at tree.old view) }
+    ensures measured { context.new.work.measured
+        ≤ context.old.work.measured + owed (held_of tree.old) (children_at tree.old view) }
     ensures laid { tree.new.counts.laid ≤ tree.old.counts.laid
-        + differ (held_of tree.old) (held_of tree.new) (children_of_first (part_from view tree.old.tree)) }
-    ensures counted { IsMeasuringCounted tree.old tree.new work.old work.new }
-    ensures caches { Grown (LastAt (held_of tree.old) (children_of_first (part_from view tree.old.tree)))
-        (held_of tree.old) (held_of tree.new) (children_of_first (part_from view tree.old.tree)) }
+        + differ (held_of tree.old) (held_of tree.new) (children_at tree.old view) }
+    ensures counted { IsMeasuringCounted tree.old tree.new context.old.work context.new.work }
+    ensures caches { Grown (LastAt (held_of tree.old) (children_at tree.old view))
+        (held_of tree.old) (held_of tree.new) (children_at tree.old view) }
 {
     if tree.first(view).is_none() {
         return;
     }
     if places_backwards(tree, view) {
-        lay_backwards(tree, view, inside, damage, work);
+        lay_backwards(tree, view, inside, context);
         return;
     }
     match tree.class(view) {
         Class::View | Class::TextView | Class::FrameLayout | Class::ScrollView => {
-            lay_over(tree, view, inside, damage, work)
+            lay_over(tree, view, inside, context)
         }
-        Class::LinearLayout => lay_in_line(tree, view, inside, damage, work),
-        Class::RelativeLayout => lay_between(tree, view, inside, damage, work),
+        Class::LinearLayout => lay_in_line(tree, view, inside, context),
+        Class::RelativeLayout => lay_between(tree, view, inside, context),
     }
 }
 
 /// Lays the children of a view that places them over one another.
 #[cycle(lay)]
 #[inline(never)]
-fn lay_over(tree: &mut ViewTree, view: Key, inside: &Inside, damage: &mut Damage, work: &mut Work)
+fn lay_over(tree: &mut ViewTree, view: Key, inside: &Inside, context: &mut LayoutContext)
     requires live { IsLive tree.old view }
     requires class { lays_over (class_of tree.old view) ≡ true }
-    requires fit { Fit (held_of tree.old) (children_of_first (part_from view tree.old.tree)) }
+    requires fit { Fit (held_of tree.old) (children_at tree.old view) }
     requires narrow { class_of tree.old view ≡ RelativeLayout
-        → AreNarrow (held_of tree.old) (children_of_first (part_from view tree.old.tree)) }
+        → AreNarrow (held_of tree.old) (children_at tree.old view) }
     requires near { IfSome inside.now.canvas (IsCanvas (2 ^ 37)) }
-    ensures grew { LiesIn damage.old.rect damage.new.rect }
-    ensures sight { KeepsSightIn inside.now.canvas damage.new.rect (held_of tree.old) (held_of tree.new)
-        (children_of_first (part_from view tree.old.tree)) }
-    ensures within { GrowsWithin inside.now.canvas damage.old.rect damage.new.rect (held_of tree.old) (held_of tree.new)
-        (children_of_first (part_from view tree.old.tree)) }
+    ensures grew { LiesIn context.old.damage.rect context.new.damage.rect }
+    ensures sight { KeepsSightIn inside.now.canvas context.new.damage.rect (held_of tree.old) (held_of tree.new)
+        (children_at tree.old view) }
+    ensures within { GrowsWithin inside.now.canvas context.old.damage.rect context.new.damage.rect
+        (held_of tree.old) (held_of tree.new) (children_at tree.old view) }
     ensures same { SameTree tree.old tree.new }
-    ensures quiet { IsQuiet (held_of tree.new) (spot_of (part_from view tree.old.tree) (held_of tree.old view)
-        inside.now.size) [] (held_of tree.old) (children_of_first (part_from view tree.old.tree)) }
-    ensures others { KeepsOutside (held_of tree.old) (held_of tree.new)
-        (children_of_first (part_from view tree.old.tree)) }
-    ensures measured { work.new.measured
-        ≤ work.old.measured + owed (held_of tree.old) (children_of_first (part_from view tree.old.tree)) }
+    ensures quiet { IsQuiet (held_of tree.new) (spot_at tree.old view inside.now.size) []
+        (held_of tree.old) (children_at tree.old view) }
+    ensures others { KeepsOutside (held_of tree.old) (held_of tree.new) (children_at tree.old view) }
+    ensures measured { context.new.work.measured
+        ≤ context.old.work.measured + owed (held_of tree.old) (children_at tree.old view) }
     ensures laid { tree.new.counts.laid ≤ tree.old.counts.laid
-        + differ (held_of tree.old) (held_of tree.new) (children_of_first (part_from view tree.old.tree)) }
-    ensures counted { IsMeasuringCounted tree.old tree.new work.old work.new }
-    ensures caches { Grown (LastAt (held_of tree.old) (children_of_first (part_from view tree.old.tree)))
-        (held_of tree.old) (held_of tree.new) (children_of_first (part_from view tree.old.tree)) }
+        + differ (held_of tree.old) (held_of tree.new) (children_at tree.old view) }
+    ensures counted { IsMeasuringCounted tree.old tree.new context.old.work context.new.work }
+    ensures caches { Grown (LastAt (held_of tree.old) (children_at tree.old view))
+        (held_of tree.old) (held_of tree.new) (children_at tree.old view) }
 {
     let mut placer = Placer::over(tree, view, inside.size);
-    lay_forwards(tree, view, &mut placer, inside, damage, work);
+    lay_forwards(tree, view, &mut placer, inside, context);
 }
 
 /// Lays the children of a linear layout, from the first to the last.
 #[cycle(lay)]
 #[inline(never)]
-fn lay_in_line(
-    tree: &mut ViewTree,
-    view: Key,
-    inside: &Inside,
-    damage: &mut Damage,
-    work: &mut Work,
-)
+fn lay_in_line(tree: &mut ViewTree, view: Key, inside: &Inside, context: &mut LayoutContext)
     requires live { IsLive tree.old view }
     requires class { class_of tree.old view ≡ LinearLayout }
-    requires fit { Fit (held_of tree.old) (children_of_first (part_from view tree.old.tree)) }
+    requires fit { Fit (held_of tree.old) (children_at tree.old view) }
     requires narrow { class_of tree.old view ≡ RelativeLayout
-        → AreNarrow (held_of tree.old) (children_of_first (part_from view tree.old.tree)) }
+        → AreNarrow (held_of tree.old) (children_at tree.old view) }
     requires near { IfSome inside.now.canvas (IsCanvas (2 ^ 37)) }
-    ensures grew { LiesIn damage.old.rect damage.new.rect }
-    ensures sight { KeepsSightIn inside.now.canvas damage.new.rect (held_of tree.old) (held_of tree.new)
-        (children_of_first (part_from view tree.old.tree)) }
-    ensures within { GrowsWithin inside.now.canvas damage.old.rect damage.new.rect (held_of tree.old) (held_of tree.new)
-        (children_of_first (part_from view tree.old.tree)) }
+    ensures grew { LiesIn context.old.damage.rect context.new.damage.rect }
+    ensures sight { KeepsSightIn inside.now.canvas context.new.damage.rect (held_of tree.old) (held_of tree.new)
+        (children_at tree.old view) }
+    ensures within { GrowsWithin inside.now.canvas context.old.damage.rect context.new.damage.rect
+        (held_of tree.old) (held_of tree.new) (children_at tree.old view) }
     ensures same { SameTree tree.old tree.new }
-    ensures quiet { IsQuiet (held_of tree.new) (spot_of (part_from view tree.old.tree) (held_of tree.old view)
-        inside.now.size) [] (held_of tree.old) (children_of_first (part_from view tree.old.tree)) }
-    ensures others { KeepsOutside (held_of tree.old) (held_of tree.new)
-        (children_of_first (part_from view tree.old.tree)) }
-    ensures measured { work.new.measured
-        ≤ work.old.measured + owed (held_of tree.old) (children_of_first (part_from view tree.old.tree)) }
+    ensures quiet { IsQuiet (held_of tree.new) (spot_at tree.old view inside.now.size) []
+        (held_of tree.old) (children_at tree.old view) }
+    ensures others { KeepsOutside (held_of tree.old) (held_of tree.new) (children_at tree.old view) }
+    ensures measured { context.new.work.measured
+        ≤ context.old.work.measured + owed (held_of tree.old) (children_at tree.old view) }
     ensures laid { tree.new.counts.laid ≤ tree.old.counts.laid
-        + differ (held_of tree.old) (held_of tree.new) (children_of_first (part_from view tree.old.tree)) }
-    ensures counted { IsMeasuringCounted tree.old tree.new work.old work.new }
-    ensures caches { Grown (LastAt (held_of tree.old) (children_of_first (part_from view tree.old.tree)))
-        (held_of tree.old) (held_of tree.new) (children_of_first (part_from view tree.old.tree)) }
+        + differ (held_of tree.old) (held_of tree.new) (children_at tree.old view) }
+    ensures counted { IsMeasuringCounted tree.old tree.new context.old.work context.new.work }
+    ensures caches { Grown (LastAt (held_of tree.old) (children_at tree.old view))
+        (held_of tree.old) (held_of tree.new) (children_at tree.old view) }
 {
     let mut placer = Placer::in_line(tree, view, inside.size);
-    lay_forwards(tree, view, &mut placer, inside, damage, work);
+    lay_forwards(tree, view, &mut placer, inside, context);
 }
 
 /// Lays the children of a relative layout, each between its sides.
 #[cycle(lay)]
 #[inline(never)]
-fn lay_between(
-    tree: &mut ViewTree,
-    view: Key,
-    inside: &Inside,
-    damage: &mut Damage,
-    work: &mut Work,
-)
+fn lay_between(tree: &mut ViewTree, view: Key, inside: &Inside, context: &mut LayoutContext)
     requires live { IsLive tree.old view }
     requires class { class_of tree.old view ≡ RelativeLayout }
-    requires fit { Fit (held_of tree.old) (children_of_first (part_from view tree.old.tree)) }
+    requires fit { Fit (held_of tree.old) (children_at tree.old view) }
     requires narrow { class_of tree.old view ≡ RelativeLayout
-        → AreNarrow (held_of tree.old) (children_of_first (part_from view tree.old.tree)) }
+        → AreNarrow (held_of tree.old) (children_at tree.old view) }
     requires near { IfSome inside.now.canvas (IsCanvas (2 ^ 37)) }
-    ensures grew { LiesIn damage.old.rect damage.new.rect }
-    ensures sight { KeepsSightIn inside.now.canvas damage.new.rect (held_of tree.old) (held_of tree.new)
-        (children_of_first (part_from view tree.old.tree)) }
-    ensures within { GrowsWithin inside.now.canvas damage.old.rect damage.new.rect (held_of tree.old) (held_of tree.new)
-        (children_of_first (part_from view tree.old.tree)) }
+    ensures grew { LiesIn context.old.damage.rect context.new.damage.rect }
+    ensures sight { KeepsSightIn inside.now.canvas context.new.damage.rect (held_of tree.old) (held_of tree.new)
+        (children_at tree.old view) }
+    ensures within { GrowsWithin inside.now.canvas context.old.damage.rect context.new.damage.rect
+        (held_of tree.old) (held_of tree.new) (children_at tree.old view) }
     ensures same { SameTree tree.old tree.new }
-    ensures quiet { IsQuiet (held_of tree.new) (spot_of (part_from view tree.old.tree) (held_of tree.old view)
-        inside.now.size) [] (held_of tree.old) (children_of_first (part_from view tree.old.tree)) }
-    ensures others { KeepsOutside (held_of tree.old) (held_of tree.new)
-        (children_of_first (part_from view tree.old.tree)) }
-    ensures measured { work.new.measured
-        ≤ work.old.measured + owed (held_of tree.old) (children_of_first (part_from view tree.old.tree)) }
+    ensures quiet { IsQuiet (held_of tree.new) (spot_at tree.old view inside.now.size) []
+        (held_of tree.old) (children_at tree.old view) }
+    ensures others { KeepsOutside (held_of tree.old) (held_of tree.new) (children_at tree.old view) }
+    ensures measured { context.new.work.measured
+        ≤ context.old.work.measured + owed (held_of tree.old) (children_at tree.old view) }
     ensures laid { tree.new.counts.laid ≤ tree.old.counts.laid
-        + differ (held_of tree.old) (held_of tree.new) (children_of_first (part_from view tree.old.tree)) }
-    ensures counted { IsMeasuringCounted tree.old tree.new work.old work.new }
-    ensures caches { Grown (LastAt (held_of tree.old) (children_of_first (part_from view tree.old.tree)))
-        (held_of tree.old) (held_of tree.new) (children_of_first (part_from view tree.old.tree)) }
+        + differ (held_of tree.old) (held_of tree.new) (children_at tree.old view) }
+    ensures counted { IsMeasuringCounted tree.old tree.new context.old.work context.new.work }
+    ensures caches { Grown (LastAt (held_of tree.old) (children_at tree.old view))
+        (held_of tree.old) (held_of tree.new) (children_at tree.old view) }
 {
     let mut placer = Placer::Between;
-    lay_forwards(tree, view, &mut placer, inside, damage, work);
+    lay_forwards(tree, view, &mut placer, inside, context);
 }
 
 /// Lays the children of a view, from the first to the last, by a placer that has placed none of them.
@@ -467,38 +458,35 @@ fn lay_forwards(
     view: Key,
     placer: &mut Placer,
     inside: &Inside,
-    damage: &mut Damage,
-    work: &mut Work,
+    context: &mut LayoutContext,
 )
     requires live { IsLive tree.old view }
-    requires places { PlacesAs placer.old
-        (spot_of (part_from view tree.old.tree) (held_of tree.old view) inside.now.size) [] }
-    requires fit { Fit (held_of tree.old) (children_of_first (part_from view tree.old.tree)) }
+    requires places { PlacesAs placer.old (spot_at tree.old view inside.now.size) [] }
+    requires fit { Fit (held_of tree.old) (children_at tree.old view) }
     requires narrow { class_of tree.old view ≡ RelativeLayout
-        → AreNarrow (held_of tree.old) (children_of_first (part_from view tree.old.tree)) }
+        → AreNarrow (held_of tree.old) (children_at tree.old view) }
     requires near { IfSome inside.now.canvas (IsCanvas (2 ^ 37)) }
-    ensures grew { LiesIn damage.old.rect damage.new.rect }
-    ensures sight { KeepsSightIn inside.now.canvas damage.new.rect (held_of tree.old) (held_of tree.new)
-        (children_of_first (part_from view tree.old.tree)) }
-    ensures within { GrowsWithin inside.now.canvas damage.old.rect damage.new.rect (held_of tree.old) (held_of tree.new)
-        (children_of_first (part_from view tree.old.tree)) }
+    ensures grew { LiesIn context.old.damage.rect context.new.damage.rect }
+    ensures sight { KeepsSightIn inside.now.canvas context.new.damage.rect (held_of tree.old) (held_of tree.new)
+        (children_at tree.old view) }
+    ensures within { GrowsWithin inside.now.canvas context.old.damage.rect context.new.damage.rect
+        (held_of tree.old) (held_of tree.new) (children_at tree.old view) }
     ensures same { SameTree tree.old tree.new }
-    ensures quiet { IsQuiet (held_of tree.new) (spot_of (part_from view tree.old.tree) (held_of tree.old view)
-        inside.now.size) [] (held_of tree.old) (children_of_first (part_from view tree.old.tree)) }
-    ensures others { KeepsOutside (held_of tree.old) (held_of tree.new)
-        (children_of_first (part_from view tree.old.tree)) }
-    ensures measured { work.new.measured
-        ≤ work.old.measured + owed (held_of tree.old) (children_of_first (part_from view tree.old.tree)) }
+    ensures quiet { IsQuiet (held_of tree.new) (spot_at tree.old view inside.now.size) []
+        (held_of tree.old) (children_at tree.old view) }
+    ensures others { KeepsOutside (held_of tree.old) (held_of tree.new) (children_at tree.old view) }
+    ensures measured { context.new.work.measured
+        ≤ context.old.work.measured + owed (held_of tree.old) (children_at tree.old view) }
     ensures laid { tree.new.counts.laid ≤ tree.old.counts.laid
-        + differ (held_of tree.old) (held_of tree.new) (children_of_first (part_from view tree.old.tree)) }
-    ensures counted { IsMeasuringCounted tree.old tree.new work.old work.new }
-    ensures caches { Grown (LastAt (held_of tree.old) (children_of_first (part_from view tree.old.tree)))
-        (held_of tree.old) (held_of tree.new) (children_of_first (part_from view tree.old.tree)) }
+        + differ (held_of tree.old) (held_of tree.new) (children_at tree.old view) }
+    ensures counted { IsMeasuringCounted tree.old tree.new context.old.work context.new.work }
+    ensures caches { Grown (LastAt (held_of tree.old) (children_at tree.old view))
+        (held_of tree.old) (held_of tree.new) (children_at tree.old view) }
 {
-    let _in_range = work.measured;
+    let _in_range = context.work.measured;
     let mut next = tree.first(view);
     while let Some(kid) = next {
-        lay_kid(tree, placer, kid, &inside.canvas, damage, work);
+        lay_kid(tree, placer, kid, &inside.canvas, context);
         next = tree.next(kid);
     }
 }
@@ -506,42 +494,35 @@ fn lay_forwards(
 /// Lays the children of a linear layout, from the last to the first.
 #[cycle(lay)]
 #[inline(never)]
-fn lay_backwards(
-    tree: &mut ViewTree,
-    view: Key,
-    inside: &Inside,
-    damage: &mut Damage,
-    work: &mut Work,
-)
+fn lay_backwards(tree: &mut ViewTree, view: Key, inside: &Inside, context: &mut LayoutContext)
     requires live { IsLive tree.old view }
     requires class { class_of tree.old view ≡ LinearLayout }
-    requires fit { Fit (held_of tree.old) (children_of_first (part_from view tree.old.tree)) }
+    requires fit { Fit (held_of tree.old) (children_at tree.old view) }
     requires narrow { class_of tree.old view ≡ RelativeLayout
-        → AreNarrow (held_of tree.old) (children_of_first (part_from view tree.old.tree)) }
+        → AreNarrow (held_of tree.old) (children_at tree.old view) }
     requires near { IfSome inside.now.canvas (IsCanvas (2 ^ 37)) }
-    ensures grew { LiesIn damage.old.rect damage.new.rect }
-    ensures sight { KeepsSightIn inside.now.canvas damage.new.rect (held_of tree.old) (held_of tree.new)
-        (children_of_first (part_from view tree.old.tree)) }
-    ensures within { GrowsWithin inside.now.canvas damage.old.rect damage.new.rect (held_of tree.old) (held_of tree.new)
-        (children_of_first (part_from view tree.old.tree)) }
+    ensures grew { LiesIn context.old.damage.rect context.new.damage.rect }
+    ensures sight { KeepsSightIn inside.now.canvas context.new.damage.rect (held_of tree.old) (held_of tree.new)
+        (children_at tree.old view) }
+    ensures within { GrowsWithin inside.now.canvas context.old.damage.rect context.new.damage.rect
+        (held_of tree.old) (held_of tree.new) (children_at tree.old view) }
     ensures same { SameTree tree.old tree.new }
-    ensures quiet { IsQuietBack (held_of tree.new) (spot_of (part_from view tree.old.tree)
-        (held_of tree.old view) inside.now.size) (held_of tree.old) (children_of_first (part_from view tree.old.tree)) }
-    ensures others { KeepsOutside (held_of tree.old) (held_of tree.new)
-        (children_of_first (part_from view tree.old.tree)) }
-    ensures measured { work.new.measured
-        ≤ work.old.measured + owed (held_of tree.old) (children_of_first (part_from view tree.old.tree)) }
+    ensures quiet { IsQuietBack (held_of tree.new) (spot_at tree.old view inside.now.size)
+        (held_of tree.old) (children_at tree.old view) }
+    ensures others { KeepsOutside (held_of tree.old) (held_of tree.new) (children_at tree.old view) }
+    ensures measured { context.new.work.measured
+        ≤ context.old.work.measured + owed (held_of tree.old) (children_at tree.old view) }
     ensures laid { tree.new.counts.laid ≤ tree.old.counts.laid
-        + differ (held_of tree.old) (held_of tree.new) (children_of_first (part_from view tree.old.tree)) }
-    ensures counted { IsMeasuringCounted tree.old tree.new work.old work.new }
-    ensures caches { Grown (LastAt (held_of tree.old) (children_of_first (part_from view tree.old.tree)))
-        (held_of tree.old) (held_of tree.new) (children_of_first (part_from view tree.old.tree)) }
+        + differ (held_of tree.old) (held_of tree.new) (children_at tree.old view) }
+    ensures counted { IsMeasuringCounted tree.old tree.new context.old.work context.new.work }
+    ensures caches { Grown (LastAt (held_of tree.old) (children_at tree.old view))
+        (held_of tree.old) (held_of tree.new) (children_at tree.old view) }
 {
-    let _in_range = work.measured;
+    let _in_range = context.work.measured;
     let mut placer = Placer::in_line(tree, view, inside.size);
     let mut next = tree.last(view);
     while let Some(kid) = next {
-        lay_kid(tree, &mut placer, kid, &inside.canvas, damage, work);
+        lay_kid(tree, &mut placer, kid, &inside.canvas, context);
         next = tree.previous(kid);
     }
 }
@@ -554,42 +535,41 @@ fn lay_kid(
     placer: &mut Placer,
     kid: Key,
     canvas: &Option<Canvas>,
-    damage: &mut Damage,
-    work: &mut Work,
+    context: &mut LayoutContext,
 )
     requires live { IsLive tree.old kid }
-    requires fit { Fit (held_of tree.old) (first_tree (part_from kid tree.old.tree)) }
+    requires fit { Fit (held_of tree.old) (subtree_at tree.old kid) }
     requires narrow { is_shown (facts_of tree.old kid) ≡ true
         → IsNarrowFor placer.old (sides_of (state_of tree.old kid).edges) }
     requires near { IfSome canvas.now (IsCanvas (2 ^ 37)) }
-    ensures grew { LiesIn damage.old.rect damage.new.rect }
-    ensures sight { KeepsSightIn canvas.now damage.new.rect (held_of tree.old) (held_of tree.new)
-        (first_tree (part_from kid tree.old.tree)) }
-    ensures within { GrowsWithin canvas.now damage.old.rect damage.new.rect (held_of tree.old) (held_of tree.new)
-        (first_tree (part_from kid tree.old.tree)) }
+    ensures grew { LiesIn context.old.damage.rect context.new.damage.rect }
+    ensures sight { KeepsSightIn canvas.now context.new.damage.rect (held_of tree.old) (held_of tree.new)
+        (subtree_at tree.old kid) }
+    ensures within { GrowsWithin canvas.now context.old.damage.rect context.new.damage.rect
+        (held_of tree.old) (held_of tree.new) (subtree_at tree.old kid) }
     ensures same { SameTree tree.old tree.new }
     ensures quiet { (spot : Spot) (before : List Measured)
         → PlacesAs placer.old spot before
-        → length before + count_of (first_tree (part_from kid tree.old.tree)) ≤ MAX_VIEWS
+        → length before + count_of (subtree_at tree.old kid) ≤ MAX_VIEWS
         → LaidKids placer.new spot before (held_of tree.old) (held_of tree.new)
-        (first_tree (part_from kid tree.old.tree)) }
-    ensures others { KeepsOutside (held_of tree.old) (held_of tree.new) (first_tree (part_from kid tree.old.tree)) }
-    ensures measured { work.new.measured
-        ≤ work.old.measured + owed (held_of tree.old) (first_tree (part_from kid tree.old.tree)) }
+        (subtree_at tree.old kid) }
+    ensures others { KeepsOutside (held_of tree.old) (held_of tree.new) (subtree_at tree.old kid) }
+    ensures measured { context.new.work.measured
+        ≤ context.old.work.measured + owed (held_of tree.old) (subtree_at tree.old kid) }
     ensures laid { tree.new.counts.laid ≤ tree.old.counts.laid
-        + differ (held_of tree.old) (held_of tree.new) (first_tree (part_from kid tree.old.tree)) }
-    ensures counted { IsMeasuringCounted tree.old tree.new work.old work.new }
-    ensures caches { Grown (LastAt (held_of tree.old) (first_tree (part_from kid tree.old.tree))) (held_of tree.old)
-        (held_of tree.new) (first_tree (part_from kid tree.old.tree)) }
+        + differ (held_of tree.old) (held_of tree.new) (subtree_at tree.old kid) }
+    ensures counted { IsMeasuringCounted tree.old tree.new context.old.work context.new.work }
+    ensures caches { Grown (LastAt (held_of tree.old) (subtree_at tree.old kid)) (held_of tree.old)
+        (held_of tree.new) (subtree_at tree.old kid) }
 {
-    let _in_range = work.measured;
+    let _in_range = context.work.measured;
     let facts = tree.facts(kid);
     if !facts.is_shown() {
         return;
     }
     let state = tree.state(kid);
     let rect = placer.place(facts, state.measured, state.edges);
-    lay(tree, kid, rect, canvas, damage, work);
+    lay(tree, kid, rect, canvas, context);
 }
 
 /// The size of a rectangle.

@@ -7,11 +7,10 @@ ghost use Rattle.view_model.specs.Layout.{Spot, place_in, places_backwards};
 ghost use Rattle.view_model.specs.Measuring.{Measured};
 ghost use Rattle.view_model.specs.RelativeCourse.{relative_place};
 ghost use Rattle.view_model.specs.RelativeLayout.{sides_of};
-ghost use Rattle.view_tree.specs.Rows.{part_from};
-ghost use Rattle.view_tree.specs.Views.{IsLive, IsTree, class_of, facts_of, held_of};
-ghost use Rattle.kept_views.specs.Laying.{spot_of};
+ghost use Rattle.view_tree.specs.Views.{IsLive, IsTree, class_of, facts_of};
 ghost use Rattle.traversal.specs.Narrow.{AreSidesNarrow, IsNarrow, IsNarrowFor};
 ghost use Rattle.traversal.specs.Placing.{PlacesAs, lays_over};
+ghost use Rattle.traversal.specs.Subtrees.{spot_at};
 ghost use Rattle.view_model.specs.declared.kinds.Class.TheVariants.{LinearLayout};
 
 use frame_layout::Room;
@@ -37,7 +36,7 @@ impl Placer {
     pub fn over(tree: &ViewTree, view: Key, room: Size) -> Placer
         requires live { IsLive tree.now view }
         requires class { lays_over (class_of tree.now view) ≡ true }
-        ensures places { PlacesAs result (spot_of (part_from view tree.now.tree) (held_of tree.now view) room) [] }
+        ensures places { PlacesAs result (spot_at tree.now view room) [] }
         ensures is_tree { IsTree tree.now }
     {
         Placer::Over(Room::of(tree.facts(view), room))
@@ -48,7 +47,7 @@ impl Placer {
     pub fn in_line(tree: &ViewTree, view: Key, room: Size) -> Placer
         requires live { IsLive tree.now view }
         requires class { class_of tree.now view ≡ LinearLayout }
-        ensures places { PlacesAs result (spot_of (part_from view tree.now.tree) (held_of tree.now view) room) [] }
+        ensures places { PlacesAs result (spot_at tree.now view room) [] }
         ensures is_tree { IsTree tree.now }
     {
         Placer::InLine(Cursor::start(tree.facts(view), room, tree.state(view).total))

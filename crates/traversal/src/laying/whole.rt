@@ -21,7 +21,7 @@ ghost use Rattle.traversal.specs.Counting.{IsMeasuringCounted};
 ghost use Rattle.traversal.specs.Covering.{Covered};
 ghost use Rattle.traversal.specs.Resting.{IsRootAtRest};
 
-use super::lay::lay_open;
+use super::lay::{LayoutContext, lay_open};
 use damage_rect::Damage;
 use geom_core::{Mode, Size, Spec, child_spec};
 use measure_pass::measure;
@@ -62,14 +62,19 @@ pub fn lay_root(tree: &mut ViewTree, root: Key, window: Size, damage: &mut Damag
 {
     let (ws, hs) = specs_in(window, tree.facts(root));
     let size = measure(tree, root, ws, hs, work);
+    let mut context = LayoutContext {
+        damage: *damage,
+        work: *work,
+    };
     lay_open(
         tree,
         root,
         rect_at(0, 0, size),
         &Some(window_canvas(window)),
-        damage,
-        work,
+        &mut context,
     );
+    *damage = context.damage;
+    *work = context.work;
 }
 
 /// The specs of the root in a window of this size.

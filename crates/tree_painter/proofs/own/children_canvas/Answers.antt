@@ -7,8 +7,8 @@ use Rattle.tree_painter.proofs.own.children_canvas.Goals as goal
 pub returns-in-Some-clause-points : goal.returns-in-Some-clause-points
 returns-in-Some-clause-points c = λ x y.
     ap (λ (rect : Rect). holds rect x y) c.canvas_below-in-Some.ensures.clip ∙ c.in-Some.ensures.points x y
-    ∙ clipped_points c.args.facts.now c.args.frame c.inner_frame.result c.args.part c.if-not-facts.false c.inner_frame.ensures x y
+    ∙ clipped_points c.args.facts.now c.args.seen.frame c.inner_frame.result c.args.seen.part c.if-not-facts.false c.inner_frame.ensures x y
 
 pub returns-in-None-clause-points : goal.returns-in-None-clause-points
 returns-in-None-clause-points c = λ x y.
-    c.in-None.ensures.points x y ∙ clipped_points c.args.facts.now c.args.frame c.inner_frame.result c.args.part c.if-not-facts.false c.inner_frame.ensures x y
+    c.in-None.ensures.points x y ∙ clipped_points c.args.facts.now c.args.seen.frame c.inner_frame.result c.args.seen.part c.if-not-facts.false c.inner_frame.ensures x y

@@ -1,14 +1,13 @@
-use Rattle.std.proofs.Common.{sym, ap, ◌∙◌, refl, ◌-ℤ◌, arith}
+use Rattle.std.proofs.Common.{ap, refl, ◌-ℤ◌, arith}
 use Rattle.view_model.specs.Forest.{Forest}
 use Rattle.view_model.specs.Painting.{painted}
-use Rattle.view_tree.specs.declared.state.State.{State}
 use Rattle.view_tree.specs.Rows.{Row, children_of_first, first_tree, later_siblings, part_from}
 use Rattle.view_tree.specs.Views.{held_of}
 use Rattle.view_tree.proofs.forest.Walks.{fewer_below, walk_falls, walk_on}
 use Rattle.seen_parts.specs.Meeting.{placed_rows}
 use Rattle.tree_painter.specs.Painted.{IsCounted, area_in, from_origin, share_of}
 use Rattle.tree_painter.proofs.AreaLaws.{area_in-same, counted_same}
-use Rattle.tree_painter.proofs.TreeLaws.{counted_children, counted_own, own_drawn, own_nowhere, painted_parts, share_parts}
+use Rattle.tree_painter.proofs.TreeLaws.{counted_children, counted_own, own_drawn, painted_parts, share_parts}
 use Rattle.tree_painter.proofs.UnderWay.{way_on}
 use Rattle.tree_painter.proofs.painting.+paint.Goals as goal
 
@@ -44,37 +43,31 @@ paint_children-loop-next-preserved t c =
           (share_parts (area_in start canvas.clip) part));
     }
 
-pub paint_view-returns-in_default-clause-painted : goal.paint_view-returns-in_default-clause-painted
-paint_view-returns-in_default-clause-painted t c =
-    own_nowhere c.args.tree.now c.args.view c.requires.live c.args.canvas c.args.surface.now (ap (λ (s : State). s.bounds) (sym c.state.ensures.value) ∙ c.in_default.is)
-
-pub paint_view-returns-in-Some-paint_own-clause-painted : goal.paint_view-returns-in-Some-paint_own-clause-painted
-paint_view-returns-in-Some-paint_own-clause-painted t c =
-    own_drawn c.args.tree.now c.args.view c.requires.live c.args.canvas c.args.surface.now c.paint_children.new.surface c.in-Some.bounds
-    (ap (λ (s : State). s.bounds) (sym c.state.ensures.value) ∙ c.in-Some.is)
-    (c.in-Some-paint_own.ensures.painted (painted (placed_rows (held_of c.args.tree.now) (children_of_first (part_from c.args.view c.args.tree.now.tree)))) c.paint_children.new.surface
+pub paint_view-returns-in-Some-clause-painted : goal.paint_view-returns-in-Some-clause-painted
+paint_view-returns-in-Some-clause-painted t c =
+    own_drawn c.args.tree.now c.args.view c.requires.live c.args.canvas c.args.surface.now c.paint_children.new.surface
+    (c.in-Some.ensures.painted (painted (placed_rows (held_of c.args.tree.now) (children_of_first (part_from c.args.view c.args.tree.now.tree)))) c.paint_children.new.surface
     (λ none x y u. ap (λ (kids : Forest Row). painted (placed_rows (held_of c.args.tree.now) kids) x y u) none) c.paint_children.ensures.painted)
 
-pub paint_view-returns-in_default-paint_own-clause-painted : goal.paint_view-returns-in_default-paint_own-clause-painted
-paint_view-returns-in_default-paint_own-clause-painted t c =
-    own_drawn c.args.tree.now c.args.view c.requires.live c.args.canvas c.args.surface.now c.paint_own.new.surface c.in-Some.bounds
-    (ap (λ (s : State). s.bounds) (sym c.state.ensures.value) ∙ c.in-Some.is)
-    (c.in_default-paint_own.ensures.painted (painted (placed_rows (held_of c.args.tree.now) (children_of_first (part_from c.args.view c.args.tree.now.tree)))) c.paint_own.new.surface
+pub paint_view-returns-in_default-clause-painted : goal.paint_view-returns-in_default-clause-painted
+paint_view-returns-in_default-clause-painted t c =
+    own_drawn c.args.tree.now c.args.view c.requires.live c.args.canvas c.args.surface.now c.paint_own.new.surface
+    (c.in_default.ensures.painted (painted (placed_rows (held_of c.args.tree.now) (children_of_first (part_from c.args.view c.args.tree.now.tree)))) c.paint_own.new.surface
     (λ none x y u. ap (λ (kids : Forest Row). painted (placed_rows (held_of c.args.tree.now) kids) x y u) none) refl)
 
-pub paint_view-returns-in-Some-paint_own-clause-counted : goal.paint_view-returns-in-Some-paint_own-clause-counted
-paint_view-returns-in-Some-paint_own-clause-counted t c =
+pub paint_view-returns-in-Some-clause-counted : goal.paint_view-returns-in-Some-clause-counted
+paint_view-returns-in-Some-clause-counted t c =
     let start = c.args.surface.now in
     let mid = c.paint_own.new.surface in
-    let inner = c.in-Some-paint_own.inner.clip in
+    let inner = c.in-Some.inner.clip in
     let kids = children_of_first (part_from c.args.view c.args.tree.now.tree) in
     let size = c.paint_own.ensures.size in
     let children : IsCounted (share_of (area_in start inner) kids) mid c.paint_children.new.surface c.paint_own.new.work c.paint_children.new.work =
     counted_same _ _ _ _ _ _ (ap (λ area. share_of area kids) (area_in-same mid start inner size.0 size.1)) c.paint_children.ensures.counted in
     counted_children c.args.tree.now.tree c.args.view (area_in start c.args.canvas.clip) (area_in start inner) start mid c.paint_children.new.surface
-    c.args.work.now c.paint_own.new.work c.paint_children.new.work c.requires.live c.in-Some-paint_own.ensures.narrower c.paint_own.ensures.counted children
+    c.args.work.now c.paint_own.new.work c.paint_children.new.work c.requires.live c.in-Some.ensures.narrower c.paint_own.ensures.counted children
 
-pub paint_view-returns-in_default-paint_own-clause-counted : goal.paint_view-returns-in_default-paint_own-clause-counted
-paint_view-returns-in_default-paint_own-clause-counted t c =
+pub paint_view-returns-in_default-clause-counted : goal.paint_view-returns-in_default-clause-counted
+paint_view-returns-in_default-clause-counted t c =
     counted_own c.args.tree.now.tree c.args.view (area_in c.args.surface.now c.args.canvas.clip) c.args.surface.now c.paint_own.new.surface
     c.args.work.now c.paint_own.new.work c.requires.live c.paint_own.ensures.counted

@@ -23,8 +23,8 @@ loop-begin-init c = record {
 pub loop-begin-preserved : goal.loop-begin-preserved
 loop-begin-preserved c =
     let canvas = c.args.canvas in
-    let ink = c.args.ink in
-    let n = c.args.n in
+    let ink = c.args.style.ink in
+    let n = c.args.style.cells in
     let text = c.args.text.now in
     let begin = c.loop-begin.begin in
     let at = c.loop-begin.at in
@@ -63,5 +63,5 @@ returns-after-loop-begin-clause-painted c =
     let inv = c.loop-begin.invariant in
     let past : length c.args.text.now ≤ c.loop-begin.begin = omega arith in
     way_end _ _ canvas.clip _ _ c.args.surface.now c.loop-begin.surface c.args.work.now c.loop-begin.work inv.way
-    (λ x y u h. ap (λ (t : List ℕ). text_ink c.args.ink c.args.n t (x -ℤ canvas.left) (y -ℤ c.loop-begin.at.top) u) (drop_all c.loop-begin.begin c.args.text.now past)
-    ∙ text_none c.args.ink c.args.n (x -ℤ canvas.left) (y -ℤ c.loop-begin.at.top) u)
+    (λ x y u h. ap (λ (t : List ℕ). text_ink c.args.style.ink c.args.style.cells t (x -ℤ canvas.left) (y -ℤ c.loop-begin.at.top) u) (drop_all c.loop-begin.begin c.args.text.now past)
+    ∙ text_none c.args.style.ink c.args.style.cells (x -ℤ canvas.left) (y -ℤ c.loop-begin.at.top) u)

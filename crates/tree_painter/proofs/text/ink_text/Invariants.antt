@@ -12,7 +12,7 @@ invariant-loop-begin l = record {
   clip : l.at.clip ≡ l.fn.canvas.clip;
   low : l.fn.canvas.top ≤ℤ l.at.top;
   deep : l.at.top ≤ℤ (l.fn.canvas.top +ℤ pos (8 * l.begin));
-  way : IsUnderWay (from_origin l.fn.canvas.left l.at.top (text_ink l.ink l.n (drop l.begin l.text))) (from_origin l.fn.canvas.left l.fn.canvas.top (text_ink l.ink l.n l.text)) l.fn.canvas.clip
+  way : IsUnderWay (from_origin l.fn.canvas.left l.at.top (text_ink l.style.ink l.style.cells (drop l.begin l.text))) (from_origin l.fn.canvas.left l.fn.canvas.top (text_ink l.style.ink l.style.cells l.text)) l.fn.canvas.clip
       (strip_between l.fn.surface l.fn.canvas.clip l.at.top l.fn.canvas.clip.bottom) (area_in l.fn.surface l.fn.canvas.clip) l.fn.surface l.surface l.fn.work l.work;
 }
 

@@ -105,7 +105,7 @@ lay_forwards-lay_kid-requires t c =
           (
             λ shown.
                 next_narrow tree (children_of_first (part_from c.args.view tree)) c.loop-next.placer (spot_of (part_from c.args.view tree) (held_of c.args.tree.now c.args.view) c.args.inside.now.size)
-                (held_of c.args.tree.now) c.args.work.now.measured c.args.tree.now.counts.laid c.in-Some.kid (held_of c.loop-next.tree) c.loop-next.work.measured c.loop-next.tree.counts.laid walk shown,
+                (held_of c.args.tree.now) c.args.context.now.work.measured c.args.tree.now.counts.laid c.in-Some.kid (held_of c.loop-next.tree) c.loop-next.context.work.measured c.loop-next.tree.counts.laid walk shown,
             c.requires.near,
           ),
         ),
@@ -126,10 +126,10 @@ lay_forwards-loop-next-init t c =
       same = record { tree = refl; orders = refl; next = refl };
       counted = record { by = 0; work = omega arith; tree = omega arith; painted = refl };
       grew = λ x y h. h;
-      sight = walks_start c.args.inside.now.canvas c.args.damage.now.rect tree (children_of_first (part_from c.args.view tree)) (held_of c.args.tree.now) c.first-next.result first.part;
-      cover = covers_start c.args.inside.now.canvas c.args.damage.now.rect tree (children_of_first (part_from c.args.view tree)) (held_of c.args.tree.now) c.first-next.result first.part;
+      sight = walks_start c.args.inside.now.canvas c.args.context.now.damage.rect tree (children_of_first (part_from c.args.view tree)) (held_of c.args.tree.now) c.first-next.result first.part;
+      cover = covers_start c.args.inside.now.canvas c.args.context.now.damage.rect tree (children_of_first (part_from c.args.view tree)) (held_of c.args.tree.now) c.first-next.result first.part;
       walked =
-          laid_start tree (children_of_first (part_from c.args.view tree)) c.args.placer.now spot (held_of c.args.tree.now) c.args.work.now.measured c.args.tree.now.counts.laid c.first-next.result c.requires.places
+          laid_start tree (children_of_first (part_from c.args.view tree)) c.args.placer.now spot (held_of c.args.tree.now) c.args.context.now.work.measured c.args.tree.now.counts.laid c.first-next.result c.requires.places
           (count_few c.args.view tree c.requires.live first.is_tree.few) first.is_tree.keys first.part first.live c.requires.fit c.requires.narrow;
     }
 
@@ -150,16 +150,16 @@ lay_forwards-loop-next-preserved t c =
       counted = counted_then before.counted kid.counted;
       grew = λ x y h. kid.grew x y (before.grew x y h);
       sight =
-          walks_on c.args.inside.now.canvas c.loop-next.damage.rect c.lay_kid.new.damage.rect tree (children_of_first (part_from c.args.view tree)) (held_of c.args.tree.now) c.in-Some.kid
+          walks_on c.args.inside.now.canvas c.loop-next.context.damage.rect c.lay_kid.new.context.damage.rect tree (children_of_first (part_from c.args.view tree)) (held_of c.args.tree.now) c.in-Some.kid
           (held_of c.loop-next.tree) (held_of c.lay_kid.new.tree) c.next-next.result walk.walked (rw c.in-Some.is at before.sight) kid.grew
           (rw before.same.tree at kid.others) (rw before.same.tree at kid.sight) (rw (kid.same.tree, before.same.tree) at c.next-next.ensures.part);
       cover =
-          covers_on c.args.inside.now.canvas c.args.damage.now.rect c.loop-next.damage.rect c.lay_kid.new.damage.rect tree (children_of_first (part_from c.args.view tree)) (held_of c.args.tree.now) c.in-Some.kid
+          covers_on c.args.inside.now.canvas c.args.context.now.damage.rect c.loop-next.context.damage.rect c.lay_kid.new.context.damage.rect tree (children_of_first (part_from c.args.view tree)) (held_of c.args.tree.now) c.in-Some.kid
           (held_of c.loop-next.tree) (held_of c.lay_kid.new.tree) c.next-next.result walk.walked (rw c.in-Some.is at before.cover)
           (rw before.same.tree at kid.others) (rw before.same.tree at kid.within) (rw (kid.same.tree, before.same.tree) at c.next-next.ensures.part);
       walked =
-          laid_on tree (children_of_first (part_from c.args.view tree)) c.loop-next.placer c.lay_kid.new.placer spot (held_of c.args.tree.now) c.args.work.now.measured c.args.tree.now.counts.laid c.in-Some.kid
-          (held_of c.loop-next.tree) (held_of c.lay_kid.new.tree) c.loop-next.work.measured c.loop-next.tree.counts.laid c.lay_kid.new.work.measured c.lay_kid.new.tree.counts.laid
+          laid_on tree (children_of_first (part_from c.args.view tree)) c.loop-next.placer c.lay_kid.new.placer spot (held_of c.args.tree.now) c.args.context.now.work.measured c.args.tree.now.counts.laid c.in-Some.kid
+          (held_of c.loop-next.tree) (held_of c.lay_kid.new.tree) c.loop-next.context.work.measured c.loop-next.tree.counts.laid c.lay_kid.new.context.work.measured c.lay_kid.new.tree.counts.laid
           walk laid (rw before.same.tree at kid.others) (rw before.same.tree at kid.measured) (rw before.same.tree at kid.laid) (rw before.same.tree at kid.caches) c.next-next.result
           (rw (kid.same.tree, before.same.tree) at c.next-next.ensures.part) (rw (kid.same.tree, before.same.tree) at c.next-next.ensures.live);
     }
@@ -188,12 +188,12 @@ lay_forwards-returns-clause-caches t c =
 
 pub lay_forwards-returns-clause-sight : goal.lay_forwards-returns-clause-sight
 lay_forwards-returns-clause-sight t c =
-    walks_end c.args.inside.now.canvas c.loop-next.damage.rect c.args.tree.now.tree (children_of_first (part_from c.args.view c.args.tree.now.tree)) (held_of c.args.tree.now) (held_of c.loop-next.tree)
+    walks_end c.args.inside.now.canvas c.loop-next.context.damage.rect c.args.tree.now.tree (children_of_first (part_from c.args.view c.args.tree.now.tree)) (held_of c.args.tree.now) (held_of c.loop-next.tree)
     (rw c.in_default.is at c.loop-next.invariant.sight)
 
 pub lay_forwards-returns-clause-within : goal.lay_forwards-returns-clause-within
 lay_forwards-returns-clause-within t c =
-    covers_end c.args.inside.now.canvas c.args.damage.now.rect c.loop-next.damage.rect c.args.tree.now.tree (children_of_first (part_from c.args.view c.args.tree.now.tree)) (held_of c.args.tree.now) (held_of c.loop-next.tree)
+    covers_end c.args.inside.now.canvas c.args.context.now.damage.rect c.loop-next.context.damage.rect c.args.tree.now.tree (children_of_first (part_from c.args.view c.args.tree.now.tree)) (held_of c.args.tree.now) (held_of c.loop-next.tree)
     (rw c.in_default.is at c.loop-next.invariant.cover)
 
 -- lay_backwards
@@ -203,8 +203,8 @@ lay_backwards-lay_kid-requires t c =
     let tree = c.args.tree.now.tree in
     let list = children_of_first (part_from c.args.view tree) in
     let spot = spot_of (part_from c.args.view tree) (held_of c.args.tree.now c.args.view) c.args.inside.now.size in
-    let start = stage_of c.args.tree.now c.args.damage.now.rect c.args.work.now in
-    let now = stage_of c.loop-next.tree c.loop-next.damage.rect c.loop-next.work in
+    let start = stage_of c.args.tree.now c.args.context.now.damage.rect c.args.context.now.work in
+    let now = stage_of c.loop-next.tree c.loop-next.context.damage.rect c.loop-next.context.work in
     let walk = rw c.in-Some.is at c.loop-next.invariant.walked in
     let keys = c.in_line-placer.ensures.is_tree.keys in
     let fewer = fewer_back tree c.args.view c.in-Some.kid c.requires.live walk.kid in
@@ -221,8 +221,8 @@ lay_backwards-lay_kid-requires t c =
 
 stepped : (t : ℕ) (c : goal.lay_backwards-After-previous-next t)
     → (let spot = spot_of (part_from c.args.view c.args.tree.now.tree) (held_of c.args.tree.now c.args.view) c.args.inside.now.size in
-    WalkTo c.args.tree.now.tree c.args.view c.lay_kid.new.placer spot c.args.inside.now.canvas (stage_of c.args.tree.now c.args.damage.now.rect c.args.work.now)
-    (stage_of c.lay_kid.new.tree c.lay_kid.new.damage.rect c.lay_kid.new.work) c.in-Some.kid c.previous-next.result)
+    WalkTo c.args.tree.now.tree c.args.view c.lay_kid.new.placer spot c.args.inside.now.canvas (stage_of c.args.tree.now c.args.context.now.damage.rect c.args.context.now.work)
+    (stage_of c.lay_kid.new.tree c.lay_kid.new.context.damage.rect c.lay_kid.new.context.work) c.in-Some.kid c.previous-next.result)
 stepped t c =
     let tree = c.args.tree.now.tree in
     let list = children_of_first (part_from c.args.view tree) in
@@ -230,9 +230,9 @@ stepped t c =
     let kid = c.lay_kid.ensures in
     let is_tree = c.in_line-placer.ensures.is_tree in
     let spot = spot_of (part_from c.args.view tree) (held_of c.args.tree.now c.args.view) c.args.inside.now.size in
-    let start = stage_of c.args.tree.now c.args.damage.now.rect c.args.work.now in
-    let old = stage_of c.loop-next.tree c.loop-next.damage.rect c.loop-next.work in
-    let mid = stage_of c.lay_kid.new.tree c.lay_kid.new.damage.rect c.lay_kid.new.work in
+    let start = stage_of c.args.tree.now c.args.context.now.damage.rect c.args.context.now.work in
+    let old = stage_of c.loop-next.tree c.loop-next.context.damage.rect c.loop-next.context.work in
+    let mid = stage_of c.lay_kid.new.tree c.lay_kid.new.context.damage.rect c.lay_kid.new.context.work in
     let walk = rw c.in-Some.is at before.walked in
     let few = back_few tree list c.loop-next.placer spot c.args.inside.now.canvas start c.in-Some.kid old is_tree.keys walk (count_few c.args.view tree c.requires.live is_tree.few) in
     let sizes = sizes_back (held_of c.args.tree.now) (later_siblings (part_from c.in-Some.kid tree)) in
@@ -262,7 +262,7 @@ lay_backwards-loop-next-init t c =
       same = record { tree = refl; orders = refl; next = refl };
       counted = record { by = 0; work = omega arith; tree = omega arith; painted = refl };
       walked =
-          back_start tree c.args.view c.in_line-placer.result spot c.args.inside.now.canvas (stage_of c.args.tree.now c.args.damage.now.rect c.args.work.now) c.last-next.result
+          back_start tree c.args.view c.in_line-placer.result spot c.args.inside.now.canvas (stage_of c.args.tree.now c.args.context.now.damage.rect c.args.context.now.work) c.last-next.result
           c.in_line-placer.ensures.is_tree.keys c.requires.live c.last-next.ensures.key c.in_line-placer.ensures.places;
     }
 
@@ -332,7 +332,7 @@ lay_kids-returns-then-is_none-clause-caches t c =
 pub lay_kids-returns-then-is_none-clause-sight : goal.lay_kids-returns-then-is_none-clause-sight
 lay_kids-returns-then-is_none-clause-sight t c =
     let list = children_of_first (part_from c.args.view c.args.tree.now.tree) in
-    sight_same c.args.inside.now.canvas c.args.damage.now.rect (held_of c.args.tree.now) (held_of c.args.tree.now) list (λ key here. (refl, refl))
+    sight_same c.args.inside.now.canvas c.args.context.now.damage.rect (held_of c.args.tree.now) (held_of c.args.tree.now) list (λ key here. (refl, refl))
 
 pub lay_kids-returns-then-is_none-clause-within : goal.lay_kids-returns-then-is_none-clause-within
 lay_kids-returns-then-is_none-clause-within t c = λ box lies covered. lies
@@ -412,7 +412,7 @@ lay_open-returns-then-is_calm-clause-sight t c =
     let list = first_tree (part_from c.args.view c.args.tree.now.tree) in
     let calm = calm_of c.move_to-moved.result c.state-state.result.forced c.state-state.result.layout_needed (sym c.is_calm.ensures ∙ c.if-is_calm.true) in
     let keeps = c.make_fit.ensures.keeps in
-    sight_same c.args.canvas.now c.args.damage.now.rect (held_of c.args.tree.now) (held_of c.move_to-moved.new.tree) list
+    sight_same c.args.canvas.now c.args.context.now.damage.rect (held_of c.args.tree.now) (held_of c.move_to-moved.new.tree) list
     (subst (λ (views : Views). SamePlaces (held_of c.args.tree.now) (held_of views) list) (sym (c.move_to-moved.ensures.still calm.0)) (λ key here. (keeps.bounds key, keeps.offsets key)))
 
 pub lay_open-returns-then-is_calm-clause-within : goal.lay_open-returns-then-is_calm-clause-within
@@ -468,7 +468,7 @@ lay_open-returns-clause-sight t c =
     let steps = steps_by view c.args.rect (children_of_first (part_from view tree)) old a b l n g.keeps.bounds g.keeps.offsets (record { at = there; others = f.others })
     (rw same at c.lay_kids.ensures.others) (ap (λ (h : Held). h.state.bounds) c.bring.ensures.held) c.bring.ensures.others in
     let was : (old view).state.bounds ≡ c.state-before.result.bounds = sym (ap (λ (state : State). state.bounds) c.state-before.ensures.value ∙ g.keeps.bounds view) in
-    sight_at tree view c.args.rect old b l n c.args.canvas.now c.follow_in-inner.result c.follow_in-inner.new.damage.rect c.lay_kids.new.damage.rect c.bring.new.damage.rect c.state-before.result.bounds c.facts.result.now
+    sight_at tree view c.args.rect old b l n c.args.canvas.now c.follow_in-inner.result c.follow_in-inner.new.damage.rect c.lay_kids.new.context.damage.rect c.bring.new.damage.rect c.state-before.result.bounds c.facts.result.now
     c.requires.fit.live g.is_tree.keys steps was (rw same at c.facts.ensures.value) c.follow_in-inner.ensures.follows c.lay_kids.ensures.grew c.bring.ensures.grew (rw same at c.lay_kids.ensures.sight) c.bring.ensures.seen
 
 pub lay_open-returns-clause-within : goal.lay_open-returns-clause-within
@@ -487,8 +487,8 @@ lay_open-returns-clause-within t c =
     let steps = steps_by view c.args.rect (children_of_first (part_from view tree)) old a b l n g.keeps.bounds g.keeps.offsets (record { at = there; others = f.others })
     (rw same at c.lay_kids.ensures.others) (ap (λ (h : Held). h.state.bounds) c.bring.ensures.held) c.bring.ensures.others in
     let was : (old view).state.bounds ≡ c.state-before.result.bounds = sym (ap (λ (state : State). state.bounds) c.state-before.ensures.value ∙ g.keeps.bounds view) in
-    covers_at tree view c.args.rect old b l n c.args.canvas.now c.follow_in-inner.result c.follow_in-inner.new.damage.rect c.lay_kids.new.damage.rect c.bring.new.damage.rect c.state-before.result.bounds c.facts.result.now
-    c.requires.fit.live g.is_tree.keys steps was (rw same at c.facts.ensures.value) c.args.damage.now.rect
+    covers_at tree view c.args.rect old b l n c.args.canvas.now c.follow_in-inner.result c.follow_in-inner.new.damage.rect c.lay_kids.new.context.damage.rect c.bring.new.damage.rect c.state-before.result.bounds c.facts.result.now
+    c.requires.fit.live g.is_tree.keys steps was (rw same at c.facts.ensures.value) c.args.context.now.damage.rect
     c.follow_in-inner.ensures.within c.follow_in-inner.ensures.unfollowed c.follow_in-inner.ensures.stays (rw same at c.lay_kids.ensures.within) c.bring.ensures.within
 
 pub lay_open-returns-clause-others : goal.lay_open-returns-clause-others
@@ -517,7 +517,7 @@ lay_open-returns-clause-measured t c =
     let under = below_at tree view a b (moved_to (a view) c.args.rect) c.make_fit.ensures.is_tree.keys r.live r.shown c.make_fit.ensures.fit c.make_fit.ensures.unmarked.first
     (record { at = there; others = f.others }) in
     let owes = under.owed in
-    let kids : c.lay_kids.new.work.measured ≤ c.make_fit.new.work.measured + owed b (children_of_first (part_from view tree)) = rw same at c.lay_kids.ensures.measured in
+    let kids : c.lay_kids.new.context.work.measured ≤ c.make_fit.new.work.measured + owed b (children_of_first (part_from view tree)) = rw same at c.lay_kids.ensures.measured in
     let fit = c.make_fit.ensures.measured in
     omega arith
 
@@ -552,7 +552,7 @@ lay_open-returns-clause-counted t c =
     counted_then c.make_fit.ensures.counted
     (counted_then (counted_still c.make_fit.new.tree c.move_to-moved.new.tree c.make_fit.new.work c.move_to-moved.ensures.measures)
     (counted_then c.lay_kids.ensures.counted
-    (counted_still c.lay_kids.new.tree c.bring.new.tree c.lay_kids.new.work (ap (λ (counts : Counts). counts.measures) c.bring.ensures.counts))))
+    (counted_still c.lay_kids.new.tree c.bring.new.tree c.lay_kids.new.context.work (ap (λ (counts : Counts). counts.measures) c.bring.ensures.counts))))
 
 pub lay_open-returns-then-is_calm-clause-still : goal.lay_open-returns-then-is_calm-clause-still
 lay_open-returns-then-is_calm-clause-still t c = λ place.
@@ -622,7 +622,7 @@ lay-returns-clause-sight t c =
     let mid = held_of c.lay_open.new.tree in
     let new = held_of c.settle.new.tree in
     let list = first_tree (part_from c.args.view c.args.tree.now.tree) in
-    sight_along c.args.canvas.now c.lay_open.new.damage.rect old old mid new list (λ key here. (refl, refl)) (settled_places c.args.view mid new list c.settle.ensures.held c.settle.ensures.others) c.lay_open.ensures.sight
+    sight_along c.args.canvas.now c.lay_open.new.context.damage.rect old old mid new list (λ key here. (refl, refl)) (settled_places c.args.view mid new list c.settle.ensures.held c.settle.ensures.others) c.lay_open.ensures.sight
 
 pub lay-returns-clause-within : goal.lay-returns-clause-within
 lay-returns-clause-within t c = λ box lies covered.

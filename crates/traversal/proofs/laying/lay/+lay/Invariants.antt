@@ -41,12 +41,12 @@ decreases-lay_between l = 6 * count_of (first_tree (part_from l.view l.tree.now.
 abbrev pub invariant-lay_forwards-loop-next : goal.invariant-lay_forwards-loop-next
 invariant-lay_forwards-loop-next l = let tree = l.fn.tree.tree in record {
   same : SameTree l.fn.tree l.tree;
-  counted : IsMeasuringCounted l.fn.tree l.tree l.fn.work l.work;
-  grew : LiesIn l.fn.damage.rect l.damage.rect;
-  sight : Walks l.inside.canvas l.damage.rect tree (children_of_first (part_from l.view tree)) (held_of l.fn.tree) l.next (held_of l.tree);
-  cover : CoverWalks l.inside.canvas l.fn.damage.rect l.damage.rect tree (children_of_first (part_from l.view tree)) (held_of l.fn.tree) l.next (held_of l.tree);
+  counted : IsMeasuringCounted l.fn.tree l.tree l.fn.context.work l.context.work;
+  grew : LiesIn l.fn.context.damage.rect l.context.damage.rect;
+  sight : Walks l.inside.canvas l.context.damage.rect tree (children_of_first (part_from l.view tree)) (held_of l.fn.tree) l.next (held_of l.tree);
+  cover : CoverWalks l.inside.canvas l.fn.context.damage.rect l.context.damage.rect tree (children_of_first (part_from l.view tree)) (held_of l.fn.tree) l.next (held_of l.tree);
   walked : LaidWalk tree (children_of_first (part_from l.view tree)) l.placer (spot_of (part_from l.view tree) (held_of l.fn.tree l.view) l.inside.size) (held_of l.fn.tree)
-      l.fn.work.measured l.fn.tree.counts.laid l.next (held_of l.tree) l.work.measured l.tree.counts.laid;
+      l.fn.context.work.measured l.fn.tree.counts.laid l.next (held_of l.tree) l.context.work.measured l.tree.counts.laid;
 }
 
 abbrev pub decreases-lay_forwards-loop-next : goal.decreases-lay_forwards-loop-next
@@ -55,9 +55,9 @@ decreases-lay_forwards-loop-next l = count_of (rest_from l.next l.tree.tree)
 abbrev pub invariant-lay_backwards-loop-next : goal.invariant-lay_backwards-loop-next
 invariant-lay_backwards-loop-next l = let tree = l.fn.tree.tree in record {
   same : SameTree l.fn.tree l.tree;
-  counted : IsMeasuringCounted l.fn.tree l.tree l.fn.work l.work;
+  counted : IsMeasuringCounted l.fn.tree l.tree l.fn.context.work l.context.work;
   walked : BackWalk tree (children_of_first (part_from l.view tree)) l.placer (spot_of (part_from l.view tree) (held_of l.fn.tree l.view) l.inside.size) l.inside.canvas
-      (stage_of l.fn.tree l.fn.damage.rect l.fn.work) l.next (stage_of l.tree l.damage.rect l.work);
+      (stage_of l.fn.tree l.fn.context.damage.rect l.fn.context.work) l.next (stage_of l.tree l.context.damage.rect l.context.work);
 }
 
 abbrev pub decreases-lay_backwards-loop-next : goal.decreases-lay_backwards-loop-next

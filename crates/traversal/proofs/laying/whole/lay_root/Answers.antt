@@ -61,7 +61,7 @@ lay_open-requires c =
 pub returns-clause-sight : goal.returns-clause-sight
 returns-clause-sight c =
     let m = c.measure-size.ensures in
-    sight_whole c.args.window c.window_canvas.result c.lay_open.new.damage.rect (held_of c.args.tree.now) (held_of c.measure-size.new.tree) (held_of c.lay_open.new.tree) c.args.tree.now.tree
+    sight_whole c.args.window c.window_canvas.result c.lay_open.new.context.damage.rect (held_of c.args.tree.now) (held_of c.measure-size.new.tree) (held_of c.lay_open.new.tree) c.args.tree.now.tree
     (first_tree (part_from c.args.root c.measure-size.new.tree.tree)) c.window_canvas.ensures.value
     (ap (λ tree. first_tree (part_from c.args.root tree)) m.same.tree ∙ root_alone c.args.tree.now.tree c.args.root c.requires.root c.facts.ensures.is_tree.root)
     (λ key here. (m.keeps.bounds key, m.keeps.offsets key)) c.lay_open.ensures.sight
@@ -69,7 +69,7 @@ returns-clause-sight c =
 pub returns-clause-within : goal.returns-clause-within
 returns-clause-within c =
     let m = c.measure-size.ensures in
-    within_whole c.args.window c.window_canvas.result c.args.damage.now.rect c.lay_open.new.damage.rect (held_of c.args.tree.now) (held_of c.measure-size.new.tree) (held_of c.lay_open.new.tree) c.args.tree.now.tree
+    within_whole c.args.window c.window_canvas.result c.args.damage.now.rect c.lay_open.new.context.damage.rect (held_of c.args.tree.now) (held_of c.measure-size.new.tree) (held_of c.lay_open.new.tree) c.args.tree.now.tree
     (first_tree (part_from c.args.root c.measure-size.new.tree.tree)) c.window_canvas.ensures.value
     (ap (λ tree. first_tree (part_from c.args.root tree)) m.same.tree ∙ root_alone c.args.tree.now.tree c.args.root c.requires.root c.facts.ensures.is_tree.root)
     (λ key here. (m.keeps.bounds key, m.keeps.offsets key)) c.lay_open.ensures.within
@@ -135,7 +135,7 @@ returns-clause-measured c =
     let from_root = root_from old c.args.root c.requires.root is.root in
     let none : owed (held_of c.args.tree.now) (first_tree (part_from c.args.root old)) ≡ 0 = rw all (owed_none (held_of c.args.tree.now) old c.requires.consistent.reached) in
     let cost = m.costs.owing in
-    let lay : c.lay_open.new.work.measured ≤ c.measure-size.new.work.measured + owed (held_of c.measure-size.new.tree) (first_tree (part_from c.args.root old)) = rw m.same.tree at c.lay_open.ensures.measured in
+    let lay : c.lay_open.new.context.work.measured ≤ c.measure-size.new.work.measured + owed (held_of c.measure-size.new.tree) (first_tree (part_from c.args.root old)) = rw m.same.tree at c.lay_open.ensures.measured in
     let pair = ap (λ (p : Spec × Spec). let specs : Specs = record { across = p.0; down = p.1 } in specs) c.specs_in.ensures in
     let under = pair ∙ ap (λ (facts : FactsValue). root_specs c.args.window facts) c.facts.ensures.value in
     let calls = calls_whole old c.args.root (held_of c.args.tree.now) c.args.window _ c.requires.root is.root (rw from_root c.requires.shown) under in
@@ -155,7 +155,7 @@ returns-clause-idle c = λ known.
     let work = ap (λ (work : Work). work.measured) (m.idle (inl (current-is (state_of c.args.tree.now c.args.root) _ now))).0 in
     let none : owed (held_of c.args.tree.now) (first_tree (part_from c.args.root old)) ≡ 0 = rw all (owed_none (held_of c.args.tree.now) old c.requires.consistent.reached) in
     let none' : owed (held_of c.measure-size.new.tree) (first_tree (part_from c.args.root old)) ≡ 0 = ap (λ (views : Views). owed (held_of views) (first_tree (part_from c.args.root old))) still ∙ none in
-    let lay : c.lay_open.new.work.measured ≤ c.measure-size.new.work.measured + owed (held_of c.measure-size.new.tree) (first_tree (part_from c.args.root old)) = rw m.same.tree at c.lay_open.ensures.measured in
+    let lay : c.lay_open.new.context.work.measured ≤ c.measure-size.new.work.measured + owed (held_of c.measure-size.new.tree) (first_tree (part_from c.args.root old)) = rw m.same.tree at c.lay_open.ensures.measured in
     omega arith
 
 pub returns-clause-laid : goal.returns-clause-laid
