@@ -15,6 +15,10 @@ pub mod MeasureKid
 pub mod Own
 pub mod Parts
 pub mod Places
+pub mod PlanPhases
+pub mod PlanTurns
+pub mod PlanWalk
+pub mod Rests
 pub mod SettledLaws
 pub mod SiblingTurns
 pub mod Turns

@@ -11,8 +11,16 @@ use Rattle.view_model.specs.Forest.{Forest, Nothing, Branch}
 use Rattle.view_model.specs.Layout.{final_edges, final_specs, measure_calls, measured_size, total_size}
 use Rattle.view_model.specs.Measuring.{Specs}
 use Rattle.view_tree.specs.declared.state.State.{State}
-use Rattle.view_tree.specs.Rows.{Row, first_tree, head_view, part_from, views_of}
-use Rattle.view_tree.specs.Views.{Held, Views, IsLive, held_of, specs_of, state_of}
+use Rattle.view_tree.specs.Rows.{Row, children_of_first, first_tree, head_view, part_from, views_of}
+use Rattle.view_tree.specs.Views.{Held, KeepsOutside, SameTree, Views, IsLive, held_of, specs_of, state_of}
+
+-- a view with all below it
+abbrev pub tree_from : ℕ → Forest Row → Forest Row
+tree_from view tree = first_tree (part_from view tree)
+
+-- what is below a view
+abbrev pub kids_from : ℕ → Forest Row → Forest Row
+kids_from view tree = children_of_first (part_from view tree)
 
 -- the size of the first view of a list under these specs
 abbrev pub size_under : Forest Row → Specs → Size
@@ -114,3 +122,12 @@ pub record Counted (least : ℕ) (before after : Views) (old new : Work) : Type 
   pub tree : min after.counts.measures (2 ^ 64 - 1) ≡ min (before.counts.measures + by) (2 ^ 64 - 1)
   pub laid : after.counts.laid ≡ before.counts.laid
   pub painted : new.painted ≡ old.painted
+
+-- what measuring the views of a list leaves: they are ready again, the tree and what is kept of other views are the same,
+-- and each measuring was counted
+pub record KeepsRest (before after : Views) (list : Forest Row) (old new : Work) : Type 0 where
+  pub ready : Ready (held_of after) list
+  pub same : SameTree before after
+  pub keeps : Keeps (held_of before) (held_of after)
+  pub others : KeepsOutside (held_of before) (held_of after) list
+  pub counted : Counted 0 before after old new

@@ -1,19 +1,22 @@
 -- What a plan of any group has taken so far, and what a view without children measures.
-use Rattle.std.specs.Prelude.{◌≡◌, true, false, Bool, List, [], ◌∷◌, ◌++◌}
+use Rattle.std.specs.Prelude.{◌≡◌, ◌<◌, ℤ, true, false, Bool, Option, List, [], ◌∷◌, ◌++◌, length}
+use Rattle.std.specs.Option.{option_map}
 use Rattle.frame_layout.specs.FramePlan.{StandsFrame}
 use Rattle.frame_layout.specs.declared.plan.FramePlan.{FramePlan}
 use Rattle.geom_core.specs.declared.geometry.Size.{Size}
+use Rattle.geom_core.specs.declared.measuring.Spec.{Spec}
 use Rattle.linear_layout.specs.LinearPlan.{StandsLinear}
 use Rattle.linear_layout.specs.declared.plan.LinearPlan.{LinearPlan}
 use Rattle.scroll_view.specs.ScrollPlan.{StandsScroll}
 use Rattle.scroll_view.specs.declared.plan.ScrollPlan.{ScrollPlan}
 use Rattle.view_model.specs.declared.facts.Facts.{Facts}
+use Rattle.view_model.specs.declared.limits.TheConstants.{MAX_VIEWS}
 use Rattle.view_model.specs.FrameLayout.{frame_rule}
 use Rattle.view_model.specs.Growth.{is_group}
 use Rattle.view_model.specs.Layout.{manner_of}
 use Rattle.view_model.specs.Leaf.{leaf_rule}
 use Rattle.view_model.specs.LinearLayout.{linear_rule}
-use Rattle.view_model.specs.Measuring.{Manner, ByRule, BySiblings, Measured, Rule, Specs}
+use Rattle.view_model.specs.Measuring.{Manner, ByRule, BySiblings, Measured, Rule, Specs, pair_of, taken_as}
 use Rattle.view_model.specs.PlainTree.{PlainView}
 use Rattle.view_model.specs.ScrollView.{scroll_rule}
 
@@ -57,3 +60,27 @@ pub record Turned (plan : GroupPlan) (group : Group) (past : List (List Measured
   pub answers : answer ≡ (rule_in group).turns (past ++ taken ∷ [])
   pub follows : answer ≡ true → Stands plan group (past ++ taken ∷ []) []
   pub ends : answer ≡ false → Stands plan group past taken
+
+-- the specs that a plan asks for a child of these facts and this size, if it does
+abbrev pub Asks : GroupPlan → Facts → Size → Option (Spec × Spec) → Type 0
+Asks plan kid size answer =
+    (group : Group) (past : List (List Measured)) (taken : List Measured) → Stands plan group past taken
+    → answer ≡ option_map pair_of ((rule_in group).ask past taken (record { facts = kid; size = size }))
+
+-- a plan takes such a child
+abbrev pub Takes : GroupPlan → GroupPlan → Facts → Size → Type 0
+Takes old new kid size =
+    (group : Group) (past : List (List Measured)) (taken : List Measured) → Stands old group past taken → length taken < MAX_VIEWS
+    → Stands new group past (taken ++ taken_as (rule_in group) past taken kid size ∷ [])
+
+-- a plan ends a phase, and answers whether another follows
+abbrev pub Turns : GroupPlan → GroupPlan → Bool → Type 0
+Turns old new answer =
+    (group : Group) (past : List (List Measured)) (taken : List Measured) → Stands old group past taken → Turned new group past taken answer
+
+-- the size of a group by its plan after the last phase, and what its children took along its axis
+pub record Ends (plan : GroupPlan) (own : Size) (along : ℤ) : Type 0 where
+  pub size : (group : Group) (past : List (List Measured)) (taken : List Measured) → Stands plan group past taken
+      → own ≡ (rule_in group).size (past ++ taken ∷ [])
+  pub total : (group : Group) (past : List (List Measured)) (taken : List Measured) → Stands plan group past taken
+      → along ≡ (rule_in group).total (past ++ taken ∷ [])

@@ -67,6 +67,10 @@ abbrev pub FirstHasEdges : (ℕ → Held) → Specs → Edges → Forest Row →
 FirstHasEdges held specs edges Nothing = Unit {0}
 FirstHasEdges held specs edges (Branch row kids siblings) = is_shown row.view.facts ≡ true → HasEdges held specs edges row kids
 
+-- a list as the children of a group
+abbrev pub kids_in : Forest Row → List Child
+kids_in list = children_of (views_of list)
+
 -- the child of a place of a list after its turn in a phase
 abbrev pub TurnIsOver : Phase → (ℕ → Held) → Forest Row → ℕ → Type 0
 TurnIsOver phase held list place =
@@ -111,6 +115,10 @@ FirstHasSize held Nothing = Unit {0}
 FirstHasSize held (Branch row kids siblings) =
     is_shown row.view.facts ≡ true → IsSide (held row.key).state.measured.w × IsSide (held row.key).state.measured.h
 
+-- so is that of each child of a list
+abbrev pub HaveSizes : (ℕ → Held) → Forest Row → Type 0
+HaveSizes held list = (place : ℕ) → place < length (kids_in list) → FirstHasSize held (siblings_from place list)
+
 -- the result of a step for a child, given the sides of its anchors, on an axis
 abbrev pub step_on : Axis → Facts → Specs → List Child → (ℕ → ℤ × ℤ) → ℕ → ℤ × ℤ
 step_on Horizontal own specs kids = span_across own specs kids
@@ -130,10 +138,6 @@ order_on Vertical orders = orders.down
 abbrev pub first_child : Forest Row → Child
 first_child Nothing = no_child
 first_child (Branch row kids siblings) = child_under row.view (views_of kids)
-
--- a list as the children of a group
-abbrev pub kids_in : Forest Row → List Child
-kids_in list = children_of (views_of list)
 
 -- the child of a place after its turn in a phase, and the plan
 pub record AfterTurn (plan : RelativePlan) (own : Facts) (specs : Specs) (past : List (List Spanned)) (taken : List Spanned) (phase : Phase) (kids : List Child)

@@ -1,8 +1,8 @@
 //! The children of a relative layout: whose turn it is, and the sides that are kept of them.
 ghost use Rattle.std.specs.Prelude.{◌≡◌, ◌<◌, ℕ, [], ◌∷◌, List, length, slice_index};
 ghost use Rattle.kept_views.specs.Kept.{Ready};
-ghost use Rattle.measure_pass.specs.Measured.{Keeps, KeepsAllButEdges};
-ghost use Rattle.measure_pass.specs.Siblings.{FirstHasEdges, FirstHasSize, IsSettled, TurnIsOver, edges_of, first_child, kids_in, no_edges, order_on, phase_of};
+ghost use Rattle.measure_pass.specs.Measured.{Keeps, KeepsAllButEdges, kids_from, tree_from};
+ghost use Rattle.measure_pass.specs.Siblings.{FirstHasEdges, FirstHasSize, HaveSizes, IsSettled, TurnIsOver, edges_of, first_child, kids_in, no_edges, order_on, phase_of};
 ghost use Rattle.relative_layout.specs.RelativePlan.{StandsRelative};
 ghost use Rattle.view_model.specs.declared.facts.Facts.{Facts as FactsValue};
 ghost use Rattle.view_model.specs.declared.relative.Edges.{Edges as EdgesValue};
@@ -13,7 +13,7 @@ ghost use Rattle.view_model.specs.RelativeCourse.{arranged};
 ghost use Rattle.view_model.specs.RelativeLayout.{Spanned, final_rect, relative_size};
 ghost use Rattle.view_model.specs.Cycles.{links_in};
 ghost use Rattle.view_tree.specs.Ordering.{AreOrders};
-ghost use Rattle.view_tree.specs.Rows.{children_of_first, first_tree, part_from, siblings_from, views_of};
+ghost use Rattle.view_tree.specs.Rows.{part_from, siblings_from, views_of};
 ghost use Rattle.view_tree.specs.Views.{IsLive, IsTree, KeepsOthers, KeepsOutside, SameTree, class_of, held_of, orders_of, state_of};
 
 use geom_core::Rect;
@@ -25,9 +25,8 @@ use view_tree::{Key, ViewTree};
 pub fn turns(tree: &ViewTree, view: Key) -> usize
     requires live { IsLive tree.now view }
     requires siblings { class_of tree.now view ≡ RelativeLayout }
-    ensures value { result ≡ length (kids_in (children_of_first (part_from view tree.now.tree))) }
-    ensures ordered { AreOrders (links_in (views_of (children_of_first (part_from view tree.now.tree))))
-        (orders_of tree.now view) }
+    ensures value { result ≡ length (kids_in (kids_from view tree.now.tree)) }
+    ensures ordered { AreOrders (links_in (views_of (kids_from view tree.now.tree))) (orders_of tree.now view) }
 {
     match tree.orders(view) {
         None => 0,
@@ -39,10 +38,9 @@ pub fn turns(tree: &ViewTree, view: Key) -> usize
 pub fn kid_in_turn(tree: &ViewTree, view: Key, axis: Axis, turn: usize) -> Key
     requires live { IsLive tree.now view }
     requires siblings { class_of tree.now view ≡ RelativeLayout }
-    requires there { turn < length (kids_in (children_of_first (part_from view tree.now.tree))) }
+    requires there { turn < length (kids_in (kids_from view tree.now.tree)) }
     ensures part { part_from result tree.now.tree
-        ≡ siblings_from (slice_index (order_on axis (orders_of tree.now view)) turn)
-        (children_of_first (part_from view tree.now.tree)) }
+        ≡ siblings_from (slice_index (order_on axis (orders_of tree.now view)) turn) (kids_from view tree.now.tree) }
     ensures live { IsLive tree.now result }
     ensures is_tree { IsTree tree.now }
 {
@@ -52,9 +50,9 @@ pub fn kid_in_turn(tree: &ViewTree, view: Key, axis: Axis, turn: usize) -> Key
 fn place_in_turn(tree: &ViewTree, view: Key, axis: Axis, turn: usize) -> usize
     requires live { IsLive tree.now view }
     requires siblings { class_of tree.now view ≡ RelativeLayout }
-    requires there { turn < length (kids_in (children_of_first (part_from view tree.now.tree))) }
+    requires there { turn < length (kids_in (kids_from view tree.now.tree)) }
     ensures value { result ≡ slice_index (order_on axis (orders_of tree.now view)) turn }
-    ensures there { result < length (kids_in (children_of_first (part_from view tree.now.tree))) }
+    ensures there { result < length (kids_in (kids_from view tree.now.tree)) }
 {
     match tree.orders(view) {
         None => 0,
@@ -101,24 +99,22 @@ pub fn keep_edges(tree: &mut ViewTree, kid: Key, edges: Edges)
 pub fn settle(tree: &mut ViewTree, view: Key, plan: &RelativePlan)
     requires live { IsLive tree.old view }
     requires siblings { class_of tree.old view ≡ RelativeLayout }
-    requires sizes { (place : ℕ) → place < length (kids_in (children_of_first (part_from view tree.old.tree)))
-        → FirstHasSize (held_of tree.old) (siblings_from place (children_of_first (part_from view tree.old.tree))) }
+    requires sizes { HaveSizes (held_of tree.old) (kids_from view tree.old.tree) }
     ensures settled { (own : FactsValue) (specs : Specs) (first second : List Spanned)
         → StandsRelative plan.now own specs (first ∷ []) second
         → relative_size own specs first second
-        ≡ (arranged own specs (kids_in (children_of_first (part_from view tree.old.tree)))).size
-        → ((place : ℕ) → place < length (kids_in (children_of_first (part_from view tree.old.tree)))
-        → TurnIsOver (phase_of Vertical own specs (kids_in (children_of_first (part_from view tree.old.tree))))
-        (held_of tree.old) (children_of_first (part_from view tree.old.tree)) place)
-        → (place : ℕ) → place < length (kids_in (children_of_first (part_from view tree.old.tree)))
-        → IsSettled own specs (held_of tree.new) (children_of_first (part_from view tree.old.tree)) place }
+        ≡ (arranged own specs (kids_in (kids_from view tree.old.tree))).size
+        → ((place : ℕ) → place < length (kids_in (kids_from view tree.old.tree))
+        → TurnIsOver (phase_of Vertical own specs (kids_in (kids_from view tree.old.tree)))
+        (held_of tree.old) (kids_from view tree.old.tree) place)
+        → (place : ℕ) → place < length (kids_in (kids_from view tree.old.tree))
+        → IsSettled own specs (held_of tree.new) (kids_from view tree.old.tree) place }
     ensures same { SameTree tree.old tree.new }
     ensures keeps { Keeps (held_of tree.old) (held_of tree.new) }
-    ensures others { KeepsOutside (held_of tree.old) (held_of tree.new)
-        (children_of_first (part_from view tree.old.tree)) }
+    ensures others { KeepsOutside (held_of tree.old) (held_of tree.new) (kids_from view tree.old.tree) }
     ensures edged { KeepsAllButEdges (held_of tree.old) (held_of tree.new) }
-    ensures ready { Ready (held_of tree.old) (children_of_first (part_from view tree.old.tree))
-        → Ready (held_of tree.new) (children_of_first (part_from view tree.old.tree)) }
+    ensures ready { Ready (held_of tree.old) (kids_from view tree.old.tree)
+        → Ready (held_of tree.new) (kids_from view tree.old.tree) }
     ensures counts { tree.new.counts ≡ tree.old.counts }
 {
     for place in 0..turns(tree, view) {
@@ -141,8 +137,8 @@ fn settle_kid(tree: &mut ViewTree, kid: Key, plan: &RelativePlan)
     ensures keeps { Keeps (held_of tree.old) (held_of tree.new) }
     ensures others { KeepsOthers tree.old tree.new kid }
     ensures edged { KeepsAllButEdges (held_of tree.old) (held_of tree.new) }
-    ensures ready { Ready (held_of tree.old) (first_tree (part_from kid tree.old.tree))
-        → Ready (held_of tree.new) (first_tree (part_from kid tree.old.tree)) }
+    ensures ready { Ready (held_of tree.old) (tree_from kid tree.old.tree)
+        → Ready (held_of tree.new) (tree_from kid tree.old.tree) }
     ensures counts { tree.new.counts ≡ tree.old.counts }
 {
     if !tree.facts(kid).is_shown() {

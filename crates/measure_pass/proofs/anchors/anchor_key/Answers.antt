@@ -13,7 +13,7 @@ loop-left-init c =
     let list = children_of_first (part_from c.args.view tree) in
     record {
       live = c.requires.kid;
-      walk = λ place part. walk_start tree list (kids_in list) c.args.rtl c.args.axis c.args.tie c.args.kid place c.turns-left.result c.turns-left.ensures.value part;
+      walk = λ place part. walk_start tree list (kids_in list) c.args.along.rtl c.args.along.axis c.args.tie c.args.kid place c.turns-left.result c.turns-left.ensures.value part;
     }
 
 pub loop-left-preserved : goal.loop-left-preserved
@@ -22,13 +22,13 @@ loop-left-preserved c =
     let list = children_of_first (part_from c.args.view tree) in
     let kids = kids_in list in
     let shown : ℕ → Bool = λ sibling. is_shown (child_at kids sibling).facts in
-    let named = named_sibling c.args.rtl c.args.axis c.args.tie (links_of kids) in
+    let named = named_sibling c.args.along.rtl c.args.along.axis c.args.tie (links_of kids) in
     let live = rw c.in-Some.is at c.named_sibling.ensures.live in
     record {
       live = live;
       walk = λ place part.
           let w = c.loop-left.invariant.walk place part in
-          walk_on tree list shown named (anchor_of c.args.rtl c.args.axis c.args.tie (links_of kids) shown place) c.loop-left.at c.loop-left.left c.in-Some.named w c.loop-left-test.true
+          walk_on tree list shown named (anchor_of c.args.along.rtl c.args.along.axis c.args.tie (links_of kids) shown place) c.loop-left.at c.loop-left.left c.in-Some.named w c.loop-left-test.true
           (rw c.in-Some.is at (c.named_sibling.ensures.key w.here w.part))
           (λ at same. ap is_shown (facts_at tree list c.in-Some.named at live same) ∙ ap is_shown (sym c.facts.ensures.value) ∙ sym c.is_shown.ensures ∙ c.if-is_shown.false);
     }
@@ -39,9 +39,9 @@ returns-in_default-clause-key c = λ place part.
     let list = children_of_first (part_from c.args.view tree) in
     let kids = kids_in list in
     let shown : ℕ → Bool = λ sibling. is_shown (child_at kids sibling).facts in
-    let named = named_sibling c.args.rtl c.args.axis c.args.tie (links_of kids) in
+    let named = named_sibling c.args.along.rtl c.args.along.axis c.args.tie (links_of kids) in
     let w = c.loop-left.invariant.walk place part in
-    walk_none tree list shown named (anchor_of c.args.rtl c.args.axis c.args.tie (links_of kids) shown place) c.loop-left.at c.loop-left.left w (rw c.in_default.is at (c.named_sibling.ensures.key w.here w.part))
+    walk_none tree list shown named (anchor_of c.args.along.rtl c.args.along.axis c.args.tie (links_of kids) shown place) c.loop-left.at c.loop-left.left w (rw c.in_default.is at (c.named_sibling.ensures.key w.here w.part))
 
 pub returns-then-is_shown-clause-key : goal.returns-then-is_shown-clause-key
 returns-then-is_shown-clause-key c = λ place part.
@@ -49,10 +49,10 @@ returns-then-is_shown-clause-key c = λ place part.
     let list = children_of_first (part_from c.args.view tree) in
     let kids = kids_in list in
     let shown : ℕ → Bool = λ sibling. is_shown (child_at kids sibling).facts in
-    let named = named_sibling c.args.rtl c.args.axis c.args.tie (links_of kids) in
+    let named = named_sibling c.args.along.rtl c.args.along.axis c.args.tie (links_of kids) in
     let live = rw c.in-Some.is at c.named_sibling.ensures.live in
     let w = c.loop-left.invariant.walk place part in
-    walk_found tree list shown named (anchor_of c.args.rtl c.args.axis c.args.tie (links_of kids) shown place) c.loop-left.at c.loop-left.left c.in-Some.named w c.loop-left-test.true
+    walk_found tree list shown named (anchor_of c.args.along.rtl c.args.along.axis c.args.tie (links_of kids) shown place) c.loop-left.at c.loop-left.left c.in-Some.named w c.loop-left-test.true
     (rw c.in-Some.is at (c.named_sibling.ensures.key w.here w.part))
     (λ at same. ap is_shown (facts_at tree list c.in-Some.named at live same) ∙ ap is_shown (sym c.facts.ensures.value) ∙ sym c.is_shown.ensures ∙ c.if-is_shown.true)
 
@@ -62,5 +62,5 @@ returns-clause-key c = λ place part.
     let list = children_of_first (part_from c.args.view tree) in
     let kids = kids_in list in
     let shown : ℕ → Bool = λ sibling. is_shown (child_at kids sibling).facts in
-    let named = named_sibling c.args.rtl c.args.axis c.args.tie (links_of kids) in
-    walk_end tree list shown named (anchor_of c.args.rtl c.args.axis c.args.tie (links_of kids) shown place) c.loop-left.at c.loop-left.left (c.loop-left.invariant.walk place part) (omega arith)
+    let named = named_sibling c.args.along.rtl c.args.along.axis c.args.tie (links_of kids) in
+    walk_end tree list shown named (anchor_of c.args.along.rtl c.args.along.axis c.args.tie (links_of kids) shown place) c.loop-left.at c.loop-left.left (c.loop-left.invariant.walk place part) (omega arith)

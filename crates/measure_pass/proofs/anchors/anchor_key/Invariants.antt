@@ -15,8 +15,8 @@ invariant-loop-left l =
     record {
       live : 0 < count_of_key l.at tree;
       walk : (place : ℕ) → part_from l.kid tree ≡ siblings_from place list
-          → AnchorWalk tree list (λ sibling. is_shown (child_at kids sibling).facts) (named_sibling l.rtl l.axis l.tie (links_of kids))
-          (anchor_of l.rtl l.axis l.tie (links_of kids) (λ sibling. is_shown (child_at kids sibling).facts) place) l.at l.left;
+          → AnchorWalk tree list (λ sibling. is_shown (child_at kids sibling).facts) (named_sibling l.along.rtl l.along.axis l.tie (links_of kids))
+          (anchor_of l.along.rtl l.along.axis l.tie (links_of kids) (λ sibling. is_shown (child_at kids sibling).facts) place) l.at l.left;
     }
 
 abbrev pub decreases-loop-left : goal.decreases-loop-left

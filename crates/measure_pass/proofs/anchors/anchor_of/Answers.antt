@@ -9,5 +9,5 @@ use Rattle.measure_pass.proofs.anchors.anchor_of.Goals as goal
 pub returns-then-id-eq0 : goal.returns-then-id-eq0
 returns-then-id-eq0 c = λ place part.
     let tree = c.args.tree.now.tree in
-    unnamed tree (children_of_first (part_from c.args.view tree)) c.args.kid place c.args.rtl c.args.axis (held_of c.args.tree.now) c.args.tie c.anchor_id-id.result c.requires.kid part
-    (c.anchor_id-id.ensures ∙ ap (λ (facts : Facts). anchor_id c.args.rtl c.args.axis c.args.tie facts.rules) c.facts.ensures.value) c.if-id-eq0.true
+    unnamed tree (children_of_first (part_from c.args.view tree)) c.args.kid place c.args.along.rtl c.args.along.axis (held_of c.args.tree.now) c.args.tie c.anchor_id-id.result c.requires.kid part
+    (c.anchor_id-id.ensures ∙ ap (λ (facts : Facts). anchor_id c.args.along.rtl c.args.along.axis c.args.tie facts.rules) c.facts.ensures.value) c.if-id-eq0.true

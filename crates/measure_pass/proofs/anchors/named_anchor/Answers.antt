@@ -6,10 +6,10 @@ use Rattle.measure_pass.proofs.anchors.named_anchor.Goals as goal
 pub returns-in-None : goal.returns-in-None
 returns-in-None c = λ place part.
     let tree = c.args.tree.now.tree in
-    anchor_none tree (children_of_first (part_from c.args.view tree)) c.args.rtl c.args.axis (held_of c.args.tree.now) c.args.tie place (rw c.in-None.is at (c.anchor_key.ensures.key place part))
+    anchor_none tree (children_of_first (part_from c.args.view tree)) c.args.along.rtl c.args.along.axis (held_of c.args.tree.now) c.args.tie place (rw c.in-None.is at (c.anchor_key.ensures.key place part))
 
 pub returns-in-Some : goal.returns-in-Some
 returns-in-Some c = λ place part.
     let tree = c.args.tree.now.tree in
-    anchor_some tree (children_of_first (part_from c.args.view tree)) c.args.rtl c.args.axis (held_of c.args.tree.now) c.args.tie place c.in-Some.anchor c.anchor_with.result
+    anchor_some tree (children_of_first (part_from c.args.view tree)) c.args.along.rtl c.args.along.axis (held_of c.args.tree.now) c.args.tie place c.in-Some.anchor c.anchor_with.result
     (rw c.in-Some.is at (c.anchor_key.ensures.key place part)) c.anchor_with.ensures

@@ -31,15 +31,15 @@ returns c =
     let m : IsMeasuredBelow (part_from view tree) (specs_of (state_of c.args.tree.now view)) old mid size total start between =
     subst (λ (state : State). IsMeasuredBelow (part_from view tree) (specs_of state) old mid size total start between) c.state-state.ensures.value k.measured in
     let made = make_at tree view old mid (held_of c.make_up.new.tree) size total start between c.make_up.new.work.measured k.is_tree.keys r.live r.shown r.ready r.sized c.requires.marked
-    k.ready m k.keeps k.others (record { at = f.held; others = f.others }) (omega arith) in
-    let same = f.same.tree ∙ k.same.tree in
+    k.rest.ready m k.rest.keeps k.rest.others (record { at = f.held; others = f.others }) (omega arith) in
+    let same = f.same.tree ∙ k.rest.same.tree in
     record {
-      same = record { tree = same; orders = f.same.orders ∙ k.same.orders; next = f.same.next ∙ k.same.next };
+      same = record { tree = same; orders = f.same.orders ∙ k.rest.same.orders; next = f.same.next ∙ k.rest.same.next };
       held = made.own ∙ ap (λ total. record (old view) { state = record (old view).state { total = total; measure_first = false } }) m.length;
       measured = measured_at c.args.tree.now c.make_up.new.tree view _ _ _ _ _ same made.all;
       keeps = made.all.keeps;
       others = made.all.others;
-      counted = counted_own c.args.tree.now c.measure_below-outcome.new.tree c.make_up.new.tree c.args.work.now c.measure_below-outcome.new.work c.make_up.new.work k.counted
+      counted = counted_own c.args.tree.now c.measure_below-outcome.new.tree c.make_up.new.tree c.args.work.now c.measure_below-outcome.new.work c.make_up.new.work k.rest.counted
           (counted_one c.measure_below-outcome.new.tree c.make_up.new.tree c.measure_below-outcome.new.work c.make_up.new.work f.counts f.counted);
       caches = made.all.caches;
       back = made.back;

@@ -1,13 +1,24 @@
-//! The size of a view that shows a text. Lengths are in pixels.
+//! The size of a view without children: a plain one, or one that shows a text. Lengths are in pixels.
 ghost use Rattle.std.specs.Prelude.{◌≡◌, ◌<◌, ◌≤◌, ◌*◌, pos};
 ghost use Rattle.view_model.specs.declared.limits.TheConstants.{CELL_HEIGHT};
 ghost use Rattle.view_model.specs.Facts.{layout_facts};
+ghost use Rattle.view_model.specs.Leaf.{view_size};
 ghost use Rattle.view_model.specs.TextView.{cells_across, cells_in, text_height, text_size, text_width};
 
 use cell_text::{cells_in, count, widest};
-use geom_core::{Size, Spec};
+use geom_core::{Size, Spec, default_size};
 use view_model::limits::{CELL_HEIGHT, CELL_WIDTH};
 use view_model::{Facts, Text, own_side};
+
+/// The size of a plain view under these specs.
+pub fn minimal_size(facts: &Facts, ws: Spec, hs: Spec) -> Size
+    ensures { result ≡ view_size (layout_facts facts.now) (record { across = ws; down = hs }) }
+{
+    Size {
+        w: default_size(facts.min.w, ws),
+        h: default_size(facts.min.h, hs),
+    }
+}
 
 /// The size of a view with this text. How many lines the text takes depends on the width that results.
 pub fn text_size(own: &Facts, text: &Text, ws: Spec, hs: Spec) -> Size

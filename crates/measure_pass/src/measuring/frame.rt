@@ -1,0 +1,136 @@
+//! Measuring a frame layout: its children in order, phase by phase, as its plan asks for them.
+ghost use Rattle.std.specs.Prelude.{◌≡◌, ◌≤◌, pos};
+ghost use Rattle.kept_views.specs.Kept.{Ready};
+ghost use Rattle.measure_pass.specs.Courses.{IsMeasuredBelow};
+ghost use Rattle.measure_pass.specs.Measured.{KeepsRest, kids_from, tree_from};
+ghost use Rattle.measure_pass.specs.Phases.{MeasuresAll, MeasuresNext, MeasuresPhase};
+ghost use Rattle.measure_pass.specs.Plans.{Ends, Frame};
+ghost use Rattle.view_model.specs.declared.kinds.Class.TheVariants.{FrameLayout};
+ghost use Rattle.view_tree.specs.Rows.{part_from};
+ghost use Rattle.view_tree.specs.Views.{IsLive, IsTree, class_of, held_of};
+
+use crate::measuring::keeping::Outcome;
+use crate::measuring::measure;
+use crate::plan::{frame_ask, frame_take, frame_turn};
+use frame_layout::FramePlan;
+use geom_core::{Size, Spec};
+use view_model::Work;
+use view_tree::{Key, ViewTree};
+
+/// Measures what is below a frame layout, and returns the result. What a plan holds is cleared where the function that
+/// holds it begins, and stays on the stack while what is below is measured, so each class has functions of its own.
+#[cycle(measure)]
+#[inline(never)]
+pub fn measure_frame(tree: &mut ViewTree, view: Key, ws: Spec, hs: Spec, work: &mut Work) -> Outcome
+    requires live { IsLive tree.old view }
+    requires class { class_of tree.old view ≡ FrameLayout }
+    requires ready { Ready (held_of tree.old) (kids_from view tree.old.tree) }
+    ensures is_tree { IsTree tree.old }
+    ensures measured { IsMeasuredBelow (part_from view tree.old.tree) (record { across = ws; down = hs })
+        (held_of tree.old) (held_of tree.new)
+        result.size result.total work.old.measured work.new.measured }
+    ensures rest { KeepsRest tree.old tree.new (kids_from view tree.old.tree) work.old work.new }
+{
+    let mut plan = FramePlan::start(tree.facts(view), ws, hs);
+    Outcome {
+        size: measure_phases(tree, view, &mut plan, 2, work),
+        total: 0,
+    }
+}
+
+/// The remaining phases of its measuring, at most this many after the next, and their result.
+#[cycle(measure)]
+#[inline(always)]
+fn measure_phases(
+    tree: &mut ViewTree,
+    view: Key,
+    plan: &mut FramePlan,
+    left: usize,
+    work: &mut Work,
+) -> Size
+    requires live { IsLive tree.old view }
+    requires left { left ≤ 2 }
+    requires ready { Ready (held_of tree.old) (kids_from view tree.old.tree) }
+    ensures is_tree { IsTree tree.old }
+    ensures phases { MeasuresAll left (Frame plan.old) tree.old tree.new (kids_from view tree.old.tree)
+        result (pos 0) work.old work.new }
+    ensures rest { KeepsRest tree.old tree.new (kids_from view tree.old.tree) work.old work.new }
+{
+    measure_kids(tree, view, plan, work);
+    if left == 0 {
+        return frame_size(plan);
+    }
+    if !frame_turn(plan) {
+        return frame_size(plan);
+    }
+    measure_more(tree, view, plan, left - 1, work)
+}
+
+/// The same, for the phases after the first one. Most groups have only one.
+#[cycle(measure)]
+#[inline(never)]
+fn measure_more(
+    tree: &mut ViewTree,
+    view: Key,
+    plan: &mut FramePlan,
+    left: usize,
+    work: &mut Work,
+) -> Size
+    requires live { IsLive tree.old view }
+    requires left { left ≤ 2 }
+    requires ready { Ready (held_of tree.old) (kids_from view tree.old.tree) }
+    ensures is_tree { IsTree tree.old }
+    ensures phases { MeasuresAll left (Frame plan.old) tree.old tree.new (kids_from view tree.old.tree)
+        result (pos 0) work.old work.new }
+    ensures rest { KeepsRest tree.old tree.new (kids_from view tree.old.tree) work.old work.new }
+{
+    measure_phases(tree, view, plan, left, work)
+}
+
+/// One phase of its measuring: each of its children in order, as the plan asks for it.
+#[cycle(measure)]
+#[inline(always)]
+fn measure_kids(tree: &mut ViewTree, view: Key, plan: &mut FramePlan, work: &mut Work)
+    requires live { IsLive tree.old view }
+    requires ready { Ready (held_of tree.old) (kids_from view tree.old.tree) }
+    ensures is_tree { IsTree tree.old }
+    ensures phase { MeasuresPhase (Frame plan.old) (Frame plan.new) tree.old tree.new
+        (kids_from view tree.old.tree) work.old work.new }
+    ensures rest { KeepsRest tree.old tree.new (kids_from view tree.old.tree) work.old work.new }
+{
+    let mut next = tree.first(view);
+    while let Some(kid) = next {
+        measure_kid(tree, kid, plan, work);
+        next = tree.next(kid);
+    }
+}
+
+/// Measures a child as the plan asks for it, if it takes part in layout.
+#[cycle(measure)]
+#[inline(always)]
+fn measure_kid(tree: &mut ViewTree, kid: Key, plan: &mut FramePlan, work: &mut Work)
+    requires live { IsLive tree.old kid }
+    requires ready { Ready (held_of tree.old) (tree_from kid tree.old.tree) }
+    ensures next { MeasuresNext (Frame plan.old) (Frame plan.new) tree.old tree.new
+        (tree_from kid tree.old.tree) work.old work.new }
+    ensures rest { KeepsRest tree.old tree.new (tree_from kid tree.old.tree) work.old work.new }
+{
+    let facts = tree.facts(kid);
+    if !facts.is_shown() {
+        return;
+    }
+    let present = tree.state(kid).measured;
+    let Some((across, down)) = frame_ask(plan, facts, present) else {
+        frame_take(plan, facts, present);
+        return;
+    };
+    let size = measure(tree, kid, across, down, work);
+    frame_take(plan, tree.facts(kid), size);
+}
+
+/// The size of a frame layout by its plan after its last phase. It has no total.
+fn frame_size(plan: &FramePlan) -> Size
+    ensures { Ends (Frame plan.now) result (pos 0) }
+{
+    plan.finish()
+}
