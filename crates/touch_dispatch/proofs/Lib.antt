@@ -21,4 +21,5 @@ mod WideLaws
 mod DistinctLaws
 mod Examples
 mod PlaceLaws
+mod RoomLaws
 mod PartLaws

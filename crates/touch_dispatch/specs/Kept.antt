@@ -1,7 +1,9 @@
 -- What contracts see of a gesture as it is kept: the open views with what they have captured, and the marks of views.
-use Rattle.std.specs.Prelude.{◌≡◌, ℕ, ◌&&◌, Bool, false, true, List, [], ◌∷◌, ◌++◌, Option, Some, None, nat_eq, is_some, refl}
+use Rattle.std.specs.Prelude.{◌≡◌, ◌==◌, ℕ, ◌≤◌, Bool, false, true, List, [], length, Option, Some, None, nat_eq, refl}
 use Rattle.std.specs.Coded.{Coded, code_by, coded×, coded_ℕ, coded_list}
+use Rattle.std.specs.List.{list_any}
 use Rattle.std.specs.Map.{lookup}
+use Rattle.indexmap.specs.IndexMap.{get as get_key, spare}
 use Rattle.touch_dispatch.specs.Gestures.{PlainGesture, no_drag}
 use Rattle.touch_dispatch.specs.Once.{AllDistinct}
 use Rattle.touch_dispatch.specs.contracts.marks.Marks.{the_row as marks_row}
@@ -13,7 +15,7 @@ use Rattle.touch_targets.specs.Seats.{Seat, is_open as has_seat, seats_code, tar
 pub record Kept : Type 0 where
   -- the open views, each with the children that it has captured
   pub seats : List Seat
-  -- the marks of views, by their numbers
+  -- the marks of the views that have some, by their numbers
   pub marks : List (ℕ × Marks)
 
 abbrev pub nothing_kept : Kept
@@ -44,11 +46,11 @@ gesture_of kept = record {
 
 -- there is a place for the view
 abbrev pub is_open : Kept → ℕ → Bool
-is_open kept view = has_seat kept.seats view && is_some (marks_at kept view)
+is_open kept view = has_seat kept.seats view
 
 -- one more view has a place
 abbrev pub with_place : ℕ → Kept → Kept
-with_place view kept = record { seats = with_seat view kept.seats; marks = kept.marks ++ (view, no_marks) ∷ [] }
+with_place view kept = record kept { seats = with_seat view kept.seats }
 
 -- nothing is kept of the view
 pub record IsUnknown (kept : Kept) (view : ℕ) : Type 0 where
@@ -64,10 +66,21 @@ pub record MayCapture (kept : Kept) (group child : ℕ) : Type 0 where
 abbrev pub kept_in : Inside → Kept
 kept_in inside = record { seats = inside.targets; marks = inside.marks.entries }
 
--- no group has a child twice, and a view has a seat exactly where it has marks
+abbrev pub is_among : ℕ → List ℕ → Bool
+is_among view views = list_any (λ v. v == view) views
+
+-- only open views have marks, and there is room for the marks of all other open views
+pub record HasRoom (opened : ℕ → Bool) (marks : ℕ → Option Marks) (room : ℕ) : Type 0 where
+  pub placed : (view : ℕ) → opened view ≡ false → marks view ≡ None
+  -- the open views without marks
+  pub unmarked : List ℕ
+  pub each : (view : ℕ) → opened view ≡ true → marks view ≡ None → is_among view unmarked ≡ true
+  pub fits : length unmarked ≤ room
+
+-- no group has a child twice, and each open view has marks or room for them
 pub record IsSoundGesture (inside : Inside) : Type 0 where
   pub distinct : AllDistinct (targets_of inside.targets)
-  pub places : (view : ℕ) → has_seat inside.targets view ≡ is_some (lookup (nat_eq view) inside.marks.entries)
+  pub room : HasRoom (has_seat inside.targets) (get_key nat_eq inside.marks) (spare inside.marks)
 
 abbrev pub kept_code : Coded Kept
 kept_code =

@@ -1,8 +1,8 @@
 //! What is kept of a gesture between its events.
-ghost use Rattle.std.specs.Prelude.{◌≡◌, ◌≢◌, ◌==◌, ◌<◌, ◌&&◌, ◌||◌, not, true, false, ℕ, [], if◌then◌else◌, None, Some, OnErr, OnOk, is_some, nat_eq};
-ghost use Rattle.indexmap.specs.IndexMap.{get as get_key, insert_entry, spare, swap_remove_entry};
+ghost use Rattle.std.specs.Prelude.{◌≡◌, ◌≢◌, ◌==◌, ◌<◌, ◌≤◌, ◌+◌, ◌&&◌, ◌||◌, not, true, false, Bool, ℕ, [], if◌then◌else◌, None, Some, OnErr, OnOk, is_some, nat_eq};
+ghost use Rattle.indexmap.specs.IndexMap.{get as get_key, spare};
 ghost use Rattle.touch_dispatch.specs.Gestures.{closed, set_disallow, set_drag, set_pressed, set_targets, without_target};
-ghost use Rattle.touch_dispatch.specs.Kept.{IsUnknown, Kept, MayCapture, gesture_of, is_open, marks_or, no_marks, nothing_kept, with_place};
+ghost use Rattle.touch_dispatch.specs.Kept.{HasRoom, IsUnknown, Kept, MayCapture, gesture_of, is_open, marks_or, no_marks, nothing_kept, with_place};
 ghost use Rattle.touch_dispatch.specs.Once.{AllDistinct};
 ghost use Rattle.touch_event.specs.PointerSets.{has_id};
 ghost use Rattle.touch_targets.specs.Captures.{drop_pointers, first_child, first_ids, from_child, is_target, older, put_target, targets_from};
@@ -19,6 +19,7 @@ use touch_targets::Targets;
 #[derive(Drop)]
 pub struct Gesture {
     targets: Targets,
+    /// The marks of the few views that ever got some. There is room for those of every other view with a place.
     marks: IndexMap<u64, Marks>,
 }
 
@@ -47,7 +48,7 @@ impl Gesture {
         }
     }
 
-    /// Keeps a place for a view.
+    /// Keeps a place for a view, and room for its marks. No other call takes memory.
     pub fn open(&mut self, view: u64) -> Result<(), AllocError>
         ensures opened { OnOk result ((other : ℕ)
             → is_open self.new other ≡ (is_open self.old other || other == view)) }
@@ -56,12 +57,11 @@ impl Gesture {
         ensures unknown { (other : ℕ) → is_open self.old other ≡ false → IsUnknown self.old other }
         ensures unchanged { OnErr result (self.new ≡ self.old) }
     {
-        self.marks.reserve(1)?;
-        self.targets.open(view)?;
-        if !self.marks.contains_key(&view) {
-            note_marks(&mut self.marks, view, no_marks());
-        }
-        Ok(())
+        let Some(places) = self.targets.len().checked_add(1) else {
+            return Err(AllocError);
+        };
+        self.marks.reserve(places)?;
+        self.targets.open(view)
     }
 
     /// Removes the place of a view, and all that is kept of it, as a group or as a child.
@@ -85,14 +85,11 @@ impl Gesture {
         ensures gesture { gesture_of self.new ≡ set_disallow group on (gesture_of self.old) }
     {
         let marks = marks_of(&self.marks, group);
-        write_marks(
-            &mut self.marks,
-            group,
-            Marks {
-                disallows: on,
-                ..marks
-            },
-        );
+        let new = Marks {
+            disallows: on,
+            ..marks
+        };
+        set_marks(&mut self.marks, group, new);
     }
 
     pub(crate) fn press(&mut self, view: u64, on: bool)
@@ -101,14 +98,11 @@ impl Gesture {
         ensures gesture { gesture_of self.new ≡ set_pressed view on (gesture_of self.old) }
     {
         let marks = marks_of(&self.marks, view);
-        write_marks(
-            &mut self.marks,
-            view,
-            Marks {
-                pressed: on,
-                ..marks
-            },
-        );
+        let new = Marks {
+            pressed: on,
+            ..marks
+        };
+        set_marks(&mut self.marks, view, new);
     }
 
     pub(crate) fn set_drag(&mut self, view: u64, drag: Drag)
@@ -117,7 +111,7 @@ impl Gesture {
         ensures gesture { gesture_of self.new ≡ set_drag view drag (gesture_of self.old) }
     {
         let marks = marks_of(&self.marks, view);
-        write_marks(&mut self.marks, view, Marks { drag, ..marks });
+        set_marks(&mut self.marks, view, Marks { drag, ..marks });
     }
 
     pub(crate) fn disallows(&self, group: u64) -> bool
@@ -226,59 +220,69 @@ fn no_marks() -> Marks
     }
 }
 
-/// The marks of a view, or those of one that has none. As long as no view was closed, they are at the view's number less
-/// one, so they are looked for there first.
+/// The marks of a view.
 fn marks_of(marks: &IndexMap<u64, Marks>, view: u64) -> Marks
     ensures { result ≡ marks_or (get_key nat_eq marks.now view) }
 {
-    match marks.get_index(view.saturating_sub(1) as usize) {
-        Some((number, marks)) if *number == view => *marks,
-        _ => searched_marks(marks, view),
+    if marks.is_empty() {
+        return no_marks();
     }
-}
-
-/// The same by a search.
-fn searched_marks(marks: &IndexMap<u64, Marks>, view: u64) -> Marks
-    ensures { result ≡ marks_or (get_key nat_eq marks.now view) }
-{
     match marks.get(&view) {
         None => no_marks(),
         Some(marks) => *marks,
     }
 }
 
-/// Changes the marks of a view that has some.
+/// Sets the marks of a view with a place. An entry is made for a view only once its marks change.
+fn set_marks(marks: &mut IndexMap<u64, Marks>, view: u64, new: Marks)
+    requires room { get_key nat_eq marks.old view ≡ None → 0 < spare marks.old }
+    ensures marks { (other : ℕ)
+        → marks_or (get_key nat_eq marks.new other)
+        ≡ (if nat_eq view other then new else marks_or (get_key nat_eq marks.old other)) }
+    ensures room { (opened : ℕ → Bool)
+        → opened view ≡ true
+        → HasRoom opened (get_key nat_eq marks.old) (spare marks.old)
+        → HasRoom opened (get_key nat_eq marks.new) (spare marks.new) }
+{
+    if new != marks_of(marks, view) {
+        write_marks(marks, view, new);
+    }
+}
+
+/// Writes the marks of a view: in its entry, or in a new one, for which there is room.
 fn write_marks(marks: &mut IndexMap<u64, Marks>, view: u64, new: Marks)
-    requires { is_some (get_key nat_eq marks.old view) ≡ true }
-    ensures { (other : ℕ)
+    requires room { get_key nat_eq marks.old view ≡ None → 0 < spare marks.old }
+    ensures marks { (other : ℕ)
         → get_key nat_eq marks.new other ≡ (if nat_eq view other then Some new else get_key nat_eq marks.old other) }
+    ensures room { spare marks.old ≤ spare marks.new + (if is_some (get_key nat_eq marks.old view) then 0 else 1) }
 {
     match marks.get_mut(&view) {
-        None => unreachable!(),
+        None => note_marks(marks, view, new),
         Some(marks) => {
             *marks = new;
         }
     }
 }
 
-/// Forgets the marks of a view.
-fn forget_marks(marks: &mut IndexMap<u64, Marks>, view: u64)
-    ensures entries { marks.new.entries ≡ swap_remove_entry (nat_eq view) marks.old.entries }
-    ensures forgot { (other : ℕ)
-        → get_key nat_eq marks.new other ≡ (if nat_eq view other then None else get_key nat_eq marks.old other) }
-{
-    marks.swap_remove(&view);
-}
-
-/// Gives marks to a view that has none; there is room for them.
+/// Makes an entry for a view that has none; there is room for it.
 fn note_marks(marks: &mut IndexMap<u64, Marks>, view: u64, new: Marks)
     requires { 0 < spare marks.old }
-    ensures entries { marks.new.entries ≡ insert_entry nat_eq marks.old.entries view new }
-    ensures noted { (other : ℕ)
+    ensures marks { (other : ℕ)
         → get_key nat_eq marks.new other ≡ (if nat_eq view other then Some new else get_key nat_eq marks.old other) }
+    ensures room { spare marks.old ≤ spare marks.new + 1 }
 {
     match marks.insert(view, new) {
         Ok(_) => (),
         Err(_) => unreachable!(),
     }
+}
+
+/// Forgets the marks of a view.
+fn forget_marks(marks: &mut IndexMap<u64, Marks>, view: u64)
+    ensures forgot { (other : ℕ)
+        → get_key nat_eq marks.new other ≡ (if nat_eq view other then None else get_key nat_eq marks.old other) }
+    ensures unchanged { get_key nat_eq marks.old view ≡ None → marks.new.entries ≡ marks.old.entries }
+    ensures room { spare marks.old ≤ spare marks.new }
+{
+    marks.swap_remove(&view);
 }

@@ -20,6 +20,7 @@ pub record Drops (old new : Slab Node) (group ids : ℕ) (previous at : Option �
   pub dropped : map (λ p. caught_at (get new p)) walk.front ++ drop_caught ids (map (λ p. caught_at (get new p)) walk.back) ≡ drop_caught ids (caught_by old group)
   pub others : (x : ℕ) → x ≢ group → caught_by new x ≡ caught_by old x
   pub views : (x : ℕ) → view_of (get new x) ≡ view_of (get old x)
+  pub capacity : new.capacity ≡ old.capacity
 
 pub drops_start : (s : Slab Node) (group ids : ℕ) (g : Node) → AreLinked s → get s group ≡ Some g → Drops s s group ids None g.newest
 drops_start s group ids g linked is = record {
@@ -29,6 +30,7 @@ drops_start s group ids g linked is = record {
   dropped = refl;
   others = λ x apart. refl;
   views = λ x. refl;
+  capacity = refl;
 }
 
 -- a place is there once among others
@@ -51,7 +53,8 @@ module _
     (places : (x : ℕ) → places_by u x ≡ (if left_at t place ids == 0 && x == group then without_place place (places_by t x) else places_by t x))
     (others : (x : ℕ) → x ≢ place → caught_at (get u x) ≡ caught_at (get t x))
     (own : left_at t place ids ≢ 0 → caught_at (get u place) ≡ caught_in_place (get t place) (left_at t place ids))
-    (views : (x : ℕ) → view_of (get u x) ≡ view_of (get t x)) where
+    (views : (x : ℕ) → view_of (get u x) ≡ view_of (get t x))
+    (capacity : u.capacity ≡ t.capacity) where
   at : Here t group place drops.walk.back
   at = here t group previous place drops.linked drops.opened drops.walk
 
@@ -127,6 +130,7 @@ module _
         dropped = rw (same_front, same_back) (rw zero at equation);
         others = others_on;
         views = views_on;
+        capacity = capacity ∙ drops.capacity;
       }
 
   kept_here : left_at t place ids == 0 ≡ false → Drops s u group ids (Some place) n.next
@@ -153,6 +157,7 @@ module _
             ∙ (rw some at equation));
         others = others_on;
         views = views_on;
+        capacity = capacity ∙ drops.capacity;
       }
 
   pub drops_on : Drops s u group ids (if left_at t place ids == 0 then previous else Some place) n.next

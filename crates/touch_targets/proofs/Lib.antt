@@ -1,11 +1,13 @@
 mod CaughtLaws
 mod Chains
 mod Dropping
+mod EntryCounts
 mod Examples
 pub mod LastEntries
 mod Linking
 mod MaskLaws
 mod Membership
+mod NewNodes
 mod Opening
 mod Pointing
 mod Putting

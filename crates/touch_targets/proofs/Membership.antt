@@ -1,137 +1,109 @@
 -- What a pool represents once a view is open, and once it is closed.
-use Rattle.std.proofs.Common.{◌≡◌, ◌≢◌, ℕ, true, false, Bool, List, [], ◌∷◌, Option, Some, None, is_some, map, refl, sym, ◌∙◌, ap, subst, inl, inr}
+use Rattle.std.proofs.Common.{◌≡◌, ◌≢◌, ◌+◌, ◌≤◌, ℕ, arith, true, false, Bool, List, [], ◌∷◌, ◌++◌, Option, Some, None, is_some, count_by, length, map, refl, sym, ◌∙◌, ap, subst, inl, inr, length-append}
 use Rattle.std.specs.Prelude.{◌==◌, ◌||◌, ◌&&◌, not, if◌then◌else◌, nat_eq}
 use Rattle.std.specs.Map.{lookup}
+use Rattle.std.specs.Option.{option_flatten}
 use Rattle.std.proofs.lemmas.Bool.{cases_Bool, cases_eq, eq-eqb, ne_eqb}
-use Rattle.slab.specs.Slab.{Slab, get}
+use Rattle.std.proofs.lemmas.List.{map-append}
+use Rattle.slab.specs.Slab.{Slab, get, slab_len}
+use Rattle.slab_link.specs.declared.link.TheConstants.{LINKS_END}
+use Rattle.indexmap.specs.IndexMap.{get as get_key, insert_entry, swap_remove_entry}
+use Rattle.indexmap.proofs.CallerLemmas.{insert_entry-new}
 use Rattle.touch_targets.specs.Captures.{Target, is_target, without_child}
-use Rattle.touch_targets.specs.Nodes.{AreLinked, caught_at, caught_by, fresh_node, view_at, view_of}
-use Rattle.touch_targets.specs.Pool.{IsSoundPool, seat_at, seats_in}
-use Rattle.touch_targets.specs.Seats.{Caught, Seat, is_caught, is_open, target_of, targets_of}
+use Rattle.touch_targets.specs.Nodes.{AreLinked, caught_at, caught_by, view_at, view_of}
+use Rattle.touch_targets.specs.Pool.{IsSoundPool, caught_from, has_node, place_in, seat_at, seats_in}
+use Rattle.touch_targets.specs.Seats.{Caught, Seat, is_caught, is_open, target_of, targets_of, with_seat}
 use Rattle.touch_targets.specs.declared.node.Node.{Node}
 use Rattle.touch_targets.specs.declared.targets.Targets.TheInside.{Inside}
 use Rattle.touch_targets.proofs.CaughtLaws.{is_target_of}
 use Rattle.touch_targets.proofs.Chains.{cases_Option, no_some, places_none, some_is, true_not_false}
-use Rattle.touch_targets.proofs.SeatLaws.{apart, at_group, at_place, gone, node_of, open_is, place_in, targets_are}
+use Rattle.touch_targets.proofs.EntryCounts.{count-added, count-forgot, slab_len-views}
+use Rattle.touch_targets.proofs.SeatLaws.{apart, at_group, gone, node_of, open_is, targets_are}
 
--- more room changes nothing
-module _ (a b : Inside) (nodes : b.nodes ≡ record a.nodes { capacity = b.nodes.capacity }) (places : b.places.entries ≡ a.places.entries) where
+-- room for more nodes, and views that have none
+module _ (a b : Inside) (nodes : b.nodes ≡ record a.nodes { capacity = b.nodes.capacity }) (places : (view : ℕ) → place_in b.places view ≡ place_in a.places view) where
   node_same : (p : ℕ) → get b.nodes p ≡ get a.nodes p
   node_same p = ap (λ (s : Slab Node). get s p) nodes
 
-  pub place_same : (view : ℕ) → place_in b view ≡ place_in a view
-  place_same view = ap (lookup (nat_eq view)) places
-
-  pub linked_room : AreLinked a.nodes → AreLinked b.nodes
-  linked_room linked = subst AreLinked (sym nodes) linked
-
-  pub sound_room : IsSoundPool a → IsSoundPool b
-  sound_room sound = record {
-    linked = linked_room sound.linked;
-    named = λ view p h. ap view_of (node_same p) ∙ sound.named view p (sym (place_same view) ∙ h);
-    found = λ p n h. place_same n.view ∙ sound.found p n (sym (node_same p) ∙ h);
+  pub sound_room : IsSoundPool a.nodes a.places → count_by has_node b.places.entries ≡ count_by has_node a.places.entries → length b.places.entries ≤ b.nodes.capacity
+      → b.nodes.capacity ≤ LINKS_END → IsSoundPool b.nodes b.places
+  sound_room sound counts room small = record {
+    linked = subst AreLinked (sym nodes) sound.linked;
+    named = λ view p h. ap view_of (node_same p) ∙ sound.named view p (sym (places view) ∙ h);
+    found = λ p n h. places n.view ∙ sound.found p n (sym (node_same p) ∙ h);
+    counted = subst (λ n. slab_len b.nodes ≤ n) (sym counts) (subst (λ (s : Slab Node). slab_len s ≤ count_by has_node a.places.entries) (sym nodes) sound.counted);
+    room = room;
+    small = small;
   }
 
-  pub seats_room : seats_in b ≡ seats_in a
-  seats_room = ap (λ (s : Slab Node). map (seat_at s) b.places.entries) nodes ∙ ap (map (seat_at a.nodes)) places
+-- room for the entries too
+pub sound_reserved : (a b : Inside) → b.nodes ≡ record a.nodes { capacity = b.nodes.capacity } → b.places.entries ≡ a.places.entries → IsSoundPool a.nodes a.places
+    → length a.places.entries + 1 ≤ b.nodes.capacity → b.nodes.capacity ≤ LINKS_END → IsSoundPool b.nodes b.places
+sound_reserved a b nodes entries sound room small =
+    sound_room a b nodes (λ view. ap (λ es. option_flatten (lookup (nat_eq view) es)) entries) sound
+    (ap (count_by has_node) entries) (omega (arith, ap length entries, room)) small
 
--- the pool with one more view open
-pub record Grown (seats : List Seat) (view : ℕ) (b : Inside) : Type 0 where
-  pub sound : IsSoundPool b
-  pub opened : (other : ℕ) → is_open (seats_in b) other ≡ (is_open seats other || other == view)
-  pub targets : (group : ℕ) → targets_of (seats_in b) group ≡ targets_of seats group
+place_added : (es : List (ℕ × Option ℕ)) (view other : ℕ) → option_flatten (lookup (nat_eq other) (es ++ (view, None) ∷ [])) ≡ option_flatten (lookup (nat_eq other) es)
+place_added [] view other = elim (cases_Bool (nat_eq other view)) [ inl is ↦ rw is refl | inr is ↦ rw is refl ]
+place_added (e ∷ es) view other = elim (cases_Bool (nat_eq other e.0)) [ inl is ↦ rw is refl | inr is ↦ rw is (place_added es view other) ]
 
--- a view that was not open has a node
+-- a view that was not open has the last entry
 module _
-    (a b : Inside) (seats : List Seat) (view place : ℕ)
-    (sound : IsSoundPool a) (is : seats_in a ≡ seats)
-    (closed : place_in a view ≡ None)
-    (unused : get a.nodes place ≡ None)
-    (linked : AreLinked b.nodes)
-    (nodes : (x : ℕ) → get b.nodes x ≡ (if x == place then Some (fresh_node view) else get a.nodes x))
-    (caught : (x : ℕ) → caught_by b.nodes x ≡ caught_by a.nodes x)
-    (noted : (other : ℕ) → place_in b other ≡ (if nat_eq view other then Some place else place_in a other)) where
-  own : place_in b view ≡ Some place
-  own = noted view ∙ rw (eq-eqb view view refl) refl
+    (a b : Inside) (view : ℕ)
+    (nodes : b.nodes ≡ record a.nodes { capacity = b.nodes.capacity })
+    (closed : get_key nat_eq a.places view ≡ None)
+    (noted : b.places.entries ≡ insert_entry nat_eq a.places.entries view None) where
+  entries : b.places.entries ≡ a.places.entries ++ (view, None) ∷ []
+  entries = noted ∙ insert_entry-new nat_eq a.places view None closed
 
-  other_place : (other : ℕ) → other ≢ view → place_in b other ≡ place_in a other
-  other_place other differs = noted other ∙ rw (ne_eqb view other (λ e. differs (sym e))) refl
+  place_same : (other : ℕ) → place_in b.places other ≡ place_in a.places other
+  place_same other = ap (λ es. option_flatten (lookup (nat_eq other) es)) entries ∙ place_added a.places.entries view other
 
-  other_node : (p : ℕ) → p ≢ place → get b.nodes p ≡ get a.nodes p
-  other_node p differs = nodes p ∙ rw (ne_eqb p place differs) refl
+  pub sound_opened : IsSoundPool a.nodes a.places → length a.places.entries + 1 ≤ b.nodes.capacity → b.nodes.capacity ≤ LINKS_END → IsSoundPool b.nodes b.places
+  sound_opened sound room small =
+      let counts = ap (count_by has_node) entries ∙ count-added a.places.entries view in
+      let long = ap length entries ∙ length-append a.places.entries ((view, None) ∷ []) in
+      sound_room a b nodes place_same sound counts (omega (arith, long, room)) small
 
-  own_node : get b.nodes place ≡ Some (fresh_node view)
-  own_node = nodes place ∙ rw (eq-eqb place place refl) refl
+  pub seats_opened : seats_in b.nodes b.places ≡ with_seat view (seats_in a.nodes a.places)
+  seats_opened =
+      ap (λ (s : Slab Node). map (seat_at s) b.places.entries) nodes ∙ ap (map (seat_at a.nodes)) entries
+      ∙ map-append (seat_at a.nodes) a.places.entries ((view, None) ∷ [])
 
-  sound_open : IsSoundPool b
-  sound_open = record {
-    linked = linked;
-    named = λ v p h.
-        elim (cases_eq v view) [
-          | inl e ↦
-              let same : p ≡ place = some_is (sym h ∙ ap (place_in b) e ∙ own) in
-              ap (λ q. view_of (get b.nodes q)) same ∙ ap view_of own_node ∙ ap (λ v. Some v) (sym e)
-          | inr ne ↦
-              let n = node_of a sound v p (sym (other_place v ne) ∙ h) in
-              let differs : p ≢ place = λ e. no_some (ap (get a.nodes) e ∙ unused) n.is in
-              ap view_of (other_node p differs ∙ n.is) ∙ ap (λ v. Some v) n.view_is
-        ];
-    found = λ p n h.
-        elim (cases_eq p place) [
-          | inl e ↦
-              let same : n ≡ fresh_node view = some_is (sym h ∙ ap (get b.nodes) e ∙ own_node) in
-              ap (λ (n : Node). place_in b n.view) same ∙ own ∙ ap (λ p. Some p) (sym e)
-          | inr ne ↦
-              let old = sound.found p n (sym (other_node p ne) ∙ h) in
-              let differs : n.view ≢ view = λ e. no_some (ap (place_in a) e ∙ closed) old in
-              other_place n.view differs ∙ old
-        ];
-  }
+-- a node of the same view
+record AsNode (o : Option Node) (n : Node) : Type 0 where
+  node : Node
+  is : o ≡ Some node
+  view_is : node.view ≡ n.view
 
-  opened_view : (other : ℕ) → is_open (seats_in b) other ≡ (is_open seats other || other == view)
-  opened_view other =
-      open_is b (seats_in b) refl other
-      ∙ elim (cases_eq other view) [
-        | inl e ↦ ap is_some (ap (place_in b) e ∙ own) ∙ rw (eq-eqb other view e) (sym (or_true (is_open seats other)))
-        | inr ne ↦ ap is_some (other_place other ne) ∙ sym (open_is a seats is other) ∙ rw (ne_eqb other view ne) (sym (or_false (is_open seats other)))
-      ]
-    where
-      or_true : (x : Bool) → (x || true) ≡ true
-      or_true true = refl
-      or_true false = refl
-
-      or_false : (x : Bool) → (x || false) ≡ x
-      or_false true = refl
-      or_false false = refl
-
-  opened_targets : (group : ℕ) → targets_of (seats_in b) group ≡ targets_of seats group
-  opened_targets group =
-      targets_are b (seats_in b) refl group
-      ∙ elim (cases_eq group view) [
-        | inl e ↦
-            ap (λ o. map target_of (at_place b.nodes o)) (ap (place_in b) e ∙ own)
-            ∙ ap (map target_of) (caught place ∙ ap (map (λ p. caught_at (get a.nodes p))) (places_none a.nodes place unused))
-            ∙ sym (targets_are a seats is group ∙ ap (λ o. map target_of (at_place a.nodes o)) (ap (place_in a) e ∙ closed))
-        | inr ne ↦
-            ap (λ o. map target_of (at_place b.nodes o)) (other_place group ne) ∙ same (place_in a group) ∙ sym (targets_are a seats is group)
-      ]
-    where
-      same : (o : Option ℕ) → map target_of (at_place b.nodes o) ≡ map target_of (at_place a.nodes o)
-      same None = refl
-      same (Some p) = ap (map target_of) (caught p)
-
-  pub grown : Grown seats view b
-  grown = record { sound = sound_open; opened = opened_view; targets = opened_targets }
+-- the same nodes, with other captures
+pub sound_changed : (a b : Inside) → IsSoundPool a.nodes a.places → b.places ≡ a.places → AreLinked b.nodes → ((x : ℕ) → view_of (get b.nodes x) ≡ view_of (get a.nodes x))
+    → b.nodes.capacity ≡ a.nodes.capacity → IsSoundPool b.nodes b.places
+sound_changed a b sound places linked views capacity =
+    subst (IsSoundPool b.nodes) (sym places) record {
+      linked = linked;
+      named = λ view p h. views p ∙ sound.named view p h;
+      found = λ p n h.
+          let was = node_as (get a.nodes p) n (sym (views p) ∙ ap view_of h) in
+          ap (place_in a.places) (sym was.view_is) ∙ sound.found p was.node was.is;
+      counted = omega (arith, slab_len-views a.nodes b.nodes views, sound.counted);
+      room = omega (arith, capacity, sound.room);
+      small = omega (arith, capacity, sound.small);
+    }
+  where
+    node_as : (o : Option Node) (n : Node) → view_of o ≡ Some n.view → AsNode o n
+    node_as None n h = absurd (cc)
+    node_as (Some m) n h = record { node = m; is = refl; view_is = some_is h }
 
 -- a view that is no target and has none is closed
 no_targets : (caught : List Caught) → map target_of caught ≡ [] → caught ≡ []
 no_targets [] e = refl
 no_targets (c ∷ caught) e = absurd (cc)
 
-pub nothing_caught : (a : Inside) (seats : List Seat) (view place : ℕ) → seats_in a ≡ seats → place_in a view ≡ Some place → targets_of seats view ≡ [] → caught_by a.nodes place ≡ []
+pub nothing_caught : (a : Inside) (seats : List Seat) (view place : ℕ) → seats_in a.nodes a.places ≡ seats → place_in a.places view ≡ Some place → targets_of seats view ≡ [] → caught_by a.nodes place ≡ []
 nothing_caught a seats view place is place_is none = no_targets (caught_by a.nodes place) (sym (at_group a seats is view place place_is) ∙ none)
 
-pub nowhere_caught : (a : Inside) (seats : List Seat) (view place : ℕ) → IsSoundPool a → seats_in a ≡ seats → place_in a view ≡ Some place
+pub nowhere_caught : (a : Inside) (seats : List Seat) (view place : ℕ) → IsSoundPool a.nodes a.places → seats_in a.nodes a.places ≡ seats → place_in a.places view ≡ Some place
     → ((group : ℕ) → is_target view (targets_of seats group) ≡ false) → (x : ℕ) → is_caught (view_at a.nodes place) (caught_by a.nodes x) ≡ false
 nowhere_caught a seats view place sound is place_is none x =
     let n = node_of a sound view place place_is in
@@ -146,20 +118,26 @@ nowhere_caught a seats view place sound is place_is none x =
 
 module _
     (a b : Inside) (seats : List Seat) (view : ℕ)
-    (is : seats_in a ≡ seats)
-    (forgot : (other : ℕ) → place_in b other ≡ (if nat_eq view other then None else place_in a other)) where
-  no_place : place_in b view ≡ None
-  no_place = forgot view ∙ rw (eq-eqb view view refl) refl
+    (is : seats_in a.nodes a.places ≡ seats)
+    (forgot : (other : ℕ) → get_key nat_eq b.places other ≡ (if nat_eq view other then None else get_key nat_eq a.places other)) where
+  no_entry : get_key nat_eq b.places view ≡ None
+  no_entry = forgot view ∙ rw (eq-eqb view view refl) refl
 
-  kept_place : (other : ℕ) → other ≢ view → place_in b other ≡ place_in a other
-  kept_place other differs = forgot other ∙ rw (ne_eqb view other (λ e. differs (sym e))) refl
+  no_place : place_in b.places view ≡ None
+  no_place = ap option_flatten no_entry
 
-  pub closed_view : (other : ℕ) → is_open (seats_in b) other ≡ (is_open seats other && not (other == view))
+  kept_entry : (other : ℕ) → other ≢ view → get_key nat_eq b.places other ≡ get_key nat_eq a.places other
+  kept_entry other differs = forgot other ∙ rw (ne_eqb view other (λ e. differs (sym e))) refl
+
+  kept_place : (other : ℕ) → other ≢ view → place_in b.places other ≡ place_in a.places other
+  kept_place other differs = ap option_flatten (kept_entry other differs)
+
+  pub closed_view : (other : ℕ) → is_open (seats_in b.nodes b.places) other ≡ (is_open seats other && not (other == view))
   closed_view other =
-      open_is b (seats_in b) refl other
+      open_is b (seats_in b.nodes b.places) refl other
       ∙ elim (cases_eq other view) [
-        | inl e ↦ ap is_some (ap (place_in b) e ∙ no_place) ∙ rw (eq-eqb other view e) (sym (and_false (is_open seats other)))
-        | inr ne ↦ ap is_some (kept_place other ne) ∙ sym (open_is a seats is other) ∙ rw (ne_eqb other view ne) (sym (and_true (is_open seats other)))
+        | inl e ↦ ap is_some (ap (get_key nat_eq b.places) e ∙ no_entry) ∙ rw (eq-eqb other view e) (sym (and_false (is_open seats other)))
+        | inr ne ↦ ap is_some (kept_entry other ne) ∙ sym (open_is a seats is other) ∙ rw (ne_eqb other view ne) (sym (and_true (is_open seats other)))
       ]
     where
       and_true : (x : Bool) → (x && true) ≡ x
@@ -170,32 +148,60 @@ module _
       and_false true = refl
       and_false false = refl
 
-  pub closed_targets : ((x : ℕ) → caught_by b.nodes x ≡ caught_by a.nodes x) → targets_of seats view ≡ [] → (group : ℕ) → targets_of (seats_in b) group ≡ targets_of seats group
+  pub closed_targets : ((x : ℕ) → caught_by b.nodes x ≡ caught_by a.nodes x) → targets_of seats view ≡ [] → (group : ℕ) → targets_of (seats_in b.nodes b.places) group ≡ targets_of seats group
   closed_targets caught none group =
-      targets_are b (seats_in b) refl group
+      targets_are b (seats_in b.nodes b.places) refl group
       ∙ elim (cases_eq group view) [
-        | inl e ↦ ap (λ o. map target_of (at_place b.nodes o)) (ap (place_in b) e ∙ no_place) ∙ sym (ap (targets_of seats) e ∙ none)
-        | inr ne ↦ ap (λ o. map target_of (at_place b.nodes o)) (kept_place group ne) ∙ same (place_in a group) ∙ sym (targets_are a seats is group)
+        | inl e ↦ ap (λ o. map target_of (caught_from b.nodes o)) (ap (place_in b.places) e ∙ no_place) ∙ sym (ap (targets_of seats) e ∙ none)
+        | inr ne ↦ ap (λ o. map target_of (caught_from b.nodes o)) (kept_place group ne) ∙ same (place_in a.places group) ∙ sym (targets_are a seats is group)
       ]
     where
-      same : (o : Option ℕ) → map target_of (at_place b.nodes o) ≡ map target_of (at_place a.nodes o)
+      same : (o : Option ℕ) → map target_of (caught_from b.nodes o) ≡ map target_of (caught_from a.nodes o)
       same None = refl
       same (Some p) = ap (map target_of) (caught p)
 
-  pub sound_closed : (place : ℕ) → IsSoundPool a → place_in a view ≡ Some place → AreLinked b.nodes → ((x : ℕ) → get b.nodes x ≡ (if x == place then None else get a.nodes x)) → IsSoundPool b
-  sound_closed place sound place_is linked nodes = record {
+  pub sound_closed : (place : ℕ) → IsSoundPool a.nodes a.places → place_in a.places view ≡ Some place
+      → AreLinked b.nodes → ((x : ℕ) → get b.nodes x ≡ (if x == place then None else get a.nodes x))
+      → slab_len b.nodes + 1 ≡ slab_len a.nodes → b.nodes.capacity ≡ a.nodes.capacity
+      → b.places.entries ≡ swap_remove_entry (nat_eq view) a.places.entries → length b.places.entries ≤ length a.places.entries → IsSoundPool b.nodes b.places
+  sound_closed place sound place_is linked nodes len capacity entries fewer = record {
     linked = linked;
     named = λ v p h.
-        let differs : v ≢ view = λ e. no_some (ap (place_in b) e ∙ no_place) h in
+        let differs : v ≢ view = λ e. no_some (ap (place_in b.places) e ∙ no_place) h in
         let old = sym (kept_place v differs) ∙ h in
         let elsewhere : p ≢ place = λ e. differs (apart a sound v view place (old ∙ ap (λ p. Some p) e) place_is) in
         ap view_of (nodes p ∙ rw (ne_eqb p place elsewhere) refl) ∙ sound.named v p old;
     found = λ p n h.
         let elsewhere : p ≢ place = λ e. no_some (nodes p ∙ rw (eq-eqb p place e) refl) h in
         let old = sound.found p n (sym (nodes p ∙ rw (ne_eqb p place elsewhere) refl) ∙ h) in
-        let differs : n.view ≢ view = λ e. elsewhere (some_is (sym old ∙ ap (place_in a) e ∙ place_is)) in
+        let differs : n.view ≢ view = λ e. elsewhere (some_is (sym old ∙ ap (place_in a.places) e ∙ place_is)) in
         kept_place n.view differs ∙ old;
+    counted =
+        let counts = ap (λ es. count_by has_node es + 1) entries ∙ (rw place_is at (count-forgot a.places.entries view)) in
+        omega (arith, counts, len, sound.counted);
+    room = omega (arith, fewer, capacity, sound.room);
+    small = omega (arith, capacity, sound.small);
   }
+
+  -- if it had no node
+  pub sound_forgot : IsSoundPool a.nodes a.places → place_in a.places view ≡ None → b.nodes ≡ a.nodes
+      → b.places.entries ≡ swap_remove_entry (nat_eq view) a.places.entries → length b.places.entries ≤ length a.places.entries → IsSoundPool b.nodes b.places
+  sound_forgot sound none nodes entries fewer =
+      subst (λ s. IsSoundPool s b.places) (sym nodes) record {
+        linked = sound.linked;
+        named = λ v p h.
+            let differs : v ≢ view = λ e. no_some (ap (place_in b.places) e ∙ no_place) h in
+            sound.named v p (sym (kept_place v differs) ∙ h);
+        found = λ p n h.
+            let old = sound.found p n h in
+            let differs : n.view ≢ view = λ e. no_some (ap (place_in a.places) e ∙ none) old in
+            kept_place n.view differs ∙ old;
+        counted =
+            let counts = ap (λ es. count_by has_node es + 0) entries ∙ (rw none at (count-forgot a.places.entries view)) in
+            omega (arith, counts, sound.counted);
+        room = omega (arith, fewer, sound.room);
+        small = sound.small;
+      }
 
 -- what clearing and removing a view leave of it
 pub left_targets : (view : ℕ) (old cleared new : ℕ → List Target) → ((group : ℕ) → cleared group ≡ (if group == view then [] else old group))
@@ -207,12 +213,12 @@ left_targets view old cleared new one two group =
 pub left_nowhere : (view : ℕ) (cleared new : ℕ → List Target) → ((group : ℕ) → new group ≡ without_child view (cleared group)) → (group : ℕ) → is_target view (new group) ≡ false
 left_nowhere view cleared new two group = ap (is_target view) (two group) ∙ gone view (cleared group)
 
-pub place_none : (o : Option ℕ) → is_some o ≡ false → o ≡ None
-place_none None h = refl
-place_none (Some p) h = true_not_false refl h
+pub nothing_is : {A : Type 0} (o : Option A) → is_some o ≡ false → o ≡ None
+nothing_is None h = refl
+nothing_is (Some p) h = true_not_false refl h
 
 -- a view that is open may be opened
-pub open_already : (a : Inside) (seats : List Seat) (view : ℕ) → seats_in a ≡ seats → is_some (place_in a view) ≡ true → (other : ℕ) → is_open seats other ≡ (is_open seats other || other == view)
+pub open_already : (a : Inside) (seats : List Seat) (view : ℕ) → seats_in a.nodes a.places ≡ seats → is_some (get_key nat_eq a.places view) ≡ true → (other : ℕ) → is_open seats other ≡ (is_open seats other || other == view)
 open_already a seats view is open_there other =
     elim (cases_eq other view) [
       | inl e ↦

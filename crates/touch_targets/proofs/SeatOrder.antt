@@ -1,35 +1,37 @@
 -- The seats of a pool in their order: they stay if captures do not change, and the last one is added and removed.
-use Rattle.std.proofs.Common.{◌≡◌, ◌∙◌, ℕ, Bool, true, false, List, [], ◌∷◌, ◌++◌, None, Some, map, filter, refl, sym, ap, subst, inl, inr}
+use Rattle.std.proofs.Common.{◌≡◌, ◌∙◌, ℕ, false, List, [], ◌∷◌, ◌++◌, Option, None, Some, map, filter, refl, sym, ap, subst, inl, inr}
 use Rattle.std.specs.Prelude.{◌==◌, ◌||◌, if◌then◌else◌, nat_eq, not}
 use Rattle.std.specs.Map.{lookup}
 use Rattle.std.proofs.lemmas.Bool.{cases_Bool, cases_eq, eq-eqb, ne_eqb}
-use Rattle.std.proofs.lemmas.List.{map-append}
 use Rattle.slab.specs.Slab.{Slab, get}
-use Rattle.indexmap.specs.IndexMap.{insert_entry, swap_remove_entry}
-use Rattle.indexmap.proofs.CallerLemmas.{insert_entry-new}
+use Rattle.indexmap.specs.IndexMap.{swap_remove_entry}
 use Rattle.touch_targets.specs.Captures.{is_target}
 use Rattle.touch_targets.specs.Nodes.{caught_at, caught_by, view_at, without_caught, view_of}
-use Rattle.touch_targets.specs.Pool.{IsSoundPool, seat_at, seats_in}
+use Rattle.touch_targets.specs.Pool.{IsSoundPool, caught_from, place_in, seat_at, seats_in}
 use Rattle.touch_targets.specs.Seats.{Caught, Seat, drop_caught, is_caught, is_open, targets_of, with_seat}
 use Rattle.touch_targets.specs.declared.node.Node.{Node}
 use Rattle.touch_targets.specs.declared.targets.Targets.TheInside.{Inside}
-use Rattle.touch_targets.proofs.Chains.{places_none, true_not_false}
+use Rattle.touch_targets.proofs.Chains.{true_not_false}
 use Rattle.touch_targets.proofs.LastEntries.{swap_remove_entry-last}
-use Rattle.touch_targets.proofs.Membership.{nothing_caught, nowhere_caught, place_none}
-use Rattle.touch_targets.proofs.SeatLaws.{node_of, open_seats, place_in}
+use Rattle.touch_targets.proofs.Membership.{nothing_caught, nothing_is, nowhere_caught}
+use Rattle.touch_targets.proofs.SeatLaws.{node_of, open_seats}
 
-pub same_seats : (s t : Slab Node) (es : List (ℕ × ℕ)) → ((x : ℕ) → caught_by t x ≡ caught_by s x) → map (seat_at t) es ≡ map (seat_at s) es
+pub same_caught : (s t : Slab Node) → ((x : ℕ) → caught_by t x ≡ caught_by s x) → (o : Option ℕ) → caught_from t o ≡ caught_from s o
+same_caught s t caught None = refl
+same_caught s t caught (Some place) = caught place
+
+pub same_seats : (s t : Slab Node) (es : List (ℕ × Option ℕ)) → ((x : ℕ) → caught_by t x ≡ caught_by s x) → map (seat_at t) es ≡ map (seat_at s) es
 same_seats s t [] caught = refl
 same_seats s t (e ∷ es) caught =
-    ap (λ (l : List Caught). record { view = e.0; caught = l } ∷ map (seat_at t) es) (caught e.1) ∙ ap (λ l. seat_at s e ∷ l) (same_seats s t es caught)
+    ap (λ (l : List Caught). record { view = e.0; caught = l } ∷ map (seat_at t) es) (same_caught s t caught e.1) ∙ ap (λ l. seat_at s e ∷ l) (same_seats s t es caught)
 
 -- the places stay, and what each group has captured
-pub seats_kept : (a b : Inside) (seats : List Seat) → seats_in a ≡ seats → b.places ≡ a.places → ((x : ℕ) → caught_by b.nodes x ≡ caught_by a.nodes x) → seats_in b ≡ seats
+pub seats_kept : (a b : Inside) (seats : List Seat) → seats_in a.nodes a.places ≡ seats → b.places ≡ a.places → ((x : ℕ) → caught_by b.nodes x ≡ caught_by a.nodes x) → seats_in b.nodes b.places ≡ seats
 seats_kept a b seats is places caught =
     same_seats a.nodes b.nodes b.places.entries caught ∙ ap (λ m. map (seat_at a.nodes) m.entries) places ∙ is
 
 -- nothing is taken away if there is nothing
-pub nothing_dropped : (a b : Inside) (seats : List Seat) (group place ids : ℕ) → seats_in a ≡ seats → place_in a group ≡ Some place → targets_of seats group ≡ []
+pub nothing_dropped : (a b : Inside) (seats : List Seat) (group place ids : ℕ) → seats_in a.nodes a.places ≡ seats → place_in a.places group ≡ Some place → targets_of seats group ≡ []
     → ((x : ℕ) → caught_by b.nodes x ≡ (if x == place then drop_caught ids (caught_by a.nodes x) else caught_by a.nodes x))
     → (x : ℕ) → caught_by b.nodes x ≡ caught_by a.nodes x
 nothing_dropped a b seats group place ids is place_is none caught x =
@@ -48,7 +50,7 @@ not_there child (c ∷ caught) none =
       | inr is ↦ rw is (ap (λ l. c ∷ l) (not_there child caught (rw is at none)))
     ]
 
-pub nothing_removed : (a b : Inside) (seats : List Seat) (child place : ℕ) → IsSoundPool a → seats_in a ≡ seats → place_in a child ≡ Some place
+pub nothing_removed : (a b : Inside) (seats : List Seat) (child place : ℕ) → IsSoundPool a.nodes a.places → seats_in a.nodes a.places ≡ seats → place_in a.places child ≡ Some place
     → ((group : ℕ) → is_target child (targets_of seats group) ≡ false)
     → ((x : ℕ) → caught_by b.nodes x ≡ without_caught (view_of (get a.nodes place)) (caught_by a.nodes x))
     → (x : ℕ) → caught_by b.nodes x ≡ caught_by a.nodes x
@@ -59,22 +61,10 @@ nothing_removed a b seats child place sound is place_is none caught x =
     subst (λ v. is_caught v (caught_by a.nodes x) ≡ false) own (nowhere_caught a seats child place sound is place_is none x) in
     caught x ∙ ap (λ o. without_caught o (caught_by a.nodes x)) (sound.named child place place_is) ∙ not_there child (caught_by a.nodes x) free
 
--- a new view has the last seat
-pub seat_added : (a b : Inside) (seats : List Seat) (view place : ℕ) → seats_in a ≡ seats → place_in a view ≡ None → get a.nodes place ≡ None
-    → ((x : ℕ) → caught_by b.nodes x ≡ caught_by a.nodes x) → b.places.entries ≡ insert_entry nat_eq a.places.entries view place
-    → seats_in b ≡ with_seat view seats
-seat_added a b seats view place is closed unused caught entries =
-    let empty : caught_by a.nodes place ≡ [] = ap (map (λ p. caught_at (get a.nodes p))) (places_none a.nodes place unused) in
-    same_seats a.nodes b.nodes b.places.entries caught
-    ∙ ap (map (seat_at a.nodes)) (entries ∙ insert_entry-new nat_eq a.places view place closed)
-    ∙ map-append (seat_at a.nodes) a.places.entries ((view, place) ∷ [])
-    ∙ ap (λ (l : List Caught). map (seat_at a.nodes) a.places.entries ++ record { view = view; caught = l } ∷ []) empty
-    ∙ ap (with_seat view) is
-
 -- entries of which the last one represents a seat
-record LastSeat (nodes : Slab Node) (es : List (ℕ × ℕ)) (before : List Seat) (view : ℕ) : Type 0 where
-  front : List (ℕ × ℕ)
-  place : ℕ
+record LastSeat (nodes : Slab Node) (es : List (ℕ × Option ℕ)) (before : List Seat) (view : ℕ) : Type 0 where
+  front : List (ℕ × Option ℕ)
+  place : Option ℕ
   whole : es ≡ front ++ (view, place) ∷ []
   seats : map (seat_at nodes) front ≡ before
 
@@ -84,7 +74,7 @@ heads e = cc
 tails : {A : Type 0} {x y : A} {xs ys : List A} → x ∷ xs ≡ y ∷ ys → xs ≡ ys
 tails e = cc
 
-last_seat : (nodes : Slab Node) (es : List (ℕ × ℕ)) (before : List Seat) (view : ℕ) → map (seat_at nodes) es ≡ with_seat view before → LastSeat nodes es before view
+last_seat : (nodes : Slab Node) (es : List (ℕ × Option ℕ)) (before : List Seat) (view : ℕ) → map (seat_at nodes) es ≡ with_seat view before → LastSeat nodes es before view
 last_seat nodes [] [] view is = absurd (cc)
 last_seat nodes [] (s ∷ before) view is = absurd (cc)
 last_seat nodes (e ∷ []) [] view is = record {
@@ -103,13 +93,13 @@ last_seat nodes (e ∷ es) (s ∷ before) view is =
       seats = ap (λ l. seat_at nodes e ∷ l) later.seats ∙ ap (λ s. s ∷ before) (heads is);
     }
 
-lookup_none : (nodes : Slab Node) (es : List (ℕ × ℕ)) (view : ℕ) → is_open (map (seat_at nodes) es) view ≡ false → lookup (nat_eq view) es ≡ None
-lookup_none nodes es view closed = place_none (lookup (nat_eq view) es) (sym (open_seats nodes es view) ∙ closed)
+lookup_none : (nodes : Slab Node) (es : List (ℕ × Option ℕ)) (view : ℕ) → is_open (map (seat_at nodes) es) view ≡ false → lookup (nat_eq view) es ≡ None
+lookup_none nodes es view closed = nothing_is (lookup (nat_eq view) es) (sym (open_seats nodes es view) ∙ closed)
 
 -- the last seat is removed, if it is the only one of its view
-pub seat_taken : (a b : Inside) (before : List Seat) (view : ℕ) → seats_in a ≡ with_seat view before → is_open before view ≡ false
+pub seat_taken : (a b : Inside) (before : List Seat) (view : ℕ) → seats_in a.nodes a.places ≡ with_seat view before → is_open before view ≡ false
     → ((x : ℕ) → caught_by b.nodes x ≡ caught_by a.nodes x) → b.places.entries ≡ swap_remove_entry (nat_eq view) a.places.entries
-    → seats_in b ≡ before
+    → seats_in b.nodes b.places ≡ before
 seat_taken a b before view is closed caught entries =
     let last = last_seat a.nodes a.places.entries before view is in
     let none = lookup_none a.nodes last.front view (ap (λ s. is_open s view) last.seats ∙ closed) in
@@ -129,13 +119,6 @@ opened_with view [] other = elim (cases_eq view other) [
   | inr ne ↦ rw (ne_eqb view other ne, ne_eqb other view (λ e. ne (sym e))) refl
 ]
 opened_with view (s ∷ before) other = elim (cases_Bool (s.view == other)) [ inl is ↦ rw is refl | inr is ↦ rw is (opened_with view before other) ]
-
-pub open_with : (view : ℕ) (before : List Seat) → is_open (with_seat view before) view ≡ true
-open_with view before = opened_with view before view ∙ rw (eq-eqb view view refl) (or_true (is_open before view))
-  where
-    or_true : (b : Bool) → (b || true) ≡ true
-    or_true true = refl
-    or_true false = refl
 
 -- a view that was not open is no group
 pub no_targets_with : (view : ℕ) (before : List Seat) → is_open before view ≡ false → targets_of (with_seat view before) view ≡ []

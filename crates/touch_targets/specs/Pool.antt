@@ -1,21 +1,39 @@
 -- How the pool represents the open views.
-use Rattle.std.specs.Prelude.{ℕ, ◌≡◌, nat_eq, List, Some, map}
-use Rattle.slab.specs.Slab.{Slab, get}
-use Rattle.indexmap.specs.IndexMap.{get as get_key}
+use Rattle.std.specs.Prelude.{ℕ, ◌≡◌, ◌≤◌, nat_eq, Bool, List, [], Option, Some, None, is_some, map, length, count_by}
+use Rattle.std.specs.Option.{option_flatten}
+use Rattle.slab.specs.Slab.{Slab, get, slab_len}
+use Rattle.slab_link.specs.declared.link.TheConstants.{LINKS_END}
+use Rattle.indexmap.specs.IndexMap.{IndexMap, get as get_key}
 use Rattle.touch_targets.specs.Nodes.{AreLinked, caught_by, view_of}
-use Rattle.touch_targets.specs.Seats.{Seat}
+use Rattle.touch_targets.specs.Seats.{Caught, Seat}
 use Rattle.touch_targets.specs.declared.node.Node.{Node}
-use Rattle.touch_targets.specs.declared.targets.Targets.TheInside.{Inside}
 
--- a view with what the node at its place has captured
-abbrev pub seat_at : Slab Node → ℕ × ℕ → Seat
-seat_at nodes entry = record { view = entry.0; caught = caught_by nodes entry.1 }
+-- what the group at a place has captured; nothing if it has no node
+abbrev pub caught_from : Slab Node → Option ℕ → List Caught
+caught_from nodes None = []
+caught_from nodes (Some place) = caught_by nodes place
 
-abbrev pub seats_in : Inside → List Seat
-seats_in inside = map (seat_at inside.nodes) inside.places.entries
+-- a view with what it has captured
+abbrev pub seat_at : Slab Node → ℕ × Option ℕ → Seat
+seat_at nodes entry = record { view = entry.0; caught = caught_from nodes entry.1 }
 
--- targets are linked, each open view has a node, and each node's view is open
-pub record IsSoundPool (inside : Inside) : Type 0 where
-  pub linked : AreLinked inside.nodes
-  pub named : (view place : ℕ) → get_key nat_eq inside.places view ≡ Some place → view_of (get inside.nodes place) ≡ Some view
-  pub found : (place : ℕ) (node : Node) → get inside.nodes place ≡ Some node → get_key nat_eq inside.places node.view ≡ Some place
+-- the view of an entry has a node
+abbrev pub has_node : ℕ × Option ℕ → Bool
+has_node entry = is_some entry.1
+
+module _ {S : Type 0} where
+  abbrev pub seats_in : Slab Node → IndexMap ℕ (Option ℕ) S → List Seat
+  seats_in nodes places = map (seat_at nodes) places.entries
+
+  -- the place of a view's node, if the view is open and has one
+  abbrev pub place_in : IndexMap ℕ (Option ℕ) S → ℕ → Option ℕ
+  place_in places view = option_flatten (get_key nat_eq places view)
+
+  -- targets are linked, a node has one open view, and each open view has one or room for it, where links can name it
+  pub record IsSoundPool (nodes : Slab Node) (places : IndexMap ℕ (Option ℕ) S) : Type 0 where
+    pub linked : AreLinked nodes
+    pub named : (view place : ℕ) → place_in places view ≡ Some place → view_of (get nodes place) ≡ Some view
+    pub found : (place : ℕ) (node : Node) → get nodes place ≡ Some node → place_in places node.view ≡ Some place
+    pub counted : slab_len nodes ≤ count_by has_node places.entries
+    pub room : length places.entries ≤ nodes.capacity
+    pub small : nodes.capacity ≤ LINKS_END

@@ -1,6 +1,6 @@
 //! How nodes join and leave the targets of a group. A group and a target are named by the places of their nodes.
-ghost use Rattle.std.specs.Prelude.{◌≡◌, ◌≢◌, ◌==◌, ◌≤◌, ◌&&◌, true, if◌then◌else◌, ℕ, [], ◌∷◌, false, Some, None, OnOk};
-ghost use Rattle.slab.specs.Slab.{get, ContainsKey, HasRoomFor};
+ghost use Rattle.std.specs.Prelude.{◌≡◌, ◌≢◌, ◌==◌, ◌≤◌, ◌&&◌, true, if◌then◌else◌, ℕ, [], ◌∷◌, false, Some, None, OnErr, OnOk, ◌+◌};
+ghost use Rattle.slab.specs.Slab.{get, ContainsKey, HasRoomFor, slab_len};
 ghost use Rattle.slab_link.specs.declared.link.TheConstants.{LINKS_END};
 ghost use Rattle.touch_targets.specs.declared.node.Node.{Node};
 ghost use Rattle.touch_targets.specs.Nodes.{AreLinked, IsBehind, IsTarget, caught_at, caught_by, caught_in_place, changed, fresh_node, has_place, left_at, places_by, relinked, view_at, view_of, without_place, without_caught};
@@ -13,7 +13,9 @@ use std::alloc::AllocError;
 
 fn set_newest(nodes: &mut Slab<Node>, group: usize, newest: Link)
     requires { ContainsKey nodes.old group }
-    ensures { (x : ℕ) → get nodes.new x ≡ changed (get nodes.old) group (λ node. record node { newest = newest }) x }
+    ensures nodes { (x : ℕ)
+        → get nodes.new x ≡ changed (get nodes.old) group (λ node. record node { newest = newest }) x }
+    ensures capacity { nodes.new.capacity ≡ nodes.old.capacity }
 {
     let node = &mut nodes[group];
     node.newest = newest;
@@ -21,7 +23,8 @@ fn set_newest(nodes: &mut Slab<Node>, group: usize, newest: Link)
 
 fn set_next(nodes: &mut Slab<Node>, place: usize, next: Link)
     requires { ContainsKey nodes.old place }
-    ensures { (x : ℕ) → get nodes.new x ≡ changed (get nodes.old) place (λ node. record node { next = next }) x }
+    ensures nodes { (x : ℕ) → get nodes.new x ≡ changed (get nodes.old) place (λ node. record node { next = next }) x }
+    ensures capacity { nodes.new.capacity ≡ nodes.old.capacity }
 {
     let node = &mut nodes[place];
     node.next = next;
@@ -29,7 +32,8 @@ fn set_next(nodes: &mut Slab<Node>, place: usize, next: Link)
 
 fn write_ids(nodes: &mut Slab<Node>, place: usize, ids: u32)
     requires { ContainsKey nodes.old place }
-    ensures { (x : ℕ) → get nodes.new x ≡ changed (get nodes.old) place (λ node. record node { ids = ids }) x }
+    ensures nodes { (x : ℕ) → get nodes.new x ≡ changed (get nodes.old) place (λ node. record node { ids = ids }) x }
+    ensures capacity { nodes.new.capacity ≡ nodes.old.capacity }
 {
     let node = &mut nodes[place];
     node.ids = ids;
@@ -39,7 +43,8 @@ fn write_ids(nodes: &mut Slab<Node>, place: usize, ids: u32)
 fn set_behind(nodes: &mut Slab<Node>, group: usize, previous: Option<usize>, next: Link)
     requires group { ContainsKey nodes.old group }
     requires previous { (p : ℕ) → previous ≡ Some p → ContainsKey nodes.old p }
-    ensures { (x : ℕ) → get nodes.new x ≡ relinked (get nodes.old) group previous next x }
+    ensures nodes { (x : ℕ) → get nodes.new x ≡ relinked (get nodes.old) group previous next x }
+    ensures capacity { nodes.new.capacity ≡ nodes.old.capacity }
 {
     match previous {
         None => set_newest(nodes, group, next),
@@ -50,9 +55,10 @@ fn set_behind(nodes: &mut Slab<Node>, group: usize, previous: Option<usize>, nex
 /// Makes a node a target of a group, or of none.
 fn set_target(nodes: &mut Slab<Node>, place: usize, group: Link, next: Link, ids: u32)
     requires { ContainsKey nodes.old place }
-    ensures { (x : ℕ)
+    ensures nodes { (x : ℕ)
         → get nodes.new x ≡ changed (get nodes.old) place
         (λ node. record node { group = group; next = next; ids = ids }) x }
+    ensures capacity { nodes.new.capacity ≡ nodes.old.capacity }
 {
     let node = &mut nodes[place];
     node.group = group;
@@ -68,6 +74,7 @@ pub fn set_ids(nodes: &mut Slab<Node>, place: usize, ids: u32)
     ensures linked { AreLinked nodes.new }
     ensures nodes { (x : ℕ) → get nodes.new x ≡ changed (get nodes.old) place (λ node. record node { ids = ids }) x }
     ensures places { (x : ℕ) → places_by nodes.new x ≡ places_by nodes.old x }
+    ensures capacity { nodes.new.capacity ≡ nodes.old.capacity }
 {
     write_ids(nodes, place, ids);
 }
@@ -84,6 +91,7 @@ pub fn link_newest(nodes: &mut Slab<Node>, group: usize, child: usize, ids: u32)
         → caught_by nodes.new x ≡ (if x == group
         then caught_in_place (get nodes.old child) ids ∷ caught_by nodes.old x else caught_by nodes.old x) }
     ensures views { (x : ℕ) → view_of (get nodes.new x) ≡ view_of (get nodes.old x) }
+    ensures capacity { nodes.new.capacity ≡ nodes.old.capacity }
 {
     let next = nodes[group].newest;
     set_target(nodes, child, Link::to(group), next, ids);
@@ -101,6 +109,7 @@ pub fn unlink(nodes: &mut Slab<Node>, group: usize, previous: Option<usize>, pla
         ≡ (if x == group then without_place place (places_by nodes.old x) else places_by nodes.old x) }
     ensures others { (x : ℕ) → x ≢ place → caught_at (get nodes.new x) ≡ caught_at (get nodes.old x) }
     ensures views { (x : ℕ) → view_of (get nodes.new x) ≡ view_of (get nodes.old x) }
+    ensures capacity { nodes.new.capacity ≡ nodes.old.capacity }
 {
     let next = nodes[place].next;
     set_behind(nodes, group, previous, next);
@@ -135,6 +144,7 @@ fn unlink_child(nodes: &mut Slab<Node>, group: usize, child: usize)
     ensures caught { (x : ℕ)
         → caught_by nodes.new x ≡ without_caught (view_of (get nodes.old child)) (caught_by nodes.old x) }
     ensures views { (x : ℕ) → view_of (get nodes.new x) ≡ view_of (get nodes.old x) }
+    ensures capacity { nodes.new.capacity ≡ nodes.old.capacity }
 {
     let previous = before(nodes, group, child);
     unlink(nodes, group, previous, child);
@@ -148,6 +158,7 @@ pub fn remove(nodes: &mut Slab<Node>, child: usize)
     ensures caught { (x : ℕ)
         → caught_by nodes.new x ≡ without_caught (view_of (get nodes.old child)) (caught_by nodes.old x) }
     ensures views { (x : ℕ) → view_of (get nodes.new x) ≡ view_of (get nodes.old x) }
+    ensures capacity { nodes.new.capacity ≡ nodes.old.capacity }
 {
     match nodes[child].group.key() {
         None => (),
@@ -167,6 +178,7 @@ pub fn put(nodes: &mut Slab<Node>, group: usize, child: usize, ids: u32)
         → caught_by nodes.new x ≡ (if x == group
         then put_caught (view_at nodes.old child) ids (caught_by nodes.old x) else caught_by nodes.old x) }
     ensures views { (x : ℕ) → view_of (get nodes.new x) ≡ view_of (get nodes.old x) }
+    ensures capacity { nodes.new.capacity ≡ nodes.old.capacity }
 {
     match nodes[child].group.key() {
         None => link_newest(nodes, group, child, ids),
@@ -186,20 +198,32 @@ pub fn take_out(nodes: &mut Slab<Node>, place: usize)
     ensures linked { AreLinked nodes.new }
     ensures nodes { (x : ℕ) → get nodes.new x ≡ (if x == place then None else get nodes.old x) }
     ensures caught { (x : ℕ) → caught_by nodes.new x ≡ caught_by nodes.old x }
+    ensures len { slab_len nodes.new + 1 ≡ slab_len nodes.old }
+    ensures capacity { nodes.new.capacity ≡ nodes.old.capacity }
 {
     nodes.remove(place);
 }
 
-/// Takes the memory for one more node, if links can name its place.
-pub fn make_room(nodes: &mut Slab<Node>) -> Result<(), AllocError>
+/// Takes the memory for the nodes of this many views, if links can name their places. A copy grows, so that nothing has
+/// changed if they can't.
+pub fn make_room(nodes: &mut Slab<Node>, views: usize) -> Result<(), AllocError>
+    requires small { nodes.old.capacity ≤ LINKS_END }
     ensures rest_kept { nodes.new ≡ record nodes.old { capacity = nodes.new.capacity } }
-    ensures room { OnOk result (HasRoomFor nodes.new 1) }
-    ensures small { OnOk result (nodes.new.capacity ≤ LINKS_END) }
+    ensures room { OnOk result (views ≤ nodes.new.capacity) }
+    ensures small { nodes.new.capacity ≤ LINKS_END }
+    ensures unchanged { OnErr result (nodes.new ≡ nodes.old) }
 {
-    nodes.reserve(1)?;
-    if nodes.capacity() > LINKS_END {
+    let capacity = nodes.capacity();
+    if views <= capacity {
+        return Ok(());
+    }
+    let wanted = views.max(LINKS_END.min(capacity * 2));
+    let mut grown = nodes.clone()?;
+    grown.reserve_exact(wanted - grown.len())?;
+    if grown.capacity() > LINKS_END {
         return Err(AllocError);
     }
+    *nodes = grown;
     Ok(())
 }
 
@@ -213,6 +237,8 @@ pub fn put_in(nodes: &mut Slab<Node>, view: u64) -> usize
     ensures unused { get nodes.old result ≡ None }
     ensures nodes { (x : ℕ) → get nodes.new x ≡ (if x == result then Some (fresh_node view) else get nodes.old x) }
     ensures caught { (x : ℕ) → caught_by nodes.new x ≡ caught_by nodes.old x }
+    ensures len { slab_len nodes.new ≡ slab_len nodes.old + 1 }
+    ensures capacity { nodes.new.capacity ≡ nodes.old.capacity }
 {
     nodes.insert_reserved(Node {
         view,
@@ -232,6 +258,7 @@ pub fn drop_ids(nodes: &mut Slab<Node>, group: usize, ids: u32)
         → caught_by nodes.new x
         ≡ (if x == group then drop_caught ids (caught_by nodes.old x) else caught_by nodes.old x) }
     ensures views { (x : ℕ) → view_of (get nodes.new x) ≡ view_of (get nodes.old x) }
+    ensures capacity { nodes.new.capacity ≡ nodes.old.capacity }
 {
     let mut previous = None;
     let mut at = nodes[group].newest.key();
@@ -262,6 +289,7 @@ fn drop_ids_at(
     ensures own { left_at nodes.old place ids ≢ 0
         → caught_at (get nodes.new place) ≡ caught_in_place (get nodes.old place) (left_at nodes.old place ids) }
     ensures views { (x : ℕ) → view_of (get nodes.new x) ≡ view_of (get nodes.old x) }
+    ensures capacity { nodes.new.capacity ≡ nodes.old.capacity }
 {
     let left = ids_without(nodes[place].ids, ids);
     if left == 0 {

@@ -1,9 +1,9 @@
-//! The node of an open view.
+//! The node of a view that is a group or a target.
 
 use slab_link::Link;
 
-/// What is kept of an open view. Nodes name each other by their places in the pool.
-#[derive(Drop)]
+/// What is kept of a view that is a group or a target, or was one. Nodes name each other by their places in the pool.
+#[derive(Clone, Copy)]
 pub struct Node {
     /// The number of the view.
     pub view: u64,

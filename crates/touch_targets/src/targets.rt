@@ -1,16 +1,15 @@
 //! The pool of targets.
-ghost use Rattle.std.specs.Prelude.{◌≡◌, ◌≢◌, ◌==◌, ◌<◌, ◌&&◌, ◌||◌, not, true, false, ℕ, if◌then◌else◌, List, [], Some, None, OnErr, OnOk, is_some, nat_eq};
-ghost use Rattle.indexmap.specs.IndexMap.{get as get_key, insert_entry, spare, swap_remove_entry};
-ghost use Rattle.slab.specs.Slab.{get};
+ghost use Rattle.std.specs.Prelude.{◌≡◌, ◌≢◌, ◌==◌, ◌&&◌, ◌||◌, not, true, false, ℕ, if◌then◌else◌, List, [], None, OnErr, OnOk, length};
 ghost use Rattle.touch_event.specs.PointerSets.{has_id};
 ghost use Rattle.touch_targets.specs.Captures.{drop_pointers, first_child, first_ids, from_child, is_target, older, put_target, targets_from, without_child};
 ghost use Rattle.touch_targets.specs.Seats.{Seat, is_open, targets_of, with_seat};
-ghost use Rattle.touch_targets.specs.declared.node.Node.{Node};
 
 use crate::links;
 use crate::node::Node;
+use crate::places::{ensure_node, forget_place, note_place, place_of};
 use indexmap::IndexMap;
 use slab::Slab;
+use slab_link::Link;
 use std::alloc::{AllocError, Global};
 use std::marker::Model;
 
@@ -19,8 +18,8 @@ use std::marker::Model;
 #[derive(Drop)]
 pub struct Targets {
     nodes: Slab<Node>,
-    /// The place of each open view's node, by the number of the view.
-    places: IndexMap<u64, usize>,
+    /// The place of each open view's node, by the number of the view; none for a view that has no node yet.
+    places: IndexMap<u64, Link>,
 }
 
 impl Model for Targets {
@@ -33,9 +32,9 @@ impl Model for Targets {
 
     ghost use Rattle.touch_targets.specs.Pool.{IsSoundPool, seats_in};
 
-    ghost view = { seats_in };
+    ghost view = { λ inside. seats_in inside.nodes inside.places };
 
-    ghost invariant = { IsSoundPool };
+    ghost invariant = { λ inside. IsSoundPool inside.nodes inside.places };
 }
 
 impl Targets {
@@ -61,11 +60,17 @@ impl Targets {
         if self.places.contains_key(&view) {
             return Ok(());
         }
-        links::make_room(&mut self.nodes)?;
+        links::make_room(&mut self.nodes, self.places.len() + 1)?;
         self.places.reserve(1)?;
-        let place = links::put_in(&mut self.nodes, view);
-        note_place(&mut self.places, view, place);
+        note_place(&mut self.places, view, Link::none());
         Ok(())
+    }
+
+    /// How many views are open.
+    pub fn len(&self) -> usize
+        ensures { result ≡ length self.now }
+    {
+        self.places.len()
     }
 
     /// Removes the place of a view, with all that names the view as a group or as a target.
@@ -92,7 +97,7 @@ impl Targets {
         ensures child { result ≡ first_child (targets_of self.now group) }
         ensures part { targets_from result (targets_of self.now group) ≡ targets_of self.now group }
     {
-        let place = place_of(&self.nodes, &self.places, group)?;
+        let place = place_of(&self.places, group)?;
         let newest = self.nodes[place].newest.key()?;
         Some(self.nodes[newest].view)
     }
@@ -107,7 +112,7 @@ impl Targets {
             → targets_from result (targets_of self.now group) ≡ older (from_child child (targets_of self.now group)) }
         ensures free { ((group : ℕ) → is_target child (targets_of self.now group) ≡ false) → result ≡ None }
     {
-        let place = place_of(&self.nodes, &self.places, child)?;
+        let place = place_of(&self.places, child)?;
         let next = self.nodes[place].next.key()?;
         Some(self.nodes[next].view)
     }
@@ -119,7 +124,7 @@ impl Targets {
             → has_id result ≡ first_ids (from_child child (targets_of self.now group)) }
         ensures free { ((group : ℕ) → is_target child (targets_of self.now group) ≡ false) → result ≡ 0 }
     {
-        match place_of(&self.nodes, &self.places, child) {
+        match place_of(&self.places, child) {
             None => 0,
             Some(place) => self.nodes[place].ids,
         }
@@ -137,8 +142,8 @@ impl Targets {
             → targets_of self.new other ≡ (if other == group
             then put_target child (has_id ids) (targets_of self.old other) else targets_of self.old other) }
     {
-        let at = open_place(&self.nodes, &self.places, group);
-        let place = open_place(&self.nodes, &self.places, child);
+        let at = ensure_node(&mut self.nodes, &mut self.places, group);
+        let place = ensure_node(&mut self.nodes, &mut self.places, child);
         links::put(&mut self.nodes, at, place, ids);
     }
 
@@ -150,7 +155,7 @@ impl Targets {
             else targets_of self.old other) }
         ensures same { targets_of self.old group ≡ [] → self.new ≡ self.old }
     {
-        if let Some(place) = place_of(&self.nodes, &self.places, group) {
+        if let Some(place) = place_of(&self.places, group) {
             links::drop_ids(&mut self.nodes, place, ids);
         }
     }
@@ -161,7 +166,7 @@ impl Targets {
         ensures targets { (group : ℕ) → targets_of self.new group ≡ without_child child (targets_of self.old group) }
         ensures same { ((group : ℕ) → is_target child (targets_of self.old group) ≡ false) → self.new ≡ self.old }
     {
-        if let Some(place) = place_of(&self.nodes, &self.places, child) {
+        if let Some(place) = place_of(&self.places, child) {
             links::remove(&mut self.nodes, place);
         }
     }
@@ -174,58 +179,5 @@ impl Targets {
         ensures same { targets_of self.old group ≡ [] → self.new ≡ self.old }
     {
         self.drop_ids(group, u32::MAX);
-    }
-}
-
-/// The place of an open view's node. As long as none was closed, that is the view's number less one, so it is looked for
-/// there first.
-fn place_of(nodes: &Slab<Node>, places: &IndexMap<u64, usize>, view: u64) -> Option<usize>
-    requires { (place : ℕ) (node : Node)
-        → get nodes.now place ≡ Some node
-        → get_key nat_eq places.now node.view ≡ Some place }
-    ensures { result ≡ get_key nat_eq places.now view }
-{
-    let first = view.saturating_sub(1) as usize;
-    match nodes.get(first) {
-        Some(node) if node.view == view => Some(first),
-        _ => places.get(&view).copied(),
-    }
-}
-
-/// The place of the node of a view that is open.
-fn open_place(nodes: &Slab<Node>, places: &IndexMap<u64, usize>, view: u64) -> usize
-    requires open { is_some (get_key nat_eq places.now view) ≡ true }
-    requires found { (place : ℕ) (node : Node)
-        → get nodes.now place ≡ Some node
-        → get_key nat_eq places.now node.view ≡ Some place }
-    ensures { get_key nat_eq places.now view ≡ Some result }
-{
-    match place_of(nodes, places, view) {
-        Some(place) => place,
-        None => unreachable!(),
-    }
-}
-
-/// Removes the place of a view's node, and returns it.
-fn forget_place(places: &mut IndexMap<u64, usize>, view: u64) -> Option<usize>
-    ensures value { result ≡ get_key nat_eq places.old view }
-    ensures entries { places.new.entries ≡ swap_remove_entry (nat_eq view) places.old.entries }
-    ensures forgot { (other : ℕ)
-        → get_key nat_eq places.new other ≡ (if nat_eq view other then None else get_key nat_eq places.old other) }
-{
-    places.swap_remove(&view)
-}
-
-/// Records the place of a view's node, for which there is room.
-fn note_place(places: &mut IndexMap<u64, usize>, view: u64, place: usize)
-    requires { 0 < spare places.old }
-    ensures entries { places.new.entries ≡ insert_entry nat_eq places.old.entries view place }
-    ensures noted { (other : ℕ)
-        → get_key nat_eq places.new other
-        ≡ (if nat_eq view other then Some place else get_key nat_eq places.old other) }
-{
-    match places.insert(view, place) {
-        Ok(_) => (),
-        Err(_) => unreachable!(),
     }
 }

@@ -1,28 +1,12 @@
 -- Places for views that are to be added: what they leave as it was.
-use Rattle.std.proofs.Common.{◌≡◌, ◌≢◌, ◌∙◌, ℕ, zero, suc, ◌+◌, ◌≤◌, arith, Bool, true, false, List, [], ◌∷◌, ◌++◌, Some, None, refl, sym, ap, inl, inr}
-use Rattle.std.specs.Prelude.{◌==◌, ◌||◌, nat_eq, Result, Ok, Err, OnOk}
+use Rattle.std.proofs.Common.{◌≡◌, ◌≢◌, ◌∙◌, ℕ, zero, suc, ◌+◌, ◌≤◌, arith, Bool, true, false, refl, sym, ap, inl, inr}
+use Rattle.std.specs.Prelude.{◌==◌, ◌||◌, Result, Ok, Err, OnOk}
 use Rattle.std.specs.Result.{is_err}
-use Rattle.std.specs.Map.{lookup}
-use Rattle.std.proofs.lemmas.Bool.{cases_Bool, cases_eq, eq-eqb, ne_eqb}
+use Rattle.std.proofs.lemmas.Bool.{cases_eq, eq-eqb, ne_eqb}
 use Rattle.touch_dispatch.specs.Kept.{IsUnknown, Kept, gesture_of, is_open, with_place}
-use Rattle.touch_dispatch.specs.declared.marks.Marks.{Marks}
 use Rattle.touch_targets.proofs.SeatOrder.{opened_with, targets_with}
 use Rattle.touch_targets.specs.Seats.{is_open as has_seat}
 use Rattle.view_world.specs.Places.{AreOpened, with_places}
-
--- marks of one more view
-marked : (marks : List (ℕ × Marks)) (view : ℕ) (new : Marks) (other : ℕ) → other ≢ view → lookup (nat_eq other) (marks ++ (view, new) ∷ []) ≡ lookup (nat_eq other) marks
-marked [] view new other apart = rw (ne_eqb other view apart) refl
-marked (m ∷ marks) view new other apart =
-    elim (cases_Bool (nat_eq other m.0)) [ inl is ↦ rw is refl | inr is ↦ rw is (marked marks view new other apart) ]
-
-unmarked : (marks : List (ℕ × Marks)) (view : ℕ) (new : Marks) (other : ℕ) → lookup (nat_eq other) (marks ++ (view, new) ∷ []) ≡ None → lookup (nat_eq other) marks ≡ None
-unmarked [] view new other none = refl
-unmarked (m ∷ marks) view new other none =
-    elim (cases_Bool (nat_eq other m.0)) [
-      | inl is ↦ let some : lookup (nat_eq other) ((m ∷ marks) ++ (view, new) ∷ []) ≡ Some m.1 = rw is refl in absurd (cc)
-      | inr is ↦ rw is (unmarked marks view new other (rw is at none))
-    ]
 
 or_right_false : (a b : Bool) → (a || b) ≡ false → a ≡ false
 or_right_false true b h = h
@@ -32,14 +16,14 @@ or_right_false false b h = refl
 pub unknown_still : (kept : Kept) (view other : ℕ) → other ≢ view → IsUnknown kept other → IsUnknown (with_place view kept) other
 unknown_still kept view other apart unknown = record {
   seat = opened_with view kept.seats other ∙ rw (unknown.seat, ne_eqb other view apart) refl;
-  marks = marked kept.marks view _ other apart ∙ unknown.marks;
+  marks = unknown.marks;
 }
 
 -- nor was anything before
 pub unknown_before : (kept : Kept) (view other : ℕ) → IsUnknown (with_place view kept) other → IsUnknown kept other
 unknown_before kept view other unknown = record {
   seat = or_right_false (has_seat kept.seats other) (other == view) (sym (opened_with view kept.seats other) ∙ unknown.seat);
-  marks = unmarked kept.marks view _ other unknown.marks;
+  marks = unknown.marks;
 }
 
 pub unknown_above : (first count : ℕ) (kept : Kept) (other : ℕ) → first + count ≤ other → IsUnknown kept other → IsUnknown (with_places first count kept) other

@@ -23,7 +23,7 @@ loop-at-smaller c =
     let d = subst (Drops c.args.nodes.now c.loop-at.nodes c.args.group c.args.ids c.loop-at.previous) c.in-Some.is c.loop-at.invariant in
     let e = c.drop_ids_at-previous.ensures in
     let fewer = fewer_on c.args.nodes.now c.loop-at.nodes c.drop_ids_at-previous.new.nodes c.args.group c.args.ids c.in-Some.place c.loop-at.previous c.index-in-Some.result.now
-    d c.index-in-Some.ensures e.linked e.places e.others e.own e.views in
+    d c.index-in-Some.ensures e.linked e.places e.others e.own e.views e.capacity in
     rw c.key-at-in-Some.ensures (subst (λ o. length (places_from c.drop_ids_at-previous.new.nodes c.index-in-Some.result.now.next) < length (places_from c.loop-at.nodes o)) (sym c.in-Some.is) fewer)
 
 pub loop-at-preserved : goal.loop-at-preserved
@@ -31,10 +31,10 @@ loop-at-preserved c =
     let d = subst (Drops c.args.nodes.now c.loop-at.nodes c.args.group c.args.ids c.loop-at.previous) c.in-Some.is c.loop-at.invariant in
     let e = c.drop_ids_at-previous.ensures in
     let on = drops_on c.args.nodes.now c.loop-at.nodes c.drop_ids_at-previous.new.nodes c.args.group c.args.ids c.in-Some.place c.loop-at.previous c.index-in-Some.result.now
-    d c.index-in-Some.ensures e.linked e.places e.others e.own e.views in
+    d c.index-in-Some.ensures e.linked e.places e.others e.own e.views e.capacity in
     rw c.key-at-in-Some.ensures (subst (λ o. Drops c.args.nodes.now c.drop_ids_at-previous.new.nodes c.args.group c.args.ids o c.index-in-Some.result.now.next) (sym e.previous) on)
 
 pub returns : goal.returns
 returns c =
     let d = subst (Drops c.args.nodes.now c.loop-at.nodes c.args.group c.args.ids c.loop-at.previous) c.in_default.is c.loop-at.invariant in
-    record { linked = d.linked; caught = drops_end c.args.nodes.now c.loop-at.nodes c.args.group c.args.ids c.loop-at.previous d; views = d.views }
+    record { linked = d.linked; caught = drops_end c.args.nodes.now c.loop-at.nodes c.args.group c.args.ids c.loop-at.previous d; views = d.views; capacity = d.capacity }

@@ -14,4 +14,6 @@ returns c =
       unused = c.insert_reserved.ensures.was_vacant;
       nodes = written;
       caught = caught_with s t c.insert_reserved.result c.args.view c.requires.linked c.insert_reserved.ensures.was_vacant low c.requires.unknown written;
+      len = c.insert_reserved.ensures.len;
+      capacity = c.insert_reserved.ensures.capacity;
     }

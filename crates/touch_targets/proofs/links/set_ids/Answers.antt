@@ -10,9 +10,10 @@ pub returns : goal.returns
 returns c =
     let s = c.args.nodes.now in
     let t = c.write_ids.new.nodes in
-    let written : (x : ℕ) → get t x ≡ option_map (node_pointed c.args.place c.args.ids x) (get s x) = pointed_at s t c.args.place c.args.ids c.write_ids.ensures in
+    let written : (x : ℕ) → get t x ≡ option_map (node_pointed c.args.place c.args.ids x) (get s x) = pointed_at s t c.args.place c.args.ids c.write_ids.ensures.nodes in
     record {
       linked = are_pointed s t c.args.place c.args.ids c.requires.linked c.requires.target c.requires.ids c.ranges.ids.fits written;
-      nodes = c.write_ids.ensures;
+      nodes = c.write_ids.ensures.nodes;
       places = places_pointed s t c.args.place c.args.ids c.requires.linked c.requires.target c.requires.ids c.ranges.ids.fits written;
+      capacity = c.write_ids.ensures.capacity;
     }

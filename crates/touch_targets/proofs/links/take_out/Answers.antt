@@ -13,4 +13,6 @@ returns c =
       linked = are_linked_without s t c.args.place k.value c.requires.linked k.is c.requires.empty c.requires.free written;
       nodes = written;
       caught = caught_without s t c.args.place k.value c.requires.linked k.is c.requires.empty c.requires.free written;
+      len = c.remove.ensures.len;
+      capacity = c.remove.ensures.capacity;
     }

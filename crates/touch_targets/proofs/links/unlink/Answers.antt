@@ -1,4 +1,4 @@
-use Rattle.std.proofs.Common.{◌≡◌, ℕ, option_map, refl}
+use Rattle.std.proofs.Common.{◌≡◌, ◌∙◌, ℕ, option_map, refl}
 use Rattle.slab.specs.Slab.{get}
 use Rattle.touch_targets.proofs.Chains.{there}
 use Rattle.touch_targets.proofs.Unlinking.{are_unlinked, behind_there, node_unlinked, others_unlinked, places_unlinked_by, previous_there, unlinked_at, views_unlinked}
@@ -23,10 +23,11 @@ returns c =
     let k = c.index.result.now in
     let g = there (get s c.args.group) c.requires.group in
     let written : (x : ℕ) → get t x ≡ option_map (node_unlinked c.args.group c.args.previous c.args.place k.next x) (get s x) =
-    unlinked_at s c.set_behind.new.nodes t c.args.group c.args.place c.args.previous k.next c.set_behind.ensures (rw (c.none.ensures, c.none-2.ensures) at c.set_target.ensures) in
+    unlinked_at s c.set_behind.new.nodes t c.args.group c.args.place c.args.previous k.next c.set_behind.ensures.nodes (rw (c.none.ensures, c.none-2.ensures) at c.set_target.ensures.nodes) in
     record {
       linked = are_unlinked s t c.args.group c.args.place c.args.previous g.value k c.requires.linked g.is c.index.ensures c.requires.behind written;
       places = places_unlinked_by s t c.args.group c.args.place c.args.previous g.value k c.requires.linked g.is c.index.ensures c.requires.behind written;
       others = others_unlinked s t c.args.group c.args.place c.args.previous k.next written;
       views = views_unlinked s t c.args.group c.args.place c.args.previous k.next written;
+      capacity = c.set_target.ensures.capacity ∙ c.set_behind.ensures.capacity;
     }

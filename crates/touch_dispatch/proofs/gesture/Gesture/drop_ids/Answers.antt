@@ -1,10 +1,12 @@
-use Rattle.std.proofs.Common.{◌∙◌, sym, subst, inl, inr}
+use Rattle.std.proofs.Common.{sym, subst, inl, inr}
 use Rattle.std.proofs.lemmas.Bool.{cases_Bool}
-use Rattle.std.specs.Prelude.{◌==◌}
+use Rattle.std.specs.Prelude.{◌==◌, nat_eq}
+use Rattle.indexmap.specs.IndexMap.{get as get_key, spare}
 use Rattle.touch_event.specs.PointerSets.{has_id}
-use Rattle.touch_targets.specs.Seats.{targets_of}
+use Rattle.touch_targets.specs.Seats.{is_open, targets_of}
 use Rattle.touch_dispatch.specs.Once.{Distinct}
 use Rattle.touch_dispatch.proofs.DistinctLaws.{drop_distinct}
+use Rattle.touch_dispatch.proofs.RoomLaws.{room_same}
 use Rattle.touch_dispatch.proofs.gesture.Gesture.drop_ids.Goals as goal
 
 pub invariant_of-self : goal.invariant_of-self
@@ -14,5 +16,5 @@ invariant_of-self c = record {
         | inl e ↦ rw e (drop_distinct (has_id c.args.ids) (targets_of c.self.inside.targets group) (c.self.invariant.distinct group))
         | inr e ↦ rw e (c.self.invariant.distinct group)
       ]);
-  places = λ view. c.drop_ids.ensures.opened view ∙ c.self.invariant.places view;
+  room = room_same (is_open c.self.inside.targets) (is_open c.drop_ids.new.self) (get_key nat_eq c.self.inside.marks) (spare c.self.inside.marks) c.self.invariant.room c.drop_ids.ensures.opened;
 }

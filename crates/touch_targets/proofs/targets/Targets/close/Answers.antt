@@ -1,12 +1,13 @@
-use Rattle.std.proofs.Common.{◌≡◌, ◌∙◌, ℕ, true, false, List, [], Some, is_some, ap, refl, sym}
+use Rattle.std.proofs.Common.{◌≡◌, ◌∙◌, ℕ, false, List, [], Some, ap, refl, sym}
 use Rattle.std.proofs.lemmas.Bool.{eq-eqb}
 use Rattle.std.specs.Prelude.{◌==◌, ◌&&◌, if◌then◌else◌, not}
 use Rattle.touch_targets.specs.Captures.{is_target, without_child}
 use Rattle.touch_targets.specs.Seats.{Seat, is_open, targets_of, with_seat}
+use Rattle.touch_targets.specs.Pool.{place_in}
 use Rattle.touch_targets.specs.declared.targets.Targets.TheInside.{Inside}
-use Rattle.touch_targets.proofs.Membership.{closed_targets, closed_view, left_nowhere, left_targets, nothing_caught, nowhere_caught, sound_closed}
-use Rattle.touch_targets.proofs.SeatLaws.{node_of, open_is, place_in}
-use Rattle.touch_targets.proofs.SeatOrder.{no_targets_with, open_with, seat_taken, targets_with}
+use Rattle.touch_targets.proofs.Membership.{closed_targets, closed_view, left_nowhere, left_targets, nothing_caught, nowhere_caught, sound_closed, sound_forgot}
+use Rattle.touch_targets.proofs.SeatLaws.{node_of}
+use Rattle.touch_targets.proofs.SeatOrder.{no_targets_with, seat_taken, targets_with}
 use Rattle.touch_targets.proofs.targets.Targets.close.Goals as goal
 use Rattle.touch_targets.proofs.targets.Targets.close.Goals.{After-remove, In-Some}
 
@@ -19,7 +20,7 @@ none c = left c c.args.view ∙ rw (eq-eqb c.args.view c.args.view refl) refl
 opened : (c : After-remove) → (other : ℕ) → is_open c.remove.new.self other ≡ is_open c.args.self.now other
 opened c other = c.remove.ensures.opened other ∙ c.clear.ensures.opened other
 
-place : (c : In-Some) → place_in c.self.inside c.args.view ≡ Some c.in-Some.place
+place : (c : In-Some) → place_in c.self.inside.places c.args.view ≡ Some c.in-Some.place
 place c = sym c.forget_place.ensures.value ∙ c.in-Some.is
 
 pub take_out-requires-clause-there : goal.take_out-requires-clause-there
@@ -41,7 +42,14 @@ pub invariant_of-self : goal.invariant_of-self
 invariant_of-self c =
     let b : Inside = record { nodes = c.take_out.new.nodes; places = c.forget_place.new.places } in
     sound_closed c.self.inside b c.remove.new.self c.args.view c.self.view_is c.forget_place.ensures.forgot c.in-Some.place c.self.invariant
-    (place (goal.at.invariant_of-self c).In-Some) c.take_out.ensures.linked c.take_out.ensures.nodes
+    (place (goal.at.invariant_of-self c).In-Some) c.take_out.ensures.linked c.take_out.ensures.nodes c.take_out.ensures.len c.take_out.ensures.capacity
+    c.forget_place.ensures.entries c.forget_place.ensures.fewer
+
+pub invariant_of-self-in_default : goal.invariant_of-self-in_default
+invariant_of-self-in_default c =
+    let b : Inside = record { nodes = c.self.inside.nodes; places = c.forget_place.new.places } in
+    sound_forgot c.self.inside b c.remove.new.self c.args.view c.self.view_is c.forget_place.ensures.forgot c.self.invariant
+    (sym c.forget_place.ensures.value ∙ c.in_default.is) refl c.forget_place.ensures.entries c.forget_place.ensures.fewer
 
 pub returns-in-Some-clause-opened : goal.returns-in-Some-clause-opened
 returns-in-Some-clause-opened c = λ other.
@@ -86,9 +94,6 @@ returns-in-Some-clause-last c before is closed free =
 
 pub returns-in_default-clause-last : goal.returns-in_default-clause-last
 returns-in_default-clause-last c before is closed free =
-    let there : is_some (place_in c.self.inside c.args.view) ≡ true =
-    sym (open_is c.self.inside c.remove.new.self c.self.view_is c.args.view)
-    ∙ ap (λ s. is_open s c.args.view) (kept (goal.at.returns-in_default-clause-last c).After-remove before is closed free)
-    ∙ open_with c.args.view before in
-    let none : is_some (place_in c.self.inside c.args.view) ≡ false = ap is_some (sym c.forget_place.ensures.value ∙ c.in_default.is) in
-    absurd (cc)
+    let b : Inside = record { nodes = c.self.inside.nodes; places = c.forget_place.new.places } in
+    seat_taken c.self.inside b before c.args.view (c.self.view_is ∙ kept (goal.at.returns-in_default-clause-last c).After-remove before is closed free) closed
+    (λ x. refl) c.forget_place.ensures.entries
