@@ -19,6 +19,7 @@ mod sides;
 mod spans;
 mod taking;
 
+pub use ids::named_ids;
 pub use ordering::{OrderFault, Orders, order};
 pub use plan::RelativePlan;
 pub use view_model::{Anchor, Anchors, Edges, Link};

@@ -1,4 +1,5 @@
 -- Laws of the kept orders of relative layouts. No other crate uses them.
+pub mod BackSearch
 pub mod CycleLaws
 pub mod CycleLists
 pub mod FirstCycles
@@ -9,5 +10,6 @@ pub mod ListLaws
 pub mod OnlyLayouts
 pub mod PlaceLaws
 pub mod RowLaws
+pub mod StayLaws
 pub mod ToldParents
 pub mod TreeLaws

@@ -16,5 +16,6 @@ pub mod Preorder
 pub mod Requests
 pub mod Rows
 pub mod Sowing
+pub mod Staying
 pub mod Turning
 pub mod Views

@@ -1,4 +1,4 @@
-//! The keys of views by their numbers, and the memory that more views take.
+//! The keys of views by their numbers, and the memory that more views take. A key is kept in four bytes, as links are.
 ghost use Rattle.std.specs.Prelude.{◌≡◌, ◌<◌, ◌≤◌, ◌+◌, ℕ, Some, None, OnOk, if◌then◌else◌, nat_eq};
 ghost use Rattle.indexmap.specs.IndexMap.{get as key_of, spare};
 ghost use Rattle.slab.specs.Slab.{HasRoomFor};
@@ -13,13 +13,14 @@ use slab::Slab;
 use slab_link::LINKS_END;
 
 /// Records the key of a number, for which there is room.
-pub fn note_key(keys: &mut IndexMap<u64, usize>, number: u64, key: usize)
-    requires { 0 < spare keys.old }
+pub fn note_key(keys: &mut IndexMap<u64, u32>, number: u64, key: usize)
+    requires room { 0 < spare keys.old }
+    requires small { key < LINKS_END }
     ensures noted { (n : ℕ)
         → key_of nat_eq keys.new n ≡ (if nat_eq number n then Some key else key_of nat_eq keys.old n) }
     ensures spare { spare keys.old ≤ spare keys.new + 1 }
 {
-    match keys.insert(number, key) {
+    match keys.insert(number, key as u32) {
         Ok(_) => (),
         Err(_) => unreachable!(),
     }
@@ -27,17 +28,27 @@ pub fn note_key(keys: &mut IndexMap<u64, usize>, number: u64, key: usize)
 
 /// The key of a number. As long as no view was removed, the number's entry comes right after those of all numbers from 1
 /// on below it, so it is looked for there first.
-pub fn find_key(keys: &IndexMap<u64, usize>, number: u64) -> Option<usize>
+pub fn find_key(keys: &IndexMap<u64, u32>, number: u64) -> Option<usize>
     ensures { result ≡ key_of nat_eq keys.now number }
 {
     match keys.get_index(number.saturating_sub(1) as usize) {
-        Some((found, key)) if *found == number => Some(*key),
-        _ => keys.get(&number).copied(),
+        Some((found, key)) if *found == number => Some(*key as usize),
+        _ => hashed_key(keys, number),
+    }
+}
+
+/// The same by its hash.
+fn hashed_key(keys: &IndexMap<u64, u32>, number: u64) -> Option<usize>
+    ensures { result ≡ key_of nat_eq keys.now number }
+{
+    match keys.get(&number) {
+        None => None,
+        Some(key) => Some(*key as usize),
     }
 }
 
 /// Removes a number and its key.
-pub fn drop_key(keys: &mut IndexMap<u64, usize>, number: u64)
+pub fn drop_key(keys: &mut IndexMap<u64, u32>, number: u64)
     ensures { (n : ℕ) → key_of nat_eq keys.new n ≡ (if nat_eq number n then None else key_of nat_eq keys.old n) }
 {
     keys.swap_remove(&number);
@@ -46,7 +57,7 @@ pub fn drop_key(keys: &mut IndexMap<u64, usize>, number: u64)
 /// Takes the memory for this many more views and their numbers, and for this many more ids, if links can name the views.
 pub fn make_room(
     nodes: &mut Slab<Node>,
-    keys: &mut IndexMap<u64, usize>,
+    keys: &mut IndexMap<u64, u32>,
     ids: &mut IndexMap<u32, Holders>,
     views: usize,
     names: usize,

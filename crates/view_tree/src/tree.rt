@@ -18,6 +18,7 @@ mod relatives;
 mod request;
 mod rules;
 mod setters;
+mod staying;
 
 use crate::counts::Counts;
 use crate::groups::Group;
@@ -35,8 +36,8 @@ pub type Key = usize;
 #[derive(Drop)]
 pub struct ViewTree {
     nodes: Slab<Node>,
-    /// The key of each view by its number.
-    keys: IndexMap<u64, usize>,
+    /// The key of each view by its number, in four bytes: keys are below `LINKS_END`.
+    keys: IndexMap<u64, u32>,
     /// The views of each id that some view has.
     ids: IndexMap<u32, Holders>,
     /// What is kept of the children of each relative layout, by the number of that.

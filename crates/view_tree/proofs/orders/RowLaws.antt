@@ -1,14 +1,14 @@
 -- What is kept of relative layouts, in a tree of keyed views.
-use Rattle.std.proofs.Common.{◌≡◌, ◌≢◌, ℕ, zero, suc, ◌<◌, ◌≤◌, ◌-◌, true, Bool, List, [], ◌∷◌, length, get_or, Option, Some, None, refl, sym, ◌∙◌, ap, subst, arith, inl, inr}
+use Rattle.std.proofs.Common.{◌≡◌, ◌≢◌, ℕ, zero, suc, ◌<◌, ◌≤◌, true, Bool, List, [], ◌∷◌, length, get_or, Option, Some, None, refl, sym, ◌∙◌, ap, subst, arith, inl, inr}
 use Rattle.std.proofs.lemmas.Bool.{cases_Bool, eq-eqb, eqb-true}
-use Rattle.std.specs.Prelude.{MatchOption, slice_get, if◌then◌else◌, ◌==◌, ◌^◌, IfSome, option_map, nat_eq, replicate}
+use Rattle.std.specs.Prelude.{MatchOption, slice_get, ◌==◌, ◌^◌, IfSome, option_map, nat_eq, replicate}
 use Rattle.std.specs.Map.{lookup}
 use Rattle.std.specs.Option.{unwrap_or}
 use Rattle.view_model.specs.declared.limits.TheConstants.{MAX_VIEWS}
 use Rattle.view_model.specs.Forest.{Forest, Nothing, Branch, EveryBranch, EveryRow, changed_where, count_of, joined}
 use Rattle.view_model.specs.Growth.{grown_at}
 use Rattle.view_model.specs.Orders.{IsOrder}
-use Rattle.view_model.specs.SiblingRules.{last_below, nobody}
+use Rattle.view_model.specs.SiblingRules.{nobody}
 use Rattle.view_model.specs.PlainTree.{PlainView, pruned, single}
 use Rattle.view_tree.specs.declared.groups.Group.{Group}
 use Rattle.view_tree.specs.Nodes.{PlainNode, RepresentsPart, RepresentsTree}
@@ -329,8 +329,3 @@ pub link_there : (list : Forest Row) (place : ℕ) → place < length (links_in 
 link_there Nothing place small = absurd (omega arith)
 link_there (Branch row kids siblings) zero small = refl
 link_there (Branch row kids siblings) (suc place) small = link_there siblings place (omega arith)
-
--- the last place that passes a test, one place after the other
-pub last_step : (passes : ℕ → Bool) (place : ℕ) → 0 < place → last_below passes place ≡ (if passes (place - 1) then Some (place - 1) else last_below passes (place - 1))
-last_step passes zero some = absurd (omega arith)
-last_step passes (suc place) some = let same : suc place - 1 ≡ place = omega arith in rw same refl

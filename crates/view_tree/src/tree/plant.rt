@@ -31,7 +31,7 @@ use view_model::{Facts, Sprout};
 /// Makes a view, the last child of its parent, or the root if there is none. How deep the sprout is does not matter.
 pub fn plant(
     nodes: &mut Slab<Node>,
-    keys: &mut IndexMap<u64, usize>,
+    keys: &mut IndexMap<u64, u32>,
     ids: &mut IndexMap<u32, Holders>,
     root: &mut Option<usize>,
     next: &mut u64,
@@ -99,7 +99,7 @@ fn root_with(root: Option<Key>, parent: Option<Key>, key: Key) -> Option<Key>
 /// added last of those one less deep.
 pub fn sow(
     nodes: &mut Slab<Node>,
-    keys: &mut IndexMap<u64, usize>,
+    keys: &mut IndexMap<u64, u32>,
     ids: &mut IndexMap<u32, Holders>,
     root: &mut Option<usize>,
     next: &mut u64,

@@ -2,11 +2,12 @@
 ghost use Rattle.std.specs.Prelude.{◌≡◌, ◌≢◌, ◌<◌, ℕ, true, length, map, slice_get, slice_index, None, Some, IfOk, IfSome, OnOk, OnErr};
 ghost use Rattle.view_model.specs.PlainTree.{with_facts};
 ghost use Rattle.view_tree.specs.Cycles.{AreNewOrders, IsToldOf, view_member};
+ghost use Rattle.view_tree.specs.Staying.{AreSameOrders};
 ghost use Rattle.view_tree.specs.Faults.{IsRefusedOrCyclic};
 ghost use Rattle.view_model.specs.Cycles.{first_cycle, is_relative, link_of, numbers_in};
 ghost use Rattle.view_tree.specs.Ordering.{link_or, linked_in};
 ghost use Rattle.view_tree.specs.Rows.{ancestors, changed_at_key, children_of_first, part_from, views_of};
-ghost use Rattle.view_tree.specs.Views.{IsLive, class_of, group_number, held_of, number_of, orders_under, plain_of, view_at};
+ghost use Rattle.view_tree.specs.Views.{IsLive, class_of, group_number, held_of, number_of, orders_of, orders_under, plain_of, view_at};
 
 use super::{Key, ViewTree};
 use crate::fault::AttachFault;
@@ -70,6 +71,9 @@ impl ViewTree {
         if !is_relative(self.class(parent)) {
             return Ok(None);
         }
+        if self.stays_in_order(parent, view, &link) {
+            return self.same_orders(parent);
+        }
         let Ok(links) = self.links_with(parent, self.number(view), link) else {
             return Err(AttachFault::NoMemory);
         };
@@ -77,6 +81,18 @@ impl ViewTree {
             Ok(orders) => Ok(Some(orders)),
             Err(OrderFault::NoMemory) => Err(AttachFault::NoMemory),
             Err(OrderFault::Cycle { down, members }) => Err(self.told(parent, down, &members)),
+        }
+    }
+
+    /// The kept orders of a relative layout, for which they stay right.
+    fn same_orders(&self, parent: Key) -> Result<Option<Orders>, AttachFault>
+        requires live { IsLive self.now parent }
+        requires relative { is_relative (class_of self.now parent) ≡ true }
+        ensures { AreSameOrders (orders_of self.now parent) result }
+    {
+        match self.copied_orders(parent) {
+            Ok(orders) => Ok(Some(orders)),
+            Err(_) => Err(AttachFault::NoMemory),
         }
     }
 

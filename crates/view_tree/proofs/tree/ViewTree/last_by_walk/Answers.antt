@@ -1,60 +1,37 @@
-use Rattle.std.proofs.Common.{◌≡◌, ◌∙◌, ◌<◌, ◌-◌, ℕ, Bool, true, false, Some, ap, arith, length, refl, sym}
+use Rattle.std.proofs.Common.{◌≡◌, ◌∙◌, true, false, Some, ap, sym}
 use Rattle.std.proofs.lemmas.Bool.{eq-eqb, ne_eqb}
-use Rattle.std.specs.Option.{option_and_then}
-use Rattle.std.specs.Prelude.{◌==◌, slice_index_or}
 use Rattle.view_model.specs.declared.facts.Facts.{Facts}
-use Rattle.view_model.specs.declared.relative.Link.{Link}
-use Rattle.view_model.specs.SiblingRules.{last_below, last_with_id, nobody}
-use Rattle.view_model.specs.Cycles.{link_of, links_in}
-use Rattle.view_tree.specs.Rows.{children_of_first, first_key, head_view, part_from, siblings_from, views_of}
-use Rattle.view_tree.proofs.orders.ListLaws.{length-each}
-use Rattle.view_tree.proofs.orders.RowLaws.{last_step, link_there}
+use Rattle.view_tree.specs.Nodes.{has_id}
+use Rattle.view_tree.specs.Rows.{children_of_first, head_view, part_from}
+use Rattle.view_tree.proofs.orders.BackSearch.{BackSearch, SearchTo, search_ended, search_found, search_on, search_start}
 use Rattle.view_tree.proofs.tree.ViewTree.last_by_walk.Goals as goal
-use Rattle.view_tree.proofs.tree.ViewTree.last_by_walk.Goals.{After-facts}
+use Rattle.view_tree.proofs.tree.ViewTree.last_by_walk.Goals.{After-previous-next}
 
-pub loop-place-init : goal.loop-place-init
-loop-place-init c =
-    let kids = children_of_first (part_from c.args.view c.args.self.now.tree) in
-    let size : length (links_in (views_of kids)) ≡ c.child_count-place.result = length-each link_of (views_of kids) ∙ sym c.child_count-place.ensures in
-    record {
-      within = omega arith;
-      last = ap (last_below (λ place. (slice_index_or (links_in (views_of kids)) place nobody).id == c.args.id)) size;
-    }
+pub loop-next-init : goal.loop-next-init
+loop-next-init c =
+    search_start (has_id c.args.id) c.args.self.now.tree c.args.view c.last-next.result c.requires.is_tree.keys c.requires.live c.last-next.ensures.key
 
-pub child_at-kid-requires-clause-there : goal.child_at-kid-requires-clause-there
-child_at-kid-requires-clause-there c =
-    let size = length-each link_of (views_of (children_of_first (part_from c.args.view c.args.self.now.tree))) in
-    let within = c.loop-place.invariant.within in
-    let some = c.loop-place-test.true in
-    omega arith
+stepped : (c : After-previous-next) → SearchTo (has_id c.args.id) c.args.self.now.tree c.args.view c.in-Some.kid c.previous-next.result
+stepped c =
+    let tree = c.args.self.now.tree in
+    let fails : has_id c.args.id (head_view (part_from c.in-Some.kid tree)) ≡ false =
+    ne_eqb (head_view (part_from c.in-Some.kid tree)).facts.id c.args.id (λ same. c.if-facts-id.false (ap (λ (facts : Facts). facts.id) c.facts.ensures.value ∙ same)) in
+    search_on (has_id c.args.id) tree c.args.view c.in-Some.kid c.previous-next.result c.requires.is_tree.keys c.requires.live
+    (rw c.in-Some.is at c.loop-next.invariant) fails c.previous-next.ensures.key
 
-own_id : (c : After-facts) → (slice_index_or (links_in (views_of (children_of_first (part_from c.args.view c.args.self.now.tree)))) (c.loop-place.place - 1) nobody).id ≡ c.facts.result.now.id
-own_id c =
-    let kids = children_of_first (part_from c.args.view c.args.self.now.tree) in
-    let small : c.loop-place.place - 1 < length (links_in (views_of kids)) = (let within = c.loop-place.invariant.within in let some = c.loop-place-test.true in omega arith) in
-    ap (λ (link : Link). link.id) (link_there kids (c.loop-place.place - 1) small)
-    ∙ ap (λ part. (head_view part).facts.id) (sym c.child_at-kid.ensures.part)
-    ∙ ap (λ (facts : Facts). facts.id) (sym c.facts.ensures.value)
+pub loop-next-smaller : goal.loop-next-smaller
+loop-next-smaller c = rw c.in-Some.is (stepped (goal.at.loop-next-smaller c).After-previous-next).fewer
+
+pub loop-next-preserved : goal.loop-next-preserved
+loop-next-preserved c = (stepped (goal.at.loop-next-preserved c).After-previous-next).search
 
 pub returns-then-facts-id-clause-value : goal.returns-then-facts-id-clause-value
 returns-then-facts-id-clause-value c =
-    let d = (goal.at.returns-then-facts-id-clause-value c).After-facts in
-    let kids = children_of_first (part_from c.args.view c.args.self.now.tree) in
-    let links = links_in (views_of kids) in
-    let passes : ℕ → Bool = λ place. (slice_index_or links place nobody).id == c.args.id in
-    let own : passes (c.loop-place.place - 1) ≡ true = eq-eqb (slice_index_or links (c.loop-place.place - 1) nobody).id c.args.id (own_id d ∙ c.if-facts-id.true) in
-    let below : last_below passes (length links) ≡ Some (c.loop-place.place - 1) = c.loop-place.invariant.last ∙ last_step passes c.loop-place.place c.loop-place-test.true ∙ rw own refl in
-    let last : last_with_id links c.args.id ≡ Some (c.loop-place.place - 1) = rw (ne_eqb c.args.id 0 c.if-id-eq0.false) below in
-    c.child_at-kid.ensures.key ∙ ap (option_and_then (λ place. first_key (siblings_from place kids))) (sym last)
+    let tree = c.args.self.now.tree in
+    let is : has_id c.args.id (head_view (part_from c.in-Some.kid tree)) ≡ true =
+    eq-eqb (head_view (part_from c.in-Some.kid tree)).facts.id c.args.id (ap (λ (facts : Facts). facts.id) (sym c.facts.ensures.value) ∙ c.if-facts-id.true) in
+    search_found c.args.id tree (children_of_first (part_from c.args.view tree)) c.in-Some.kid c.if-id-eq0.false (rw c.in-Some.is at c.loop-next.invariant) is
 
-pub loop-place-preserved : goal.loop-place-preserved
-loop-place-preserved c =
-    let d = (goal.at.loop-place-preserved c).After-facts in
-    let kids = children_of_first (part_from c.args.view c.args.self.now.tree) in
-    let links = links_in (views_of kids) in
-    let passes : ℕ → Bool = λ place. (slice_index_or links place nobody).id == c.args.id in
-    let other : passes (c.loop-place.place - 1) ≡ false = ne_eqb (slice_index_or links (c.loop-place.place - 1) nobody).id c.args.id (λ same. c.if-facts-id.false (sym (own_id d) ∙ same)) in
-    record {
-      within = (let within = c.loop-place.invariant.within in omega arith);
-      last = c.loop-place.invariant.last ∙ last_step passes c.loop-place.place c.loop-place-test.true ∙ rw other refl;
-    }
+pub returns-clause-value : goal.returns-clause-value
+returns-clause-value c =
+    search_ended c.args.id c.args.self.now.tree (children_of_first (part_from c.args.view c.args.self.now.tree)) c.if-id-eq0.false (rw c.in_default.is at c.loop-next.invariant)

@@ -1,11 +1,19 @@
-use Rattle.std.proofs.Common.{◌∙◌, ap, arith, length}
+use Rattle.std.proofs.Common.{◌≡◌, ◌∙◌, ap, arith, length, sym, true}
 use Rattle.view_tree.specs.Ordering.{link_or}
 use Rattle.view_tree.specs.Rows.{children_of_first, part_from, views_of}
 use Rattle.view_tree.proofs.orders.CycleLaws.{few_links, members_within}
 use Rattle.relative_layout.specs.declared.ordering.OrderFault.TheVariants as order
 use Rattle.relative_layout.specs.Sorting.{IsFaultOf}
 use Rattle.view_tree.proofs.orders.ListLaws.{length-each}
+use Rattle.view_model.specs.Cycles.{is_relative}
+use Rattle.view_tree.specs.Views.{class_of}
+use Rattle.view_tree.proofs.orders.StayLaws.{same_new}
 use Rattle.view_tree.proofs.tree.ViewTree.new_orders.Goals as goal
+
+pub returns-then-stays_in_order : goal.returns-then-stays_in_order
+returns-then-stays_in_order c =
+    let relative : is_relative (class_of c.args.self.now c.in-Some.parent) ≡ true = ap is_relative (sym c.class.ensures.value) ∙ sym c.is_relative.ensures ∙ c.if-not-is_relative.false in
+    rw c.in-Some.is (same_new c.args.self.now c.args.view c.in-Some.parent c.args.link c.same_orders.result relative (c.stays_in_order.ensures c.if-stays_in_order.true) c.same_orders.ensures)
 
 pub order-requires : goal.order-requires
 order-requires c =
