@@ -17,4 +17,5 @@ mod types;
 mod values;
 
 pub use fault::AttrFault;
+pub use source::Source;
 pub use taking::{Taken, take};

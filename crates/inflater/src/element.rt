@@ -11,9 +11,7 @@ ghost use Rattle.inflater.specs.Answers.{ViewedAs};
 
 use crate::classes::class_of;
 use crate::fault::GrowFault;
-use attr_table::{AttrFault, Taken, take};
-use axml_reader::Doc;
-use res_values::Resources;
+use attr_table::{AttrFault, Source, Taken, take};
 use std::alloc::Global;
 use view_model::refusals::UNKNOWN_CLASS;
 use view_model::{Class, Detail, Refusal};
@@ -42,28 +40,26 @@ fn refused_in(element: u32, number: u8) -> Refusal
 #[tactic(auto, unfolding(crate::specs::Inflating::view_with))]
 pub fn element_view(
     alloc: Global,
-    doc: &Doc,
+    source: &Source,
     node: usize,
     name: u32,
     element: u32,
-    res: &Resources,
-    dpi: u32,
 ) -> Result<ElementView, GrowFault>
-    requires { IsStart doc.now.nodes.items node }
-    ensures value { ViewedAs (view_with element (class_in (slice_get doc.now.pool.texts name))
-        (facets_at (document doc.now) res.now dpi node)) result }
+    requires { IsStart source.now.doc.now.nodes.items node }
+    ensures value { ViewedAs (view_with element (class_in (slice_get source.now.doc.now.pool.texts name))
+        (facets_at (document source.now.doc.now) source.now.res.now source.now.dpi node)) result }
     ensures few { (line ns name first count : ℕ)
-        → slice_get doc.now.nodes.items node ≡ Some (Start line ns name first count)
+        → slice_get source.now.doc.now.nodes.items node ≡ Some (Start line ns name first count)
         → IfOk result (λ view. view.taken.ignored ≤ count) }
 {
-    let class = match doc.pool.text(name) {
+    let class = match source.doc.pool.text(name) {
         Some(name) => class_of(name),
         None => None,
     };
     let Some(class) = class else {
         return Err(GrowFault::Refused(refused_in(element, UNKNOWN_CLASS)));
     };
-    match take(alloc, doc, node, res, dpi) {
+    match take(alloc, source.doc, node, source.res, source.dpi) {
         Ok(taken) => Ok(ElementView { class, taken }),
         Err(AttrFault::Refused(refusal)) => {
             Err(GrowFault::Refused(refused_in(element, refusal.number)))

@@ -6,6 +6,7 @@ ghost use Rattle.inflater.specs.Inflating.{inflated};
 use crate::element::element_view;
 use crate::fault::GrowFault;
 use crate::grown::Grown;
+use attr_table::Source;
 use axml_reader::{Doc, Node};
 use res_values::Resources;
 use std::alloc::Global;
@@ -16,6 +17,7 @@ use view_model::{Sapling, Sprout};
 pub fn inflate(alloc: Global, doc: &Doc, res: &Resources, dpi: u32) -> Result<Grown, GrowFault>
     ensures { GrownAs (inflated (document doc.now) res.now dpi) result }
 {
+    let source = Source { doc, res, dpi };
     let mut sprouts = Vec::new(alloc);
     let mut depth: u32 = 0;
     let mut element: u32 = 0;
@@ -25,7 +27,7 @@ pub fn inflate(alloc: Global, doc: &Doc, res: &Resources, dpi: u32) -> Result<Gr
             Node::Start { name, .. } => {
                 depth += 1;
                 element += 1;
-                let view = element_view(alloc, doc, node, name, element, res, dpi)?;
+                let view = element_view(alloc, &source, node, name, element)?;
                 ignored += view.taken.ignored;
                 sprouts.push(Sprout {
                     class: view.class,
