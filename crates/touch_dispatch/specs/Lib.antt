@@ -7,3 +7,4 @@ pub mod Dispatch
 pub mod Kept
 pub mod TreeEvents
 pub mod Once
+pub mod Delivery

@@ -1,6 +1,7 @@
 //! An event of all the pointers, and the cancel of a view that goes away.
 ghost use Rattle.std.specs.Prelude.{◌≡◌, ◌≤◌, ◌<◌, ◌+◌, ◌*◌, ◌&&◌, ℕ, Some, length, is_some, false};
-ghost use Rattle.touch_dispatch.specs.Dispatch.{cancelled, dispatched, reach};
+ghost use Rattle.touch_dispatch.specs.Delivery.{delivered};
+ghost use Rattle.touch_dispatch.specs.Dispatch.{cancelled, dispatched};
 ghost use Rattle.touch_dispatch.specs.Kept.{gesture_of, is_open};
 ghost use Rattle.touch_dispatch.specs.Once.{asks, total, touches};
 ghost use Rattle.touch_dispatch.specs.TreeEvents.{IsGestureIn, KeepsScene, MayReach, OnlyScrolls, Unchanged, parent_number, part_at, progress_of, room_of, scene_of};
@@ -8,9 +9,10 @@ ghost use Rattle.touch_event.specs.declared.event.TheConstants.{MAX_POINTERS};
 ghost use Rattle.touch_targets.specs.Captures.{is_target};
 ghost use Rattle.view_model.specs.Facts.{is_shown};
 ghost use Rattle.view_model.specs.Forest.{count_of};
-ghost use Rattle.view_tree.specs.Rows.{first_tree, part_from, views_of};
+ghost use Rattle.view_tree.specs.Rows.{views_of};
 ghost use Rattle.view_tree.specs.Views.{IsLive, IsTree, facts_of, number_of, state_of};
 
+use crate::delivery::Delivery;
 use crate::gesture::Gesture;
 use crate::groups::is_target;
 use crate::limits::Limits;
@@ -51,7 +53,12 @@ pub fn dispatch(
     if !gets_events(tree, root) {
         return false;
     }
-    reach_whole(tree, gesture, log, &limits, root, event)
+    let delivery = Delivery {
+        view: root,
+        event,
+        limits: &limits,
+    };
+    reach_whole(tree, gesture, log, &delivery)
 }
 
 /// Whether a root gets events: it has bounds and is not gone.
@@ -67,14 +74,11 @@ fn reach_whole(
     tree: &mut ViewTree,
     gesture: &mut Gesture,
     log: &mut Log,
-    limits: &Limits,
-    view: Key,
-    event: &Event,
+    delivery: &Delivery,
 ) -> bool
-    requires may { MayReach tree.old gesture.old view event.now }
+    requires may { MayReach tree.old gesture.old delivery.now.view delivery.now.event.now }
     requires room { length log.old.entries.items + 3 * count_of tree.old.tree ≤ room_of log.old }
-    ensures reached { reach (scene_of tree.old limits.now.slop)
-        (views_of (first_tree (part_from view tree.old.tree))) event.now (progress_of tree.old gesture.old log.old)
+    ensures reached { delivered tree.old delivery.now (progress_of tree.old gesture.old log.old)
         ≡ record { yes = result; progress = progress_of tree.new gesture.new log.new } }
     ensures touched_once { (n : ℕ)
         → total (touches n) log.new.entries.items ≤ total (touches n) log.old.entries.items + 1 }
@@ -82,7 +86,7 @@ fn reach_whole(
     ensures kept { KeepsScene tree.old tree.new gesture.old gesture.new log.old log.new }
 {
     gesture.tell_distinct();
-    reach(tree, gesture, log, limits, view, event)
+    reach(tree, gesture, log, delivery)
 }
 
 /// Cancels the gesture of a view that is about to go away, from the tree or out of sight. A root always gets the
@@ -112,16 +116,21 @@ pub fn cancel_view(tree: &mut ViewTree, gesture: &mut Gesture, view: Key, slop: 
 {
     let limits = Limits { slop };
     let event = cancel_event();
+    let delivery = Delivery {
+        view,
+        event: &event,
+        limits: &limits,
+    };
     tell_tree(tree, view);
     let Some(parent) = tree.parent(view) else {
-        reach_whole(tree, gesture, log, &limits, view, &event);
+        reach_whole(tree, gesture, log, &delivery);
         return;
     };
     let number = tree.number(view);
     if !is_target(gesture, tree.number(parent), number) {
         return;
     }
-    reach_whole(tree, gesture, log, &limits, view, &event);
+    reach_whole(tree, gesture, log, &delivery);
     gesture.remove(number);
 }
 

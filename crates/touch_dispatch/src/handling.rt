@@ -29,7 +29,8 @@ pub fn note(log: &mut Log, view: u64, kind: Kind, event: &Event, yes: bool)
     log.set_event(event);
 }
 
-/// Whether a group takes an event away from its children.
+/// Whether a group takes an event away from its children: what Android asks by `onInterceptTouchEvent`, unless a child
+/// has forbidden that, or no child is a target and no first pointer goes down.
 pub fn ask(gesture: &mut Gesture, log: &mut Log, own: &Receiver, event: &Event) -> bool
     requires open { is_open gesture.old own.now.number ≡ true }
     requires fits { (offsets : ℕ → ℤ)

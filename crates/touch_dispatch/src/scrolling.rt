@@ -2,6 +2,7 @@
 ghost use Rattle.std.specs.Prelude.{◌≡◌, ◌≤◌, ℕ, ℤ, true, IfSome};
 ghost use Rattle.geom_core.specs.Limits.{IsSide};
 ghost use Rattle.kept_views.specs.Kept.{first_place};
+ghost use Rattle.touch_dispatch.specs.Delivery.{IsReadAt};
 ghost use Rattle.touch_dispatch.specs.Dispatch.{first_rect, range_for, receiver};
 ghost use Rattle.touch_dispatch.specs.Drags.{IsWay};
 ghost use Rattle.touch_dispatch.specs.Gestures.{PlainGesture, at_number};
@@ -12,6 +13,7 @@ ghost use Rattle.view_model.specs.ScrollView.{offset_within};
 ghost use Rattle.view_tree.specs.Rows.{children_of_first, part_from};
 ghost use Rattle.view_tree.specs.Views.{IsLive, IsTree, facts_of, held_of, number_of};
 
+use crate::delivery::Delivery;
 use crate::drag::pulled;
 use crate::gesture::Gesture;
 use crate::handling::{drag_answer, note};
@@ -21,7 +23,6 @@ use crate::points::cancel_event;
 use crate::receiver::Receiver;
 use geom_core::Rect;
 use scroll_view::range_in;
-use touch_event::Event;
 use view_model::Facts;
 use view_tree::{Key, ViewTree};
 
@@ -72,33 +73,31 @@ fn range_for(scrolls: bool, own: &Facts, rect: Option<Rect>, child: Option<Rect>
     }
 }
 
-/// A scroll view handles an event itself.
+/// A scroll view handles an event itself, as by Android's `ScrollView.onTouchEvent`: it follows one pointer, and its
+/// child moves with that once the pointer has gone further than the slop.
 pub fn handle_drag(
     tree: &mut ViewTree,
     gesture: &mut Gesture,
     log: &mut Log,
-    view: Key,
+    delivery: &Delivery,
     own: &Receiver,
-    event: &Event,
 ) -> bool
-    requires live { IsLive tree.old view }
-    requires number { own.now.number ≡ number_of tree.old view }
-    requires own { own.now.range ≡ own_range tree.old view }
+    requires read { IsReadAt tree.old delivery.now.view own.now }
     requires open { is_open gesture.old own.now.number ≡ true }
-    requires range { IsSide own.now.range }
-    requires fits { many (drag_handled own.now event.now (progress_of tree.old gesture.old log.old)).progress
+    requires fits { many
+        (drag_handled own.now delivery.now.event.now (progress_of tree.old gesture.old log.old)).progress
         ≤ room_of log.old }
-    ensures handled { drag_handled own.now event.now (progress_of tree.old gesture.old log.old)
+    ensures handled { drag_handled own.now delivery.now.event.now (progress_of tree.old gesture.old log.old)
         ≡ record { yes = result; progress = progress_of tree.new gesture.new log.new } }
     ensures scrolls { OnlyScrolls tree.old tree.new }
     ensures opened { (view : ℕ) → is_open gesture.new view ≡ is_open gesture.old view }
     ensures room { room_of log.new ≡ room_of log.old }
 {
-    let said = drag_answer(own, event.action);
-    note(log, own.number, Kind::Touch, event, said);
-    let pull = pulled(own, event, gesture.drag(own.number));
+    let said = drag_answer(own, delivery.event.action);
+    note(log, own.number, Kind::Touch, delivery.event, said);
+    let pull = pulled(own, delivery.event, gesture.drag(own.number));
     gesture.set_drag(own.number, pull.drag);
-    move_child(tree, log, view, own, event, pull.by);
+    move_child(tree, log, delivery, own, pull.by);
     said
 }
 
@@ -106,34 +105,30 @@ pub fn handle_drag(
 fn move_child(
     tree: &mut ViewTree,
     log: &mut Log,
-    view: Key,
+    delivery: &Delivery,
     own: &Receiver,
-    event: &Event,
     by: Option<i64>,
 )
-    requires live { IsLive tree.old view }
-    requires number { own.now.number ≡ number_of tree.old view }
-    requires own { own.now.range ≡ own_range tree.old view }
-    requires range { IsSide own.now.range }
+    requires read { IsReadAt tree.old delivery.now.view own.now }
     requires way { IfSome by IsWay }
     requires fits { (g : PlainGesture)
-        → many (moved_by by own.now event.now (progress_by (offsets_in tree.old) g log.old.entries.items))
-        ≤ room_of log.old }
+        → many (moved_by by own.now delivery.now.event.now
+        (progress_by (offsets_in tree.old) g log.old.entries.items)) ≤ room_of log.old }
     ensures moved { (g : PlainGesture)
         → progress_by (offsets_in tree.new) g log.new.entries.items
-        ≡ moved_by by own.now event.now (progress_by (offsets_in tree.old) g log.old.entries.items) }
+        ≡ moved_by by own.now delivery.now.event.now (progress_by (offsets_in tree.old) g log.old.entries.items) }
     ensures scrolls { OnlyScrolls tree.old tree.new }
     ensures room { room_of log.new ≡ room_of log.old }
 {
     let Some(way) = by else {
         return;
     };
-    let facts = moved_facts(own, tree.facts(view), way);
-    if is_same_offset(tree.facts(view), &facts) {
+    let facts = moved_facts(own, tree.facts(delivery.view), way);
+    if is_same_offset(tree.facts(delivery.view), &facts) {
         return;
     }
     let offset = facts.offset;
-    set_offset(tree, view, facts);
+    set_offset(tree, delivery.view, facts);
     log.note(Entry {
         view: own.number,
         kind: Kind::Scroll,
@@ -141,7 +136,7 @@ fn move_child(
         yes: true,
         offset,
     });
-    log.set_event(event);
+    log.set_event(delivery.event);
 }
 
 /// The facts of a scroll view, with its child this much further up, within its range.

@@ -13,6 +13,7 @@ use Rattle.touch_dispatch.proofs.SceneLaws.{fewer_kid, kid_found, reach_at, reac
 use Rattle.touch_dispatch.proofs.TargetLaws.{TargetStep, target_step, walk_there}
 use Rattle.touch_dispatch.proofs.TryLaws.{gets_part, hands_to, kept_put, may_put, names_child, names_still, reads_child, target_read, tried_read}
 use Rattle.touch_dispatch.proofs.TryWalk.{TryWalk}
+use Rattle.touch_dispatch.specs.Delivery.{own_targets}
 use Rattle.touch_dispatch.specs.Dispatch.{Tried, ended, part_for, tried_ids}
 use Rattle.touch_dispatch.specs.Handling.{Reached, many}
 use Rattle.touch_dispatch.specs.Kept.{gesture_of, is_open}
@@ -22,279 +23,300 @@ use Rattle.touch_event.specs.PointerSets.{has_id}
 use Rattle.touch_event.specs.declared.event.TheConstants.{MAX_POINTERS}
 use Rattle.touch_targets.specs.Captures.{first_child, is_target, targets_from}
 use Rattle.touch_dispatch.proofs.reaching.+reach.Goals as goal
-use Rattle.touch_dispatch.proofs.reaching.+reach.Goals.{hand_to-else-not-intercepted-via-else-not-intercepted, hand_to-else-not-intercepted-via-then-not-intercepted+else-not-put_part}
+use Rattle.touch_dispatch.proofs.reaching.+reach.Goals.{targets::deliver_to-else-not-intercepted-via-else-not-intercepted, targets::deliver_to-else-not-intercepted-via-then-not-intercepted+else-not-put_part}
 
 pub reach-returns-then-is_group-clause-reached : goal.reach-returns-then-is_group-clause-reached
 reach-returns-then-is_group-clause-reached t c =
-    reach_group c.args.tree.now c.args.limits.now.slop c.args.view c.args.event.now (progress_of c.args.tree.now c.args.gesture.now c.args.log.now) c.requires.may.live
+    let d = c.args.delivery.now in
+    reach_group c.args.tree.now d.limits.now.slop d.view d.event.now (progress_of c.args.tree.now c.args.gesture.now c.args.log.now) c.requires.may.live
     (ap is_group (sym c.class.ensures.value) ∙ sym c.is_group.ensures ∙ c.if-is_group.true)
     ∙ c.reach_group.ensures.reached
 
 pub reach-returns-else-is_group-clause-reached : goal.reach-returns-else-is_group-clause-reached
 reach-returns-else-is_group-clause-reached t c =
-    reach_own c.args.tree.now c.args.limits.now.slop c.args.view c.args.event.now (progress_of c.args.tree.now c.args.gesture.now c.args.log.now) c.requires.may.live
+    let d = c.args.delivery.now in
+    reach_own c.args.tree.now d.limits.now.slop d.view d.event.now (progress_of c.args.tree.now c.args.gesture.now c.args.log.now) c.requires.may.live
     (ap is_group (sym c.class.ensures.value) ∙ sym c.is_group.ensures ∙ c.if-is_group.false)
     ∙ c.handle_at.ensures.reached
 
 pub reach-reach_group-requires : goal.reach-reach_group-requires
 reach-reach_group-requires t c =
+    let d = c.args.delivery.now in
     let k = ap (λ (r : Reached). many r.progress)
-    (reach_group c.args.tree.now c.args.limits.now.slop c.args.view c.args.event.now (progress_of c.args.tree.now c.args.gesture.now c.args.log.now) c.requires.may.live
+    (reach_group c.args.tree.now d.limits.now.slop d.view d.event.now (progress_of c.args.tree.now c.args.gesture.now c.args.log.now) c.requires.may.live
     (ap is_group (sym c.class.ensures.value) ∙ sym c.is_group.ensures ∙ c.if-is_group.true)) in
     let all = c.requires.fits in
     (omega (arith, c.decreases), (c.requires.may, omega (arith, k, all)))
 
 pub reach-handle_at-requires-clause-fits : goal.reach-handle_at-requires-clause-fits
 reach-handle_at-requires-clause-fits t c =
+    let d = c.args.delivery.now in
     let k = ap (λ (r : Reached). many r.progress)
-    (reach_own c.args.tree.now c.args.limits.now.slop c.args.view c.args.event.now (progress_of c.args.tree.now c.args.gesture.now c.args.log.now) c.requires.may.live
+    (reach_own c.args.tree.now d.limits.now.slop d.view d.event.now (progress_of c.args.tree.now c.args.gesture.now c.args.log.now) c.requires.may.live
     (ap is_group (sym c.class.ensures.value) ∙ sym c.is_group.ensures ∙ c.if-is_group.false)) in
     let all = c.requires.fits in
     omega (arith, k, all)
 
-pub reach_group-ask-intercepted-requires-clause-open : goal.reach_group-ask-intercepted-requires-clause-open
-reach_group-ask-intercepted-requires-clause-open t c =
+pub group::reach_group-ask-intercepted-requires-clause-open : goal.group::reach_group-ask-intercepted-requires-clause-open
+group::reach_group-ask-intercepted-requires-clause-open t c =
     c.begin.ensures.opened c.receiver_at-own.result.number
-    ∙ ap (is_open c.args.gesture.now) (ap (λ (r : Receiver). r.number) c.receiver_at-own.ensures.value) ∙ c.requires.may.caught.opened c.args.view c.requires.may.live
+    ∙ ap (is_open c.args.gesture.now) (ap (λ (r : Receiver). r.number) c.receiver_at-own.ensures.value) ∙ c.requires.may.caught.opened c.args.delivery.now.view c.requires.may.live
 
-pub reach_group-ask-intercepted-requires-clause-fits : goal.reach_group-ask-intercepted-requires-clause-fits
-reach_group-ask-intercepted-requires-clause-fits t c = λ offsets.
+pub group::reach_group-ask-intercepted-requires-clause-fits : goal.group::reach_group-ask-intercepted-requires-clause-fits
+group::reach_group-ask-intercepted-requires-clause-fits t c = λ offsets.
     let views = c.args.tree.now in
-    let slop = c.args.limits.now.slop in
-    let own = own_of views c.args.view in
-    let kids = kids_of views slop c.args.view in
+    let slop = c.args.delivery.now.limits.now.slop in
+    let own = own_of views c.args.delivery.now.view in
+    let kids = kids_of views slop c.args.delivery.now.view in
     let start = progress_of views c.args.gesture.now c.args.log.now in
     let k = ap (λ (r : Reached). many r.progress)
-    (asked_begun (scene_of views slop) own kids c.args.event.now start (progress_of views c.begin.new.gesture c.args.log.now) c.receiver_at-own.result _ c.receiver_at-own.ensures.value
+    (asked_begun (scene_of views slop) own kids c.args.delivery.now.event.now start (progress_of views c.begin.new.gesture c.args.log.now) c.receiver_at-own.result _ c.receiver_at-own.ensures.value
     (c.begin.ensures.begun (offsets_in views) c.args.log.now.entries.items) refl) in
-    let fits = ask_fits (scene_of views slop) own kids c.args.event.now start (kids_grow views slop c.args.view) in
-    let m = asked_many c.receiver_at-own.result c.args.event.now (gesture_of c.begin.new.gesture) c.args.log.now.entries.items offsets (offsets_in views) in
+    let fits = ask_fits (scene_of views slop) own kids c.args.delivery.now.event.now start (kids_grow views slop c.args.delivery.now.view) in
+    let m = asked_many c.receiver_at-own.result c.args.delivery.now.event.now (gesture_of c.begin.new.gesture) c.args.log.now.entries.items offsets (offsets_in views) in
     let all = c.requires.fits in
     omega (arith, fits, k, m, all)
 
-pub reach_group-offer-taker-requires : goal.reach_group-offer-taker-requires
-reach_group-offer-taker-requires t c =
+pub group::reach_group-offer-taker-requires : goal.group::reach_group-offer-taker-requires
+group::reach_group-offer-taker-requires t c =
+    let d = c.args.delivery.now in
     let views = c.args.tree.now in
-    let slop = c.args.limits.now.slop in
+    let slop = d.limits.now.slop in
     let a = group_asked c.begin.new.gesture c.ask-intercepted.new.gesture c.args.log.now c.ask-intercepted.new.log c.ask-intercepted.result c.requires.may c.receiver_at-own.ensures.value
     c.begin.ensures.opened c.begin.ensures.begun c.ask-intercepted.ensures.opened c.ask-intercepted.ensures.asked c.ask-intercepted.ensures.room in
-    let fits = offer_fits (scene_of views slop) (own_of views c.args.view) (kids_of views slop c.args.view) c.args.event.now (progress_of views c.args.gesture.now c.args.log.now) _ (kids_grow views slop c.args.view) a.is in
+    let fits = offer_fits (scene_of views slop) (own_of views d.view) (kids_of views slop d.view) d.event.now (progress_of views c.args.gesture.now c.args.log.now) _ (kids_grow views slop d.view) a.is in
     let room = a.kept.room in
     let all = c.requires.fits in
     (omega (arith, c.decreases), (may_still c.requires.may a.kept, omega (arith, fits, room, all)))
 
-pub reach_group-answer-yes-requires : goal.reach_group-answer-yes-requires
-reach_group-answer-yes-requires t c =
+pub group::reach_group-answer-yes-requires : goal.group::reach_group-answer-yes-requires
+group::reach_group-answer-yes-requires t c =
+    let d = c.args.delivery.now in
     let views = c.args.tree.now in
-    let slop = c.args.limits.now.slop in
+    let slop = d.limits.now.slop in
     let a = group_asked c.begin.new.gesture c.ask-intercepted.new.gesture c.args.log.now c.ask-intercepted.new.log c.ask-intercepted.result c.requires.may c.receiver_at-own.ensures.value
     c.begin.ensures.opened c.begin.ensures.begun c.ask-intercepted.ensures.opened c.ask-intercepted.ensures.asked c.ask-intercepted.ensures.room in
     let kept = kept_on a.kept c.offer-taker.ensures.kept in
     let second = progress_of c.offer-taker.new.tree c.offer-taker.new.gesture c.offer-taker.new.log in
     let fits =
-    answer_fits (scene_of views slop) (own_of views c.args.view) (kids_of views slop c.args.view) c.args.event.now (progress_of views c.args.gesture.now c.args.log.now) _ _ (kids_grow views slop c.args.view) a.is
+    answer_fits (scene_of views slop) (own_of views d.view) (kids_of views slop d.view) d.event.now (progress_of views c.args.gesture.now c.args.log.now) _ _ (kids_grow views slop d.view) a.is
     c.offer-taker.ensures.offered in
     let k = ap (λ (r : Reached). many r.progress)
-    (answered_same views c.offer-taker.new.tree slop c.args.view c.args.event.now c.ask-intercepted.result c.offer-taker.result second c.offer-taker.ensures.kept.scrolls) in
+    (answered_same views c.offer-taker.new.tree slop d.view d.event.now c.ask-intercepted.result c.offer-taker.result second c.offer-taker.ensures.kept.scrolls) in
     let room = kept.room in
     let all = c.requires.fits in
     (rw kept.scrolls.same.tree (omega (arith, c.decreases)), (may_still c.requires.may kept, omega (arith, fits, k, room, all)))
 
-pub reach_group-returns-clause-reached : goal.reach_group-returns-clause-reached
-reach_group-returns-clause-reached t c =
+pub group::reach_group-returns-clause-reached : goal.group::reach_group-returns-clause-reached
+group::reach_group-returns-clause-reached t c =
+    let d = c.args.delivery.now in
     let views = c.args.tree.now in
-    let slop = c.args.limits.now.slop in
-    let own = own_of views c.args.view in
+    let slop = d.limits.now.slop in
+    let own = own_of views d.view in
     let a = group_asked c.begin.new.gesture c.ask-intercepted.new.gesture c.args.log.now c.ask-intercepted.new.log c.ask-intercepted.result c.requires.may c.receiver_at-own.ensures.value
     c.begin.ensures.opened c.begin.ensures.begun c.ask-intercepted.ensures.opened c.ask-intercepted.ensures.asked c.ask-intercepted.ensures.room in
     let second = progress_of c.offer-taker.new.tree c.offer-taker.new.gesture c.offer-taker.new.log in
     let third = progress_of c.answer-yes.new.tree c.answer-yes.new.gesture c.answer-yes.new.log in
-    group_chain (scene_of views slop) own (kids_of views slop c.args.view) c.args.event.now _ _ _ _ _
+    group_chain (scene_of views slop) own (kids_of views slop d.view) d.event.now _ _ _ _ _
     a.is
     c.offer-taker.ensures.offered
-    (answered_same views c.offer-taker.new.tree slop c.args.view c.args.event.now c.ask-intercepted.result c.offer-taker.result second c.offer-taker.ensures.kept.scrolls ∙ c.answer-yes.ensures.answered)
+    (answered_same views c.offer-taker.new.tree slop d.view d.event.now c.ask-intercepted.result c.offer-taker.result second c.offer-taker.ensures.kept.scrolls ∙ c.answer-yes.ensures.answered)
     (c.end.ensures.ended (offsets_in c.answer-yes.new.tree) c.answer-yes.new.log.entries.items
-    ∙ ap (λ (r : Receiver). ended r.number c.facts.result.now.split c.args.event.now c.ask-intercepted.result third) c.receiver_at-own.ensures.value
-    ∙ ap (λ (f : Facts). ended own.number f.split c.args.event.now c.ask-intercepted.result third) c.facts.ensures.value)
+    ∙ ap (λ (r : Receiver). ended r.number c.facts.result.now.split d.event.now c.ask-intercepted.result third) c.receiver_at-own.ensures.value
+    ∙ ap (λ (f : Facts). ended own.number f.split d.event.now c.ask-intercepted.result third) c.facts.ensures.value)
 
-pub reach_group-returns-clause-kept : goal.reach_group-returns-clause-kept
-reach_group-returns-clause-kept t c =
+pub group::reach_group-returns-clause-kept : goal.group::reach_group-returns-clause-kept
+group::reach_group-returns-clause-kept t c =
     let a = group_asked c.begin.new.gesture c.ask-intercepted.new.gesture c.args.log.now c.ask-intercepted.new.log c.ask-intercepted.result c.requires.may c.receiver_at-own.ensures.value
     c.begin.ensures.opened c.begin.ensures.begun c.ask-intercepted.ensures.opened c.ask-intercepted.ensures.asked c.ask-intercepted.ensures.room in
     kept_on (kept_on (kept_on a.kept c.offer-taker.ensures.kept) c.answer-yes.ensures.kept)
-    (kept_ended c.receiver_at-own.result.number c.facts.result.now.split c.args.event.now c.ask-intercepted.result c.answer-yes.ensures.kept.caught c.end.ensures.opened c.end.ensures.ended)
+    (kept_ended c.receiver_at-own.result.number c.facts.result.now.split c.args.delivery.now.event.now c.ask-intercepted.result c.answer-yes.ensures.kept.caught c.end.ensures.opened c.end.ensures.ended)
 
-pub offer-settle-requires-clause-may : goal.offer-settle-requires-clause-may
-offer-settle-requires-clause-may t c = λ child there.
+pub children::offer-settle-requires-clause-may : goal.children::offer-settle-requires-clause-may
+children::offer-settle-requires-clause-may t c = λ child there.
     let may = may_still c.requires.may c.try_children-taker.ensures.kept in
     rw c.number.ensures.value
-    (may_target c.try_children-taker.new.tree c.args.limits.now.slop c.try_children-taker.new.gesture c.args.view child may.tree may.live may.caught (rw c.number.ensures.value at there))
+    (may_target c.try_children-taker.new.tree c.args.delivery.now.limits.now.slop c.try_children-taker.new.gesture c.args.delivery.now.view child may.tree may.live may.caught (rw c.number.ensures.value at there))
 
-pub offer-returns-clause-kept : goal.offer-returns-clause-kept
-offer-returns-clause-kept t c =
+pub children::offer-returns-clause-kept : goal.children::offer-returns-clause-kept
+children::offer-returns-clause-kept t c =
     kept_on c.try_children-taker.ensures.kept
-    (kept_settled c.number.result c.args.event.now c.try_children-taker.result c.try_children-taker.ensures.kept.caught c.settle.ensures.opened c.settle.ensures.settled)
+    (kept_settled c.number.result c.args.delivery.now.event.now c.try_children-taker.result c.try_children-taker.ensures.kept.caught c.settle.ensures.opened c.settle.ensures.settled)
 
 -- from a child to the one before it
-walked : (t : ℕ) (c : goal.try_children-After-previous-next t)
-    → WalkTo c.args.tree.now c.args.limits.now.slop c.args.view c.in-Some.kid c.args.event.now (progress_of c.args.tree.now c.args.gesture.now c.args.log.now)
+walked : (t : ℕ) (c : goal.children::try_children-After-previous-next t)
+    → WalkTo c.args.tree.now c.args.delivery.now.limits.now.slop c.args.delivery.now.view c.in-Some.kid c.args.delivery.now.event.now (progress_of c.args.tree.now c.args.gesture.now c.args.log.now)
     (progress_of c.try_child-taker.new.tree c.try_child-taker.new.gesture c.try_child-taker.new.log) c.previous-next.result
 walked t c =
+    let d = c.args.delivery.now in
     let views = c.args.tree.now in
-    let slop = c.args.limits.now.slop in
+    let slop = d.limits.now.slop in
     let i = c.loop-next.invariant in
     let now = progress_of c.loop-next.tree c.loop-next.gesture c.loop-next.log in
     let new = progress_of c.try_child-taker.new.tree c.try_child-taker.new.gesture c.try_child-taker.new.log in
-    walk_on views slop c.args.view c.in-Some.kid c.args.event.now (progress_of views c.args.gesture.now c.args.log.now) now new c.previous-next.result c.requires.may.tree c.requires.may.live (rw c.in-Some.is at i.walked)
-    (try_child_same views c.loop-next.tree slop c.args.view c.in-Some.kid c.args.event.now now i.kept.scrolls ∙ c.try_child-taker.ensures.tried
+    walk_on views slop d.view c.in-Some.kid d.event.now (progress_of views c.args.gesture.now c.args.log.now) now new c.previous-next.result c.requires.may.tree c.requires.may.live (rw c.in-Some.is at i.walked)
+    (try_child_same views c.loop-next.tree slop d.view c.in-Some.kid d.event.now now i.kept.scrolls ∙ c.try_child-taker.ensures.tried
     ∙ ap (λ taker. let t : Tried = record { taker = taker; progress = new } in t) (not_taken c.try_child-taker.result (sym c.is_taken.ensures ∙ c.if-is_taken.false)))
     (c.previous-next.ensures.key ∙ ap (previous_key None c.in-Some.kid) (c.try_child-taker.ensures.kept.scrolls.same.tree ∙ i.kept.scrolls.same.tree))
 
-pub try_children-loop-next-init : goal.try_children-loop-next-init
-try_children-loop-next-init t c = record {
+pub children::try_children-loop-next-init : goal.children::try_children-loop-next-init
+children::try_children-loop-next-init t c = record {
   kept = kept_still c.requires.may.caught;
-  walked = walk_begin c.args.tree.now c.args.limits.now.slop c.args.view c.args.event.now _ c.last-next.result c.requires.may.tree c.requires.may.live c.last-next.ensures.key;
+  walked = walk_begin c.args.tree.now c.args.delivery.now.limits.now.slop c.args.delivery.now.view c.args.delivery.now.event.now _ c.last-next.result c.requires.may.tree c.requires.may.live c.last-next.ensures.key;
 }
 
-pub try_children-try_child-taker-requires : goal.try_children-try_child-taker-requires
-try_children-try_child-taker-requires t c =
+pub children::try_children-try_child-taker-requires : goal.children::try_children-try_child-taker-requires
+children::try_children-try_child-taker-requires t c =
+    let d = c.args.delivery.now in
     let views = c.args.tree.now in
-    let slop = c.args.limits.now.slop in
+    let slop = d.limits.now.slop in
     let kept = c.loop-next.invariant.kept in
-    let walk : TryWalk views slop c.args.view c.args.event.now (Some c.in-Some.kid) _ _ = rw c.in-Some.is at c.loop-next.invariant.walked in
-    let kid : IsKidAt views c.args.view c.in-Some.kid = walk.kid in
+    let walk : TryWalk views slop d.view d.event.now (Some c.in-Some.kid) _ _ = rw c.in-Some.is at c.loop-next.invariant.walked in
+    let kid : IsKidAt views d.view c.in-Some.kid = walk.kid in
     let now = progress_of c.loop-next.tree c.loop-next.gesture c.loop-next.log in
     let start = progress_of views c.args.gesture.now c.args.log.now in
-    let tried = from_kid views slop c.args.view c.in-Some.kid c.args.event.now start now _ kid.live walk.rest (try_child_same views c.loop-next.tree slop c.args.view c.in-Some.kid c.args.event.now now kept.scrolls) in
+    let tried = from_kid views slop d.view c.in-Some.kid d.event.now start now _ kid.live walk.rest (try_child_same views c.loop-next.tree slop d.view c.in-Some.kid d.event.now now kept.scrolls) in
     let k = ap (λ (t : Tried). many t.progress) tried in
-    let fits = later_fits (scene_of views slop) (own_of views c.args.view) c.args.event.now start kid.within in
+    let fits = later_fits (scene_of views slop) (own_of views d.view) d.event.now start kid.within in
     let room = kept.room in
     let all = c.requires.fits in
-    (rw kept.scrolls.same.tree (omega (arith, c.decreases)), (may_still c.requires.may kept, (kid_moved views c.loop-next.tree c.args.view c.in-Some.kid kept.scrolls kid, omega (arith, fits, k, room, all))))
+    (rw kept.scrolls.same.tree (omega (arith, c.decreases)), (may_still c.requires.may kept, (kid_moved views c.loop-next.tree d.view c.in-Some.kid kept.scrolls kid, omega (arith, fits, k, room, all))))
 
-pub try_children-returns-then-is_taken-clause-tried : goal.try_children-returns-then-is_taken-clause-tried
-try_children-returns-then-is_taken-clause-tried t c =
+pub children::try_children-returns-then-is_taken-clause-tried : goal.children::try_children-returns-then-is_taken-clause-tried
+children::try_children-returns-then-is_taken-clause-tried t c =
+    let d = c.args.delivery.now in
     let views = c.args.tree.now in
-    let slop = c.args.limits.now.slop in
+    let slop = d.limits.now.slop in
     let i = c.loop-next.invariant in
-    let walk : TryWalk views slop c.args.view c.args.event.now (Some c.in-Some.kid) _ _ = rw c.in-Some.is at i.walked in
-    let kid : IsKidAt views c.args.view c.in-Some.kid = walk.kid in
+    let walk : TryWalk views slop d.view d.event.now (Some c.in-Some.kid) _ _ = rw c.in-Some.is at i.walked in
+    let kid : IsKidAt views d.view c.in-Some.kid = walk.kid in
     let tried : Tried = record { taker = c.try_child-taker.result; progress = progress_of c.try_child-taker.new.tree c.try_child-taker.new.gesture c.try_child-taker.new.log } in
-    taken_up (scene_of views slop) (own_of views c.args.view) c.args.event.now _ tried kid.within (sym c.is_taken.ensures ∙ c.if-is_taken.true)
-    (from_kid views slop c.args.view c.in-Some.kid c.args.event.now _ _ tried kid.live walk.rest
-    (try_child_same views c.loop-next.tree slop c.args.view c.in-Some.kid c.args.event.now (progress_of c.loop-next.tree c.loop-next.gesture c.loop-next.log) i.kept.scrolls ∙ c.try_child-taker.ensures.tried))
+    taken_up (scene_of views slop) (own_of views d.view) d.event.now _ tried kid.within (sym c.is_taken.ensures ∙ c.if-is_taken.true)
+    (from_kid views slop d.view c.in-Some.kid d.event.now _ _ tried kid.live walk.rest
+    (try_child_same views c.loop-next.tree slop d.view c.in-Some.kid d.event.now (progress_of c.loop-next.tree c.loop-next.gesture c.loop-next.log) i.kept.scrolls ∙ c.try_child-taker.ensures.tried))
 
-pub try_children-loop-next-smaller : goal.try_children-loop-next-smaller
-try_children-loop-next-smaller t c =
+pub children::try_children-loop-next-smaller : goal.children::try_children-loop-next-smaller
+children::try_children-loop-next-smaller t c =
     rw (c.try_child-taker.ensures.kept.scrolls.same.tree, c.loop-next.invariant.kept.scrolls.same.tree, c.in-Some.is) (walked t c).1
 
-pub try_children-loop-next-preserved : goal.try_children-loop-next-preserved
-try_children-loop-next-preserved t c = record { kept = kept_on c.loop-next.invariant.kept c.try_child-taker.ensures.kept; walked = (walked t c).0 }
+pub children::try_children-loop-next-preserved : goal.children::try_children-loop-next-preserved
+children::try_children-loop-next-preserved t c = record { kept = kept_on c.loop-next.invariant.kept c.try_child-taker.ensures.kept; walked = (walked t c).0 }
 
-pub try_child-returns-then-not-is_tried-clause-tried : goal.try_child-returns-then-not-is_tried-clause-tried
-try_child-returns-then-not-is_tried-clause-tried t c =
+pub children::try_child-returns-then-not-is_tried-clause-tried : goal.children::try_child-returns-then-not-is_tried-clause-tried
+children::try_child-returns-then-not-is_tried-clause-tried t c =
+    let d = c.args.delivery.now in
     let views = c.args.tree.now in
-    let slop = c.args.limits.now.slop in
+    let slop = d.limits.now.slop in
     let reads = reads_child (names_child c.requires.may c.requires.kid c.number-group.ensures.value c.number-child.ensures.value) c.facts-own.ensures.value c.facts.ensures.value c.state-rect.ensures.value in
-    try_no (scene_of views slop) (own_of views c.args.view) c.args.event.now (child_at views slop c.args.kid) (progress_of views c.args.gesture.now c.args.log.now)
+    try_no (scene_of views slop) (own_of views d.view) d.event.now (child_at views slop c.args.kid) (progress_of views c.args.gesture.now c.args.log.now)
     (tried_read slop reads ∙ sym c.is_tried.ensures ∙ c.if-not-is_tried.true)
 
-pub try_child-put-requires-clause-may : goal.try_child-put-requires-clause-may
-try_child-put-requires-clause-may t c = may_put (names_child c.requires.may c.requires.kid c.number-group.ensures.value c.number-child.ensures.value)
+pub children::try_child-put-requires-clause-may : goal.children::try_child-put-requires-clause-may
+children::try_child-put-requires-clause-may t c = may_put (names_child c.requires.may c.requires.kid c.number-group.ensures.value c.number-child.ensures.value)
 
-pub try_child-returns-then-is_target-clause-tried : goal.try_child-returns-then-is_target-clause-tried
-try_child-returns-then-is_target-clause-tried t c =
+pub children::try_child-returns-then-is_target-clause-tried : goal.children::try_child-returns-then-is_target-clause-tried
+children::try_child-returns-then-is_target-clause-tried t c =
+    let d = c.args.delivery.now in
     let views = c.args.tree.now in
-    let slop = c.args.limits.now.slop in
+    let slop = d.limits.now.slop in
     let reads = reads_child (names_child c.requires.may c.requires.kid c.number-group.ensures.value c.number-child.ensures.value) c.facts-own.ensures.value c.facts.ensures.value c.state-rect.ensures.value in
-    try_earlier (scene_of views slop) (own_of views c.args.view) c.args.event.now (child_at views slop c.args.kid) (progress_of views c.args.gesture.now c.args.log.now) (progress_of views c.put.new.self c.args.log.now)
+    try_earlier (scene_of views slop) (own_of views d.view) d.event.now (child_at views slop c.args.kid) (progress_of views c.args.gesture.now c.args.log.now) (progress_of views c.put.new.self c.args.log.now)
     (tried_read slop reads ∙ sym c.is_tried.ensures ∙ c.if-not-is_tried.false)
     (target_read reads.names ∙ sym c.is_target.ensures ∙ c.if-is_target.true)
     (put_named (offsets_in views) c.args.log.now.entries.items (gesture_of c.args.gesture.now) (gesture_of c.put.new.self) _ _ _ _ _ _ c.put.ensures.gesture c.number-group.ensures.value c.number-child.ensures.value c.id_bit.ensures.value)
 
-pub try_child-returns-then-is_target-clause-kept : goal.try_child-returns-then-is_target-clause-kept
-try_child-returns-then-is_target-clause-kept t c =
+pub children::try_child-returns-then-is_target-clause-kept : goal.children::try_child-returns-then-is_target-clause-kept
+children::try_child-returns-then-is_target-clause-kept t c =
     kept_put (has_id c.id_bit.result) (names_child c.requires.may c.requires.kid c.number-group.ensures.value c.number-child.ensures.value) c.put.ensures.opened c.put.ensures.gesture
 
-pub try_child-reach-requires : goal.try_child-reach-requires
-try_child-reach-requires t c =
+pub children::try_child-reach-requires : goal.children::try_child-reach-requires
+children::try_child-reach-requires t c =
+    let d = c.args.delivery.now in
     let views = c.args.tree.now in
-    let slop = c.args.limits.now.slop in
+    let slop = d.limits.now.slop in
     let reads = reads_child (names_child c.requires.may c.requires.kid c.number-group.ensures.value c.number-child.ensures.value) c.facts-own.ensures.value c.facts.ensures.value c.state-rect.ensures.value in
     let gets =
     gets_part slop c.args.log.now.entries.items c.tried_event-part.result reads (sym c.is_tried.ensures ∙ c.if-not-is_tried.false) (sym c.is_target.ensures ∙ c.if-is_target.false) c.tried_event-part.ensures.value in
     let progress = progress_of views c.args.gesture.now c.args.log.now in
-    let fewer = fewer_kid views c.args.view c.args.kid c.requires.may.live c.requires.kid in
-    let fits = try_fits (scene_of views slop) (own_of views c.args.view) c.args.event.now (child_at views slop c.args.kid) progress c.tried_event-part.result gets in
+    let fewer = fewer_kid views d.view c.args.kid c.requires.may.live c.requires.kid in
+    let fits = try_fits (scene_of views slop) (own_of views d.view) d.event.now (child_at views slop c.args.kid) progress c.tried_event-part.result gets in
     let k = ap (λ (r : Reached). many r.progress) (reach_at views slop c.args.kid c.tried_event-part.result progress c.requires.kid.live) in
     let all = c.requires.fits in
     let pointer = c.tried_event-part.ensures.pointer in
     (omega (arith, c.decreases, fewer), (record { tree = c.requires.may.tree; live = c.requires.kid.live; pointer = pointer; caught = c.requires.may.caught }, omega (arith, fits, k, all)))
 
-pub try_child-returns-then-not-reach-clause-tried : goal.try_child-returns-then-not-reach-clause-tried
-try_child-returns-then-not-reach-clause-tried t c =
+pub children::try_child-returns-then-not-reach-clause-tried : goal.children::try_child-returns-then-not-reach-clause-tried
+children::try_child-returns-then-not-reach-clause-tried t c =
+    let d = c.args.delivery.now in
     let views = c.args.tree.now in
-    let slop = c.args.limits.now.slop in
-    let own = own_of views c.args.view in
+    let slop = d.limits.now.slop in
+    let own = own_of views d.view in
     let reads = reads_child (names_child c.requires.may c.requires.kid c.number-group.ensures.value c.number-child.ensures.value) c.facts-own.ensures.value c.facts.ensures.value c.state-rect.ensures.value in
     let gets =
     gets_part slop c.args.log.now.entries.items c.tried_event-part.result reads (sym c.is_tried.ensures ∙ c.if-not-is_tried.false) (sym c.is_target.ensures ∙ c.if-is_target.false) c.tried_event-part.ensures.value in
     let reached : Reached = record { yes = c.reach.result; progress = progress_of c.reach.new.tree c.reach.new.gesture c.reach.new.log } in
-    try_handed (scene_of views slop) own c.args.event.now (child_at views slop c.args.kid) _ c.tried_event-part.result reached gets (sym (reach_at views slop c.args.kid c.tried_event-part.result _ c.requires.kid.live) ∙ c.reach.ensures.reached)
-    ∙ taken_no own c.args.event.now (own_of views c.args.kid).number reached c.if-not-reach.true
+    try_handed (scene_of views slop) own d.event.now (child_at views slop c.args.kid) _ c.tried_event-part.result reached gets (sym (reach_at views slop c.args.kid c.tried_event-part.result _ c.requires.kid.live) ∙ c.reach.ensures.reached)
+    ∙ taken_no own d.event.now (own_of views c.args.kid).number reached c.if-not-reach.true
 
-pub try_child-put-requires-2-clause-may : goal.try_child-put-requires-2-clause-may
-try_child-put-requires-2-clause-may t c =
+pub children::try_child-put-requires-2-clause-may : goal.children::try_child-put-requires-2-clause-may
+children::try_child-put-requires-2-clause-may t c =
     may_put (names_still (names_child c.requires.may c.requires.kid c.number-group.ensures.value c.number-child.ensures.value) c.reach.ensures.kept)
 
-pub try_child-returns-clause-tried : goal.try_child-returns-clause-tried
-try_child-returns-clause-tried t c =
+pub children::try_child-returns-clause-tried : goal.children::try_child-returns-clause-tried
+children::try_child-returns-clause-tried t c =
+    let d = c.args.delivery.now in
     let views = c.args.tree.now in
-    let slop = c.args.limits.now.slop in
-    let own = own_of views c.args.view in
+    let slop = d.limits.now.slop in
+    let own = own_of views d.view in
     let reads = reads_child (names_child c.requires.may c.requires.kid c.number-group.ensures.value c.number-child.ensures.value) c.facts-own.ensures.value c.facts.ensures.value c.state-rect.ensures.value in
     let gets =
     gets_part slop c.args.log.now.entries.items c.tried_event-part.result reads (sym c.is_tried.ensures ∙ c.if-not-is_tried.false) (sym c.is_target.ensures ∙ c.if-is_target.false) c.tried_event-part.ensures.value in
     let reached : Reached = record { yes = c.reach.result; progress = progress_of c.reach.new.tree c.reach.new.gesture c.reach.new.log } in
     let new = progress_of c.reach.new.tree c.put-2.new.self c.reach.new.log in
-    try_handed (scene_of views slop) own c.args.event.now (child_at views slop c.args.kid) _ c.tried_event-part.result reached gets (sym (reach_at views slop c.args.kid c.tried_event-part.result _ c.requires.kid.live) ∙ c.reach.ensures.reached)
-    ∙ taken_yes own c.args.event.now (own_of views c.args.kid).number reached new c.if-not-reach.false
+    try_handed (scene_of views slop) own d.event.now (child_at views slop c.args.kid) _ c.tried_event-part.result reached gets (sym (reach_at views slop c.args.kid c.tried_event-part.result _ c.requires.kid.live) ∙ c.reach.ensures.reached)
+    ∙ taken_yes own d.event.now (own_of views c.args.kid).number reached new c.if-not-reach.false
     (put_named (offsets_in c.reach.new.tree) c.reach.new.log.entries.items (gesture_of c.reach.new.gesture) (gesture_of c.put-2.new.self) _ _ _ _ _ _ c.put-2.ensures.gesture c.number-group.ensures.value c.number-child.ensures.value
-    (c.tried_ids.ensures.value ∙ ap (λ (f : Facts). tried_ids f.split c.args.event.now) c.facts-own.ensures.value))
+    (c.tried_ids.ensures.value ∙ ap (λ (f : Facts). tried_ids f.split d.event.now) c.facts-own.ensures.value))
     ∙ ap (λ n. let t : Tried = record { taker = Handed n; progress = new } in t) (sym c.number-child.ensures.value)
 
-pub try_child-returns-clause-kept : goal.try_child-returns-clause-kept
-try_child-returns-clause-kept t c =
+pub children::try_child-returns-clause-kept : goal.children::try_child-returns-clause-kept
+children::try_child-returns-clause-kept t c =
     let names = names_still (names_child c.requires.may c.requires.kid c.number-group.ensures.value c.number-child.ensures.value) c.reach.ensures.kept in
     kept_on c.reach.ensures.kept (kept_put (has_id c.tried_ids.result) names c.put-2.ensures.opened c.put-2.ensures.gesture)
 
-pub answer-returns-then-is_none-clause-answered : goal.answer-returns-then-is_none-clause-answered
-answer-returns-then-is_none-clause-answered t c =
+pub group::answer-returns-then-is_none-clause-answered : goal.group::answer-returns-then-is_none-clause-answered
+group::answer-returns-then-is_none-clause-answered t c =
+    let s = c.args.shared.now in
+    let d = s.delivery.now in
     let targets = (gesture_of c.args.gesture.now).targets in
-    answered_own (scene_of c.args.tree.now c.args.limits.now.slop) (own_of c.args.tree.now c.args.view) (kids_of c.args.tree.now c.args.limits.now.slop c.args.view)
-    c.args.event.now c.args.intercepted c.args.taker (progress_of c.args.tree.now c.args.gesture.now c.args.log.now) _
-    (none_by c.newest.result c.is_none.result (targets (own_of c.args.tree.now c.args.view).number) c.is_none.ensures c.if-is_none.true
+    answered_own (scene_of c.args.tree.now d.limits.now.slop) (own_of c.args.tree.now d.view) (kids_of c.args.tree.now d.limits.now.slop d.view)
+    d.event.now s.intercepted s.taker (progress_of c.args.tree.now c.args.gesture.now c.args.log.now) _
+    (none_by c.newest.result c.is_none.result (targets (own_of c.args.tree.now d.view).number) c.is_none.ensures c.if-is_none.true
     (c.newest.ensures.child ∙ ap (λ n. first_child (targets n)) c.number.ensures.value))
     c.handle_at.ensures.reached
 
-pub answer-returns-clause-answered : goal.answer-returns-clause-answered
-answer-returns-clause-answered t c =
+pub group::answer-returns-clause-answered : goal.group::answer-returns-clause-answered
+group::answer-returns-clause-answered t c =
+    let s = c.args.shared.now in
+    let d = s.delivery.now in
     let targets = (gesture_of c.args.gesture.now).targets in
-    answered_targets (scene_of c.args.tree.now c.args.limits.now.slop) (own_of c.args.tree.now c.args.view) (kids_of c.args.tree.now c.args.limits.now.slop c.args.view)
-    c.args.event.now c.args.intercepted c.args.taker (progress_of c.args.tree.now c.args.gesture.now c.args.log.now) _
-    (some_by c.newest.result c.is_none.result (targets (own_of c.args.tree.now c.args.view).number) c.is_none.ensures c.if-is_none.false
+    answered_targets (scene_of c.args.tree.now d.limits.now.slop) (own_of c.args.tree.now d.view) (kids_of c.args.tree.now d.limits.now.slop d.view)
+    d.event.now s.intercepted s.taker (progress_of c.args.tree.now c.args.gesture.now c.args.log.now) _
+    (some_by c.newest.result c.is_none.result (targets (own_of c.args.tree.now d.view).number) c.is_none.ensures c.if-is_none.false
     (c.newest.ensures.child ∙ ap (λ n. first_child (targets n)) c.number.ensures.value))
-    c.hand_out.ensures.handed
+    c.deliver.ensures.delivered
 
-pub hand_out-hand_to-said-requires : goal.hand_out-hand_to-said-requires
-hand_out-hand_to-said-requires t c =
+pub targets::deliver-deliver_to-said-requires : goal.targets::deliver-deliver_to-said-requires
+targets::deliver-deliver_to-said-requires t c =
+    let s = c.args.shared.now in
+    let d = s.delivery.now in
     let i = c.loop-next.invariant in
-    let targets = (gesture_of c.args.gesture.now).targets (own_of c.args.tree.now c.args.view).number in
+    let targets = own_targets c.args.tree.now c.args.gesture.now d.view in
     let there = walk_there c.in-Some.child c.loop-next.next targets c.in-Some.is i.next in
-    let same : (gesture_of c.loop-next.gesture).targets (own_of c.loop-next.tree c.args.view).number ≡ targets =
-    ap (λ (v : PlainView). (gesture_of c.loop-next.gesture).targets v.number) (same_own c.args.tree.now c.loop-next.tree c.args.view i.kept.scrolls) ∙ i.same in
+    let same : (gesture_of c.loop-next.gesture).targets (own_of c.loop-next.tree d.view).number ≡ targets =
+    ap (λ (v : PlainView). (gesture_of c.loop-next.gesture).targets v.number) (same_own c.args.tree.now c.loop-next.tree d.view i.kept.scrolls) ∙ i.same in
     let fits =
-    out_fits_at c.args.tree.now c.loop-next.tree c.args.limits.now.slop c.args.view c.args.event.now c.args.intercepted c.args.taker c.in-Some.child targets _ c.loop-next.yes
+    out_fits_at c.args.tree.now c.loop-next.tree d.limits.now.slop d.view d.event.now s.intercepted s.taker c.in-Some.child targets _ c.loop-next.yes
     (progress_of c.loop-next.tree c.loop-next.gesture c.loop-next.log) i.kept.scrolls same there in
     let whole = ap (λ (r : Reached). many r.progress) (rw c.in-Some.is at i.rest) in
     let room = i.kept.room in
@@ -302,82 +324,89 @@ hand_out-hand_to-said-requires t c =
     (rw i.kept.scrolls.same.tree (omega (arith, c.decreases)), (may_still c.requires.may i.kept, (ap (is_target c.in-Some.child) same ∙ there, omega (arith, fits, whole, room, all))))
 
 -- the targets of the group stay while one of them gets its part
-stayed : (t : ℕ) (c : goal.hand_out-After-next-next t)
-    → (gesture_of c.hand_to-said.new.gesture).targets (own_of c.args.tree.now c.args.view).number ≡ (gesture_of c.args.gesture.now).targets (own_of c.args.tree.now c.args.view).number
+stayed : (t : ℕ) (c : goal.targets::deliver-After-next-next t)
+    → (gesture_of c.deliver_to-said.new.gesture).targets (own_of c.args.tree.now c.args.shared.now.delivery.now.view).number ≡ own_targets c.args.tree.now c.args.gesture.now c.args.shared.now.delivery.now.view
 stayed t c =
-    out_same c.args.tree.now c.loop-next.tree c.args.limits.now.slop c.args.view c.args.event.now c.args.intercepted c.args.taker
-    (target_of c.in-Some.child ((gesture_of c.loop-next.gesture).targets (own_of c.loop-next.tree c.args.view).number))
-    (progress_of c.loop-next.tree c.loop-next.gesture c.loop-next.log) _ c.requires.may.tree c.requires.may.live c.loop-next.invariant.kept.scrolls c.hand_to-said.ensures.handed
+    let s = c.args.shared.now in
+    let d = s.delivery.now in
+    out_same c.args.tree.now c.loop-next.tree d.limits.now.slop d.view d.event.now s.intercepted s.taker
+    (target_of c.in-Some.child ((gesture_of c.loop-next.gesture).targets (own_of c.loop-next.tree d.view).number))
+    (progress_of c.loop-next.tree c.loop-next.gesture c.loop-next.log) _ c.requires.may.tree c.requires.may.live c.loop-next.invariant.kept.scrolls c.deliver_to-said.ensures.delivered
     ∙ c.loop-next.invariant.same
 
 -- from a target to the next older one
-stepped : (t : ℕ) (c : goal.hand_out-After-next-next t) → TargetStep c.in-Some.child c.loop-next.next c.next-next.result ((gesture_of c.args.gesture.now).targets (own_of c.args.tree.now c.args.view).number)
+stepped : (t : ℕ) (c : goal.targets::deliver-After-next-next t) → TargetStep c.in-Some.child c.loop-next.next c.next-next.result (own_targets c.args.tree.now c.args.gesture.now c.args.shared.now.delivery.now.view)
 stepped t c =
-    let n = (own_of c.args.tree.now c.args.view).number in
+    let n = (own_of c.args.tree.now c.args.shared.now.delivery.now.view).number in
     subst (TargetStep c.in-Some.child c.loop-next.next c.next-next.result) (stayed t c)
     (target_step c.in-Some.child c.loop-next.next c.next-next.result _ c.in-Some.is (c.loop-next.invariant.next ∙ ap (λ ts. first_child (targets_from c.loop-next.next ts)) (sym (stayed t c)))
     (c.next-next.ensures.part n) (c.next-next.ensures.child n))
 
-pub hand_out-loop-next-smaller : goal.hand_out-loop-next-smaller
-hand_out-loop-next-smaller t c = rw (c.loop-next.invariant.group, stayed t c, c.loop-next.invariant.same) (stepped t c).fewer
+pub targets::deliver-loop-next-smaller : goal.targets::deliver-loop-next-smaller
+targets::deliver-loop-next-smaller t c = rw (c.loop-next.invariant.group, stayed t c, c.loop-next.invariant.same) (stepped t c).fewer
 
-pub hand_out-loop-next-preserved : goal.hand_out-loop-next-preserved
-hand_out-loop-next-preserved t c =
+pub targets::deliver-loop-next-preserved : goal.targets::deliver-loop-next-preserved
+targets::deliver-loop-next-preserved t c =
+    let s = c.args.shared.now in
+    let d = s.delivery.now in
     let i = c.loop-next.invariant in
     let old = c.args.tree.now in
-    let slop = c.args.limits.now.slop in
+    let slop = d.limits.now.slop in
     let step = stepped t c in
     record {
-      kept = kept_on i.kept c.hand_to-said.ensures.kept;
+      kept = kept_on i.kept c.deliver_to-said.ensures.kept;
       group = i.group;
       same = stayed t c;
       next = step.first;
       rest =
-          out_step old c.loop-next.tree slop c.args.view c.args.event.now c.args.intercepted c.args.taker c.in-Some.child _ _ c.loop-next.yes c.either-yes.result
-          (progress_of c.loop-next.tree c.loop-next.gesture c.loop-next.log) (progress_of c.hand_to-said.new.tree c.hand_to-said.new.gesture c.hand_to-said.new.log) c.hand_to-said.result c.next-next.result i.kept.scrolls
-          (ap (λ (v : PlainView). (gesture_of c.loop-next.gesture).targets v.number) (same_own old c.loop-next.tree c.args.view i.kept.scrolls) ∙ i.same) step.there step.part c.either-yes.ensures c.hand_to-said.ensures.handed
+          out_step old c.loop-next.tree slop d.view d.event.now s.intercepted s.taker c.in-Some.child _ _ c.loop-next.yes c.either-yes.result
+          (progress_of c.loop-next.tree c.loop-next.gesture c.loop-next.log) (progress_of c.deliver_to-said.new.tree c.deliver_to-said.new.gesture c.deliver_to-said.new.log) c.deliver_to-said.result c.next-next.result i.kept.scrolls
+          (ap (λ (v : PlainView). (gesture_of c.loop-next.gesture).targets v.number) (same_own old c.loop-next.tree d.view i.kept.scrolls) ∙ i.same) step.there step.part c.either-yes.ensures c.deliver_to-said.ensures.delivered
           ∙ rw c.in-Some.is at i.rest;
     }
 
-pub hand_to-returns-in_default-clause-handed : goal.hand_to-returns-in_default-clause-handed
-hand_to-returns-in_default-clause-handed t c =
-    let k = kid_found c.args.tree.now c.args.limits.now.slop c.args.view c.args.child c.requires.may.tree c.requires.may.live
-    (c.requires.may.caught.children (own_of c.args.tree.now c.args.view).number c.args.child c.requires.target) in
+pub targets::deliver_to-returns-in_default-clause-delivered : goal.targets::deliver_to-returns-in_default-clause-delivered
+targets::deliver_to-returns-in_default-clause-delivered t c =
+    let d = c.args.shared.now.delivery.now in
+    let k = kid_found c.args.tree.now d.limits.now.slop d.view c.args.child c.requires.may.tree c.requires.may.live
+    (c.requires.may.caught.children (own_of c.args.tree.now d.view).number c.args.child c.requires.target) in
     let key = k.key_is in
     let found = c.find.ensures.key in
     let none = c.in_default.is in
     absurd (cc)
 
-pub hand_to-reach-requires : goal.hand_to-reach-requires
-hand_to-reach-requires t c =
-    let part : part_for c.state-rect.result.bounds c.facts-own.result.now.offset c.args.event.now c.args.intercepted (has_id c.ids-ids.result) ≡ Some c.else-not-intercepted.part =
+pub targets::deliver_to-reach-requires : goal.targets::deliver_to-reach-requires
+targets::deliver_to-reach-requires t c =
+    let d = c.args.shared.now.delivery.now in
+    let part : part_for c.state-rect.result.bounds c.facts-own.result.now.offset d.event.now c.args.shared.now.intercepted (has_id c.ids-ids.result) ≡ Some c.else-not-intercepted.part =
     elim c.else-not-intercepted.branch [
-      | hand_to-else-not-intercepted-via-else-not-intercepted w ↦ rw (w.if-not-intercepted.false, w.part-is, c.cancel_event-part.ensures) refl
-      | hand_to-else-not-intercepted-via-then-not-intercepted+else-not-put_part w ↦
+      | targets::deliver_to-else-not-intercepted-via-else-not-intercepted w ↦ rw (w.if-not-intercepted.false, w.part-is, c.cancel_event-part.ensures) refl
+      | targets::deliver_to-else-not-intercepted-via-then-not-intercepted+else-not-put_part w ↦
           rw (w.if-not-intercepted.true, w.part-is) (sym (rw w.if-not-put_part.false at w.put_part.ensures.value))
     ] in
     let pointer : c.else-not-intercepted.part.pointer < MAX_POINTERS =
     elim c.else-not-intercepted.branch [
-      | hand_to-else-not-intercepted-via-else-not-intercepted w ↦ rw (w.part-is, c.cancel_event-part.ensures) (omega arith)
-      | hand_to-else-not-intercepted-via-then-not-intercepted+else-not-put_part w ↦ rw (w.part-is, w.put_part.ensures.pointer) c.requires.may.pointer
+      | targets::deliver_to-else-not-intercepted-via-else-not-intercepted w ↦ rw (w.part-is, c.cancel_event-part.ensures) (omega arith)
+      | targets::deliver_to-else-not-intercepted-via-then-not-intercepted+else-not-put_part w ↦ rw (w.part-is, w.put_part.ensures.pointer) c.requires.may.pointer
     ] in
     let hands =
-    hands_to c.args.limits.now.slop c.args.log.now.entries.items c.requires.may c.requires.target (sym c.find.ensures.key ∙ c.in-Some.is) c.in-Some.ensures.number c.facts-own.ensures.value c.state-rect.ensures.value
+    hands_to d.limits.now.slop c.args.log.now.entries.items c.requires.may c.requires.target (sym c.find.ensures.key ∙ c.in-Some.is) c.in-Some.ensures.number c.facts-own.ensures.value c.state-rect.ensures.value
     (c.ids-ids.ensures _ c.requires.target) (sym c.is_handed.ensures ∙ c.if-is_handed.false) part in
-    let fewer = fewer_kid c.args.tree.now c.args.view c.in-Some.kid c.requires.may.live hands.there in
+    let fewer = fewer_kid c.args.tree.now d.view c.in-Some.kid c.requires.may.live hands.there in
     let fits = ap (λ (r : Reached). many r.progress) hands.is in
     let all = c.requires.fits in
     (omega (arith, c.decreases, fewer), (record { tree = c.requires.may.tree; live = hands.there.live; pointer = pointer; caught = c.requires.may.caught }, omega (arith, fits, all)))
 
-pub hand_to-returns-clause-handed : goal.hand_to-returns-clause-handed
-hand_to-returns-clause-handed t c =
-    let part : part_for c.state-rect.result.bounds c.facts-own.result.now.offset c.args.event.now c.args.intercepted (has_id c.ids-ids.result) ≡ Some c.else-not-intercepted.part =
+pub targets::deliver_to-returns-clause-delivered : goal.targets::deliver_to-returns-clause-delivered
+targets::deliver_to-returns-clause-delivered t c =
+    let d = c.args.shared.now.delivery.now in
+    let part : part_for c.state-rect.result.bounds c.facts-own.result.now.offset d.event.now c.args.shared.now.intercepted (has_id c.ids-ids.result) ≡ Some c.else-not-intercepted.part =
     elim c.else-not-intercepted.branch [
-      | hand_to-else-not-intercepted-via-else-not-intercepted w ↦ rw (w.if-not-intercepted.false, w.part-is, c.cancel_event-part.ensures) refl
-      | hand_to-else-not-intercepted-via-then-not-intercepted+else-not-put_part w ↦
+      | targets::deliver_to-else-not-intercepted-via-else-not-intercepted w ↦ rw (w.if-not-intercepted.false, w.part-is, c.cancel_event-part.ensures) refl
+      | targets::deliver_to-else-not-intercepted-via-then-not-intercepted+else-not-put_part w ↦
           rw (w.if-not-intercepted.true, w.part-is) (sym (rw w.if-not-put_part.false at w.put_part.ensures.value))
     ] in
     let hands =
-    hands_to c.args.limits.now.slop c.args.log.now.entries.items c.requires.may c.requires.target (sym c.find.ensures.key ∙ c.in-Some.is) c.in-Some.ensures.number c.facts-own.ensures.value c.state-rect.ensures.value
+    hands_to d.limits.now.slop c.args.log.now.entries.items c.requires.may c.requires.target (sym c.find.ensures.key ∙ c.in-Some.is) c.in-Some.ensures.number c.facts-own.ensures.value c.state-rect.ensures.value
     (c.ids-ids.ensures _ c.requires.target) (sym c.is_handed.ensures ∙ c.if-is_handed.false) part in
     hands.is ∙ c.reach.ensures.reached
