@@ -6,7 +6,8 @@ use Rattle.std.proofs.lemmas.Slice.Eq.{bytes_eq-Decides}
 use Rattle.view_model.specs.declared.changes.Act.TheVariants as act
 use Rattle.view_model.specs.declared.changes.Change.{Change}
 use Rattle.script_lines.specs.Changes.{act_of, change_of}
-use Rattle.script_lines.specs.Commands.{add_of, command_by, command_in, set_of}
+use Rattle.script_lines.specs.Commands.{add_of, command_by, command_in, frame_of, set_of}
+use Rattle.script_lines.specs.States.{restore_of}
 use Rattle.script_lines.specs.Hooks.{asked_of, begins_edit}
 use Rattle.script_lines.specs.Names.{name_in}
 use Rattle.script_lines.specs.PlainCommands.{PlainCommand, Act}
@@ -58,3 +59,13 @@ edit_line head rest begins =
 pub add_line : (head rest : List ℕ) → bytes_eq head (codes "add") ≡ true → command_in head rest ≡ add_of (words rest)
 unfolding command_in command_by
 add_line head rest same = subst (λ (word : List ℕ). command_in word rest ≡ add_of (words rest)) (sym ((bytes_eq-Decides head (codes "add")).0 same)) refl
+
+-- one whose first word is `frame` lays the tree out
+pub frame_line : (head rest : List ℕ) → bytes_eq head (codes "frame") ≡ true → command_in head rest ≡ frame_of (words rest)
+unfolding command_in command_by
+frame_line head rest same = subst (λ (word : List ℕ). command_in word rest ≡ frame_of (words rest)) (sym ((bytes_eq-Decides head (codes "frame")).0 same)) refl
+
+-- and one whose first word is `restore` restores a state
+pub restore_line : (head rest : List ℕ) → bytes_eq head (codes "restore") ≡ true → command_in head rest ≡ restore_of (words rest)
+unfolding command_in command_by
+restore_line head rest same = subst (λ (word : List ℕ). command_in word rest ≡ restore_of (words rest)) (sym ((bytes_eq-Decides head (codes "restore")).0 same)) refl

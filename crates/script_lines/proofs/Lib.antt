@@ -12,6 +12,7 @@ mod HookLaws
 mod LimitExamples
 mod LineExamples
 pub mod LineLaws
+mod PassedLaws
 pub mod PieceLaws
 mod OkLaws
 mod PartLaws

@@ -49,7 +49,7 @@ add_one n = omega arith
 place_feed : (b : ℕ) (bs : List ℕ) → is_line_feed b ≡ true → position_or_len is_line_feed (b ∷ bs) ≡ 0
 place_feed b bs e = rw e refl
 
-place_other : (b : ℕ) (bs : List ℕ) → is_line_feed b ≡ false → position_or_len is_line_feed (b ∷ bs) ≡ suc (position_or_len is_line_feed bs)
+pub place_other : (b : ℕ) (bs : List ℕ) → is_line_feed b ≡ false → position_or_len is_line_feed (b ∷ bs) ≡ suc (position_or_len is_line_feed bs)
 place_other b bs e = (let q : position_or_len is_line_feed (b ∷ bs) ≡ 1 + position_or_len is_line_feed bs = rw e refl in q) ∙ one_add (position_or_len is_line_feed bs)
 
 -- bytes without a line feed are appended to the rest

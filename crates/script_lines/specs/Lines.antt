@@ -1,5 +1,5 @@
 -- The lines of a script.
-use Rattle.std.specs.Prelude.{ℕ, ◌-◌, ◌==◌, nat_lt, Bool, ◌&&◌, ◌||◌, List, [], ◌∷◌, ◌++◌, if◌then◌else◌, length, take, fold, slice_index}
+use Rattle.std.specs.Prelude.{◌≡◌, ℕ, ◌-◌, ◌==◌, nat_lt, Bool, true, false, ◌&&◌, ◌||◌, List, [], ◌∷◌, ◌++◌, if◌then◌else◌, length, take, fold, slice_index}
 use Rattle.std.specs.List.{list_all}
 
 -- a line as it was read
@@ -53,3 +53,14 @@ is_space b = b == 32
 -- a line of spaces only, or none, and a line that begins with `#`
 abbrev pub is_passed_over : List ℕ → Bool
 is_passed_over line = list_all is_space line || (nat_lt 0 (length line) && slice_index line 0 == 35)
+
+-- too long a line is not passed over, whatever it begins with
+abbrev pub is_idle : Line → Bool
+is_idle LongLine = false
+is_idle (Text bytes) = is_passed_over bytes
+
+-- these bytes are this many lines that are passed over, each with its line feed
+pub record ArePassedOver (bytes : List ℕ) (count : ℕ) : Type 0 where
+  pub rest : (cut_of bytes).rest ≡ []
+  pub idle : list_all is_idle (cut_of bytes).lines ≡ true
+  pub counted : length (cut_of bytes).lines ≡ count

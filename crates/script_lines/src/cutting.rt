@@ -1,8 +1,8 @@
 //! Bytes that come in pieces, cut into lines.
 
-ghost use Rattle.std.specs.Prelude.{◌≡◌, ◌≢◌, ℕ, ◌+◌, ◌<◌, ◌≤◌, ◌↔◌, ◌⊎◌, List, [], ◌++◌, length, take, min};
+ghost use Rattle.std.specs.Prelude.{◌≡◌, ◌≢◌, ℕ, ◌+◌, ◌<◌, ◌≤◌, ◌↔◌, ◌⊎◌, List, [], ◌++◌, length, take, min, slice_index};
 ghost use Rattle.std.specs.List.{list_all, position_or_len};
-ghost use Rattle.script_lines.specs.Lines.{cut_of, is_line_feed, is_passed_over, is_space, last_of, lines_of, without_return};
+ghost use Rattle.script_lines.specs.Lines.{ArePassedOver, cut_of, is_line_feed, is_passed_over, is_space, last_of, lines_of, without_return};
 ghost use Rattle.script_lines.specs.LineBuffer.{LineBuffer, IsLent, IsAfter, lines_as, lines_at};
 ghost use Rattle.script_lines.specs.Pieces.{FeedSequence, Feed, bytes_in, lines_in};
 
@@ -32,6 +32,15 @@ pub enum LinePlace {
     Held,
     /// A line that is too long. Its bytes are lost.
     Long,
+}
+
+/// Lines at the front of a piece that are passed over.
+#[derive(Clone, Copy, Debug, PartialEq, Eq)]
+pub struct PassedOver {
+    /// How many bytes these lines are, each with its line feed.
+    pub bytes: usize,
+    /// How many lines these are.
+    pub lines: u64,
 }
 
 /// The lines of a script whose bytes come in pieces, however they are cut.
@@ -69,6 +78,24 @@ impl Lines {
             begun: 0,
             line: 0,
         }
+    }
+
+    /// Lines at the front of a piece that are passed over: empty ones, and those that begin with `#`. There are none if
+    /// a line has begun. Whatever came `before`, these bytes add these lines and no beginning of another one.
+    #[inline]
+    pub fn passed_over(&self, piece: &[u8]) -> PassedOver
+        ensures within { result.bytes ≤ length piece.now }
+        ensures passed { ArePassedOver (take result.bytes piece.now) result.lines }
+        ensures lines { (before : List ℕ) → IsAfter self.now before
+            → (cut_of (before ++ take result.bytes piece.now)).lines
+            ≡ (cut_of before).lines ++ (cut_of (take result.bytes piece.now)).lines }
+        ensures stands { (before : List ℕ) → IsAfter self.now before
+            → IsAfter self.now (before ++ take result.bytes piece.now) }
+    {
+        if self.begun > 0 {
+            return PassedOver { bytes: 0, lines: 0 };
+        }
+        passed_front(piece)
     }
 
     /// Takes the bytes of a piece up to its first line feed, or all of them, and returns how many those are, and where
@@ -175,6 +202,57 @@ impl Lines {
     {
         &self.buffer[..self.line]
     }
+}
+
+/// The lines at the front of a piece that are empty or begin with `#`.
+fn passed_front(piece: &[u8]) -> PassedOver
+    ensures within { result.bytes ≤ length piece.now }
+    ensures passed { ArePassedOver (take result.bytes piece.now) result.lines }
+{
+    let mut bytes = 0;
+    let mut lines = 0;
+    loop {
+        let more = passed_len(&piece[bytes..]);
+        if more == 0 {
+            return PassedOver { bytes, lines };
+        }
+        bytes += more;
+        lines += 1;
+    }
+}
+
+/// How many bytes the line at the front is, with its line feed, if it is empty or begins with `#`; 0 otherwise.
+#[inline]
+fn passed_len(bytes: &[u8]) -> usize
+    ensures within { result ≤ length bytes.now }
+    ensures passed { (result ≡ 0) ⊎ ArePassedOver (take result bytes.now) 1 }
+{
+    if bytes.is_empty() {
+        return 0;
+    }
+    if bytes[0] == b'\n' {
+        return 1;
+    }
+    if bytes[0] == b'#' {
+        return comment_len(bytes);
+    }
+    0
+}
+
+/// How many bytes the line at the front is, with its line feed, where it begins with `#`; 0 if it has none or is too
+/// long.
+#[inline]
+fn comment_len(bytes: &[u8]) -> usize
+    requires some { 0 < length bytes.now }
+    requires first { slice_index bytes.now 0 ≡ 35 }
+    ensures within { result ≤ length bytes.now }
+    ensures passed { (result ≡ 0) ⊎ ArePassedOver (take result bytes.now) 1 }
+{
+    let end = 1 + line_end(&bytes[1..]);
+    if end == bytes.len() || end > MAX_LINE {
+        return 0;
+    }
+    end + 1
 }
 
 /// The place of the first line feed, or the length if there is none. A line feed that comes first needs no search.

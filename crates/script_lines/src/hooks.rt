@@ -208,7 +208,8 @@ fn gather(bytes: &[u8]) -> Result<Gathered, LineFault>
     Ok(gathered)
 }
 
-/// Arms the hook of a view.
+/// Arms the hook of a view. Its edits take much room, so it is a call of its own in the reading of any line.
+#[inline(never)]
 #[tactic(auto, unfolding(crate::specs::Hooks::hook_of), using(crate::proofs::HookLaws::edits_end))]
 pub fn hook(bytes: &[u8]) -> Result<Command<'_>, LineFault>
     ensures value { map_ok plain_command result ≡ hook_of (words bytes.now) }

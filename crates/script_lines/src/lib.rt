@@ -31,7 +31,7 @@ mod weights;
 mod words;
 
 pub use commands::{Asked, Command, Given};
-pub use cutting::{Ended, LinePlace, Lines, passes_over};
+pub use cutting::{Ended, LinePlace, Lines, PassedOver, passes_over};
 pub use escapes::Unescaped;
 pub use fault::LineFault;
 pub use file_name::is_file_name;

@@ -296,7 +296,7 @@ fn edit<'a>(head: &[u8], bytes: &'a [u8]) -> Result<Command<'a>, LineFault>
 }
 
 /// The command of a line. Those that come most often are looked for first.
-#[tactic(auto, unfolding(crate::specs::Commands::command_of), using(crate::proofs::EditLaws::add_line))]
+#[tactic(auto, unfolding(crate::specs::Commands::command_of), using(crate::proofs::EditLaws::add_line, crate::proofs::EditLaws::frame_line, crate::proofs::EditLaws::restore_line))]
 fn read_line(bytes: &[u8]) -> Result<Command<'_>, LineFault>
     ensures value { map_ok plain_command result ≡ command_of bytes.now }
     ensures bounds { IfOk result (λ command. IsInBounds (plain_command command)) }
@@ -310,6 +310,12 @@ fn read_line(bytes: &[u8]) -> Result<Command<'_>, LineFault>
     }
     if is(head, b"add") {
         return add(rest);
+    }
+    if is(head, b"frame") {
+        return frame(rest);
+    }
+    if is(head, b"restore") {
+        return restore(rest);
     }
     read_rest(head, rest)
 }
