@@ -65,6 +65,7 @@ impl Stack {
 
     /// Carries out a line, and then writes its text. If it is refused, is out of memory, or a fetch fails, nothing has
     /// changed.
+    #[inline(never)]
     pub fn line<K: Sink, F: Shelf>(
         &mut self,
         alloc: Global,
@@ -182,8 +183,9 @@ impl Stack {
         ensures works { WorksBy (plain_given given.entry) self.old self.new result work.old work.new }
         ensures sink_failed { (K.state sink.new).faults ≡ faults_after_line result (K.state sink.old).faults }
     {
-        let Given { holder, k, command } = given;
-        let outcome = self.world_line(alloc, k, command, shelf, sink, work);
+        let holder = given.holder;
+        let k = given.k;
+        let outcome = self.world_line(alloc, given, shelf, sink, work);
         if !is_done(&outcome) {
             return outcome;
         }

@@ -86,22 +86,11 @@ fn put_color<K: Sink>(text: &mut TextBuffer, sink: &mut K, color: Argb)
 }
 
 /// A colour of a row, after a space if it is not the first.
-fn put_word<K: Sink>(
-    text: &mut TextBuffer,
-    sink: &mut K,
-    surface: &Surface,
-    part: Part,
-    column: usize,
-    row: usize,
-)
-    requires part { IsPartOf surface.now part }
-    requires column { column < part.width }
-    requires row { row < part.height }
-    ensures { Sends (K.state sink.old) (K.state sink.new) text.old text.new
-        (separator column ⧺ pixel_text (color_of surface.now part column row)) }
+fn put_word<K: Sink>(text: &mut TextBuffer, sink: &mut K, column: usize, color: Argb)
+    ensures { Sends (K.state sink.old) (K.state sink.new) text.old text.new (separator column ⧺ pixel_text color) }
 {
     put_separator(text, sink, column);
-    put_color(text, sink, color_of(surface, part, column, row));
+    put_color(text, sink, color);
 }
 
 /// The colours of a row of a part.
@@ -113,7 +102,7 @@ fn put_row<K: Sink>(text: &mut TextBuffer, sink: &mut K, surface: &Surface, part
 {
     let mut column = 0;
     while column < part.width {
-        put_word(text, sink, surface, part, column, row);
+        put_word(text, sink, column, color_of(surface, part, column, row));
         column += 1;
     }
     text.put(sink, b"\n");

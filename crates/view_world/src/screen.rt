@@ -39,7 +39,7 @@ use crate::inflating::{fetch, inflation_of, views_of};
 use crate::naming::{find, place_of, resolve, tell_tree};
 use crate::pixels::part_in;
 use crate::resources::value_of;
-use crate::response::{Response, respond, write_response};
+use crate::response::{ReplySource, Response, respond, write_response};
 use crate::stage::Stage;
 use crate::texts::resolved;
 use crate::touching::{has_any_scrolled, hides};
@@ -285,15 +285,13 @@ impl Screen {
         ensures same { self.new ≡ self.old }
         ensures sink_failed { (K.state sink.new).faults ≡ faults_after_line result (K.state sink.old).faults }
     {
-        match write_response(
-            &self.tree,
-            &self.surface,
-            &self.log,
-            self.saved.as_slice(),
-            response,
-            &mut self.text,
-            sink,
-        ) {
+        let source = ReplySource {
+            tree: &self.tree,
+            surface: &self.surface,
+            log: &self.log,
+            saved: self.saved.as_slice(),
+        };
+        match write_response(&source, response, &mut self.text, sink) {
             Ok(()) => Ok(()),
             Err(_) => Err(StepFault::Sink),
         }

@@ -18,6 +18,7 @@ ghost use Rattle.window_stack.specs.PlainPanes.{is_open};
 ghost use Rattle.window_stack.specs.declared.lines.TheConstants.{MAX_PANE};
 
 use crate::stack::Stack;
+use crate::stack::way::Given;
 use geom_core::Size;
 use script_lines::Command;
 use std::alloc::{AllocError, Global};
@@ -97,60 +98,60 @@ pub fn line_at<K: Sink, F: Shelf>(
 
 impl Stack {
     /// Carries out a command in the world of an open window.
-    pub fn world_line<K: Sink, F: Shelf>(
+    pub(super) fn world_line<K: Sink, F: Shelf>(
         &mut self,
         alloc: Global,
-        k: u8,
-        command: Command<'_>,
+        given: Given<'_>,
         shelf: &mut F,
         sink: &mut K,
         work: &mut Work,
     ) -> Result<(), StepFault>
-        requires name { k ≤ MAX_PANE }
+        requires name { given.k ≤ MAX_PANE }
         requires numbers { HaveNumbers self.old }
-        requires bounds { IsInBounds (plain_command command) }
-        requires short { text_length (plain_command command) < 2 ^ 31 }
+        requires bounds { IsInBounds (plain_command given.command) }
+        requires short { text_length (plain_command given.command) < 2 ^ 31 }
         ensures carried { (files : Files) (world : KeyedWorld)
-            → keyed_at self.old k ≡ Some world
-            → AreAtHand files (F.files shelf.old) (asked_file (world_of world) (plain_command command.entry))
+            → keyed_at self.old given.entry.k ≡ Some world
+            → AreAtHand files (F.files shelf.old) (asked_file (world_of world) (plain_command given.entry.command))
             → (after : KeyedWorld)
-            × (self.new ≡ record self.old { worlds = slice_set self.old.worlds k (Some after) })
-            × WritesReply (step files (world_of world) (plain_command command.entry)) (world_of after)
+            × (self.new ≡ record self.old { worlds = slice_set self.old.worlds given.entry.k (Some after) })
+            × WritesReply (step files (world_of world) (plain_command given.entry.command)) (world_of after)
             (K.state sink.old) (K.state sink.new) result }
         ensures works { (world : KeyedWorld)
-            → keyed_at self.old k ≡ Some world
+            → keyed_at self.old given.entry.k ≡ Some world
             → (after : KeyedWorld)
-            × (self.new.worlds ≡ slice_set self.old.worlds k (Some after))
-            × WorksIn world after (plain_command command.entry) result work.old work.new }
+            × (self.new.worlds ≡ slice_set self.old.worlds given.entry.k (Some after))
+            × WorksIn world after (plain_command given.entry.command) result work.old work.new }
         ensures silent { (files : Files) (world : KeyedWorld) (plain : PlainWorld)
-            → keyed_at self.old k ≡ Some world
-            → AreAtHand files (F.files shelf.old) (asked_file (world_of world) (plain_command command.entry))
-            → step files (world_of world) (plain_command command.entry) ≡ Done plain []
+            → keyed_at self.old given.entry.k ≡ Some world
+            → AreAtHand files (F.files shelf.old) (asked_file (world_of world) (plain_command given.entry.command))
+            → step files (world_of world) (plain_command given.entry.command) ≡ Done plain []
             → sink.new ≡ sink.old }
         ensures panes { self.new.panes ≡ self.old.panes }
-        ensures there { is_open self.old.panes k ≡ true → (world : KeyedWorld) × (keyed_at self.old k ≡ Some world) }
+        ensures there { is_open self.old.panes given.entry.k ≡ true
+            → (world : KeyedWorld) × (keyed_at self.old given.entry.k ≡ Some world) }
         ensures unchanged { IsDone result ⊎ ((self.new ≡ self.old) × (sink.new ≡ sink.old)) }
         ensures files_stay { F.files shelf.new ≡ F.files shelf.old }
         ensures unasked { (world : KeyedWorld)
-            → keyed_at self.old k ≡ Some world
-            → asked_file (world_of world) (plain_command command.entry) ≡ None
+            → keyed_at self.old given.entry.k ≡ Some world
+            → asked_file (world_of world) (plain_command given.entry.command) ≡ None
             → shelf.new ≡ shelf.old }
         ensures fetched { (world : KeyedWorld)
-            → keyed_at self.old k ≡ Some world
+            → keyed_at self.old given.entry.k ≡ Some world
             → F.fetches shelf.new
-            ≡ fetches_after (asked_file (world_of world) (plain_command command.entry)) (F.fetches shelf.old) }
+            ≡ fetches_after (asked_file (world_of world) (plain_command given.entry.command)) (F.fetches shelf.old) }
         ensures shelf_failed { CountsShelf (F.faults shelf.old) (F.faults shelf.new) result }
         ensures asked { (world : KeyedWorld)
-            → keyed_at self.old k ≡ Some world
+            → keyed_at self.old given.entry.k ≡ Some world
             → result ≡ Err StepFault.Shelf
-            → asked_file (world_of world) (plain_command command.entry) ≢ None }
-        ensures memory { result ≡ Err StepFault.NoMemory → MayWantMemory (plain_command command.entry) }
+            → asked_file (world_of world) (plain_command given.entry.command) ≢ None }
+        ensures memory { result ≡ Err StepFault.NoMemory → MayWantMemory (plain_command given.entry.command) }
         ensures sink_failed { (K.state sink.new).faults ≡ faults_after_line result (K.state sink.old).faults }
     {
         line_at(
-            &mut self.worlds[usize::from(k)],
+            &mut self.worlds[usize::from(given.k)],
             alloc,
-            command,
+            given.command,
             shelf,
             sink,
             work,
