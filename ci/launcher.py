@@ -159,7 +159,7 @@ def example_of_help():
 
 def refusals():
     """The number and the name of each refusal that the program has."""
-    with open(os.path.join(TOP, "crates/view_tool/src/names.rt")) as file:
+    with open(os.path.join(TOP, "crates/whole_tool/src/names.rt")) as file:
         names = re.findall(r'^    b"(\w*)",$', file.read(), re.M)
     with open(os.path.join(TOP, "crates/axml_chunks/src/cause.rt")) as file:
         faults = re.findall(r"^ +Cause::\w+ => (\d+),$", file.read(), re.M)

@@ -20,6 +20,8 @@ mod pictures;
 #[cfg(test)]
 mod resources;
 #[cfg(test)]
+mod runs;
+#[cfg(test)]
 mod states;
 #[cfg(test)]
 mod string_pools;

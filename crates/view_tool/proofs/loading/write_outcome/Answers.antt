@@ -1,6 +1,0 @@
-use Rattle.text_lines.proofs.Sending.{delivered}
-use Rattle.view_tool.proofs.loading.write_outcome.Goals as goal
-
-pub returns : goal.returns
-returns g c =
-    delivered c.finish.result c.new-reply.ensures c.put_outcome.ensures c.finish.ensures.sends c.finish.ensures.empty c.finish.ensures.whole c.finish.ensures.failed

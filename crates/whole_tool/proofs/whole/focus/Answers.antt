@@ -1,0 +1,33 @@
+use Rattle.std.proofs.Common.{sym, subst, ◌∙◌}
+use Rattle.whole_tool.specs.Focus.{AsksWith}
+use Rattle.whole_tool.specs.Works.{trace}
+use Rattle.whole_tool.proofs.FocusLaws.{asks_with}
+use Rattle.whole_tool.proofs.ToolLaws.{ends_whole, shelf_by_status, shelf_later, sink_by_status, source_by_status}
+use Rattle.whole_tool.proofs.whole.focus.Goals as goal
+
+pub returns-clause-asks : goal.returns-clause-asks
+returns-clause-asks g c files script at_hand told =
+    let first = trace (g.K.Sink.state c.args.sink.now) c.args.work.now (g.F.Shelf.fetches c.args.shelf.now) in
+    let last = trace (g.K.Sink.state c.focus_source.new.sink) c.focus_source.new.work (g.F.Shelf.fetches c.focus_source.new.shelf) in
+    subst (AsksWith files script c.args.question (g.S.Source.left c.focus_source.new.source) first last) (sym c.status.ensures)
+    (asks_with files script c.args.question _ first last c.focus_source.result (c.focus_source.ensures.asks.asks files script at_hand told))
+
+pub returns-clause-source_failed : goal.returns-clause-source_failed
+returns-clause-source_failed g c =
+    let before = g.S.Source.faults c.args.source.now in
+    rw c.status.ensures (c.focus_source.ensures.source_failed ∙ source_by_status c.focus_source.result before)
+
+pub returns-clause-sink_failed : goal.returns-clause-sink_failed
+returns-clause-sink_failed g c =
+    let before = (g.K.Sink.state c.args.sink.now).faults in
+    rw c.status.ensures (c.focus_source.ensures.sink_failed ∙ sink_by_status c.focus_source.result before)
+
+pub returns-clause-shelf_failed : goal.returns-clause-shelf_failed
+returns-clause-shelf_failed g c not_5 =
+    rw c.status.ensures (shelf_by_status c.focus_source.result _ _ c.focus_source.ensures.shelf_failed (λ e. not_5 (c.status.ensures ∙ e)))
+
+pub returns-clause-shelf_later : goal.returns-clause-shelf_later
+returns-clause-shelf_later g c = shelf_later c.focus_source.result _ _ c.focus_source.ensures.shelf_failed
+
+pub returns-clause-whole : goal.returns-clause-whole
+returns-clause-whole g c = rw c.status.ensures (ends_whole c.focus_source.result)

@@ -1,0 +1,45 @@
+-- What the tool writes of resources in a table: one line each, or why the file is refused.
+use Rattle.std.specs.Prelude.{ℕ, nat_lt, Bool, true, false, if◌then◌else◌, List, length, Option, Some, None, Result, Ok, Err, string_bytes}
+use Rattle.std.specs.declared.alloc.Global.{Global}
+use Rattle.std.specs.declared.string.String.{String}
+use Rattle.arsc_reader.specs.Contents.{Contents}
+use Rattle.arsc_reader.specs.Lines.{value_line, value_lines}
+use Rattle.arsc_reader.specs.Table.{table_of}
+use Rattle.axml_chunks.specs.declared.fault.Fault.{Fault}
+use Rattle.tool_io.specs.Fetched.{Files, file_of}
+use Rattle.view_model.specs.declared.refusals.TheConstants.{LONG_FILE, MISSING_FILE}
+use Rattle.whole_tool.specs.Dump.{fault_text, refused_file_text}
+use Rattle.whole_tool.specs.Usage.{resource_id}
+
+-- the most bytes that a table may have
+abbrev pub max_table : ℕ
+max_table = 16777216
+
+-- the line of the resource whose id a word is
+abbrev pub word_line : Contents → String Global → List ℕ
+word_line table word = value_line table (resource_id (string_bytes word))
+
+-- the lines of resources in what was read, or its fault
+abbrev pub looked_up : List ℕ → Result Contents Fault → List ℕ
+looked_up ids (Ok table) = value_lines table ids
+looked_up ids (Err fault) = fault_text fault
+
+abbrev pub is_broken : Result Contents Fault → Bool
+is_broken (Ok table) = false
+is_broken (Err fault) = true
+
+-- the same of a file, if there is one
+abbrev pub table_text : List ℕ → Option (List ℕ) → List ℕ
+table_text ids None = refused_file_text MISSING_FILE
+table_text ids (Some bytes) = if nat_lt max_table (length bytes) then refused_file_text LONG_FILE else looked_up ids (table_of bytes)
+
+abbrev pub is_refused_table : Option (List ℕ) → Bool
+is_refused_table None = true
+is_refused_table (Some bytes) = if nat_lt max_table (length bytes) then true else is_broken (table_of bytes)
+
+-- what is written of resources in the file of a name, and whether the file is refused
+abbrev pub lookup_page : Files → List ℕ → List ℕ → List ℕ
+lookup_page files name ids = table_text ids (file_of files name)
+
+abbrev pub refuses_table : Files → List ℕ → Bool
+refuses_table files name = is_refused_table (file_of files name)

@@ -1,0 +1,69 @@
+-- What a call of the tool is and how it ends.
+use Rattle.std.specs.Prelude.{◌≡◌, ◌⊎◌, ℕ, ◌<◌, ◌≤◌, nat_lt, Bool, true, ◌==◌, if◌then◌else◌, List, length, Option, Some, Result, Ok, Err}
+use Rattle.std.specs.List.{list_any}
+use Rattle.std.specs.Io.KnownBytes.{Appends}
+use Rattle.script_lines.specs.Lines.{lines_of}
+use Rattle.text_lines.specs.Prefix.{AppendsPrefix}
+use Rattle.whole_tool.specs.Carried.{Carried}
+use Rattle.whole_tool.specs.declared.run.Stop.TheVariants as stop
+use Rattle.whole_tool.specs.declared.script.End.{End}
+use Rattle.whole_tool.specs.declared.script.End.TheVariants as ends
+use Rattle.tool_io.specs.Fetched.{Files}
+use Rattle.whole_tool.specs.Run.{StopsAtFetchFrom, StopsBeforeFrom}
+use Rattle.whole_tool.specs.Script.{WritesTakenFrom}
+use Rattle.whole_tool.specs.Transcript.{after_from, carried_lines, max_script}
+use Rattle.whole_tool.specs.Usage.{Usage, Run, Stack, Dump, Lookup}
+
+-- a run of this script with these files: the words are those of a run, the source has these bytes left, and the shelf
+-- holds these files
+pub record IsRunOf (usage : Usage) (left : Option (List ℕ)) (held : Option Files) (script : List ℕ) (files : Files) : Type 0 where
+  pub words : usage ≡ Run
+  pub source : left ≡ Some script
+  pub shelf : held ≡ Some files
+
+-- a run of this script for a stack of windows with these files
+pub record IsStackOf (usage : Usage) (left : Option (List ℕ)) (held : Option Files) (script : List ℕ) (files : Files) : Type 0 where
+  pub words : usage ≡ Stack
+  pub source : left ≡ Some script
+  pub shelf : held ≡ Some files
+
+-- the print of the file of this name, with these files
+pub record IsDumpOf (usage : Usage) (held : Option Files) (name : List ℕ) (files : Files) : Type 0 where
+  pub words : usage ≡ Dump name
+  pub shelf : held ≡ Some files
+
+-- the print of what the resources of these ids hold in the table of the file of this name, with these files
+pub record IsLookupOf (usage : Usage) (held : Option Files) (name ids : List ℕ) (files : Files) : Type 0 where
+  pub words : usage ≡ Lookup name ids
+  pub shelf : held ≡ Some files
+
+-- a call that ended by itself: all was done, and nothing or something was refused
+abbrev pub IsComplete : ℕ → Type 0
+IsComplete status = (status ≡ 0) ⊎ (status ≡ 1)
+
+-- the status of a run
+abbrev pub status_of : Result Bool End → ℕ
+status_of (Ok refused) = if refused then 1 else 0
+status_of (Err ends.Source) = 3
+status_of (Err ends.Long) = 7
+status_of (Err (ends.Stopped stop.Sink)) = 4
+status_of (Err (ends.Stopped stop.NoMemory)) = 5
+status_of (Err (ends.Stopped stop.Shelf)) = 6
+
+-- the status is one of these
+abbrev pub IsOneOf : ℕ → List ℕ → Type 0
+IsOneOf status statuses = list_any (λ s. s == status) statuses ≡ true
+
+-- what was written when a run ended with a status: the whole text if it ended by itself, and always a front part of it
+pub record Writes (status : ℕ) (old new : Option (List ℕ)) (text : List ℕ) : Type 0 where
+  pub whole : IsComplete status → Appends old new text
+  pub part : AppendsPrefix old new text
+
+-- how a run of a script ended with a status
+pub record RunsWith (start : Carried) (files : Files) (script : List ℕ) (left first last : Option (List ℕ)) (status : ℕ) : Type 0 where
+  pub writes : Writes status first last (after_from start files (carried_lines script)).text
+  pub ended : IsComplete status → (length script ≤ max_script) × (status ≡ (if nat_lt 0 (after_from start files (lines_of script)).refused then 1 else 0))
+  pub taken : status ≡ 3 → WritesTakenFrom start files script left first last
+  pub no_memory : status ≡ 5 → StopsBeforeFrom start files first last (carried_lines script)
+  pub failed_fetch : status ≡ 6 → StopsAtFetchFrom start files first last (carried_lines script)
+  pub long : status ≡ 7 → (max_script < length script) × Appends first last (after_from start files (carried_lines script)).text

@@ -1,0 +1,104 @@
+//! What carries out the lines of a script: a world, or a stack of windows.
+
+ghost use Rattle.std.specs.Prelude.{◌≡◌, ◌≢◌, ◌⊎◌, ◌+◌, ◌-◌, ◌<◌, ◌≤◌, ◌^◌, Err, None, Some, length, min};
+ghost use Rattle.script_lines.specs.Lines.{max_line};
+ghost use Rattle.stack_worlds.specs.PlainStack.{empty_stack};
+ghost use Rattle.tool_io.specs.Fetched.{Files};
+ghost use Rattle.view_model.specs.Refusals.{plain_refusal};
+ghost use Rattle.view_model.specs.declared.limits.TheConstants.{MAX_VIEWS, NUMBERS_END};
+ghost use Rattle.view_model.specs.declared.work.Work.{Work};
+ghost use Rattle.whole_tool.specs.Carried.{Alone, Stacked, BytesWant, asked_by_bytes, fault_refusal, reply_to_bytes};
+ghost use Rattle.whole_tool.specs.Carrier.{IsFirst, WritesLine, carried_of, next_of};
+ghost use Rattle.whole_tool.specs.Run.{HasTallied};
+ghost use Rattle.whole_tool.specs.Tally.{Tally, after_bytes};
+ghost use Rattle.view_world.specs.Carried.{CountsShelf, IsDone, faults_after_line, fetches_after};
+ghost use Rattle.view_world.specs.World.{empty_world};
+
+use script_lines::{LineFault, line};
+use stack_worlds::Stack;
+use std::alloc::Global;
+use tool_io::{Shelf, Sink};
+use view_model::refusals::{OUT_OF_RANGE, SYNTAX};
+use view_model::{Refusal, Work};
+use view_world::{StepFault, World};
+use window_stack::stack_line;
+
+/// What carries out the lines of a script.
+#[derive(Drop)]
+pub enum Carrier {
+    Alone(World),
+    Stacked(Stack),
+}
+
+impl Carrier {
+    /// An empty world.
+    pub fn alone(alloc: Global) -> Carrier
+        ensures start { carried_of result ≡ Alone empty_world }
+        ensures first { IsFirst result }
+    {
+        Carrier::Alone(World::new(alloc))
+    }
+
+    /// A stack without a window.
+    pub fn stacked() -> Carrier
+        ensures start { carried_of result ≡ Stacked empty_stack }
+        ensures first { IsFirst result }
+    {
+        Carrier::Stacked(Stack::new())
+    }
+
+    /// Carries out a line that is not passed over, and writes its text; of one that is refused nothing is written.
+    pub fn line<K: Sink, F: Shelf>(
+        &mut self,
+        alloc: Global,
+        bytes: &[u8],
+        shelf: &mut F,
+        sink: &mut K,
+        work: &mut Work,
+    ) -> Result<(), StepFault>
+        requires numbered { next_of self.old < NUMBERS_END }
+        requires short { length bytes.now ≤ max_line }
+        ensures carried { (files : Files)
+            → F.files shelf.old ≡ Some files
+            → WritesLine (reply_to_bytes files (carried_of self.old) bytes.now) (carried_of self.new)
+            (K.state sink.old) (K.state sink.new) result }
+        ensures unchanged { IsDone result ⊎ ((self.new ≡ self.old) × (sink.new ≡ sink.old)) }
+        ensures tallied { (files : Files) (tally : Tally) (first : Work)
+            → F.files shelf.old ≡ Some files
+            → HasTallied first work.old self.old tally
+            → IsDone result
+            → HasTallied first work.new self.new (after_bytes files tally.costs tally.watched bytes.now) }
+        ensures idle { IsDone result ⊎ (work.new ≡ work.old) }
+        ensures memory { result ≡ Err StepFault.NoMemory → BytesWant (carried_of self.old) bytes.now }
+        ensures numbers { next_of self.new ≤ next_of self.old + MAX_VIEWS }
+        ensures sink_failed { (K.state sink.new).faults ≡ faults_after_line result (K.state sink.old).faults }
+        ensures files_stay { F.files shelf.new ≡ F.files shelf.old }
+        ensures shelf_failed { CountsShelf (F.faults shelf.old) (F.faults shelf.new) result }
+        ensures asked { result ≡ Err StepFault.Shelf → asked_by_bytes (carried_of self.old) bytes.now ≢ None }
+        ensures fetched { F.fetches shelf.new
+            ≡ fetches_after (asked_by_bytes (carried_of self.old) bytes.now) (F.fetches shelf.old) }
+        ensures painted { work.old.painted ≤ work.new.painted }
+        ensures measured { min work.old.measured (2 ^ 64 - 1) ≤ work.new.measured }
+    {
+        match self {
+            Carrier::Alone(world) => match line(bytes) {
+                Ok(command) => world.carry(alloc, &command, shelf, sink, work),
+                Err(fault) => Err(StepFault::Refused(refusal_of(fault))),
+            },
+            Carrier::Stacked(stack) => match stack_line(bytes) {
+                Ok(line) => stack.line(alloc, line, shelf, sink, work),
+                Err(fault) => Err(StepFault::Refused(refusal_of(fault))),
+            },
+        }
+    }
+}
+
+/// The refusal of a line that asks for nothing.
+fn refusal_of(fault: LineFault) -> Refusal
+    ensures { plain_refusal result ≡ fault_refusal fault }
+{
+    match fault {
+        LineFault::Syntax => Refusal::plain(SYNTAX),
+        LineFault::Range => Refusal::plain(OUT_OF_RANGE),
+    }
+}

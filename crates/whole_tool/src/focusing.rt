@@ -1,0 +1,148 @@
+//! Which view gets the focus next, after a script.
+
+ghost use Rattle.std.specs.Prelude.{◌≡◌, ◌≤◌, ◌-◌, ◌^◌, IfErr, IfSome, min};
+ghost use Rattle.std.specs.Option.{option_map};
+ghost use Rattle.text_lines.specs.BufferedText.{Sends};
+ghost use Rattle.text_lines.specs.Delivered.{Delivered};
+ghost use Rattle.whole_tool.specs.Carried.{world_in};
+ghost use Rattle.whole_tool.specs.Carrier.{carried_of};
+ghost use Rattle.whole_tool.specs.Focus.{AsksFrom, IsNamed, answer_of, answer_text, found_text, refused_question};
+ghost use Rattle.whole_tool.specs.Script.{CountsEnd, ends_counted, reads_counted};
+ghost use Rattle.whole_tool.specs.Works.{trace};
+ghost use Rattle.view_tree.specs.Views.{IsLive, number_of};
+ghost use Rattle.view_world.specs.KeyedWorld.{world_of};
+
+use crate::carrier::Carrier;
+use crate::refusals::{put_counted, put_refused};
+use crate::run::{Run, Stop};
+use crate::script::{End, run_to_end};
+use focus_finder::{Side, next};
+use script_lines::Name;
+use std::alloc::Global;
+use text_lines::TextBuffer;
+use tool_io::{Failed, Shelf, Sink, Source};
+use view_model::Work;
+use view_model::refusals::{NO_FRAME, NO_ROOT, NO_VIEW, NO_WINDOW, UNSETTLED};
+use view_tree::{Key, ViewTree};
+use view_world::{Stage, World, find};
+
+/// A question that is asked after a script: which view gets the focus next, from a view to a side of it.
+#[derive(Clone, Copy, Debug, PartialEq, Eq)]
+pub struct Question {
+    pub side: Side,
+    pub view: Name,
+}
+
+/// Carries out the script on a source and, if it was read to its end, answers the question. Returns whether a line or the
+/// question was refused.
+pub fn focus_source<S: Source, K: Sink, F: Shelf>(
+    alloc: Global,
+    question: Question,
+    source: &mut S,
+    shelf: &mut F,
+    sink: &mut K,
+    work: &mut Work,
+) -> Result<bool, End>
+    ensures asks { AsksFrom (F.files shelf.old) question
+        (S.left source.old) (S.left source.new) (trace (K.state sink.old) work.old (F.fetches shelf.old))
+        (trace (K.state sink.new) work.new (F.fetches shelf.new)) result }
+    ensures files_stay { F.files shelf.new ≡ F.files shelf.old }
+    ensures shelf_failed { CountsEnd (F.faults shelf.old) (F.faults shelf.new) result }
+    ensures painted { work.old.painted ≤ work.new.painted }
+    ensures measured { min work.old.measured (2 ^ 64 - 1) ≤ work.new.measured }
+    ensures source_failed { S.faults source.new ≡ reads_counted result (S.faults source.old) }
+    ensures sink_failed { (K.state sink.new).faults ≡ ends_counted result (K.state sink.old).faults }
+{
+    let mut run = Run::new(Carrier::alone(alloc));
+    let refused = run_to_end(&mut run, alloc, source, shelf, sink, work)?;
+    let answer = answer_in(run.carrier(), question);
+    let unanswered = answer.is_err();
+    match write_answer(sink, answer) {
+        Ok(()) => Ok(refused | unanswered),
+        Err(_) => Err(End::Stopped(Stop::Sink)),
+    }
+}
+
+/// The answer to a question in the world that a run has made. In a stack no window is meant.
+fn answer_in(carrier: &Carrier, question: Question) -> Result<Option<u64>, u8>
+    ensures value { result ≡ answer_of (world_in (carried_of carrier.now)) question }
+    ensures named { IfErr result IsNamed }
+{
+    match carrier {
+        Carrier::Alone(world) => answer(world, question),
+        Carrier::Stacked(_) => Err(NO_WINDOW),
+    }
+}
+
+/// The answer to a question: the number of the view that gets the focus next, if there is one, or the number of the refusal
+/// by which a `bounds` line of the same view is refused.
+fn answer(world: &World, question: Question) -> Result<Option<u64>, u8>
+    ensures value { result ≡ answer_of (world_of world.now) question }
+    ensures named { IfErr result IsNamed }
+{
+    let Some(window) = world.window() else {
+        return Err(NO_WINDOW);
+    };
+    let tree = world.tree();
+    if tree.root().is_none() {
+        return Err(NO_ROOT);
+    }
+    match world.stage() {
+        Stage::NoWindow | Stage::NoFrame => Err(NO_FRAME),
+        Stage::Unsettled => Err(UNSETTLED),
+        Stage::Settled => match find(tree, question.view) {
+            None => Err(NO_VIEW),
+            Some(view) => Ok(number_in(tree, next(tree, window, view, question.side))),
+        },
+    }
+}
+
+/// The number of a view, if there is one.
+fn number_in(tree: &ViewTree, view: Option<Key>) -> Option<u64>
+    requires { IfSome view (λ view. IsLive tree.now view) }
+    ensures { result ≡ option_map (number_of tree.now) view }
+{
+    match view {
+        None => None,
+        Some(view) => Some(tree.number(view)),
+    }
+}
+
+/// Writes the answer to a question.
+fn write_answer<K: Sink>(sink: &mut K, answer: Result<Option<u64>, u8>) -> Result<(), Failed>
+    requires { IfErr answer IsNamed }
+    ensures { Delivered (K.state sink.old) (K.state sink.new) result (answer_text answer) }
+{
+    let mut reply = TextBuffer::new();
+    put_answer(&mut reply, sink, answer);
+    reply.finish(sink)
+}
+
+fn put_answer<K: Sink>(reply: &mut TextBuffer, sink: &mut K, answer: Result<Option<u64>, u8>)
+    requires { IfErr answer IsNamed }
+    ensures { Sends (K.state sink.old) (K.state sink.new) reply.old reply.new (answer_text answer) }
+{
+    match answer {
+        Ok(None) => reply.put(sink, b"focus none\n"),
+        Ok(Some(number)) => put_found(reply, sink, number),
+        Err(number) => put_refused_question(reply, sink, number),
+    }
+}
+
+#[tactic(auto, using(text_lines::proofs::Sending::sends_both), unfolding(crate::specs::Focus::found_text))]
+fn put_found<K: Sink>(reply: &mut TextBuffer, sink: &mut K, number: u64)
+    ensures { Sends (K.state sink.old) (K.state sink.new) reply.old reply.new (found_text number) }
+{
+    put_counted(reply, sink, b"focus v", number);
+    reply.put(sink, b"\n");
+}
+
+#[tactic(auto, using(text_lines::proofs::Sending::sends_both), unfolding(crate::specs::Focus::refused_question))]
+fn put_refused_question<K: Sink>(reply: &mut TextBuffer, sink: &mut K, number: u8)
+    requires { IsNamed number }
+    ensures { Sends (K.state sink.old) (K.state sink.new) reply.old reply.new (refused_question number) }
+{
+    reply.put(sink, b"focus: ");
+    put_refused(reply, sink, number);
+    reply.put(sink, b"\n");
+}

@@ -1,0 +1,24 @@
+//! The whole tool over objects that it is given: it carries out scripts over a tree of Android views, line by line, and
+//! writes exact bounds; and it prints compiled layout files. The program `view_tool` passes it the real objects.
+//!
+//! `tool` is all of it; `usage` reads what the words ask for. `script` reads a source in pieces, `run` carries out each
+//! line of them as soon as it has ended, by a `carrier`, and `refusals` reports refused lines, by `names`. `dump` prints a
+//! file, or reports by `file_replies` why it is refused, `lookup` prints resources, `loading` runs a load, and `focusing`
+//! answers which view gets the focus next after a script. `status` has the statuses.
+#![tactic(auto)]
+
+mod carrier;
+mod dump;
+mod file_replies;
+mod focusing;
+mod loading;
+mod lookup;
+mod names;
+mod refusals;
+mod run;
+mod script;
+pub mod status;
+mod usage;
+mod whole;
+
+pub use whole::tool;

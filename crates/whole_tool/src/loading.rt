@@ -1,0 +1,150 @@
+//! The load, run in a world of its own.
+
+ghost use Rattle.std.specs.Prelude.{◌≡◌, ◌≢◌, ◌≤◌, ◌^◌, ◌==◌, min, false, ◌-◌, [], ◌∷◌, None, Some, IfOk, IfErr, IfSome, length, if◌then◌else◌};
+ghost use Rattle.hex.specs.Hex.{encode_lower};
+ghost use Rattle.load_maker.specs.Load.{load};
+ghost use Rattle.script_lines.specs.Lines.{lines_of};
+ghost use Rattle.sha2.specs.Sha256.{sha256};
+ghost use Rattle.text_lines.specs.BufferedText.{Sends};
+ghost use Rattle.text_lines.specs.Delivered.{Delivered};
+ghost use Rattle.tool_io.specs.Counts.{raised};
+ghost use Rattle.whole_tool.specs.Carried.{Alone};
+ghost use Rattle.whole_tool.specs.Dump.{Dumps};
+ghost use Rattle.whole_tool.specs.Gen.{gen_outcome, gen_page, outcome_text};
+ghost use Rattle.whole_tool.specs.Run.{HasCarriedOut};
+ghost use Rattle.whole_tool.specs.Tally.{costs_of_script, tally_from};
+ghost use Rattle.whole_tool.specs.Tool.{IsOneOf};
+ghost use Rattle.whole_tool.specs.Transcript.{after_lines, max_script};
+ghost use Rattle.whole_tool.specs.Works.{WorksPart};
+ghost use Rattle.view_world.specs.Watched.{IsWorth};
+ghost use Rattle.view_world.specs.World.{empty_world};
+
+use crate::carrier::Carrier;
+use crate::dump::status_of;
+use crate::run::{Run, Stop};
+use crate::status::{ACCEPTED, NO_MEMORY};
+use load_maker::script;
+use sha2::{Digest, Sha256};
+use std::alloc::Global;
+use text_lines::TextBuffer;
+use tool_io::{Failed, MemorySink, Sink, SteadyShelf};
+use view_model::Work;
+
+/// How many bytes of a page are kept at a time.
+const PIECE: usize = 4096;
+
+/// The results of a load.
+#[derive(Clone, Copy, Debug, PartialEq, Eq)]
+pub struct Outcome {
+    /// How many lines its script has.
+    lines: u64,
+    /// How many of them were refused.
+    refused: u64,
+    /// The SHA-256 of its page.
+    digest: [u8; 32],
+}
+
+/// Runs the load of this size in a world of its own, and writes the results.
+pub fn run_load<K: Sink>(alloc: Global, n: u32, sink: &mut K, work: &mut Work) -> u8
+    requires { n ≤ 100 }
+    ensures dumps { Dumps (gen_page n) false (K.state sink.old) (K.state sink.new) result }
+    ensures known { IsOneOf result (0 ∷ 4 ∷ 5 ∷ []) }
+    ensures worth { result ≢ 5 → IsWorth (costs_of_script (load n) []) work.old work.new }
+    ensures works { WorksPart [] work.old work.new (lines_of (load n)) }
+    ensures nothing_written { result ≡ 5 → sink.new ≡ sink.old }
+    ensures sink_failed { (K.state sink.new).faults
+        ≡ (if result == 4 then raised (K.state sink.old).faults else (K.state sink.old).faults) }
+    ensures painted { work.old.painted ≤ work.new.painted }
+    ensures measured { min work.old.measured (2 ^ 64 - 1) ≤ work.new.measured }
+{
+    match load_outcome(alloc, n, work) {
+        Some(outcome) => status_of(ACCEPTED, write_outcome(sink, outcome)),
+        None => NO_MEMORY,
+    }
+}
+
+/// The results of the load of this size, or `None` if there is no memory.
+fn load_outcome(alloc: Global, n: u32, work: &mut Work) -> Option<Outcome>
+    requires { n ≤ 100 }
+    ensures value { IfSome result (λ outcome. outcome ≡ gen_outcome n) }
+    ensures worth { IfSome result (λ outcome. IsWorth (costs_of_script (load n) []) work.old work.new) }
+    ensures works { WorksPart [] work.old work.new (lines_of (load n)) }
+    ensures painted { work.old.painted ≤ work.new.painted }
+    ensures measured { min work.old.measured (2 ^ 64 - 1) ≤ work.new.measured }
+{
+    let mut page = MemorySink::new(alloc, PIECE, Vec::new(alloc));
+    let Ok(script) = script(alloc, n) else {
+        return None;
+    };
+    match carried_out(alloc, script.as_slice(), &mut page, work) {
+        Ok(run) => Some(outcome_of(&run, &page)),
+        Err(_) => None,
+    }
+}
+
+/// A whole script, carried out without files.
+fn carried_out(
+    alloc: Global,
+    script: &[u8],
+    page: &mut MemorySink,
+    work: &mut Work,
+) -> Result<Run, Stop>
+    requires short { length script.now ≤ max_script }
+    ensures stopped { IfErr result (λ stop. WorksPart [] work.old work.new (lines_of script.now)) }
+    ensures runs { IfOk result
+        (λ run. HasCarriedOut (record { gone = Some page.old.gone; work = work.old; fetches = None })
+        (record { gone = Some page.new.gone; work = work.new; fetches = None }) run.runner
+        (after_lines [] (lines_of script.now)) (tally_from (Alone empty_world) [] (lines_of script.now))) }
+    ensures painted { work.old.painted ≤ work.new.painted }
+    ensures measured { min work.old.measured (2 ^ 64 - 1) ≤ work.new.measured }
+{
+    let mut shelf = SteadyShelf::new(Vec::new(alloc));
+    let mut run = Run::new(Carrier::alone(alloc));
+    run.piece(alloc, script, &mut shelf, page, work)?;
+    run.finish(alloc, &mut shelf, page, work)?;
+    Ok(run)
+}
+
+/// The results of a script that was carried out, of which this is the page.
+fn outcome_of(run: &Run, page: &MemorySink) -> Outcome
+    ensures { result
+        ≡ record { lines = run.now.runner.lines; refused = run.now.runner.refused; digest = sha256 page.now.gone } }
+{
+    let (lines, refused) = run.counts();
+    Outcome {
+        lines,
+        refused,
+        digest: Sha256::digest(page.gone()),
+    }
+}
+
+/// Writes the results of a load.
+fn write_outcome<K: Sink>(sink: &mut K, outcome: Outcome) -> Result<(), Failed>
+    ensures { Delivered (K.state sink.old) (K.state sink.new) result (outcome_text outcome) }
+{
+    let mut reply = TextBuffer::new();
+    put_outcome(&mut reply, sink, outcome);
+    reply.finish(sink)
+}
+
+#[tactic(auto, using(text_lines::proofs::Sending::sends_both), unfolding(crate::specs::Gen::outcome_text))]
+fn put_outcome<K: Sink>(reply: &mut TextBuffer, sink: &mut K, outcome: Outcome)
+    ensures { Sends (K.state sink.old) (K.state sink.new) reply.old reply.new (outcome_text outcome) }
+{
+    reply.put(sink, b"lines ");
+    reply.natural(sink, outcome.lines);
+    reply.put(sink, b"\nrefused ");
+    reply.natural(sink, outcome.refused);
+    reply.put(sink, b"\npage ");
+    reply.put(sink, &digits_of(outcome.digest));
+    reply.put(sink, b"\n");
+}
+
+/// The digits of a digest.
+fn digits_of(digest: [u8; 32]) -> [u8; 64]
+    ensures { result ≡ encode_lower digest }
+{
+    let mut digits = [0; 64];
+    let _ = hex::encode_to_slice(digest, &mut digits);
+    digits
+}
