@@ -16,7 +16,7 @@ WORDS = [
     (r"(?<!seen )(?<!shows )(?<!shown )behind", "after"),
     (r"stands?(?!-in)|stood|standing", "is, means, represents or replaces"),
     (r"handed|handing|hands|hand (?:it|them|the|a|an)", "passes, gives or gets"),
-    (r"(?:has|have|had) gone(?! (?:up|down|from|over|through|to))", "was written or was removed"),
+    (r"(?:has|have|had) gone(?! (?:up|down|further|from|over|through|to))", "was written or was removed"),
     (r"want(?:s|ed)? (?:of |for )?memory|want of|wanting", "out of memory"),
     (r"(?:comes?|came|coming) to(?! rest)", "results in or reaches"),
     (r"so (?:many|much)(?![^.;:]* that )", "n or this many"),
