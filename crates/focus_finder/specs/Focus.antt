@@ -8,7 +8,7 @@ use Rattle.geom_core.specs.declared.geometry.Rect.{Rect}
 use Rattle.geom_core.specs.declared.geometry.Size.{Size}
 use Rattle.view_model.specs.Forest.{Forest, Nothing, Branch}
 use Rattle.view_model.specs.Geometry.{Laid}
-use Rattle.view_model.specs.Offsets.{scrolls}
+use Rattle.view_model.specs.Classes.{scrolls}
 use Rattle.view_model.specs.Painting.{is_drawn}
 use Rattle.view_model.specs.PlainTree.{PlainView}
 use Rattle.view_model.specs.Visible.{visible_rect}

@@ -9,7 +9,7 @@ ghost use Rattle.view_model.specs.Placing.{alignment_across, alignment_down, low
 ghost use Rattle.geom_core.specs.declared.geometry.Size.{Size as SizeValue};
 
 use geom_core::{Insets, Rect, Size, to_coordinate};
-use view_model::{Across, Down, Facts, Gravity, rect_at};
+use view_model::{Across, Down, Extent, Facts, Gravity, rect_at};
 
 const NO_GRAVITY: Gravity = Gravity {
     given: false,
@@ -75,12 +75,16 @@ impl Room {
     {
         to_coordinate(
             across.alignment(self.rtl).low_edge(
-                self.size.w,
-                self.padding.left,
-                self.padding.right,
-                width,
-                kid.margin_left(),
-                kid.margin_right(),
+                Extent {
+                    size: self.size.w,
+                    before: self.padding.left,
+                    after: self.padding.right,
+                },
+                Extent {
+                    size: width,
+                    before: kid.margin_left(),
+                    after: kid.margin_right(),
+                },
             ),
         )
     }
@@ -94,12 +98,16 @@ impl Room {
     {
         to_coordinate(
             down.alignment().low_edge(
-                self.size.h,
-                self.padding.top,
-                self.padding.bottom,
-                height,
-                kid.margins.top,
-                kid.margins.bottom,
+                Extent {
+                    size: self.size.h,
+                    before: self.padding.top,
+                    after: self.padding.bottom,
+                },
+                Extent {
+                    size: height,
+                    before: kid.margins.top,
+                    after: kid.margins.bottom,
+                },
             ),
         )
     }

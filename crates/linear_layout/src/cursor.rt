@@ -15,7 +15,7 @@ use crate::axis::{
 };
 use crate::mark::Mark;
 use geom_core::{Rect, Size, to_coordinate};
-use view_model::{Alignment, Facts, Gravity, rect_at};
+use view_model::{Alignment, Extent, Facts, Gravity, rect_at};
 
 /// The placing of the children of one group. They are passed in order; in a horizontal line
 /// whose group runs from right to left, from the last to the first.
@@ -102,12 +102,16 @@ impl Cursor {
         let beside = !self.vertical;
         let gravity = self.gravity.for_child(kid.layout_gravity);
         to_coordinate(alignment_on(beside, self.rtl, gravity).low_edge(
-            self.breadth,
-            self.padding_low,
-            self.padding_high,
-            size_on(beside, size),
-            low_margin(beside, kid),
-            high_margin(beside, kid),
+            Extent {
+                size: self.breadth,
+                before: self.padding_low,
+                after: self.padding_high,
+            },
+            Extent {
+                size: size_on(beside, size),
+                before: low_margin(beside, kid),
+                after: high_margin(beside, kid),
+            },
         ))
     }
 }

@@ -11,7 +11,7 @@ use Rattle.view_model.specs.declared.facts.Facts.{Facts}
 use Rattle.view_model.specs.declared.kinds.Class.{Class}
 use Rattle.view_model.specs.declared.kinds.Class.TheVariants.{View, TextView, FrameLayout, LinearLayout, ScrollView, RelativeLayout}
 use Rattle.view_model.specs.Course.{Child}
-use Rattle.view_model.specs.Growth.{is_group}
+use Rattle.view_model.specs.Classes.{is_group}
 use Rattle.view_model.specs.Layout.{course_in, manner_by, manner_of, measured_by}
 use Rattle.view_model.specs.Leaf.{view_size}
 use Rattle.view_model.specs.Measuring.{Manner, ByRule, BySiblings, Rule, Specs}

@@ -15,7 +15,7 @@ use Rattle.measure_pass.proofs.Whole.{begun_course, whole_row}
 use Rattle.view_model.specs.Course.{Requested, begun}
 use Rattle.view_model.specs.Facts.{is_shown}
 use Rattle.view_model.specs.Forest.{Forest, Nothing, Branch}
-use Rattle.view_model.specs.Growth.{is_group}
+use Rattle.view_model.specs.Classes.{is_group}
 use Rattle.view_model.specs.Layout.{children_of, manner_of, for_layout}
 use Rattle.view_model.specs.Leaf.{leaf_rule}
 use Rattle.view_model.specs.Measuring.{Manner, ByRule, BySiblings, Measured, Rule, Specs, pair_of, taken_as}

@@ -45,7 +45,8 @@ use Rattle.view_model.specs.PlainTree.{PlainView}
 use Rattle.view_model.specs.RelativeCourse.{anchors_by, arranged, child_at, links_of}
 use Rattle.view_model.specs.RelativeLayout.{Spanned, edges_with, final_rect, phase_axis, phase_specs, span_on, span_or_none}
 use Rattle.view_model.specs.SiblingRules.{leads}
-use Rattle.view_model.specs.Cycles.{each, is_relative, link_of, links_in}
+use Rattle.view_model.specs.Classes.{is_relative}
+use Rattle.view_model.specs.Cycles.{each, link_of, links_in}
 use Rattle.view_tree.specs.Ordering.{AreOrders, PlainOrders, no_orders}
 use Rattle.view_tree.specs.Rows.{Row, children_of_first, count_of_key, first_tree, head_view, part_from, siblings_from, views_of}
 use Rattle.view_tree.specs.Views.{Held, KeepsInside, KeepsOutside, SameTree, Views, orders_of, specs_of}

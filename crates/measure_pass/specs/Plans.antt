@@ -12,7 +12,7 @@ use Rattle.scroll_view.specs.declared.plan.ScrollPlan.{ScrollPlan}
 use Rattle.view_model.specs.declared.facts.Facts.{Facts}
 use Rattle.view_model.specs.declared.limits.TheConstants.{MAX_VIEWS}
 use Rattle.view_model.specs.FrameLayout.{frame_rule}
-use Rattle.view_model.specs.Growth.{is_group}
+use Rattle.view_model.specs.Classes.{is_group}
 use Rattle.view_model.specs.Layout.{manner_of}
 use Rattle.view_model.specs.Leaf.{leaf_rule}
 use Rattle.view_model.specs.LinearLayout.{linear_rule}

@@ -7,14 +7,13 @@ use Rattle.saved_state.specs.declared.value.Value.{Value}
 use Rattle.saved_state.specs.declared.value.Value.TheVariants.{Offset, Text}
 use Rattle.view_model.specs.declared.kinds.Class.{Class}
 use Rattle.view_model.specs.Forest.{Forest, map_rows}
-use Rattle.view_model.specs.Offsets.{scrolls}
-use Rattle.view_model.specs.Painting.{shows_text}
+use Rattle.view_model.specs.Classes.{has_text, scrolls}
 use Rattle.view_model.specs.PlainTree.{PlainView}
 
 -- whether a view of this class has such a value: a scroll view an offset, a text view a text
 abbrev pub suits : Value → Class → Bool
 suits (Offset offset) class = scrolls class
-suits (Text text) class = shows_text class
+suits (Text text) class = has_text class
 
 -- what a state has for an id, if it has an entry of it
 abbrev pub value_for : List StateEntry → ℕ → Option Value

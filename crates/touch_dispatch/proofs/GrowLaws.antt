@@ -7,7 +7,7 @@ use Rattle.touch_event.specs.declared.event.Action.TheVariants.{Down, Up, Move, 
 use Rattle.touch_event.specs.declared.event.Event.{Event}
 use Rattle.view_model.specs.declared.kinds.Answer.{Answer}
 use Rattle.view_model.specs.declared.kinds.Answer.TheVariants.{Off, Yes, Click as ClickPlan}
-use Rattle.view_model.specs.Growth.{is_group}
+use Rattle.view_model.specs.Classes.{is_group}
 use Rattle.view_model.specs.Forest.{Forest, Nothing, Branch}
 use Rattle.view_model.specs.PlainTree.{PlainView}
 use Rattle.touch_dispatch.specs.declared.log.Entry.{Entry}

@@ -9,7 +9,7 @@ use Rattle.touch_dispatch.specs.declared.taker.Taker.{Taker}
 use Rattle.touch_dispatch.specs.declared.taker.Taker.TheVariants.{Earlier, Handed, Nobody}
 use Rattle.touch_event.specs.declared.event.Event.{Event}
 use Rattle.view_model.specs.Forest.{Branch, Forest, Nothing}
-use Rattle.view_model.specs.Growth.{is_group}
+use Rattle.view_model.specs.Classes.{is_group}
 use Rattle.view_model.specs.PlainTree.{PlainView}
 use Rattle.touch_dispatch.proofs.DistinctLaws.{child_same, drop_distinct, more_ids, put_distinct}
 use Rattle.touch_dispatch.proofs.OnceLaws.{Bounded, Fees, Free, Priced, Priced_more, Step, allowed, asked_step, begun_step, bound_out, distinct_cleared, distinct_set, kept_less, no_step, own_step, price_all, price_kept, price_list, price_of, price_others, price_parts, price_targets_list, put_fresh, put_old}

@@ -12,7 +12,8 @@ use Rattle.view_model.specs.declared.facts.Facts.{Facts}
 use Rattle.view_model.specs.declared.kinds.Class.{Class}
 use Rattle.view_model.specs.declared.kinds.Class.TheVariants.{View, TextView, FrameLayout, LinearLayout, ScrollView, RelativeLayout}
 use Rattle.view_model.specs.Forest.{Forest, Nothing, Branch}
-use Rattle.view_model.specs.Offsets.{brought, range_by, scrolls}
+use Rattle.view_model.specs.Classes.{scrolls}
+use Rattle.view_model.specs.Offsets.{brought, range_by}
 use Rattle.view_model.specs.ScrollView.{offset_within}
 use Rattle.view_tree.proofs.forest.Forests.{Within-children_of_first, Within-later_siblings}
 use Rattle.view_tree.proofs.forest.KeyLaws.{Within, from_within, here}

@@ -5,7 +5,7 @@ use Rattle.std.proofs.lemmas.Bool.{cases_Bool, eq-eqb}
 use Rattle.std.specs.Prelude.{◌==◌, ◌||◌}
 use Rattle.geom_core.specs.declared.geometry.Rect.{Rect}
 use Rattle.view_model.specs.Forest.{Forest, Nothing, Branch, count_of, or_else}
-use Rattle.view_model.specs.Growth.{is_group}
+use Rattle.view_model.specs.Classes.{is_group}
 use Rattle.view_model.specs.PlainTree.{PlainView, part_of}
 use Rattle.view_tree.specs.Rows.{At_first, Later, Later_on, Row, first_tree, part_from, head_view, key_where, views_of, children_of_first}
 use Rattle.view_tree.specs.Views.{Held, IsLive, IsTree, Views, class_of, held_of, number_of, offset_of, state_of}

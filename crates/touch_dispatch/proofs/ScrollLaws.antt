@@ -25,7 +25,7 @@ use Rattle.touch_targets.specs.Captures.{Target, is_target}
 use Rattle.view_model.specs.declared.kinds.Answer.{Answer}
 use Rattle.view_model.specs.declared.kinds.Answer.TheVariants.{Off, Yes, Click as ClickPlan}
 use Rattle.view_model.specs.Facts.{is_shown}
-use Rattle.view_model.specs.Growth.{is_group}
+use Rattle.view_model.specs.Classes.{is_group}
 use Rattle.view_model.specs.Forest.{Forest, Nothing, Branch}
 use Rattle.view_model.specs.PlainTree.{PlainView}
 

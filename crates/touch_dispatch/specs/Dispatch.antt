@@ -17,8 +17,7 @@ use Rattle.touch_targets.specs.Captures.{Target, drop_pointers, is_target, put_t
 use Rattle.view_model.specs.Facts.{is_shown}
 use Rattle.view_model.specs.Forest.{Forest, Nothing, Branch}
 use Rattle.view_model.specs.Geometry.{size_of_rect}
-use Rattle.view_model.specs.Growth.{is_group}
-use Rattle.view_model.specs.Offsets.{scrolls}
+use Rattle.view_model.specs.Classes.{is_group, scrolls}
 use Rattle.view_model.specs.PlainTree.{PlainView}
 use Rattle.view_model.specs.ScrollView.{scroll_range}
 use Rattle.view_model.specs.declared.facts.Facts.{Facts}

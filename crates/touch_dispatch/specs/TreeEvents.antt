@@ -13,7 +13,7 @@ use Rattle.touch_event.specs.declared.event.Event.{Event}
 use Rattle.touch_event.specs.declared.event.TheConstants.{MAX_POINTERS}
 use Rattle.touch_targets.specs.Captures.{Target, first_ids, from_child, is_target}
 use Rattle.view_model.specs.Forest.{Forest, Nothing, Branch}
-use Rattle.view_model.specs.Offsets.{scrolls}
+use Rattle.view_model.specs.Classes.{scrolls}
 use Rattle.view_model.specs.PlainTree.{PlainView, part_of}
 use Rattle.view_tree.specs.Rows.{Later, Row, ancestors, children_of_first, count_of_key, first_tree, head_view, key_where, part_from, views_of}
 use Rattle.view_tree.specs.Views.{Held, IsLive, IsTree, SameTree, Views, held_of, held_or, number_of, state_of}

@@ -12,7 +12,7 @@ use Rattle.view_model.specs.declared.facts.Facts.{Facts}
 use Rattle.view_model.specs.Course.{Child, Requested, last_of}
 use Rattle.view_model.specs.Facts.{is_shown}
 use Rattle.view_model.specs.Forest.{Forest, Nothing, Branch}
-use Rattle.view_model.specs.Growth.{is_group}
+use Rattle.view_model.specs.Classes.{is_group}
 use Rattle.view_model.specs.Layout.{child_under, children_of, course_in, for_layout, manner_of}
 use Rattle.view_model.specs.Measuring.{BySiblings, ByRule, Manner, Specs}
 use Rattle.view_model.specs.PlainTree.{PlainView}

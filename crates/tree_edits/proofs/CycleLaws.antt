@@ -4,7 +4,8 @@ use Rattle.std.proofs.lemmas.Bool.{cases_Bool}
 use Rattle.std.specs.Option.{option_or}
 use Rattle.std.specs.Prelude.{Ok}
 use Rattle.view_model.specs.Changes.{facts_after_act}
-use Rattle.view_model.specs.Cycles.{cycle_below, cycle_with, cyclic, first_cycle, is_relative}
+use Rattle.view_model.specs.Classes.{is_relative}
+use Rattle.view_model.specs.Cycles.{cycle_below, cycle_with, cyclic, first_cycle}
 use Rattle.view_model.specs.declared.changes.Act.{Act}
 use Rattle.view_model.specs.declared.kinds.Class.{Class}
 use Rattle.view_model.specs.declared.refusal.Member.{Member}

@@ -15,8 +15,8 @@ use Rattle.view_model.specs.Directed.{directed, rtl_at}
 use Rattle.view_model.specs.Facts.{new_facts, takes_part}
 use Rattle.view_model.specs.Forest.{Forest}
 use Rattle.view_model.specs.Geometry.{Laid, without}
-use Rattle.view_model.specs.Growth.{grown_at, is_group, refusal_at}
-use Rattle.view_model.specs.Offsets.{scrolls}
+use Rattle.view_model.specs.Classes.{has_text, is_group, lays_in_line, scrolls}
+use Rattle.view_model.specs.Growth.{grown_at, refusal_at}
 use Rattle.view_model.specs.PlainTree.{PlainView, numbers_of, part_of, pruned, single, view_in, with_facts, with_text}
 use Rattle.view_model.specs.Refusals.{PlainRefusal, refusal_numbered}
 use Rattle.view_model.specs.declared.refusals.TheConstants.{WRONG_CLASS}
@@ -32,25 +32,6 @@ pub data NumberedEdit : Type 0 where
 -- the scene after an edit, with the number of the view that it made, or why it is refused
 abbrev pub Outcome : Type 0
 Outcome = Result (EditScene × Option ℕ) PlainRefusal
-
--- whether a view of this class lays its children in a line, and so has an orientation, a sum of weights and a gravity
--- for them
-abbrev pub lays_in_line : Class → Bool
-lays_in_line class.View = false
-lays_in_line class.TextView = false
-lays_in_line class.FrameLayout = false
-lays_in_line class.LinearLayout = true
-lays_in_line class.ScrollView = false
-lays_in_line class.RelativeLayout = false
-
--- whether a view of this class has a text
-abbrev pub has_text : Class → Bool
-has_text class.View = false
-has_text class.TextView = true
-has_text class.FrameLayout = false
-has_text class.LinearLayout = false
-has_text class.ScrollView = false
-has_text class.RelativeLayout = false
 
 -- only a view that lays its children in a line has a gravity for them
 abbrev pub takes_change : Class → Change → Bool

@@ -12,7 +12,7 @@ ghost use Rattle.view_tree.specs.Views.{IsLive, IsTree, number_of};
 
 use crate::acting::{names_views, set_direction, set_facts, set_names};
 use crate::asking::request_at;
-use crate::classes::{has_text, takes};
+use crate::classes::takes;
 use crate::edits::Edit;
 use crate::fault::EditFault;
 use std::alloc::Global;
@@ -141,7 +141,7 @@ fn write(
     ensures asked { LeavesUnasked tree.old tree.new (Edit.Text view text.entry) }
     ensures measures { tree.new.counts.measures ≡ tree.old.counts.measures }
 {
-    if !has_text(tree.class(view)) {
+    if !tree.class(view).has_text() {
         return Err(EditFault::Refused(Refusal::plain(WRONG_CLASS)));
     }
     let text = Text::new(alloc, text)?;

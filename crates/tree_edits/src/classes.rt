@@ -1,6 +1,6 @@
 //! What a view has by its class.
 ghost use Rattle.std.specs.Prelude.{◌≡◌};
-ghost use Rattle.tree_edits.specs.Editing.{has_text, lays_in_line, takes, takes_change, takes_flag};
+ghost use Rattle.tree_edits.specs.Editing.{takes, takes_change, takes_flag};
 
 use view_model::{Act, Change, Class, Flag};
 
@@ -12,39 +12,11 @@ pub fn takes(class: Class, act: Act) -> bool
         Act::Change(change) => takes_change(class, change),
         Act::Flag { flag, on: _ } => takes_flag(class, flag),
         Act::Intercept(_) => class.is_group(),
-        Act::WeightSum(_) | Act::Orient { .. } => lays_in_line(class),
+        Act::WeightSum(_) | Act::Orient { .. } => class.lays_in_line(),
         Act::Visible(_) | Act::Id(_) | Act::Rule { .. } | Act::Direction(_) => true,
         Act::Answer(_) => !class.scrolls(),
         Act::Scroll(_) => class.scrolls(),
-        Act::Ink(_) => has_text(class),
-    }
-}
-
-/// Whether a view of this class has a text.
-pub fn has_text(class: Class) -> bool
-    ensures { result ≡ has_text class }
-{
-    match class {
-        Class::TextView => true,
-        Class::View
-        | Class::FrameLayout
-        | Class::LinearLayout
-        | Class::ScrollView
-        | Class::RelativeLayout => false,
-    }
-}
-
-/// Whether a view of this class lays its children in a line.
-fn lays_in_line(class: Class) -> bool
-    ensures { result ≡ lays_in_line class }
-{
-    match class {
-        Class::View
-        | Class::TextView
-        | Class::FrameLayout
-        | Class::ScrollView
-        | Class::RelativeLayout => false,
-        Class::LinearLayout => true,
+        Act::Ink(_) => class.has_text(),
     }
 }
 
@@ -53,7 +25,7 @@ pub fn takes_change(class: Class, change: Change) -> bool
     ensures { result ≡ takes_change class change }
 {
     match change {
-        Change::Gravity { kids, gravity: _ } => !kids || lays_in_line(class),
+        Change::Gravity { kids, gravity: _ } => !kids || class.lays_in_line(),
         Change::Size { .. }
         | Change::Min(_)
         | Change::Margins(_)

@@ -12,7 +12,8 @@ use Rattle.pixel_raster.specs.Raster.{Fills, Raster, color_at}
 use Rattle.view_model.specs.declared.facts.Facts.{Facts}
 use Rattle.view_model.specs.Facts.{padding_left, padding_right}
 use Rattle.view_model.specs.Geometry.{size_of_rect}
-use Rattle.view_model.specs.Painting.{Painter, content, drawn_in, has_ink, inner_rect, is_drawn, reaches_children, shows_text, text_pixel}
+use Rattle.view_model.specs.Classes.{has_text}
+use Rattle.view_model.specs.Painting.{Painter, content, drawn_in, has_ink, inner_rect, is_drawn, reaches_children, text_pixel}
 use Rattle.view_model.specs.PlainTree.{PlainView}
 use Rattle.view_model.specs.TextView.{cells_across}
 use Rattle.seen_parts.specs.declared.frame.Canvas.{Canvas}
@@ -63,7 +64,7 @@ own_pixel false a b t i u h = absurd (cc)
 away : (x a b : ℤ) → x -ℤ (a +ℤ b) ≡ x -ℤ a -ℤ b
 away x a b = omega (arith, ints)
 
-module _ (view : PlainView) (frame within : Frame) (part : Rect) (shows : shows_text view.class ≡ true) (w : IsWithout frame (padding_of view.facts) within) where
+module _ (view : PlainView) (frame within : Frame) (part : Rect) (shows : has_text view.class ≡ true) (w : IsWithout frame (padding_of view.facts) within) where
   pub own_inked : (clip : Rect) (n : ℕ) (canvas : Canvas) (old new : Raster) → ((x y : ℤ) → holds clip x y ≡ (holds part x y && frame_holds within x y))
       → canvas.left ≡ frame.left +ℤ padding_left view.facts → canvas.top ≡ frame.top +ℤ view.facts.padding.top → canvas.clip ≡ clip
       → n ≡ cells_across view.facts (frame_size frame).w → PaintedIn canvas (text_ink view.facts.ink n view.text) old new
@@ -88,13 +89,13 @@ module _ (view : PlainView) (frame within : Frame) (part : Rect) (shows : shows_
         h.colors x y xw yh
         ∙ ap (λ (t : Bool). if t then ink (text_pixel n view.text (pos x -ℤ canvas.left) (pos y -ℤ canvas.top)) else u) here
         ∙ ap (λ (t : Bool). if a && b then ink t else u) pixel
-        ∙ own_pixel (shows_text view.class) a b _ (blend_of view.facts.ink u) u shows;
+        ∙ own_pixel (has_text view.class) a b _ (blend_of view.facts.ink u) u shows;
   }
 
   pub own_unseen : (at : Raster) → ((x y : ℤ) → false ≡ (holds part x y && frame_holds within x y))
       → IsPainted (from_origin frame.left frame.top (own_ink view (frame_size frame))) part at at
   own_unseen at points = painted_nothing _ part at (λ x y u h.
-      none (shows_text view.class) _ _ u (sym (inner_holds view.facts frame within w x y) ∙ right_of (holds part x y) (frame_holds within x y) h (points x y)))
+      none (has_text view.class) _ _ u (sym (inner_holds view.facts frame within w x y) ∙ right_of (holds part x y) (frame_holds within x y) h (points x y)))
     where
       none : (s b t : Bool) (u : Argb) → b ≡ false → (if (s && b) && t then blend_of view.facts.ink u else u) ≡ u
       none s true t u e = absurd (cc)

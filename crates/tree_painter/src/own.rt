@@ -4,7 +4,8 @@ ghost use Rattle.damage_rect.specs.Within.{IsInside};
 ghost use Rattle.geom_core.specs.Rects.{holds};
 ghost use Rattle.pixel_raster.specs.Raster.{Raster};
 ghost use Rattle.view_model.specs.Facts.{padding_across, padding_left};
-ghost use Rattle.view_model.specs.Painting.{Painter, drawn_in, is_drawn, reaches_children, shows_text};
+ghost use Rattle.view_model.specs.Classes.{has_text};
+ghost use Rattle.view_model.specs.Painting.{Painter, drawn_in, is_drawn, reaches_children};
 ghost use Rattle.view_model.specs.Forest.{Nothing};
 ghost use Rattle.view_tree.specs.Rows.{children_of_first, part_from};
 ghost use Rattle.view_tree.specs.Views.{IsLive, state_of, view_at};
@@ -17,7 +18,7 @@ use cell_text::cells_in;
 use geom_core::Rect;
 use pixel_raster::Surface;
 use seen_parts::{Canvas, Frame, before, inner_frame, moved, part_in, past};
-use view_model::{Class, Facts, Visibility, Work};
+use view_model::{Facts, Visibility, Work};
 use view_tree::{Key, ViewTree};
 
 /// A frame of which something is seen, and the part of it that is.
@@ -98,29 +99,15 @@ fn paint_ink(tree: &ViewTree, view: Key, seen: SeenFrame, surface: &mut Surface,
         (own_ink (view_at tree.now view) (frame_size seen.frame))) seen.part surface.old surface.new }
     ensures counted { IsCounted (area_in surface.old seen.part) surface.old surface.new work.old work.new }
 {
-    if shows_text(tree.class(view)) {
+    if tree.class(view).has_text() {
         paint_text(tree, view, seen, surface, work);
-    }
-}
-
-/// Whether a view of this class shows its text.
-fn shows_text(class: Class) -> bool
-    ensures { result ≡ shows_text class }
-{
-    match class {
-        Class::TextView => true,
-        Class::View
-        | Class::FrameLayout
-        | Class::LinearLayout
-        | Class::ScrollView
-        | Class::RelativeLayout => false,
     }
 }
 
 /// The same of a view that shows its text.
 fn paint_text(tree: &ViewTree, view: Key, seen: SeenFrame, surface: &mut Surface, work: &mut Work)
     requires live { IsLive tree.now view }
-    requires shows { shows_text (view_at tree.now view).class ≡ true }
+    requires shows { has_text (view_at tree.now view).class ≡ true }
     requires reach { IsInReach seen.frame }
     requires seen { IsSeen seen.frame }
     ensures painted { IsPainted (from_origin seen.frame.left seen.frame.top

@@ -9,6 +9,7 @@ use Rattle.view_model.specs.declared.refusals.TheConstants.{CYCLE}
 use Rattle.view_model.specs.declared.relative.Axis.{Axis}
 use Rattle.view_model.specs.declared.relative.Axis.TheVariants.{Horizontal, Vertical}
 use Rattle.view_model.specs.declared.relative.Link.{Link}
+use Rattle.view_model.specs.Classes.{is_relative}
 use Rattle.view_model.specs.Forest.{Forest, Nothing, Branch}
 use Rattle.view_model.specs.Growth.{grown_at}
 use Rattle.view_model.specs.Orders.{members_of}
@@ -16,15 +17,6 @@ use Rattle.view_model.specs.PlainTree.{PlainView}
 use Rattle.view_model.specs.Refusals.{Cycle, PlainRefusal}
 use Rattle.view_model.specs.SiblingRules.{leads}
 use Rattle.view_model.specs.Sprouts.{Seed, numbered}
-
--- whether a view of this class ties its children to one another
-abbrev pub is_relative : Class → Bool
-is_relative class.View = false
-is_relative class.TextView = false
-is_relative class.FrameLayout = false
-is_relative class.LinearLayout = false
-is_relative class.ScrollView = false
-is_relative class.RelativeLayout = true
 
 -- a value of each view of a list, but not of those below them
 abbrev pub each : {X : Type 0} → (PlainView → X) → Forest PlainView → List X

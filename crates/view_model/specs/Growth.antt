@@ -1,30 +1,12 @@
 -- Where a tree takes a new view, and why it does not elsewhere.
-use Rattle.std.specs.Prelude.{ℕ, nat_lt, Bool, true, false, not, ◌&&◌, if◌then◌else◌, Option, Some, None}
+use Rattle.std.specs.Prelude.{ℕ, nat_lt, Bool, not, ◌&&◌, if◌then◌else◌, Option, Some, None}
 use Rattle.view_model.specs.declared.kinds.Class.{Class}
-use Rattle.view_model.specs.declared.kinds.Class.TheVariants.{View, TextView, FrameLayout, LinearLayout, ScrollView, RelativeLayout}
 use Rattle.view_model.specs.declared.limits.TheConstants.{MAX_DEPTH, MAX_VIEWS}
 use Rattle.view_model.specs.declared.refusals.TheConstants.{NOT_GROUP, SCROLL_FULL, TOO_DEEP, TOO_MANY_VIEWS}
+use Rattle.view_model.specs.Classes.{is_group, takes_one_child}
 use Rattle.view_model.specs.Forest.{Forest, count_of}
 use Rattle.view_model.specs.PlainTree.{PlainView, depth_of, grown, has_child, view_in}
 use Rattle.view_model.specs.Refusals.{PlainRefusal, refusal_numbered}
-
--- whether a view of this class may have children
-abbrev pub is_group : Class → Bool
-is_group View = false
-is_group TextView = false
-is_group FrameLayout = true
-is_group LinearLayout = true
-is_group ScrollView = true
-is_group RelativeLayout = true
-
--- whether a view of this class has at most one child
-abbrev pub takes_one_child : Class → Bool
-takes_one_child View = false
-takes_one_child TextView = false
-takes_one_child FrameLayout = false
-takes_one_child LinearLayout = false
-takes_one_child ScrollView = true
-takes_one_child RelativeLayout = false
 
 -- why a view of this class and depth, which has a child or none, takes no more in a tree of n views: it is no group, it
 -- has the one child that it takes, it is too deep, or the tree is full

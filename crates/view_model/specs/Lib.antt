@@ -1,5 +1,6 @@
 pub mod CellText
 pub mod Changes
+pub mod Classes
 pub mod Course
 pub mod Cycles
 pub mod Dimensions

@@ -1,5 +1,5 @@
 -- How far views are scrolled once they are laid out.
-use Rattle.std.specs.Prelude.{ℤ, Bool, true, false, List, Option, Some, None}
+use Rattle.std.specs.Prelude.{ℤ, List, Option, Some, None}
 use Rattle.std.specs.Option.{option_map}
 use Rattle.geom_core.specs.declared.geometry.Rect.{Rect}
 use Rattle.view_model.specs.declared.facts.Facts.{Facts}
@@ -9,16 +9,6 @@ use Rattle.view_model.specs.Forest.{Forest, Nothing, Branch}
 use Rattle.view_model.specs.Geometry.{Laid, rect_in, size_of_rect}
 use Rattle.view_model.specs.PlainTree.{PlainView}
 use Rattle.view_model.specs.ScrollView.{offset_within, scroll_range}
-
--- whether a view of this class moves its child up by an offset, and may have its child fill it; it handles touches by
--- moving, and in no other way
-abbrev pub scrolls : Class → Bool
-scrolls View = false
-scrolls TextView = false
-scrolls FrameLayout = false
-scrolls LinearLayout = false
-scrolls ScrollView = true
-scrolls RelativeLayout = false
 
 -- the range of the offset of a view in this rectangle, whose child is in that one: only a scroll view that has bounds
 -- has one, and a child that has no bounds counts as none

@@ -8,12 +8,13 @@ use Rattle.geom_core.specs.declared.color.TheConstants.{BLACK}
 use Rattle.geom_core.specs.declared.geometry.Rect.{Rect}
 use Rattle.geom_core.specs.declared.geometry.Size.{Size}
 use Rattle.view_model.specs.declared.facts.Facts.{Facts}
-use Rattle.view_model.specs.declared.kinds.Class.{Class}
-use Rattle.view_model.specs.declared.kinds.Class.TheVariants.{View, TextView, FrameLayout, LinearLayout, ScrollView, RelativeLayout}
+
+
 use Rattle.view_model.specs.declared.kinds.Visibility.{Visibility}
 use Rattle.view_model.specs.declared.kinds.Visibility.TheVariants.{Visible, Invisible, Gone}
 use Rattle.view_model.specs.declared.limits.TheConstants.{CELL_HEIGHT, CELL_WIDTH}
 use Rattle.view_model.specs.CellText.{cell_of}
+use Rattle.view_model.specs.Classes.{has_text}
 use Rattle.view_model.specs.Facts.{padding_left, padding_right}
 use Rattle.view_model.specs.Forest.{Forest, Nothing, Branch, map_rows}
 use Rattle.view_model.specs.Geometry.{Laid, rect_in, size_of_rect}
@@ -40,15 +41,6 @@ is_drawn Visible = true
 is_drawn Invisible = false
 is_drawn Gone = false
 
--- whether a view of this class shows its text
-abbrev pub shows_text : Class → Bool
-shows_text View = false
-shows_text TextView = true
-shows_text FrameLayout = false
-shows_text LinearLayout = false
-shows_text ScrollView = false
-shows_text RelativeLayout = false
-
 -- whether a pixel of a cell with this character is set, if there is one
 abbrev pub cell_pixel : Option ℕ → ℕ → ℕ → Bool
 cell_pixel None column row = false
@@ -74,7 +66,7 @@ inner_rect facts size = record {
 abbrev pub has_ink : PlainView → Size → ℤ → ℤ → Bool
 has_ink view size x y =
     let facts = view.facts in
-    (shows_text view.class && holds (inner_rect facts size) x y)
+    (has_text view.class && holds (inner_rect facts size) x y)
     && text_pixel (cells_across facts size.w) view.text (x -ℤ padding_left facts) (y -ℤ facts.padding.top)
 
 -- whether the children of a view of this size are seen at a point of its own coordinates

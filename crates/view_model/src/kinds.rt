@@ -19,8 +19,7 @@ pub enum Class {
 
 impl Class {
     ghost use Rattle.std.specs.Prelude.{◌≡◌};
-    ghost use Rattle.view_model.specs.Growth.{is_group, takes_one_child};
-    ghost use Rattle.view_model.specs.Offsets.{scrolls};
+    ghost use Rattle.view_model.specs.Classes.{has_text, is_group, is_relative, lays_in_line, scrolls, takes_one_child};
 
     /// Whether a view of this class may have children.
     pub fn is_group(self) -> bool
@@ -30,6 +29,49 @@ impl Class {
             Class::View | Class::TextView => false,
             Class::FrameLayout | Class::LinearLayout | Class::ScrollView | Class::RelativeLayout =>
                 true,
+        }
+    }
+
+    /// Whether a view of this class shows a text.
+    pub fn has_text(self) -> bool
+        ensures { result ≡ has_text self }
+    {
+        match self {
+            Class::View
+            | Class::FrameLayout
+            | Class::LinearLayout
+            | Class::ScrollView
+            | Class::RelativeLayout => false,
+            Class::TextView => true,
+        }
+    }
+
+    /// Whether a view of this class lays its children in a line, and so has an orientation, a sum of weights and a gravity
+    /// for them.
+    pub fn lays_in_line(self) -> bool
+        ensures { result ≡ lays_in_line self }
+    {
+        match self {
+            Class::View
+            | Class::TextView
+            | Class::FrameLayout
+            | Class::ScrollView
+            | Class::RelativeLayout => false,
+            Class::LinearLayout => true,
+        }
+    }
+
+    /// Whether a view of this class measures its children in orders by their rules.
+    pub fn is_relative(self) -> bool
+        ensures { result ≡ is_relative self }
+    {
+        match self {
+            Class::View
+            | Class::TextView
+            | Class::FrameLayout
+            | Class::LinearLayout
+            | Class::ScrollView => false,
+            Class::RelativeLayout => true,
         }
     }
 

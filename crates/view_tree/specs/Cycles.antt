@@ -13,7 +13,8 @@ use Rattle.view_model.specs.SiblingRules.{leads}
 use Rattle.view_tree.specs.declared.fault.AttachFault.{AttachFault}
 use Rattle.view_tree.specs.declared.fault.AttachFault.TheVariants as fault
 use Rattle.relative_layout.specs.declared.ordering.Orders.{Orders}
-use Rattle.view_model.specs.Cycles.{is_relative, links_in, numbers_in}
+use Rattle.view_model.specs.Classes.{is_relative}
+use Rattle.view_model.specs.Cycles.{links_in, numbers_in}
 use Rattle.view_tree.specs.Ordering.{AreOrders, linked_in, plain_orders}
 use Rattle.view_tree.specs.Rows.{children_of_first, part_from, views_of}
 use Rattle.view_tree.specs.Views.{Views, class_of, number_of}

@@ -1,7 +1,8 @@
 -- What is left of the kept orders once a view is removed with all below it.
 use Rattle.std.specs.Prelude.{◌≡◌, ◌≢◌, ℕ, true, Option, Some, None, nat_eq, slice_get}
 use Rattle.std.specs.Map.{lookup}
-use Rattle.view_model.specs.Cycles.{is_relative, numbers_in}
+use Rattle.view_model.specs.Classes.{is_relative}
+use Rattle.view_model.specs.Cycles.{numbers_in}
 use Rattle.view_tree.specs.Ordering.{PlainOrders, is_layout, place_in}
 use Rattle.view_tree.specs.Places.{IsLowered}
 use Rattle.view_tree.specs.Rows.{ancestors, children_of_first, count_of_number, count_where, first_tree, part_from, views_of}

@@ -6,7 +6,8 @@ use Rattle.std.specs.declared.hash.BuildHasherDefault.{BuildHasherDefault}
 use Rattle.std.specs.declared.hash.FoldHasher.{FoldHasher}
 use Rattle.indexmap.specs.IndexMap.{IndexMap, get}
 use Rattle.relative_layout.specs.declared.ordering.Orders.{Orders}
-use Rattle.view_model.specs.Cycles.{each, is_relative, link_of, links_in, numbers_in}
+use Rattle.view_model.specs.Classes.{is_relative}
+use Rattle.view_model.specs.Cycles.{each, link_of, links_in, numbers_in}
 use Rattle.view_model.specs.declared.relative.Axis.TheVariants.{Horizontal, Vertical}
 use Rattle.view_model.specs.declared.relative.Link.{Link}
 use Rattle.view_model.specs.Forest.{Forest, EveryBranch}

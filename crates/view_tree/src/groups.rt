@@ -2,7 +2,7 @@
 ghost use Rattle.std.specs.Prelude.{◌≡◌, ◌≢◌, ◌≤◌, ◌<◌, ◌+◌, ◌^◌, ℕ, length, true, None, Some, IfSome, OnOk, option_map, if◌then◌else◌, nat_eq};
 ghost use Rattle.indexmap.specs.IndexMap.{get as held_at, spare};
 ghost use Rattle.view_tree.specs.Faults.{IsRefusedExactlyFor};
-ghost use Rattle.view_model.specs.Cycles.{is_relative};
+ghost use Rattle.view_model.specs.Classes.{is_relative};
 ghost use Rattle.view_tree.specs.Grafting.{noted};
 ghost use Rattle.view_tree.specs.Ordering.{HasKidRoom, IsTaken, IsTakenAt, group_at, no_group, orders_in, place_in, plain_group, plain_orders, with_kid, with_orders};
 
@@ -20,14 +20,6 @@ use view_model::Class;
 pub struct Group {
     pub orders: Orders,
     pub kids: Vec<u64>,
-}
-
-/// Whether a view of this class measures its children in orders by their rules.
-#[tactic(auto, using(crate::proofs::orders::RowLaws::grouped_kept))]
-pub fn is_relative(class: Class) -> bool
-    ensures { result ≡ is_relative class }
-{
-    matches!(class, Class::RelativeLayout)
 }
 
 /// Takes the memory for one more child.
@@ -198,7 +190,7 @@ pub fn join_group(groups: &mut IndexMap<u64, Group>, parent: Option<u64>, number
     if let Some(parent) = parent {
         add_kid(groups, parent, number);
     }
-    if is_relative(class) {
+    if class.is_relative() {
         let group = empty_group(*groups.allocator());
         note_group(groups, number, group);
     }

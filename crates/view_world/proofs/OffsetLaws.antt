@@ -17,7 +17,8 @@ use Rattle.traversal.specs.Frames.{Pass, after_frame, after_pass, edited_by, edi
 use Rattle.traversal.specs.declared.outcome.Frame.{Frame}
 use Rattle.script_lines.specs.Changes.{IsActInBounds}
 use Rattle.tree_edits.specs.Applied.{AppliesEdit, numbered}
-use Rattle.tree_edits.specs.Editing.{cycle_of_act, hides, outcome_of_act, outcome_of_add, outcome_of_edit, outcome_of_text, outcome_unless, takes, has_text, new_view, turns}
+use Rattle.view_model.specs.Classes.{has_text, scrolls}
+use Rattle.tree_edits.specs.Editing.{cycle_of_act, hides, outcome_of_act, outcome_of_add, outcome_of_edit, outcome_of_text, outcome_unless, takes, new_view, turns}
 use Rattle.tree_edits.specs.Scene.{EditScene, scene_of}
 use Rattle.tree_edits.specs.declared.edits.Edit.{Edit}
 use Rattle.tree_edits.specs.declared.edits.Edit.TheVariants as edit
@@ -29,7 +30,7 @@ use Rattle.view_model.specs.Forest.{count_of, Forest, Nothing, Branch, changed_w
 use Rattle.view_model.specs.Geometry.{Laid, rect_in, size_of_rect}
 use Rattle.view_model.specs.Growth.{grown_at, refusal_at}
 use Rattle.view_model.specs.Layout.{full_layout}
-use Rattle.view_model.specs.Offsets.{brought, first_rect, range_by, ranged, scrolls}
+use Rattle.view_model.specs.Offsets.{brought, first_rect, range_by, ranged}
 use Rattle.view_model.specs.PlainTree.{PlainView, pruned, single, view_in, with_facts}
 use Rattle.view_model.specs.Refusals.{PlainRefusal}
 use Rattle.view_model.specs.ScrollView.{offset_within, scroll_range}

@@ -10,7 +10,7 @@ use Rattle.touch_event.specs.declared.event.Event.{Event}
 use Rattle.touch_event.specs.declared.event.Point.{Point}
 use Rattle.touch_targets.specs.Captures.{Target, is_target}
 use Rattle.view_model.specs.Forest.{Forest}
-use Rattle.view_model.specs.Growth.{is_group}
+use Rattle.view_model.specs.Classes.{is_group}
 use Rattle.view_model.specs.PlainTree.{PlainView, view_in}
 use Rattle.view_model.specs.Refusals.{refusal_numbered}
 use Rattle.view_model.specs.declared.refusals.TheConstants.{WRONG_CLASS}

@@ -8,7 +8,8 @@ use Rattle.view_model.specs.declared.limits.TheConstants.{MAX_VIEWS}
 use Rattle.view_model.specs.declared.refusal.Member.{Member}
 use Rattle.view_model.specs.declared.relative.Link.{Link}
 use Rattle.view_model.specs.declared.sprout.Sprout.{Sprout}
-use Rattle.view_model.specs.Cycles.{each, is_relative, member_from, numbers_in}
+use Rattle.view_model.specs.Classes.{is_relative}
+use Rattle.view_model.specs.Cycles.{each, member_from, numbers_in}
 use Rattle.view_model.specs.Forest.{Forest, count_of}
 use Rattle.view_model.specs.PlainTree.{PlainView}
 use Rattle.view_model.specs.Refusals.{PlainRefusal, plain_refusal}

@@ -9,7 +9,8 @@ use Rattle.view_model.specs.declared.kinds.Class.{Class}
 use Rattle.view_model.specs.declared.refusal.Member.{Member}
 use Rattle.view_model.specs.declared.relative.Link.{Link}
 use Rattle.view_model.specs.declared.sprout.Sprout.{Sprout}
-use Rattle.view_model.specs.Cycles.{cycle_below, first_cycle, graft_cycle, is_relative, link_of, each, links_in, member_from, numbers_in}
+use Rattle.view_model.specs.Classes.{is_relative}
+use Rattle.view_model.specs.Cycles.{cycle_below, first_cycle, graft_cycle, link_of, each, links_in, member_from, numbers_in}
 use Rattle.view_model.specs.Directed.{directed, running}
 use Rattle.view_model.specs.Direction.{dir}
 use Rattle.view_model.specs.Forest.{Forest, Nothing, Branch, EveryBranch, EveryRow, joined}

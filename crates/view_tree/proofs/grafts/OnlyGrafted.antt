@@ -6,7 +6,7 @@ use Rattle.std.specs.Option.{option_map}
 use Rattle.std.specs.Prelude.{IfSome, if◌then◌else◌}
 use Rattle.view_model.proofs.SproutLaws.{preorder-seeds_of}
 use Rattle.view_model.specs.declared.sprout.Sprout.{Sprout}
-use Rattle.view_model.specs.Cycles.{is_relative}
+use Rattle.view_model.specs.Classes.{is_relative}
 use Rattle.view_model.specs.Directed.{directed}
 use Rattle.view_model.specs.Direction.{dir}
 use Rattle.view_model.specs.Forest.{Forest, Nothing, Branch, count_of, joined, sum_of}

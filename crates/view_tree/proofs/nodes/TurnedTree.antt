@@ -2,13 +2,13 @@
 use Rattle.std.proofs.Common.{◌≡◌, ◌≢◌, ℕ, suc, ◌+◌, ◌<◌, ◌≤◌, pos, Bool, true, false, List, [], ◌∷◌, length, Option, Some, None, refl, sym, ◌∙◌, ap, subst, arith, inl, inr}
 use Rattle.std.proofs.lemmas.Bool.{cases_Bool, cases_eq, eq-eqb, ne_eqb}
 use Rattle.std.specs.Prelude.{◌==◌, if◌then◌else◌}
-use Rattle.view_model.specs.Cycles.{each, is_relative, link_of, links_in, numbers_in}
+use Rattle.view_model.specs.Classes.{is_group, is_relative}
+use Rattle.view_model.specs.Cycles.{each, link_of, links_in, numbers_in}
 use Rattle.view_model.specs.declared.placing.Direction.{Direction}
 use Rattle.view_model.specs.declared.relative.Link.{Link}
 use Rattle.view_model.specs.declared.facts.Rules.{Rules}
 use Rattle.view_model.specs.declared.kinds.Class.{Class}
 use Rattle.view_model.specs.Forest.{Forest, Nothing, Branch, EveryRow, count_of, sum_of}
-use Rattle.view_model.specs.Growth.{is_group}
 use Rattle.view_model.specs.PlainTree.{PlainView}
 use Rattle.view_tree.specs.Directions.{directed_rows, row_running, with_direction}
 use Rattle.view_tree.specs.Nodes.{has_id, holders_of}

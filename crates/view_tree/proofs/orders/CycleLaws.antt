@@ -21,7 +21,8 @@ use Rattle.view_model.specs.Refusals.{PlainRefusal, plain_refusal}
 use Rattle.view_tree.specs.Cycles.{AreNewOrders, HasNoCycle, IsCycleTold, IsFree, links_below, view_member}
 use Rattle.view_tree.specs.Faults.{IsRefusedOrCyclic}
 use Rattle.view_tree.specs.Nodes.{PlainNode, RepresentsPart, RepresentsTree}
-use Rattle.view_model.specs.Cycles.{cycle_below, first_cycle, is_relative, link_of, links_in, numbers_in}
+use Rattle.view_model.specs.Classes.{is_relative}
+use Rattle.view_model.specs.Cycles.{cycle_below, first_cycle, link_of, links_in, numbers_in}
 use Rattle.view_tree.specs.Ordering.{AreOrders, IsGrouped, IsGroupedAt, IsKeptOf, PlainGroup, PlainOrders, link_or, linked_in, plain_orders, with_orders}
 use Rattle.view_tree.specs.Rows.{Row, children_of_first, count_of_key, count_of_number, head_view, later_siblings, part_from, views_of}
 use Rattle.view_tree.specs.Views.{Held, IsLive, IsTree, Views, class_of, group_number, held_of, number_of, plain_of, plain_rows, scrolled}

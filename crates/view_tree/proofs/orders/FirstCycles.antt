@@ -6,7 +6,8 @@ use Rattle.std.specs.Prelude.{slice_index}
 use Rattle.view_model.specs.declared.kinds.Class.{Class}
 use Rattle.view_model.specs.declared.refusal.Member.{Member}
 use Rattle.view_model.specs.declared.refusals.TheConstants.{CYCLE}
-use Rattle.view_model.specs.Cycles.{cycle_among, cycle_below, first_cycle, is_relative, links_in, numbers_in}
+use Rattle.view_model.specs.Classes.{is_relative}
+use Rattle.view_model.specs.Cycles.{cycle_among, cycle_below, first_cycle, links_in, numbers_in}
 use Rattle.view_model.specs.Forest.{Forest, Nothing, Branch, EveryBranch}
 use Rattle.view_model.specs.PlainTree.{PlainView}
 use Rattle.view_model.specs.Refusals.{Cycle, PlainRefusal}

@@ -4,7 +4,8 @@ use Rattle.std.proofs.lemmas.Bool.{cases_Bool, eqb-true, true≢false}
 use Rattle.std.specs.Prelude.{◌==◌, if◌then◌else◌, Option, Some, None, Result, Ok, Err}
 use Rattle.relative_layout.specs.Naming.{padded_ids}
 use Rattle.relative_layout.proofs.NamingLaws.{leads_from, leads_inside, leads_parts, leads_whole, names-at, names-some}
-use Rattle.view_model.specs.Cycles.{each, is_relative, link_of, links_in, numbers_in}
+use Rattle.view_model.specs.Classes.{is_relative}
+use Rattle.view_model.specs.Cycles.{each, link_of, links_in, numbers_in}
 use Rattle.view_model.specs.Forest.{Forest, Nothing, Branch}
 use Rattle.view_model.specs.Orders.{IsOrder}
 use Rattle.view_model.specs.PlainTree.{PlainView}

@@ -15,7 +15,8 @@ use Rattle.view_model.specs.Forest.{Forest, Nothing, Branch, EveryBranch, EveryR
 use Rattle.view_model.specs.Orders.{IsOrder}
 use Rattle.view_model.specs.PlainTree.{PlainView, grown, pruned, single}
 use Rattle.view_model.specs.SiblingRules.{leads, names, nobody}
-use Rattle.view_model.specs.Cycles.{is_relative, link_of, links_in, numbers_in}
+use Rattle.view_model.specs.Classes.{is_relative}
+use Rattle.view_model.specs.Cycles.{link_of, links_in, numbers_in}
 use Rattle.view_tree.specs.Ordering.{AreOrders, IsGroupOf, IsGrouped, IsGroupedAt, IsKeptOf, IsTakenAt, IsWithoutKid, PlainGroup, place_in, with_kid}
 use Rattle.view_tree.specs.Places.{IsLowered, StaysWithin, passing}
 use Rattle.view_tree.proofs.forest.ForestLaws.{every_branch-joined}

@@ -7,7 +7,8 @@ use Rattle.view_model.specs.declared.limits.TheConstants.{MAX_DEPTH, MAX_VIEWS}
 use Rattle.view_model.specs.declared.kinds.Class.{Class}
 use Rattle.view_model.specs.Direction.{dir}
 use Rattle.view_model.specs.Forest.{Forest, Nothing, Branch, count_of, edited_where, joined, or_else}
-use Rattle.view_model.specs.Growth.{growth_refusal, growth_refusal_of, is_group, refusal_at, takes_one_child}
+use Rattle.view_model.specs.Classes.{is_group, takes_one_child}
+use Rattle.view_model.specs.Growth.{growth_refusal, growth_refusal_of, refusal_at}
 use Rattle.view_model.specs.Refusals.{PlainRefusal, refusal_numbered}
 use Rattle.view_model.specs.declared.refusals.TheConstants.{NOT_GROUP, SCROLL_FULL, TOO_DEEP, TOO_MANY_VIEWS}
 use Rattle.view_model.specs.PlainTree.{PlainView, depth_of, has_child}

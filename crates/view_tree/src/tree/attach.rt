@@ -14,7 +14,7 @@ ghost use Rattle.view_tree.specs.Views.{IsLive, group_number, number_of, orders_
 use super::plant::plant;
 use super::{Key, ViewTree};
 use crate::fault::AttachFault;
-use crate::groups::{is_relative, join_group, make_group_room};
+use crate::groups::{join_group, make_group_room};
 use crate::table::make_room;
 use view_model::limits::{MAX_DEPTH, MAX_VIEWS};
 use view_model::refusals::{NOT_GROUP, SCROLL_FULL, TOO_DEEP, TOO_MANY_VIEWS};
@@ -74,7 +74,7 @@ impl ViewTree {
         ensures { result ≡ group_number self.now parent }
     {
         let parent = parent?;
-        if !is_relative(self.class(parent)) {
+        if !self.class(parent).is_relative() {
             return None;
         }
         Some(self.number(parent))

@@ -17,7 +17,7 @@ use super::plant::{plant, sow};
 use super::relatives::{push_entry, sprout_link, with_entries};
 use super::{Key, ViewTree};
 use crate::fault::AttachFault;
-use crate::groups::{Group, is_relative, make_group_room, note_groups};
+use crate::groups::{Group, make_group_room, note_groups};
 use crate::kids::{Kids, group_of};
 use crate::table::make_room;
 use std::alloc::{AllocError, Global};
@@ -115,7 +115,7 @@ impl ViewTree {
         let Some(parent) = parent else {
             return Ok(Vec::new(alloc));
         };
-        if !is_relative(self.class(parent)) {
+        if !self.class(parent).is_relative() {
             return Ok(Vec::new(alloc));
         }
         match self.group_then(parent, sprout_link(sprout)) {

@@ -5,7 +5,7 @@ ghost use Rattle.view_model.specs.declared.limits.TheConstants.{MAX_VIEWS};
 ghost use Rattle.view_tree.specs.Grafting.{AreEntries, HasAdded, IsBehind, IsGroupOrCycle, IsMadeUnless, cycle_behind, cycle_in, links_behind, numbers_behind, sprout_link};
 
 use crate::fault::AttachFault;
-use crate::groups::{Group, is_relative};
+use crate::groups::Group;
 use crate::kids::{Kids, group_of};
 use std::alloc::{AllocError, Global};
 use view_model::{Link, Sprout};
@@ -82,7 +82,7 @@ fn add_entry(
     ensures { IsMadeUnless (cycle_behind (member_from next) number sprout.now more.now)
         (λ _. HasAdded entries.old.items entries.new.items (IsBehind number sprout.now more.now)) result }
 {
-    if !is_relative(sprout.class) {
+    if !sprout.class.is_relative() {
         return Ok(());
     }
     match group_behind(*entries.allocator(), next, sprout.depth, number, more) {

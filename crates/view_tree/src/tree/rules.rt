@@ -4,14 +4,15 @@ ghost use Rattle.view_model.specs.PlainTree.{with_facts};
 ghost use Rattle.view_tree.specs.Cycles.{AreNewOrders, IsToldOf, view_member};
 ghost use Rattle.view_tree.specs.Staying.{AreSameOrders};
 ghost use Rattle.view_tree.specs.Faults.{IsRefusedOrCyclic};
-ghost use Rattle.view_model.specs.Cycles.{first_cycle, is_relative, link_of, numbers_in};
+ghost use Rattle.view_model.specs.Classes.{is_relative};
+ghost use Rattle.view_model.specs.Cycles.{first_cycle, link_of, numbers_in};
 ghost use Rattle.view_tree.specs.Ordering.{link_or, linked_in};
 ghost use Rattle.view_tree.specs.Rows.{ancestors, changed_at_key, children_of_first, part_from, views_of};
 ghost use Rattle.view_tree.specs.Views.{IsLive, class_of, group_number, held_of, number_of, orders_of, orders_under, plain_of, view_at};
 
 use super::{Key, ViewTree};
 use crate::fault::AttachFault;
-use crate::groups::{is_relative, set_orders};
+use crate::groups::set_orders;
 use crate::ids::rename;
 use relative_layout::{OrderFault, Orders, order};
 use std::alloc::{AllocError, Global};
@@ -68,7 +69,7 @@ impl ViewTree {
         let Some(parent) = above else {
             return Ok(None);
         };
-        if !is_relative(self.class(parent)) {
+        if !self.class(parent).is_relative() {
             return Ok(None);
         }
         if self.stays_in_order(parent, view, &link) {

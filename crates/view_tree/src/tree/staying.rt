@@ -1,7 +1,7 @@
 //! Kept orders that stay right when a child of a relative layout gets another id or other rules.
 ghost use Rattle.std.specs.Prelude.{◌≡◌, ◌<◌, ℕ, ◌⊎◌, IfOk, false, length, slice_index, true};
 ghost use Rattle.relative_layout.specs.Naming.{padded_ids};
-ghost use Rattle.view_model.specs.Cycles.{is_relative};
+ghost use Rattle.view_model.specs.Classes.{is_relative};
 ghost use Rattle.view_model.specs.SiblingRules.{names};
 ghost use Rattle.view_model.specs.declared.relative.Axis.TheVariants.{Horizontal, Vertical};
 ghost use Rattle.view_tree.specs.Cycles.{links_below};

@@ -2,7 +2,7 @@ use Rattle.std.proofs.Common.{sym, ◌∙◌, ap, rules}
 use Rattle.std.proofs.lemmas.Int.{to_z-of_z}
 use mir.Syntax.{w32}
 use mir.Val.{SFits}
-use Rattle.view_model.specs.Offsets.{scrolls}
+use Rattle.view_model.specs.Classes.{scrolls}
 use Rattle.touch_dispatch.proofs.SceneLaws.{rect_live, slop_is}
 use Rattle.touch_dispatch.proofs.ScrollSteps.{no_kids, receiver_same}
 use Rattle.touch_dispatch.specs.Dispatch.{first_rect, range_for}

@@ -1,4 +1,4 @@
-use Rattle.std.proofs.Common.{ℤ, pos, ◌+ℤ◌, ◌-ℤ◌, w32, w64, FitsSigned, int_div, arith}
+use Rattle.std.proofs.Common.{ℤ, pos, ◌+ℤ◌, ◌-ℤ◌, w32, w64, FitsSigned, int_div, arith, rules}
 use Rattle.std.proofs.lemmas.Int.{ints, to_z-of_z}
 use Rattle.view_model.proofs.placing.Alignment.low_edge.Goals as goal
 
@@ -23,8 +23,8 @@ overflow_sub-result-in-Middle-2 c = omega (arith, ints)
 
 pub overflow_sub-result-in-Middle-3 : goal.overflow_sub-result-in-Middle-3
 overflow_sub-result-in-Middle-3 c =
-    middle c.args.room c.args.before c.args.after c.args.size c.args.margin_before c.args.margin_after
-    c.ranges.room c.ranges.before c.ranges.after c.ranges.size c.ranges.margin_before c.ranges.margin_after
+    middle c.args.group.size c.args.group.before c.args.group.after c.args.child.size c.args.child.before c.args.child.after
+    (search rules) (search rules) (search rules) (search rules) (search rules) (search rules)
     λ room before after size low high room64 before64 after64 size64 low64 high64 rest1 rest2 rest half64 sum1 sum2 sum3.
     rw (c.from-room.ensures, c.from-before.ensures, c.from-after.ensures, c.from-size.ensures, c.from-margin_before.ensures, c.from-margin_after.ensures) (simp to_z-of_z sum3)
 
@@ -39,22 +39,22 @@ returns-in-Low c = rw c.in-Low.is (omega (arith, ints))
 
 pub returns-in-Middle : goal.returns-in-Middle
 returns-in-Middle c =
-    middle c.args.room c.args.before c.args.after c.args.size c.args.margin_before c.args.margin_after
-    c.ranges.room c.ranges.before c.ranges.after c.ranges.size c.ranges.margin_before c.ranges.margin_after
+    middle c.args.group.size c.args.group.before c.args.group.after c.args.child.size c.args.child.before c.args.child.after
+    (search rules) (search rules) (search rules) (search rules) (search rules) (search rules)
     λ room before after size low high room64 before64 after64 size64 low64 high64 rest1 rest2 rest half64 sum1 sum2 sum3.
     rw (c.in-Middle.is, c.from-room.ensures, c.from-before.ensures, c.from-after.ensures, c.from-size.ensures, c.from-margin_before.ensures, c.from-margin_after.ensures) (simp to_z-of_z)
 
 pub returns-in-High : goal.returns-in-High
 returns-in-High c =
-    let room : FitsSigned w32 c.args.room = c.ranges.room in
-    let after : FitsSigned w32 c.args.after = c.ranges.after in
-    let size : FitsSigned w32 c.args.size = c.ranges.size in
-    let high : FitsSigned w32 c.args.margin_after = c.ranges.margin_after in
-    let room64 : FitsSigned w64 c.args.room = omega (arith, ints) in
-    let after64 : FitsSigned w64 c.args.after = omega (arith, ints) in
-    let size64 : FitsSigned w64 c.args.size = omega (arith, ints) in
-    let high64 : FitsSigned w64 c.args.margin_after = omega (arith, ints) in
-    let rest1 : FitsSigned w64 (c.args.room -ℤ c.args.after) = omega (arith, ints) in
-    let rest2 : FitsSigned w64 (c.args.room -ℤ c.args.after -ℤ c.args.size) = omega (arith, ints) in
-    let rest : FitsSigned w64 (c.args.room -ℤ c.args.after -ℤ c.args.size -ℤ c.args.margin_after) = omega (arith, ints) in
+    let room : FitsSigned w32 c.args.group.size = search rules in
+    let after : FitsSigned w32 c.args.group.after = search rules in
+    let size : FitsSigned w32 c.args.child.size = search rules in
+    let high : FitsSigned w32 c.args.child.after = search rules in
+    let room64 : FitsSigned w64 c.args.group.size = omega (arith, ints) in
+    let after64 : FitsSigned w64 c.args.group.after = omega (arith, ints) in
+    let size64 : FitsSigned w64 c.args.child.size = omega (arith, ints) in
+    let high64 : FitsSigned w64 c.args.child.after = omega (arith, ints) in
+    let rest1 : FitsSigned w64 (c.args.group.size -ℤ c.args.group.after) = omega (arith, ints) in
+    let rest2 : FitsSigned w64 (c.args.group.size -ℤ c.args.group.after -ℤ c.args.child.size) = omega (arith, ints) in
+    let rest : FitsSigned w64 (c.args.group.size -ℤ c.args.group.after -ℤ c.args.child.size -ℤ c.args.child.after) = omega (arith, ints) in
     rw (c.in-High.is, c.from-room.ensures, c.from-after.ensures, c.from-size.ensures, c.from-margin_after.ensures) (simp to_z-of_z)

@@ -5,7 +5,7 @@ use Rattle.view_tree.proofs.orders.CycleLaws.{few_links, members_within}
 use Rattle.relative_layout.specs.declared.ordering.OrderFault.TheVariants as order
 use Rattle.relative_layout.specs.Sorting.{IsFaultOf}
 use Rattle.view_tree.proofs.orders.ListLaws.{length-each}
-use Rattle.view_model.specs.Cycles.{is_relative}
+use Rattle.view_model.specs.Classes.{is_relative}
 use Rattle.view_tree.specs.Views.{class_of}
 use Rattle.view_tree.proofs.orders.StayLaws.{same_new}
 use Rattle.view_tree.proofs.tree.ViewTree.new_orders.Goals as goal

@@ -1,5 +1,6 @@
 use Rattle.std.proofs.Common.{rules, ◌≡◌, ◌∷◌, [], true, None, subst, ℕ}
-use Rattle.view_model.specs.Cycles.{is_relative, member_from}
+use Rattle.view_model.specs.Classes.{is_relative}
+use Rattle.view_model.specs.Cycles.{member_from}
 use Rattle.view_model.specs.declared.relative.Link.{Link}
 use Rattle.std.specs.Prelude.{Ok}
 use Rattle.view_tree.specs.Grafting.{IsGroupOrCycle, IsMadeUnless, links_then, numbers_then}

@@ -1,5 +1,6 @@
 use Rattle.std.proofs.Common.{rules, ◌≡◌, suc, true}
-use Rattle.view_model.specs.Cycles.{is_relative, member_from}
+use Rattle.view_model.specs.Classes.{is_relative}
+use Rattle.view_model.specs.Cycles.{member_from}
 use Rattle.view_tree.specs.Grafting.{links_behind, numbers_behind}
 use Rattle.view_tree.proofs.grafts.EntryLaws.{added}
 use Rattle.view_tree.proofs.tree.relatives.add_entry.Goals as goal

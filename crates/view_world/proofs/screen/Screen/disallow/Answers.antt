@@ -1,5 +1,5 @@
 use Rattle.std.proofs.Common.{◌≡◌, true, false, Ok, Err, ap, sym, subst, ◌∙◌, ◌∷◌}
-use Rattle.view_model.specs.Growth.{is_group}
+use Rattle.view_model.specs.Classes.{is_group}
 use Rattle.view_model.specs.PlainTree.{view_in}
 use Rattle.view_model.specs.Refusals.{plain_refusal}
 use Rattle.view_tree.specs.Views.{number_of, plain_of, view_at}
