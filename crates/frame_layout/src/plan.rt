@@ -105,6 +105,7 @@ impl FramePlan {
     }
 
     /// The specs of a child's first measuring.
+    #[inline(always)]
     fn first_specs(&self, kid: &Facts) -> (Spec, Spec)
         ensures { (own : FactsValue) (specs : Specs) (first : List Measured)
             → HasMeasured self.now own specs first

@@ -175,12 +175,12 @@ fn is_for(entry: &Entry, ws: Spec, hs: Spec) -> bool
     }
 }
 
-/// Whether two specs are the same.
+/// Whether two specs are the same. Sizes come first: they differ more often than modes.
 pub fn same_spec(one: Spec, other: Spec) -> bool
     ensures { result ≡ Rattle.measure_cache.specs.Entries.same_spec one other }
 {
-    if same_mode(one.mode, other.mode) {
-        one.size == other.size
+    if one.size == other.size {
+        same_mode(one.mode, other.mode)
     } else {
         false
     }

@@ -1,6 +1,6 @@
 -- The lines of a script.
-use Rattle.std.specs.Prelude.{◌≡◌, ℕ, ◌-◌, ◌==◌, nat_lt, Bool, true, false, ◌&&◌, ◌||◌, List, [], ◌∷◌, ◌++◌, if◌then◌else◌, length, take, fold, slice_index}
-use Rattle.std.specs.List.{list_all}
+use Rattle.std.specs.Prelude.{◌≡◌, ℕ, ◌-◌, ◌==◌, nat_lt, Bool, true, false, not, ◌&&◌, ◌||◌, List, [], ◌∷◌, ◌++◌, if◌then◌else◌, length, take, fold, slice_index}
+use Rattle.std.specs.List.{list_all, position_or_len}
 
 -- a line as it was read
 pub data Line : Type 0 where
@@ -58,6 +58,12 @@ is_passed_over line = list_all is_space line || (nat_lt 0 (length line) && slice
 abbrev pub is_idle : Line → Bool
 is_idle LongLine = false
 is_idle (Text bytes) = is_passed_over bytes
+
+-- whether these bytes begin with a whole line that is empty or begins with `#`
+abbrev pub begins_passed : List ℕ → Bool
+begins_passed bytes =
+    let end = position_or_len is_line_feed bytes in
+    nat_lt end (length bytes) && not (nat_lt max_line end) && (end == 0 || slice_index bytes 0 == 35)
 
 -- these bytes are this many lines that are passed over, each with its line feed
 pub record ArePassedOver (bytes : List ℕ) (count : ℕ) : Type 0 where

@@ -1,8 +1,8 @@
 //! Bytes that come in pieces, cut into lines.
 
-ghost use Rattle.std.specs.Prelude.{◌≡◌, ◌≢◌, ℕ, ◌+◌, ◌<◌, ◌≤◌, ◌↔◌, ◌⊎◌, List, [], ◌++◌, length, take, min, slice_index};
+ghost use Rattle.std.specs.Prelude.{◌≡◌, ◌≢◌, ℕ, ◌+◌, ◌<◌, ◌≤◌, ◌↔◌, ◌⊎◌, false, List, [], ◌++◌, length, take, drop, min, slice_index};
 ghost use Rattle.std.specs.List.{list_all, position_or_len};
-ghost use Rattle.script_lines.specs.Lines.{ArePassedOver, cut_of, is_line_feed, is_passed_over, is_space, last_of, lines_of, without_return};
+ghost use Rattle.script_lines.specs.Lines.{ArePassedOver, begins_passed, cut_of, is_line_feed, is_passed_over, is_space, last_of, lines_of, without_return};
 ghost use Rattle.script_lines.specs.LineBuffer.{LineBuffer, IsLent, IsAfter, lines_as, lines_at};
 ghost use Rattle.script_lines.specs.Pieces.{FeedSequence, Feed, bytes_in, lines_in};
 
@@ -80,8 +80,8 @@ impl Lines {
         }
     }
 
-    /// Lines at the front of a piece that are passed over: empty ones, and those that begin with `#`. There are none if
-    /// a line has begun. Whatever came `before`, these bytes add these lines and no beginning of another one.
+    /// The lines at the front of a piece that are empty or begin with `#`. There are none if a line has begun. Whatever
+    /// came `before`, these bytes add these lines and no beginning of another one.
     #[inline]
     pub fn passed_over(&self, piece: &[u8]) -> PassedOver
         ensures within { result.bytes ≤ length piece.now }
@@ -91,6 +91,8 @@ impl Lines {
             ≡ (cut_of before).lines ++ (cut_of (take result.bytes piece.now)).lines }
         ensures stands { (before : List ℕ) → IsAfter self.now before
             → IsAfter self.now (before ++ take result.bytes piece.now) }
+        ensures begun { self.now.begun ≢ [] → result.bytes ≡ 0 }
+        ensures all { self.now.begun ≡ [] → begins_passed (drop result.bytes piece.now) ≡ false }
     {
         if self.begun > 0 {
             return PassedOver { bytes: 0, lines: 0 };
@@ -208,6 +210,7 @@ impl Lines {
 fn passed_front(piece: &[u8]) -> PassedOver
     ensures within { result.bytes ≤ length piece.now }
     ensures passed { ArePassedOver (take result.bytes piece.now) result.lines }
+    ensures all { begins_passed (drop result.bytes piece.now) ≡ false }
 {
     let mut bytes = 0;
     let mut lines = 0;
@@ -226,6 +229,7 @@ fn passed_front(piece: &[u8]) -> PassedOver
 fn passed_len(bytes: &[u8]) -> usize
     ensures within { result ≤ length bytes.now }
     ensures passed { (result ≡ 0) ⊎ ArePassedOver (take result bytes.now) 1 }
+    ensures none { result ≡ 0 → begins_passed bytes.now ≡ false }
 {
     if bytes.is_empty() {
         return 0;
@@ -247,6 +251,7 @@ fn comment_len(bytes: &[u8]) -> usize
     requires first { slice_index bytes.now 0 ≡ 35 }
     ensures within { result ≤ length bytes.now }
     ensures passed { (result ≡ 0) ⊎ ArePassedOver (take result bytes.now) 1 }
+    ensures none { result ≡ 0 → begins_passed bytes.now ≡ false }
 {
     let end = 1 + line_end(&bytes[1..]);
     if end == bytes.len() || end > MAX_LINE {

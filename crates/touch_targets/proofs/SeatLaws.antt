@@ -1,10 +1,12 @@
 -- The seats that a pool represents, by the numbers of views.
-use Rattle.std.proofs.Common.{◌≡◌, ◌≢◌, ℕ, true, false, List, [], ◌∷◌, Option, Some, None, is_some, map, refl, sym, ◌∙◌, ap, inl, inr}
+use Rattle.std.proofs.Common.{◌≡◌, ◌≢◌, ℕ, ◌+◌, zero, suc, true, false, List, [], ◌∷◌, Option, Some, None, is_some, cond, count_by, map, arith, refl, sym, ◌∙◌, ap, inl, inr}
 use Rattle.std.specs.Prelude.{◌==◌, if◌then◌else◌, nat_eq}
+use Rattle.std.specs.List.{slice_index_or}
 use Rattle.std.specs.Map.{lookup}
 use Rattle.std.specs.Option.{option_flatten}
 use Rattle.std.proofs.lemmas.Bool.{cases_Bool, cases_eq, eq-eqb, ne_eqb}
-use Rattle.slab.specs.Slab.{Slab, get}
+use Rattle.std.proofs.lemmas.List.Sums.{sum_by-cons}
+use Rattle.slab.specs.Slab.{Slab, get, slab_len}
 use Rattle.indexmap.specs.IndexMap.{get as get_key}
 use Rattle.touch_targets.specs.Captures.{Target, from_child, is_target, without_child}
 use Rattle.touch_targets.specs.Nodes.{AreLinked, Chain, caught_at, caught_by, has_place, places_by, view_of, without_caught}
@@ -159,6 +161,22 @@ target_where a seats sound is child place x k k_is view group_is =
     let there : is_caught k.view (caught_by a.nodes x) ≡ true = is_caught_by a.nodes sound.linked x place k k_is ∙ m.1 in
     let targets : targets_of seats g.value.view ≡ map target_of (caught_by a.nodes x) = targets_are a seats is g.value.view ∙ ap (λ o. map target_of (caught_from a.nodes o)) found in
     (g.value.view, found, ap (is_target child) targets ∙ is_target_of child (caught_by a.nodes x) ∙ ap (λ v. is_caught v (caught_by a.nodes x)) (sym view) ∙ there)
+
+-- no view has a node in a pool without one
+empty_slots : (slots : List (Option Node)) → count_by is_some slots ≡ 0 → (place : ℕ) → slice_index_or slots place None ≡ None
+empty_slots [] none place = refl
+empty_slots (None ∷ more) none zero = refl
+empty_slots (None ∷ more) none (suc place) = empty_slots more none place
+empty_slots (Some node ∷ more) none place =
+    let one : count_by is_some (Some node ∷ more) ≡ 1 + count_by is_some more = sum_by-cons (λ (slot : Option Node). cond (is_some slot) 1 0) (Some node) more in
+    absurd (omega (arith, one, none))
+
+pub no_node : (a : Inside) → IsSoundPool a.nodes a.places → slab_len a.nodes ≡ 0 → (view : ℕ) → place_in a.places view ≡ None
+no_node a sound empty view = go (place_in a.places view) refl
+  where
+    go : (o : Option ℕ) → place_in a.places view ≡ o → place_in a.places view ≡ None
+    go None is = is
+    go (Some place) is = no_some (empty_slots a.nodes.slots empty place) (node_of a sound view place is).is
 
 -- and the other way round
 pub where_target : (a : Inside) (seats : List Seat) → IsSoundPool a.nodes a.places → seats_in a.nodes a.places ≡ seats → (child place : ℕ) → place_in a.places child ≡ Some place

@@ -85,11 +85,29 @@ impl Targets {
             → ((group : ℕ) → is_target view (targets_of before group) ≡ false)
             → self.new ≡ before }
     {
-        self.clear(view);
-        self.remove(view);
+        self.release(view);
         if let Some(place) = forget_place(&mut self.places, view) {
             links::take_out(&mut self.nodes, place);
         }
+    }
+
+    /// Removes all targets of a view, and takes it away from the group that has captured it. Most views are removed while
+    /// no view has captured another.
+    fn release(&mut self, view: u64)
+        ensures opened { (other : ℕ) → is_open self.new other ≡ is_open self.old other }
+        ensures targets { (group : ℕ)
+            → targets_of self.new group
+            ≡ (if group == view then [] else without_child view (targets_of self.old group)) }
+        ensures free { (group : ℕ) → is_target view (targets_of self.new group) ≡ false }
+        ensures same { targets_of self.old view ≡ []
+            → ((group : ℕ) → is_target view (targets_of self.old group) ≡ false)
+            → self.new ≡ self.old }
+    {
+        if self.nodes.is_empty() {
+            return;
+        }
+        self.clear(view);
+        self.remove(view);
     }
 
     /// The newest target of a group.

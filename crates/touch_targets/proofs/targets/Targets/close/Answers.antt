@@ -5,20 +5,14 @@ use Rattle.touch_targets.specs.Captures.{is_target, without_child}
 use Rattle.touch_targets.specs.Seats.{Seat, is_open, targets_of, with_seat}
 use Rattle.touch_targets.specs.Pool.{place_in}
 use Rattle.touch_targets.specs.declared.targets.Targets.TheInside.{Inside}
-use Rattle.touch_targets.proofs.Membership.{closed_targets, closed_view, left_nowhere, left_targets, nothing_caught, nowhere_caught, sound_closed, sound_forgot}
+use Rattle.touch_targets.proofs.Membership.{closed_targets, closed_view, nothing_caught, nowhere_caught, sound_closed, sound_forgot}
 use Rattle.touch_targets.proofs.SeatLaws.{node_of}
 use Rattle.touch_targets.proofs.SeatOrder.{no_targets_with, seat_taken, targets_with}
 use Rattle.touch_targets.proofs.targets.Targets.close.Goals as goal
-use Rattle.touch_targets.proofs.targets.Targets.close.Goals.{After-remove, In-Some}
+use Rattle.touch_targets.proofs.targets.Targets.close.Goals.{After-release, In-Some}
 
-left : (c : After-remove) → (group : ℕ) → targets_of c.remove.new.self group ≡ (if group == c.args.view then [] else without_child c.args.view (targets_of c.args.self.now group))
-left c = left_targets c.args.view (targets_of c.args.self.now) (targets_of c.clear.new.self) (targets_of c.remove.new.self) c.clear.ensures.targets c.remove.ensures.targets
-
-none : (c : After-remove) → targets_of c.remove.new.self c.args.view ≡ []
-none c = left c c.args.view ∙ rw (eq-eqb c.args.view c.args.view refl) refl
-
-opened : (c : After-remove) → (other : ℕ) → is_open c.remove.new.self other ≡ is_open c.args.self.now other
-opened c other = c.remove.ensures.opened other ∙ c.clear.ensures.opened other
+none : (c : After-release) → targets_of c.release.new.self c.args.view ≡ []
+none c = c.release.ensures.targets c.args.view ∙ rw (eq-eqb c.args.view c.args.view refl) refl
 
 place : (c : In-Some) → place_in c.self.inside.places c.args.view ≡ Some c.in-Some.place
 place c = sym c.forget_place.ensures.value ∙ c.in-Some.is
@@ -30,70 +24,69 @@ take_out-requires-clause-there c =
 pub take_out-requires-clause-empty : goal.take_out-requires-clause-empty
 take_out-requires-clause-empty c =
     let at = goal.at.take_out-requires-clause-empty c in
-    nothing_caught c.self.inside c.remove.new.self c.args.view c.in-Some.place c.self.view_is (place at.In-Some) (none at.After-remove)
+    nothing_caught c.self.inside c.release.new.self c.args.view c.in-Some.place c.self.view_is (place at.In-Some) (none at.After-release)
 
 pub take_out-requires-clause-free : goal.take_out-requires-clause-free
 take_out-requires-clause-free c =
     let at = goal.at.take_out-requires-clause-free c in
-    nowhere_caught c.self.inside c.remove.new.self c.args.view c.in-Some.place c.self.invariant c.self.view_is (place at.In-Some)
-    (left_nowhere c.args.view (targets_of c.clear.new.self) (targets_of c.remove.new.self) c.remove.ensures.targets)
+    nowhere_caught c.self.inside c.release.new.self c.args.view c.in-Some.place c.self.invariant c.self.view_is (place at.In-Some)
+    c.release.ensures.free
 
 pub invariant_of-self : goal.invariant_of-self
 invariant_of-self c =
     let b : Inside = record { nodes = c.take_out.new.nodes; places = c.forget_place.new.places } in
-    sound_closed c.self.inside b c.remove.new.self c.args.view c.self.view_is c.forget_place.ensures.forgot c.in-Some.place c.self.invariant
+    sound_closed c.self.inside b c.release.new.self c.args.view c.self.view_is c.forget_place.ensures.forgot c.in-Some.place c.self.invariant
     (place (goal.at.invariant_of-self c).In-Some) c.take_out.ensures.linked c.take_out.ensures.nodes c.take_out.ensures.len c.take_out.ensures.capacity
     c.forget_place.ensures.entries c.forget_place.ensures.fewer
 
 pub invariant_of-self-in_default : goal.invariant_of-self-in_default
 invariant_of-self-in_default c =
     let b : Inside = record { nodes = c.self.inside.nodes; places = c.forget_place.new.places } in
-    sound_forgot c.self.inside b c.remove.new.self c.args.view c.self.view_is c.forget_place.ensures.forgot c.self.invariant
+    sound_forgot c.self.inside b c.release.new.self c.args.view c.self.view_is c.forget_place.ensures.forgot c.self.invariant
     (sym c.forget_place.ensures.value ∙ c.in_default.is) refl c.forget_place.ensures.entries c.forget_place.ensures.fewer
 
 pub returns-in-Some-clause-opened : goal.returns-in-Some-clause-opened
 returns-in-Some-clause-opened c = λ other.
     let b : Inside = record { nodes = c.take_out.new.nodes; places = c.forget_place.new.places } in
-    closed_view c.self.inside b c.remove.new.self c.args.view c.self.view_is c.forget_place.ensures.forgot other
-    ∙ ap (λ x. x && not (other == c.args.view)) (opened (goal.at.returns-in-Some-clause-opened c).After-remove other)
+    closed_view c.self.inside b c.release.new.self c.args.view c.self.view_is c.forget_place.ensures.forgot other
+    ∙ ap (λ x. x && not (other == c.args.view)) (c.release.ensures.opened other)
 
 pub returns-in-Some-clause-targets : goal.returns-in-Some-clause-targets
 returns-in-Some-clause-targets c = λ group.
     let at = goal.at.returns-in-Some-clause-targets c in
     let b : Inside = record { nodes = c.take_out.new.nodes; places = c.forget_place.new.places } in
-    closed_targets c.self.inside b c.remove.new.self c.args.view c.self.view_is c.forget_place.ensures.forgot c.take_out.ensures.caught (none at.After-remove) group
-    ∙ left at.After-remove group
+    closed_targets c.self.inside b c.release.new.self c.args.view c.self.view_is c.forget_place.ensures.forgot c.take_out.ensures.caught (none at.After-release) group
+    ∙ c.release.ensures.targets group
 
 pub returns-in_default-clause-opened : goal.returns-in_default-clause-opened
 returns-in_default-clause-opened c = λ other.
     let b : Inside = record { nodes = c.self.inside.nodes; places = c.forget_place.new.places } in
-    closed_view c.self.inside b c.remove.new.self c.args.view c.self.view_is c.forget_place.ensures.forgot other
-    ∙ ap (λ x. x && not (other == c.args.view)) (opened (goal.at.returns-in_default-clause-opened c).After-remove other)
+    closed_view c.self.inside b c.release.new.self c.args.view c.self.view_is c.forget_place.ensures.forgot other
+    ∙ ap (λ x. x && not (other == c.args.view)) (c.release.ensures.opened other)
 
 pub returns-in_default-clause-targets : goal.returns-in_default-clause-targets
 returns-in_default-clause-targets c = λ group.
     let at = goal.at.returns-in_default-clause-targets c in
     let b : Inside = record { nodes = c.self.inside.nodes; places = c.forget_place.new.places } in
-    closed_targets c.self.inside b c.remove.new.self c.args.view c.self.view_is c.forget_place.ensures.forgot (λ x. refl) (none at.After-remove) group
-    ∙ left at.After-remove group
+    closed_targets c.self.inside b c.release.new.self c.args.view c.self.view_is c.forget_place.ensures.forgot (λ x. refl) (none at.After-release) group
+    ∙ c.release.ensures.targets group
 
 -- nothing is removed before the seat is
-kept : (c : After-remove) (before : List Seat) → c.args.self.now ≡ with_seat c.args.view before → is_open before c.args.view ≡ false
-    → ((group : ℕ) → is_target c.args.view (targets_of before group) ≡ false) → c.remove.new.self ≡ with_seat c.args.view before
+kept : (c : After-release) (before : List Seat) → c.args.self.now ≡ with_seat c.args.view before → is_open before c.args.view ≡ false
+    → ((group : ℕ) → is_target c.args.view (targets_of before group) ≡ false) → c.release.new.self ≡ with_seat c.args.view before
 kept c before is closed free =
-    let cleared : c.clear.new.self ≡ with_seat c.args.view before =
-    c.clear.ensures.same (ap (λ s. targets_of s c.args.view) is ∙ no_targets_with c.args.view before closed) ∙ is in
-    c.remove.ensures.same (λ group. ap (λ s. is_target c.args.view (targets_of s group)) cleared ∙ ap (is_target c.args.view) (targets_with c.args.view before group) ∙ free group)
-    ∙ cleared
+    c.release.ensures.same (ap (λ s. targets_of s c.args.view) is ∙ no_targets_with c.args.view before closed)
+    (λ group. ap (λ s. is_target c.args.view (targets_of s group)) is ∙ ap (is_target c.args.view) (targets_with c.args.view before group) ∙ free group)
+    ∙ is
 
 pub returns-in-Some-clause-last : goal.returns-in-Some-clause-last
 returns-in-Some-clause-last c before is closed free =
     let b : Inside = record { nodes = c.take_out.new.nodes; places = c.forget_place.new.places } in
-    seat_taken c.self.inside b before c.args.view (c.self.view_is ∙ kept (goal.at.returns-in-Some-clause-last c).After-remove before is closed free) closed
+    seat_taken c.self.inside b before c.args.view (c.self.view_is ∙ kept (goal.at.returns-in-Some-clause-last c).After-release before is closed free) closed
     c.take_out.ensures.caught c.forget_place.ensures.entries
 
 pub returns-in_default-clause-last : goal.returns-in_default-clause-last
 returns-in_default-clause-last c before is closed free =
     let b : Inside = record { nodes = c.self.inside.nodes; places = c.forget_place.new.places } in
-    seat_taken c.self.inside b before c.args.view (c.self.view_is ∙ kept (goal.at.returns-in_default-clause-last c).After-remove before is closed free) closed
+    seat_taken c.self.inside b before c.args.view (c.self.view_is ∙ kept (goal.at.returns-in_default-clause-last c).After-release before is closed free) closed
     (λ x. refl) c.forget_place.ensures.entries
