@@ -10,11 +10,11 @@ use Rattle.std.proofs.lemmas.List.{length-map}
 use Rattle.std.proofs.lemmas.Map.Made.{lookup-map_values}
 use Rattle.indexmap.specs.IndexMap.{insert_entry}
 use Rattle.view_model.specs.Resources.{Entries, Resource, definition_refusal, definition_refusal_of, resource_of, with_resource}
-use Rattle.view_model.specs.Refusals.{PlainRefusal}
-use Rattle.res_values.specs.declared.fault.ResFault.{ResFault}
-use Rattle.res_values.specs.declared.fault.ResFault.TheVariants.{NoMemory}
+use Rattle.view_model.specs.Refusals.{IsRefusedExactlyFor, PlainRefusal, plain_refusal}
+use Rattle.view_model.specs.declared.fault.Fault.{Fault}
+use Rattle.view_model.specs.declared.fault.Fault.TheVariants.{NoMemory, Refused}
+use Rattle.view_model.specs.declared.refusal.Refusal.{Refusal}
 use Rattle.res_values.specs.declared.value.Value.{Value}
-use Rattle.res_values.specs.Faults.{IsRefusedExactlyFor}
 use Rattle.res_values.specs.Values.{entries, resource}
 
 pub entries-insert : (values : List (ℕ × Value)) (id : ℕ) (value : Value)
@@ -79,8 +79,14 @@ pub defined : (values after : List (ℕ × Value)) (now : Entries) (id : ℕ) (v
     → entries after ≡ with_resource now id (resource value)
 defined values after now id value same is = ap entries is ∙ entries-insert values id value ∙ ap (λ all. with_resource all id (resource value)) same
 
+-- the refusal that is the reason
+pub refused_as : (reason : Option PlainRefusal) (refusal : Refusal) (result : Result (Unit {0}) Fault) → reason ≡ Some (plain_refusal refusal)
+    → IsErrAnd result (λ fault. fault ≡ Refused refusal) → IsRefusedExactlyFor reason result
+refused_as reason refusal (Ok answer) some is = absurd is
+refused_as reason refusal (Err fault) some is = subst (λ fault. IsRefusedExactlyFor {A = Unit {0}} reason (Err fault)) (sym is) some
+
 -- out of memory, if there is no reason to refuse
-pub no_memory : (reason : Option PlainRefusal) (result : Result (Unit {0}) ResFault) → reason ≡ None → IsErrAnd result (λ fault. fault ≡ NoMemory)
+pub no_memory : (reason : Option PlainRefusal) (result : Result (Unit {0}) Fault) → reason ≡ None → IsErrAnd result (λ fault. fault ≡ NoMemory)
     → IsRefusedExactlyFor reason result
 no_memory reason (Ok answer) none is = absurd is
 no_memory reason (Err fault) none is = subst (λ fault. IsRefusedExactlyFor {A = Unit {0}} reason (Err fault)) (sym is) none

@@ -1,8 +1,8 @@
 //! The table of resources by their ids.
 ghost use Rattle.std.specs.Prelude.{◌≡◌, ℕ, Some, [], OnErr, OnOk, if◌then◌else◌, nat_eq};
 ghost use Rattle.std.specs.Option.{option_map};
+ghost use Rattle.view_model.specs.Refusals.{IsRefusedExactlyFor, RefusesExactlyFor};
 ghost use Rattle.view_model.specs.Resources.{definition_refusal, definition_refusal_of, resource_of, with_resource};
-ghost use Rattle.res_values.specs.Faults.{IsRefusedExactlyFor, Refuses};
 ghost use Rattle.res_values.specs.Values.{resource};
 
 use crate::fault::ResFault;
@@ -47,9 +47,7 @@ impl Resources {
         ensures refused { IsRefusedExactlyFor (definition_refusal_of self.old id) result }
         ensures unchanged { OnErr result (self.new ≡ self.old) }
     {
-        if let Err(refusal) = may_define(self.values.len(), self.values.get(&id).is_some()) {
-            return Err(ResFault::Refused(refusal));
-        }
+        may_define(self.values.len(), self.values.get(&id).is_some())?;
         self.values.insert(id, value)?;
         Ok(())
     }
@@ -65,7 +63,7 @@ impl Resources {
 /// Whether one more may be defined in a table of this length, or its id is defined already.
 #[tactic(auto, unfolding(view_model::specs::Resources::definition_refusal))]
 fn may_define(count: usize, defined: bool) -> Result<(), Refusal>
-    ensures { Refuses (definition_refusal count defined) result }
+    ensures { RefusesExactlyFor (definition_refusal count defined) result }
 {
     if !defined && count >= MAX_RESOURCES {
         return Err(Refusal::plain(TOO_MANY_RESOURCES));
