@@ -1,7 +1,7 @@
 use Rattle.std.proofs.Common.{◌≡◌, ◌∙◌, ℕ, false, List, [], Some, ap, refl, sym}
 use Rattle.std.proofs.lemmas.Bool.{eq-eqb}
-use Rattle.std.specs.Prelude.{◌==◌, ◌&&◌, if◌then◌else◌, not}
-use Rattle.touch_targets.specs.Captures.{is_target, without_child}
+use Rattle.std.specs.Prelude.{◌==◌, ◌&&◌, not}
+use Rattle.touch_targets.specs.Captures.{is_target}
 use Rattle.touch_targets.specs.Seats.{Seat, is_open, targets_of, with_seat}
 use Rattle.touch_targets.specs.Pool.{place_in}
 use Rattle.touch_targets.specs.declared.targets.Targets.TheInside.{Inside}
