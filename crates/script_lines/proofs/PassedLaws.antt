@@ -1,11 +1,11 @@
 -- Lines that are passed over.
-use Rattle.std.proofs.Common.{◌≡◌, ℕ, suc, ◌+◌, ◌-◌, ◌<◌, ◌≤◌, ◌⊎◌, Bool, true, false, refl, ap, sym, ◌∙◌, inl, inr, List, [], ◌∷◌, ◌++◌, length, take, drop, arith, length-append, length-take}
+use Rattle.std.proofs.Common.{◌≡◌, ℕ, suc, ◌+◌, ◌-◌, ◌<◌, ◌≤◌, true, false, refl, ap, sym, ◌∙◌, inl, inr, List, [], ◌∷◌, ◌++◌, length, take, drop, arith, length-append, length-take}
 use Rattle.std.specs.List.{list_all, position_or_len}
-use Rattle.std.specs.Prelude.{◌==◌, ◌&&◌, nat_lt, slice_index}
+use Rattle.std.specs.Prelude.{◌==◌, nat_lt, slice_index}
 use Rattle.std.proofs.lemmas.Bool.{cases_Bool}
 use Rattle.std.proofs.lemmas.Bool.Decides.{nat_tests}
 use Rattle.std.proofs.lemmas.List.Folds.{list_all-append}
-use Rattle.script_lines.specs.Lines.{ArePassedOver, Cut, begins_passed, Line, Text, cut_of, is_idle, is_line_feed, line_of, max_line, without_return}
+use Rattle.script_lines.specs.Lines.{ArePassedOver, Cut, Line, Text, cut_of, is_idle, is_line_feed, line_of, max_line, without_return}
 use Rattle.script_lines.specs.LineBuffer.{LineBuffer, IsAfter, held_of}
 use Rattle.script_lines.proofs.LineLaws.{behind_feed, cut-append, cut_behind, place_other}
 
@@ -57,28 +57,6 @@ comment_passed [] place some e p h most = absurd (omega (arith, some))
 comment_passed (b ∷ bytes) place some e p h most =
     let two : place + 2 ≡ suc (suc place) = omega arith in
     rw (two, e) (hash_passed bytes place p (omega (arith, h)) (omega (arith, most)))
-
--- bytes that begin with no such line
-and_false : (one : Bool) → (one && false) ≡ false
-and_false true = refl
-and_false false = refl
-
-pub other_begins : (bytes : List ℕ) → 0 < length bytes → (slice_index bytes 0 == 10) ≡ false → (slice_index bytes 0 == 35) ≡ false → begins_passed bytes ≡ false
-other_begins [] some feed hash = absurd (omega (arith, some))
-other_begins (b ∷ bytes) some feed hash =
-    let later : (suc (position_or_len is_line_feed bytes) == 0) ≡ false = grind (arith, nat_tests) in
-    rw (place_other b bytes feed, hash, later) (and_false _)
-
-pub comment_begins : (bytes : List ℕ) (place : ℕ) → 0 < length bytes → slice_index bytes 0 ≡ 35 → place ≡ position_or_len is_line_feed (drop 1 bytes)
-    → (place + 1 ≡ length bytes) ⊎ (max_line < place + 1) → begins_passed bytes ≡ false
-comment_begins [] place some e p end = absurd (omega (arith, some))
-comment_begins (b ∷ bytes) place some e p end =
-    let feed : (b == 10) ≡ false = rw e refl in
-    let at : position_or_len is_line_feed (b ∷ bytes) ≡ place + 1 = place_other b bytes feed ∙ ap suc (sym p) ∙ (let one : suc place ≡ place + 1 = omega arith in one) in
-    rw at (elim end [
-      | inl last ↦ let none : nat_lt (place + 1) (length (b ∷ bytes)) ≡ false = grind (arith, nat_tests, last) in rw none refl
-      | inr long ↦ let most : nat_lt max_line (place + 1) ≡ true = grind (arith, nat_tests, long) in rw most (rw (and_false (nat_lt (place + 1) (length (b ∷ bytes)))) refl)
-    ])
 
 -- bytes after which no line has begun
 cut-whole : (before bytes : List ℕ) → (cut_of before).rest ≡ [] → cut_of (before ++ bytes) ≡ record { lines = (cut_of before).lines ++ (cut_of bytes).lines; rest = (cut_of bytes).rest }
