@@ -214,9 +214,9 @@ left_targets view old cleared new one two group =
 pub unheld_targets : (view : ℕ) (old : ℕ → List Target) → old view ≡ [] → ((group : ℕ) → old group ≡ without_child view (old group))
     → (group : ℕ) → old group ≡ (if group == view then [] else without_child view (old group))
 unheld_targets view old none nowhere group = elim (cases_eq group view) [
-      | inl same ↦ ap old same ∙ none ∙ rw (eq-eqb group view same) refl
-      | inr other ↦ nowhere group ∙ rw (ne_eqb group view other) refl
-    ]
+  | inl same ↦ ap old same ∙ none ∙ rw (eq-eqb group view same) refl
+  | inr other ↦ nowhere group ∙ rw (ne_eqb group view other) refl
+]
 
 pub left_nowhere : (view : ℕ) (cleared new : ℕ → List Target) → ((group : ℕ) → new group ≡ without_child view (cleared group)) → (group : ℕ) → is_target view (new group) ≡ false
 left_nowhere view cleared new two group = ap (is_target view) (two group) ∙ gone view (cleared group)
