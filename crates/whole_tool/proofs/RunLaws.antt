@@ -275,7 +275,7 @@ refused_part start files first mid now runner lines line number refusal at refus
 pub refused_at : (files : Files) (first mid now : Trace) (runner : LineRunner) (carrier : Carrier) (text : BufferedText) (progress : ScriptProgress) (tally : Tally) (line : Line) (number count : ℕ) (refusal : PlainRefusal)
     → HasCarriedOut first mid runner progress tally → carrier ≡ runner.carrier → now.work ≡ mid.work → now.fetches ≡ fetches_after (asked_by_line (carried_of runner.carrier) line) mid.fetches → reply_to_line files (carried_of runner.carrier) line ≡ Refused refusal → number ≡ progress.lines + 1
     → count ≡ progress.refused + 1 → Appends mid.gone now.gone (refused_line number refusal)
-    → HasCarriedOut first now (record { carrier = carrier; lines = number; refused = count; text = text }) (after_line files progress line) (with_cost files tally line)
+    → HasCarriedOut first now (record runner { carrier = carrier; lines = number; refused = count; text = text }) (after_line files progress line) (with_cost files tally line)
 refused_at files first mid now runner carrier text progress tally line number count refusal at same idle fetched refused counted told gone =
     let reply = reply_at files first mid runner progress tally line (Refused refusal) at refused in
     let cost = refused_cost files tally refusal line (tally_reply_at files first mid runner progress tally line (Refused refusal) at refused) in

@@ -1,5 +1,5 @@
 -- What was taken of a script, and how its run ends.
-use Rattle.std.proofs.Common.{◌≡◌, ℕ, ◌+◌, ◌-◌, ◌<◌, ◌≤◌, length, take, drop, List, [], ◌++◌, refl, ap, sym, subst, ◌∙◌, arith, append_assoc, length-append, length-take}
+use Rattle.std.proofs.Common.{◌≡◌, ℕ, ◌+◌, ◌-◌, ◌<◌, ◌≤◌, ◌^◌, length, take, drop, List, [], ◌++◌, refl, ap, sym, subst, ◌∙◌, arith, append_assoc, length-append, length-take}
 use Rattle.std.specs.Prelude.{nat_lt, Option, Some, None, Ok, Err}
 use Rattle.std.specs.Io.KnownBytes.{Consumes, IsAtEnd, Keeps}
 use Rattle.std.proofs.lemmas.List.{append-nil, take-append-drop, take-append-le}
@@ -10,10 +10,9 @@ use Rattle.whole_tool.specs.Carried.{Carried}
 use Rattle.whole_tool.specs.declared.run.LineRunner.{LineRunner}
 use Rattle.whole_tool.specs.declared.run.Run.{Run}
 use Rattle.whole_tool.specs.declared.run.Stop.{Stop}
-use Rattle.whole_tool.specs.declared.script.End.{End}
 use Rattle.whole_tool.specs.declared.script.End.TheVariants as end
 use Rattle.whole_tool.specs.Run.{HasCarriedOut, HasReadUpTo, StopsIn}
-use Rattle.whole_tool.specs.Script.{ReadsPiece, RunsTo, WorksTaken}
+use Rattle.whole_tool.specs.Script.{RunsTo, WorksTaken}
 use Rattle.whole_tool.specs.Tally.{tally_from}
 use Rattle.whole_tool.specs.Transcript.{after_from, carried_lines, max_script}
 use Rattle.whole_tool.specs.Works.{Trace, Works}
@@ -24,22 +23,23 @@ pub Consumes-nil : (left : Option (List ℕ)) → Consumes left left []
 Consumes-nil None = tt
 Consumes-nil (Some left) = refl
 
--- a read that failed took nothing
-pub Consumes-kept : (old new : Option (List ℕ)) → Keeps old new → Consumes old new []
-Consumes-kept None new kept = tt
-Consumes-kept (Some a) None kept = elim kept [ ]
-Consumes-kept (Some a) (Some b) kept = sym kept
-
 pub Consumes-Consumes : (old mid new : Option (List ℕ)) (xs ys : List ℕ) → Consumes old mid xs → Consumes mid new ys → Consumes old new (xs ++ ys)
 Consumes-Consumes None mid new xs ys first second = tt
 Consumes-Consumes (Some a) None new xs ys first second = elim first [ ]
 Consumes-Consumes (Some a) (Some b) None xs ys first second = elim second [ ]
 Consumes-Consumes (Some a) (Some b) (Some c) xs ys first second = first ∙ ap (λ l. xs ++ l) second ∙ sym (append_assoc xs ys c)
 
+-- a read that failed took nothing
+pub Consumes-Keeps : (old mid new : Option (List ℕ)) (xs : List ℕ) → Consumes old mid xs → Keeps mid new → Consumes old new xs
+Consumes-Keeps None mid new xs lost kept = tt
+Consumes-Keeps (Some a) None new xs lost kept = elim lost [ ]
+Consumes-Keeps (Some a) (Some b) None xs lost kept = elim kept [ ]
+Consumes-Keeps (Some a) (Some b) (Some c) xs lost kept = lost ∙ ap (λ l. xs ++ l) (sym kept)
+
 -- what was taken is at the front of the script
-pub consumed : (new : Option (List ℕ)) (script taken : List ℕ) → Consumes (Some script) new taken → (rest : List ℕ) × (script ≡ taken ++ rest) × (new ≡ Some rest)
-consumed None script taken lost = elim lost [ ]
-consumed (Some rest) script taken lost = (rest, lost, refl)
+pub consumed : (old new : Option (List ℕ)) (script taken : List ℕ) → old ≡ Some script → Consumes old new taken → (rest : List ℕ) × (script ≡ taken ++ rest) × (new ≡ Some rest)
+consumed old None script taken told lost = elim (subst (λ l. Consumes l None taken) told lost) [ ]
+consumed old (Some rest) script taken told lost = (rest, subst (λ l. Consumes l (Some rest) taken) told lost, refl)
 
 -- if nothing is left, all was taken
 pub taken_whole : (new : Option (List ℕ)) (script taken : List ℕ) → Consumes (Some script) new taken → IsAtEnd new → taken ≡ script
@@ -59,33 +59,33 @@ take_front script taken bytes rest left e count enough =
     ∙ ap (λ l. taken ++ l) (take-append-le left bytes rest enough)
 
 -- a read failed
-pub ends_source : (start : Carried) (files : Files) (first last : Trace) (new : Option (List ℕ)) (script taken : List ℕ) → Consumes (Some script) new taken → length taken ≤ max_script → Works start files first last (cut_of taken).lines
-    → WorksTaken start files script new first last
-ends_source start files first last new script taken lost within works =
-    let c = consumed new script taken lost in
+pub ends_source : (start : Carried) (files : Files) (first last : Trace) (old new : Option (List ℕ)) (script taken : List ℕ) → old ≡ Some script → Consumes old new taken → length taken ≤ max_script
+    → Works start files first last (cut_of taken).lines → WorksTaken start files script new first last
+ends_source start files first last old new script taken told lost within works =
+    let c = consumed old new script taken told lost in
     record { taken = taken; takes = record { rest = c.0; front = c.1; left = c.2 }; within = within; works = works }
 
 -- one byte too many came
-pub ends_long : (start : Carried) (files : Files) (first last : Trace) (new : Option (List ℕ)) (script taken bytes : List ℕ) (left : ℕ) → Consumes (Some script) new (taken ++ bytes) → length taken + left ≡ max_script
-    → length bytes ≡ left + 1 → Works start files first last (cut_of (taken ++ take left bytes)).lines → RunsTo start files script new first last (Err end.Long)
-ends_long start files first last new script taken bytes left lost count many works =
-    let c = consumed new script (taken ++ bytes) lost in
+pub ends_long : (start : Carried) (files : Files) (first last : Trace) (old new : Option (List ℕ)) (script taken bytes : List ℕ) (left : ℕ) → old ≡ Some script → Consumes old new (taken ++ bytes)
+    → length taken + left ≡ max_script → length bytes ≡ left + 1 → Works start files first last (cut_of (taken ++ take left bytes)).lines → RunsTo start files script new first last (Err end.Long)
+ends_long start files first last old new script taken bytes left told lost count many works =
+    let c = consumed old new script (taken ++ bytes) told lost in
     let long : max_script < length script = omega (arith, ap length c.1, length-append (taken ++ bytes) c.0, length-append taken bytes, count, many) in
     let front = take_front script taken bytes c.0 left c.1 count (omega (arith, many)) in
     (long, subst (Works start files first last) (sym (carried_long script long ∙ ap (λ (l : List ℕ). (cut_of l).lines) front)) works)
 
--- the run stopped in a line that ended
-pub ends_stopped : (start : Carried) (files : Files) (first last : Trace) (new : Option (List ℕ)) (script taken bytes : List ℕ) (left : ℕ) (stop : Stop) → Consumes (Some script) new (taken ++ bytes)
-    → length taken + left ≡ max_script → StopsIn start files first last (cut_of (taken ++ take left bytes)).lines stop → StopsIn start files first last (carried_lines script) stop
-ends_stopped start files first last new script taken bytes left stop lost count stops =
-    let c = consumed new script (taken ++ bytes) lost in
-    let split : script ≡ (taken ++ take left bytes) ++ (drop left bytes ++ c.0) =
-    c.1 ∙ ap (λ l. (taken ++ l) ++ c.0) (sym (take-append-drop left bytes))
-    ∙ ap (λ l. l ++ c.0) (sym (append_assoc taken (take left bytes) (drop left bytes)))
-    ∙ append_assoc (taken ++ take left bytes) (drop left bytes) c.0 in
-    let short : length (taken ++ take left bytes) ≤ max_script = omega (arith, length-append taken (take left bytes), length-take left bytes, count) in
-    let more = carried_front script (taken ++ take left bytes) (drop left bytes ++ c.0) split short in
-    stops_further start files first last (cut_of (taken ++ take left bytes)).lines more.0 (carried_lines script) stop more.1 stops
+-- the run stopped in a line that ended in the first bytes of a piece
+pub ends_stopped : (start : Carried) (files : Files) (first last : Trace) (old new : Option (List ℕ)) (script taken bytes : List ℕ) (left n : ℕ) (stop : Stop) → old ≡ Some script → Consumes old new (taken ++ bytes)
+    → length taken + left ≡ max_script → n ≤ left → StopsIn start files first last (cut_of (taken ++ take n bytes)).lines stop → StopsIn start files first last (carried_lines script) stop
+ends_stopped start files first last old new script taken bytes left n stop told lost count within stops =
+    let c = consumed old new script (taken ++ bytes) told lost in
+    let split : script ≡ (taken ++ take n bytes) ++ (drop n bytes ++ c.0) =
+    c.1 ∙ ap (λ l. (taken ++ l) ++ c.0) (sym (take-append-drop n bytes))
+    ∙ ap (λ l. l ++ c.0) (sym (append_assoc taken (take n bytes) (drop n bytes)))
+    ∙ append_assoc (taken ++ take n bytes) (drop n bytes) c.0 in
+    let short : length (taken ++ take n bytes) ≤ max_script = omega (arith, length-append taken (take n bytes), length-take n bytes, count, within) in
+    let more = carried_front script (taken ++ take n bytes) (drop n bytes ++ c.0) split short in
+    stops_further start files first last (cut_of (taken ++ take n bytes)).lines more.0 (carried_lines script) stop more.1 stops
 
 -- what a run has taken of a source, of which at most n more bytes are taken
 pub record HasTakenBytes (start : Carried) (shelf : Option Files) (before after : Option (List ℕ)) (first now : Trace) (run : Run) (left : ℕ) : Type 0 where
@@ -94,29 +94,19 @@ pub record HasTakenBytes (start : Carried) (shelf : Option Files) (before after 
   pub count : length bytes + left ≡ max_script
   pub behind : HasReadUpTo start shelf first now run bytes
 
--- and once one piece more was read and carried out
-pub taken_on : (start : Carried) (shelf : Option Files) (before mid new : Option (List ℕ)) (first last now : Trace) (old run : Run) (left n : ℕ) (t : HasTakenBytes start shelf before mid first last old left) → n ≤ left
-    → ReadsPiece start shelf first t.bytes left mid new now run (Ok n) → HasTakenBytes start shelf before new first now run (left - n)
-taken_on start shelf before mid new first last now old run left n t within p = record {
-  bytes = t.bytes ++ p.bytes;
-  consumed = Consumes-Consumes before mid new t.bytes p.bytes t.consumed p.consumed;
-  count = omega (arith, length-append t.bytes p.bytes, t.count, p.count, within);
-  behind = p.comes;
-}
+-- what a run is given of a piece that was read is not too long
+pub piece_short : (taken buffer : List ℕ) (left n : ℕ) → length taken + left ≡ max_script → n ≤ left → length (taken ++ take n buffer) < 2 ^ 63
+piece_short taken buffer left n count within = omega (arith, length-append taken (take n buffer), length-take n buffer, count, within)
 
--- how a run ends that does not get to the end of its script
-pub ends_early : (start : Carried) (files : Files) (shelf : Option Files) (first last : Trace) (old mid new : Option (List ℕ)) (run : Run) (script taken : List ℕ) (left : ℕ) (early : End) → shelf ≡ Some files
-    → old ≡ Some script → Consumes old mid taken → length taken + left ≡ max_script → ReadsPiece start shelf first taken left mid new last run (Err early) → RunsTo start files script new first last (Err early)
-ends_early start files shelf first last old mid new run script taken left end.Source at_hand told lost count p =
-    let all = Consumes-Consumes (Some script) mid new taken p.bytes (subst (λ l. Consumes l mid taken) told lost) p.consumed in
-    let none : taken ++ p.bytes ≡ taken = ap (λ l. taken ++ l) p.comes.0 ∙ append-nil taken in
-    ends_source start files first last new script taken (subst (Consumes (Some script) new) none all) (omega (arith, count)) (p.comes.1 files at_hand)
-ends_early start files shelf first last old mid new run script taken left end.Long at_hand told lost count p =
-    let all = Consumes-Consumes (Some script) mid new taken p.bytes (subst (λ l. Consumes l mid taken) told lost) p.consumed in
-    ends_long start files first last new script taken p.bytes left all count p.comes.0 (p.comes.1 files at_hand)
-ends_early start files shelf first last old mid new run script taken left (end.Stopped stop) at_hand told lost count p =
-    let all = Consumes-Consumes (Some script) mid new taken p.bytes (subst (λ l. Consumes l mid taken) told lost) p.consumed in
-    ends_stopped start files first last new script taken p.bytes left stop all count (p.comes files at_hand)
+-- and once one piece more was read and carried out
+pub taken_on : (start : Carried) (shelf : Option Files) (before mid new : Option (List ℕ)) (first last now : Trace) (old run : Run) (left n given : ℕ) (buffer : List ℕ) (t : HasTakenBytes start shelf before mid first last old left)
+    → Consumes mid new (take n buffer) → n ≤ length buffer → n ≤ left → given ≡ n → HasReadUpTo start shelf first now run (t.bytes ++ take given buffer) → HasTakenBytes start shelf before new first now run (left - n)
+taken_on start shelf before mid new first last now old run left n given buffer t lost read within all behind = record {
+  bytes = t.bytes ++ take n buffer;
+  consumed = Consumes-Consumes before mid new t.bytes (take n buffer) t.consumed lost;
+  count = omega (arith, length-append t.bytes (take n buffer), length-take n buffer, t.count, read, within);
+  behind = subst (λ (k : ℕ). HasReadUpTo start shelf first now run (t.bytes ++ take k buffer)) all behind;
+}
 
 -- the run got to the end of its script, and stopped in the last line
 pub ends_last : (start : Carried) (files : Files) (first last : Trace) (old new : Option (List ℕ)) (script taken : List ℕ) (stop : Stop) → old ≡ Some script → Consumes old new taken → IsAtEnd new → length taken ≤ max_script

@@ -1,14 +1,13 @@
 -- A script that is read in pieces while it is carried out.
-use Rattle.std.specs.Prelude.{◌≡◌, ℕ, ◌+◌, ◌<◌, ◌≤◌, nat_lt, Bool, List, [], ◌++◌, length, take, Option, Some, Result, Ok, Err, IfOk}
+use Rattle.std.specs.Prelude.{◌≡◌, ℕ, ◌+◌, ◌<◌, ◌≤◌, nat_lt, Bool, List, ◌++◌, length, Option, Some, Result, Ok, Err, IfOk}
 use Rattle.std.specs.Io.KnownBytes.{Appends, Consumes, IsAtEnd}
 use Rattle.script_lines.specs.Lines.{cut_of, lines_of}
 use Rattle.tool_io.specs.Counts.{raised}
 use Rattle.tool_io.specs.Fetched.{Files}
 use Rattle.whole_tool.specs.Carried.{Carried, Alone}
-use Rattle.whole_tool.specs.declared.run.Run.{Run}
 use Rattle.whole_tool.specs.declared.script.End.{End}
 use Rattle.whole_tool.specs.declared.script.End.TheVariants as ends
-use Rattle.whole_tool.specs.Run.{CountsStop, HasReadUpTo, StopsIn, WithFiles, stop_counted}
+use Rattle.whole_tool.specs.Run.{CountsStop, StopsIn, stop_counted}
 use Rattle.whole_tool.specs.Transcript.{after_from, carried_lines, max_script}
 use Rattle.whole_tool.specs.Works.{Trace, Works}
 use Rattle.view_world.specs.World.{empty_world}
@@ -36,22 +35,6 @@ pub record WorksTaken (start : Carried) (files : Files) (script : List ℕ) (lef
   pub takes : Takes script left taken
   pub within : length taken ≤ max_script
   pub works : Works start files first now (cut_of taken).lines
-
--- After some bytes of a script, of which `left` more may come, these were read: they were carried out, or no read gave
--- them, or they are one too many, or the run stopped in them.
-abbrev pub Comes : Carried → Option Files → Trace → List ℕ → ℕ → List ℕ → Trace → Run → Result ℕ End → Type 0
-Comes start shelf first before left bytes now run (Ok n) = HasReadUpTo start shelf first now run (before ++ bytes)
-Comes start shelf first before left bytes now run (Err ends.Source) = (bytes ≡ []) × WithFiles shelf (λ files. Works start files first now (cut_of before).lines)
-Comes start shelf first before left bytes now run (Err ends.Long) = (length bytes ≡ left + 1) × WithFiles shelf (λ files. Works start files first now (cut_of (before ++ take left bytes)).lines)
-Comes start shelf first before left bytes now run (Err (ends.Stopped stop)) = WithFiles shelf (λ files. StopsIn start files first now (cut_of (before ++ take left bytes)).lines stop)
-
--- the result of a read and of the bytes that it gave
-pub record ReadsPiece (start : Carried) (shelf : Option Files) (first : Trace) (before : List ℕ) (left : ℕ) (old new : Option (List ℕ)) (now : Trace) (run : Run) (result : Result ℕ End) : Type 0 where
-  pub bytes : List ℕ
-  pub consumed : Consumes old new bytes
-  pub within : length bytes ≤ left + 1
-  pub count : IfOk result (λ n. n ≡ length bytes)
-  pub comes : Comes start shelf first before left bytes now run result
 
 -- How the run of a script got to its end, if it went from the first moment to the last, and this is left of the script.
 abbrev pub RunsTo : Carried → Files → List ℕ → Option (List ℕ) → Trace → Trace → Result Bool End → Type 0

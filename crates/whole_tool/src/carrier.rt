@@ -1,7 +1,7 @@
 //! What carries out the lines of a script: a world, or a stack of windows.
 
-ghost use Rattle.std.specs.Prelude.{◌≡◌, ◌≢◌, ◌⊎◌, ◌+◌, ◌-◌, ◌<◌, ◌≤◌, ◌^◌, Err, None, Some, length, min};
-ghost use Rattle.script_lines.specs.Lines.{max_line};
+ghost use Rattle.std.specs.Prelude.{◌≡◌, ◌≢◌, ◌⊎◌, ◌+◌, ◌-◌, ◌<◌, ◌≤◌, ◌^◌, Err, None, Some, false, length, min};
+ghost use Rattle.script_lines.specs.Lines.{is_idle, max_line};
 ghost use Rattle.stack_worlds.specs.PlainStack.{empty_stack};
 ghost use Rattle.tool_io.specs.Fetched.{Files};
 ghost use Rattle.view_model.specs.Refusals.{plain_refusal};
@@ -9,8 +9,9 @@ ghost use Rattle.view_model.specs.declared.limits.TheConstants.{MAX_VIEWS, NUMBE
 ghost use Rattle.view_model.specs.declared.work.Work.{Work};
 ghost use Rattle.whole_tool.specs.Carried.{Alone, Stacked, BytesWant, asked_by_bytes, fault_refusal, reply_to_bytes};
 ghost use Rattle.whole_tool.specs.Carrier.{IsFirst, WritesLine, carried_of, next_of};
-ghost use Rattle.whole_tool.specs.Run.{HasTallied};
-ghost use Rattle.whole_tool.specs.Tally.{Tally, after_bytes};
+ghost use Rattle.whole_tool.specs.Run.{HasTallied, IsShort, line_now};
+ghost use Rattle.whole_tool.specs.Tally.{Tally, after_bytes, with_cost};
+ghost use Rattle.whole_tool.specs.Transcript.{Asks, MayWant, asked_by_line, reply_to_line};
 ghost use Rattle.view_world.specs.Carried.{CountsShelf, IsDone, faults_after_line, fetches_after};
 ghost use Rattle.view_world.specs.World.{empty_world};
 
@@ -18,7 +19,7 @@ use script_lines::{LineFault, line};
 use stack_worlds::Stack;
 use std::alloc::Global;
 use tool_io::{Shelf, Sink};
-use view_model::refusals::{OUT_OF_RANGE, SYNTAX};
+use view_model::refusals::{LONG_LINE, OUT_OF_RANGE, SYNTAX};
 use view_model::{Refusal, Work};
 use view_world::{StepFault, World};
 use window_stack::stack_line;
@@ -48,7 +49,7 @@ impl Carrier {
     }
 
     /// Carries out a line that is not passed over, and writes its text; of one that is refused nothing is written.
-    pub fn line<K: Sink, F: Shelf>(
+    fn line<K: Sink, F: Shelf>(
         &mut self,
         alloc: Global,
         bytes: &[u8],
@@ -90,6 +91,49 @@ impl Carrier {
                 Err(fault) => Err(StepFault::Refused(refusal_of(fault))),
             },
         }
+    }
+
+    /// Carries out a line, and writes its text; of one that is refused nothing is written. `None` is a line that is too
+    /// long.
+    #[inline(never)]
+    #[tactic(auto, unfolding(crate::specs::Transcript::asked_by_line, crate::specs::Transcript::reply_to_line))]
+    pub fn carry_out<K: Sink, F: Shelf>(
+        &mut self,
+        alloc: Global,
+        line: Option<&[u8]>,
+        shelf: &mut F,
+        sink: &mut K,
+        work: &mut Work,
+    ) -> Result<(), StepFault>
+        requires numbered { next_of self.old < NUMBERS_END }
+        requires short { IsShort line }
+        requires counts { is_idle (line_now line) ≡ false }
+        ensures carried { (files : Files)
+            → F.files shelf.old ≡ Some files
+            → WritesLine (reply_to_line files (carried_of self.old) (line_now line.entry)) (carried_of self.new)
+            (K.state sink.old) (K.state sink.new) result }
+        ensures unchanged { IsDone result ⊎ ((self.new ≡ self.old) × (sink.new ≡ sink.old)) }
+        ensures tallied { (files : Files) (tally : Tally) (first : Work)
+            → F.files shelf.old ≡ Some files
+            → HasTallied first work.old self.old tally
+            → IsDone result
+            → HasTallied first work.new self.new (with_cost files tally (line_now line.entry)) }
+        ensures idle { IsDone result ⊎ (work.new ≡ work.old) }
+        ensures memory { result ≡ Err StepFault.NoMemory → MayWant (carried_of self.old) (line_now line.entry) }
+        ensures numbers { next_of self.new ≤ next_of self.old + MAX_VIEWS }
+        ensures sink_failed { (K.state sink.new).faults ≡ faults_after_line result (K.state sink.old).faults }
+        ensures files_stay { F.files shelf.new ≡ F.files shelf.old }
+        ensures shelf_failed { CountsShelf (F.faults shelf.old) (F.faults shelf.new) result }
+        ensures asked { result ≡ Err StepFault.Shelf → Asks (carried_of self.old) (line_now line.entry) }
+        ensures fetched { F.fetches shelf.new
+            ≡ fetches_after (asked_by_line (carried_of self.old) (line_now line.entry)) (F.fetches shelf.old) }
+        ensures painted { work.old.painted ≤ work.new.painted }
+        ensures measured { min work.old.measured (2 ^ 64 - 1) ≤ work.new.measured }
+    {
+        let Some(bytes) = line else {
+            return Err(StepFault::Refused(Refusal::plain(LONG_LINE)));
+        };
+        self.line(alloc, bytes, shelf, sink, work)
     }
 }
 

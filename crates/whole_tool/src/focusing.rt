@@ -33,33 +33,35 @@ pub struct Question {
     pub view: Name,
 }
 
-/// Carries out the script on a source and, if it was read to its end, answers the question. Returns whether a line or the
-/// question was refused.
-pub fn focus_source<S: Source, K: Sink, F: Shelf>(
-    alloc: Global,
-    question: Question,
-    source: &mut S,
-    shelf: &mut F,
-    sink: &mut K,
-    work: &mut Work,
-) -> Result<bool, End>
-    ensures asks { AsksFrom (F.files shelf.old) question
-        (S.left source.old) (S.left source.new) (trace (K.state sink.old) work.old (F.fetches shelf.old))
-        (trace (K.state sink.new) work.new (F.fetches shelf.new)) result }
-    ensures files_stay { F.files shelf.new ≡ F.files shelf.old }
-    ensures shelf_failed { CountsEnd (F.faults shelf.old) (F.faults shelf.new) result }
-    ensures painted { work.old.painted ≤ work.new.painted }
-    ensures measured { min work.old.measured (2 ^ 64 - 1) ≤ work.new.measured }
-    ensures source_failed { S.faults source.new ≡ reads_counted result (S.faults source.old) }
-    ensures sink_failed { (K.state sink.new).faults ≡ ends_counted result (K.state sink.old).faults }
-{
-    let mut run = Run::new(Carrier::alone(alloc));
-    let refused = run_to_end(&mut run, alloc, source, shelf, sink, work)?;
-    let answer = answer_in(run.carrier(), question);
-    let unanswered = answer.is_err();
-    match write_answer(sink, answer) {
-        Ok(()) => Ok(refused | unanswered),
-        Err(_) => Err(End::Stopped(Stop::Sink)),
+impl Question {
+    /// Carries out the script on a source and, if it was read to its end, answers the question. Returns whether a line
+    /// or the question was refused.
+    pub fn ask<S: Source, K: Sink, F: Shelf>(
+        self,
+        alloc: Global,
+        source: &mut S,
+        shelf: &mut F,
+        sink: &mut K,
+        work: &mut Work,
+    ) -> Result<bool, End>
+        ensures asks { AsksFrom (F.files shelf.old) self
+            (S.left source.old) (S.left source.new) (trace (K.state sink.old) work.old (F.fetches shelf.old))
+            (trace (K.state sink.new) work.new (F.fetches shelf.new)) result }
+        ensures files_stay { F.files shelf.new ≡ F.files shelf.old }
+        ensures shelf_failed { CountsEnd (F.faults shelf.old) (F.faults shelf.new) result }
+        ensures painted { work.old.painted ≤ work.new.painted }
+        ensures measured { min work.old.measured (2 ^ 64 - 1) ≤ work.new.measured }
+        ensures source_failed { S.faults source.new ≡ reads_counted result (S.faults source.old) }
+        ensures sink_failed { (K.state sink.new).faults ≡ ends_counted result (K.state sink.old).faults }
+    {
+        let mut run = Run::new(alloc, Carrier::alone(alloc));
+        let refused = run_to_end(&mut run, source, shelf, sink, work)?;
+        let answer = answer_in(run.carrier(), self);
+        let unanswered = answer.is_err();
+        match write_answer(sink, answer) {
+            Ok(()) => Ok(refused | unanswered),
+            Err(_) => Err(End::Stopped(Stop::Sink)),
+        }
     }
 }
 

@@ -99,9 +99,9 @@ fn carried_out(
     ensures measured { min work.old.measured (2 ^ 64 - 1) ≤ work.new.measured }
 {
     let mut shelf = SteadyShelf::new(Vec::new(alloc));
-    let mut run = Run::new(Carrier::alone(alloc));
-    run.piece(alloc, script, &mut shelf, page, work)?;
-    run.finish(alloc, &mut shelf, page, work)?;
+    let mut run = Run::new(alloc, Carrier::alone(alloc));
+    run.piece(script, &mut shelf, page, work)?;
+    run.finish(&mut shelf, page, work)?;
     Ok(run)
 }
 

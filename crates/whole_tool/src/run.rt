@@ -1,18 +1,17 @@
 //! A script that is carried out as its bytes come.
 
-ghost use Rattle.std.specs.Prelude.{nat_lt, ◌≡◌, ◌⊎◌, ℕ, ◌+◌, ◌-◌, ◌*◌, ◌<◌, ◌≤◌, ◌^◌, min, false, List, ◌∷◌, [], ◌++◌, Option, Some, Err, OnOk, IfOk, IfErr, IfSome, length, take};
+ghost use Rattle.std.specs.Prelude.{nat_lt, ◌≡◌, ℕ, ◌+◌, ◌-◌, ◌*◌, ◌<◌, ◌≤◌, ◌^◌, min, List, ◌∷◌, [], ◌++◌, Option, Some, OnOk, IfOk, IfErr, IfSome, length, take};
 ghost use Rattle.script_lines.specs.LineBuffer.{IsLent, lines_at};
 ghost use Rattle.script_lines.specs.Lines.{Line, cut_of, is_idle, lines_of, max_line};
 ghost use Rattle.tool_io.specs.Fetched.{Files};
 ghost use Rattle.view_model.specs.declared.work.Work.{Work};
 ghost use Rattle.view_model.specs.declared.limits.TheConstants.{MAX_VIEWS, NUMBERS_END};
 ghost use Rattle.whole_tool.specs.Carried.{Carried};
-ghost use Rattle.whole_tool.specs.Carrier.{IsFirst, WritesLine, carried_of, next_of};
-ghost use Rattle.whole_tool.specs.Run.{CountsFetches, HasCarriedOut, HasReadUpTo, HasTallied, IsShort, StopsIn, WithFiles, line_now, lines_now, writes_counted};
+ghost use Rattle.whole_tool.specs.Carrier.{IsFirst, carried_of, next_of};
+ghost use Rattle.whole_tool.specs.Run.{CountsFetches, HasCarriedOut, HasReadUpTo, IsShort, StopsIn, WithFiles, line_now, lines_now, writes_counted};
 ghost use Rattle.whole_tool.specs.Tally.{Tally, tally_from, with_cost};
-ghost use Rattle.whole_tool.specs.Transcript.{Asks, MayWant, ScriptProgress, after_line, after_from, asked_by_line, reply_to_line};
+ghost use Rattle.whole_tool.specs.Transcript.{ScriptProgress, after_line, after_from};
 ghost use Rattle.whole_tool.specs.Works.{Trace, trace};
-ghost use Rattle.view_world.specs.Carried.{CountsShelf, IsDone, faults_after_line, fetches_after};
 
 use crate::carrier::Carrier;
 use crate::refusals::write_refusal;
@@ -20,8 +19,7 @@ use script_lines::{Ended, LinePlace, Lines, passes_over};
 use std::alloc::Global;
 use text_lines::TextBuffer;
 use tool_io::{Shelf, Sink};
-use view_model::refusals::LONG_LINE;
-use view_model::{Refusal, Work};
+use view_model::Work;
 use view_world::StepFault;
 
 /// What ends a run before its last line.
@@ -36,6 +34,8 @@ pub enum Stop {
 /// The state of a run, line by line.
 #[derive(Drop)]
 pub struct LineRunner {
+    /// Where what the lines make is allocated.
+    alloc: Global,
     carrier: Carrier,
     /// How many lines were taken, including those that are passed over.
     lines: u64,
@@ -50,7 +50,6 @@ impl LineRunner {
     #[inline]
     fn line<K: Sink, F: Shelf>(
         &mut self,
-        alloc: Global,
         line: Option<&[u8]>,
         shelf: &mut F,
         sink: &mut K,
@@ -82,7 +81,7 @@ impl LineRunner {
         if is_passed(line) {
             return Ok(());
         }
-        match carry_out(&mut self.carrier, alloc, line, shelf, sink, work) {
+        match self.carrier.carry_out(self.alloc, line, shelf, sink, work) {
             Ok(()) => Ok(()),
             Err(StepFault::Refused(refusal)) => {
                 self.refused = self.refused.saturating_add(1);
@@ -107,49 +106,6 @@ fn is_passed(line: Option<&[u8]>) -> bool
         None => false,
         Some(bytes) => passes_over(bytes),
     }
-}
-
-/// Carries out a line, and writes its text; of one that is refused nothing is written. `None` is a line that is too
-/// long.
-#[inline(never)]
-#[tactic(auto, unfolding(crate::specs::Transcript::asked_by_line, crate::specs::Transcript::reply_to_line))]
-fn carry_out<K: Sink, F: Shelf>(
-    carrier: &mut Carrier,
-    alloc: Global,
-    bytes: Option<&[u8]>,
-    shelf: &mut F,
-    sink: &mut K,
-    work: &mut Work,
-) -> Result<(), StepFault>
-    requires numbered { next_of carrier.old < NUMBERS_END }
-    requires short { IsShort bytes }
-    requires counts { is_idle (line_now bytes) ≡ false }
-    ensures carried { (files : Files)
-        → F.files shelf.old ≡ Some files
-        → WritesLine (reply_to_line files (carried_of carrier.old) (line_now bytes.entry)) (carried_of carrier.new)
-        (K.state sink.old) (K.state sink.new) result }
-    ensures unchanged { IsDone result ⊎ ((carrier.new ≡ carrier.old) × (sink.new ≡ sink.old)) }
-    ensures tallied { (files : Files) (tally : Tally) (first : Work)
-        → F.files shelf.old ≡ Some files
-        → HasTallied first work.old carrier.old tally
-        → IsDone result
-        → HasTallied first work.new carrier.new (with_cost files tally (line_now bytes.entry)) }
-    ensures idle { IsDone result ⊎ (work.new ≡ work.old) }
-    ensures memory { result ≡ Err StepFault.NoMemory → MayWant (carried_of carrier.old) (line_now bytes.entry) }
-    ensures numbers { next_of carrier.new ≤ next_of carrier.old + MAX_VIEWS }
-    ensures sink_failed { (K.state sink.new).faults ≡ faults_after_line result (K.state sink.old).faults }
-    ensures files_stay { F.files shelf.new ≡ F.files shelf.old }
-    ensures shelf_failed { CountsShelf (F.faults shelf.old) (F.faults shelf.new) result }
-    ensures asked { result ≡ Err StepFault.Shelf → Asks (carried_of carrier.old) (line_now bytes.entry) }
-    ensures fetched { F.fetches shelf.new
-        ≡ fetches_after (asked_by_line (carried_of carrier.old) (line_now bytes.entry)) (F.fetches shelf.old) }
-    ensures painted { work.old.painted ≤ work.new.painted }
-    ensures measured { min work.old.measured (2 ^ 64 - 1) ≤ work.new.measured }
-{
-    let Some(bytes) = bytes else {
-        return Err(StepFault::Refused(Refusal::plain(LONG_LINE)));
-    };
-    carrier.line(alloc, bytes, shelf, sink, work)
 }
 
 /// The line that has ended, if one has: one in a piece, or the one that is held. `None` in it is a line that is too
@@ -178,7 +134,7 @@ pub struct Run {
 
 impl Run {
     /// A run of no lines yet.
-    pub fn new(carrier: Carrier) -> Run
+    pub fn new(alloc: Global, carrier: Carrier) -> Run
         requires { IsFirst carrier }
         ensures behind { (shelf : Option Files) (first : Trace)
             → HasReadUpTo (carried_of result.runner.carrier) shelf first first result [] }
@@ -188,6 +144,7 @@ impl Run {
         Run {
             lines: Lines::new(),
             runner: LineRunner {
+                alloc,
                 carrier,
                 lines: 0,
                 refused: 0,
@@ -220,7 +177,6 @@ impl Run {
     /// Takes the bytes of a piece up to its first line feed, or all of them, and carries out the line that they end.
     fn take<K: Sink, F: Shelf>(
         &mut self,
-        alloc: Global,
         piece: &[u8],
         shelf: &mut F,
         sink: &mut K,
@@ -257,14 +213,13 @@ impl Run {
         let Some(line) = ended_line(place, piece, self.lines.bytes()) else {
             return Ok(used);
         };
-        self.runner.line(alloc, line, shelf, sink, work)?;
+        self.runner.line(line, shelf, sink, work)?;
         Ok(used)
     }
 
     /// Takes a piece of the script, and carries out each line that ends in it.
     pub fn piece<K: Sink, F: Shelf>(
         &mut self,
-        alloc: Global,
         piece: &[u8],
         shelf: &mut F,
         sink: &mut K,
@@ -293,7 +248,7 @@ impl Run {
     {
         let mut at = 0;
         while at < piece.len() {
-            at += self.take(alloc, &piece[at..], shelf, sink, work)?;
+            at += self.take(&piece[at..], shelf, sink, work)?;
         }
         Ok(())
     }
@@ -301,7 +256,6 @@ impl Run {
     /// Carries out the rest of the script, which no line feed ends.
     pub fn finish<K: Sink, F: Shelf>(
         &mut self,
-        alloc: Global,
         shelf: &mut F,
         sink: &mut K,
         work: &mut Work,
@@ -331,9 +285,9 @@ impl Run {
             Ended::No => Ok(()),
             Ended::Line => {
                 let line = Some(self.lines.bytes());
-                self.runner.line(alloc, line, shelf, sink, work)
+                self.runner.line(line, shelf, sink, work)
             }
-            Ended::Long => self.runner.line(alloc, None, shelf, sink, work),
+            Ended::Long => self.runner.line(None, shelf, sink, work),
         }
     }
 }

@@ -27,7 +27,7 @@ ghost use Rattle.whole_tool.specs.declared.focusing.Question.{Question};
 
 use crate::carrier::Carrier;
 use crate::dump::dump;
-use crate::focusing::{Question, focus_source};
+use crate::focusing::Question;
 use crate::loading::run_load;
 use crate::lookup::lookup;
 use crate::run::Stop;
@@ -359,8 +359,8 @@ fn run<S: Source, K: Sink, F: Shelf>(
     ensures painted { work.old.painted ≤ work.new.painted }
     ensures measured { min work.old.measured (2 ^ 64 - 1) ≤ work.new.measured }
 {
-    let mut run = crate::run::Run::new(Carrier::alone(alloc));
-    status(run_to_end(&mut run, alloc, source, shelf, sink, work))
+    let mut run = crate::run::Run::new(alloc, Carrier::alone(alloc));
+    status(run_to_end(&mut run, source, shelf, sink, work))
 }
 
 /// Carries out a script for a stack of windows.
@@ -399,8 +399,8 @@ fn stack<S: Source, K: Sink, F: Shelf>(
     ensures painted { work.old.painted ≤ work.new.painted }
     ensures measured { min work.old.measured (2 ^ 64 - 1) ≤ work.new.measured }
 {
-    let mut run = crate::run::Run::new(Carrier::stacked());
-    status(run_to_end(&mut run, alloc, source, shelf, sink, work))
+    let mut run = crate::run::Run::new(alloc, Carrier::stacked());
+    status(run_to_end(&mut run, source, shelf, sink, work))
 }
 
 /// Carries out the script on a source, and then answers a question.
@@ -434,7 +434,7 @@ fn focus<S: Source, K: Sink, F: Shelf>(
     ensures painted { work.old.painted ≤ work.new.painted }
     ensures measured { min work.old.measured (2 ^ 64 - 1) ≤ work.new.measured }
 {
-    status(focus_source(alloc, question, source, shelf, sink, work))
+    status(question.ask(alloc, source, shelf, sink, work))
 }
 
 /// The status of a run.

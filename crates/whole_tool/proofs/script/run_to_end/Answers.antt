@@ -1,13 +1,15 @@
-use Rattle.std.proofs.Common.{◌≡◌, ◌≤◌, ◌++◌, ◌∙◌, ℕ, List, [], length, refl, ap, arith, length-append}
-use Rattle.std.specs.Prelude.{Ok, Err}
+use Rattle.std.proofs.Common.{◌≡◌, ◌≤◌, ◌+◌, ◌++◌, ◌∙◌, ℕ, List, [], length, take, refl, ap, arith, sym, subst, length-append, length-take}
+use Rattle.std.specs.Prelude.{Err}
+use Rattle.std.proofs.lemmas.List.{take-take}
 use Rattle.std.proofs.lemmas.Result.{err_from_is_err_and}
-use Rattle.script_lines.specs.Lines.{lines_of}
+use Rattle.script_lines.specs.Lines.{cut_of, lines_of}
 use Rattle.whole_tool.specs.declared.script.End.TheVariants as end
 use Rattle.whole_tool.specs.Carrier.{carried_of}
-use Rattle.whole_tool.specs.Works.{trace}
-use Rattle.whole_tool.specs.Script.{end_reads, end_writes}
+use Rattle.whole_tool.specs.Run.{StopsIn}
+use Rattle.whole_tool.specs.Works.{Works, trace}
 use Rattle.whole_tool.specs.Transcript.{after_from, max_script}
-use Rattle.whole_tool.proofs.ScriptLaws.{Consumes-nil, Consumes-Consumes, ends_early, ends_last, ends_well, taken_by_end, taken_on}
+use Rattle.whole_tool.proofs.RunLaws.{works_of}
+use Rattle.whole_tool.proofs.ScriptLaws.{Consumes-nil, Consumes-Consumes, Consumes-Keeps, ends_last, ends_long, ends_source, ends_stopped, ends_well, piece_short, taken_by_end, taken_on}
 use Rattle.whole_tool.proofs.script.run_to_end.Goals as goal
 
 pub loop-n-init : goal.loop-n-init
@@ -23,120 +25,159 @@ loop-n-init g c = record {
   writes = refl;
 }
 
+-- a read failed
+
+pub returns-in_default-clause-runs : goal.returns-in_default-clause-runs
+returns-in_default-clause-runs g c =
+    let t = c.loop-n.invariant.taken in
+    let start = carried_of c.args.run.now.runner.carrier in
+    let first = trace (g.K.Sink.state c.args.sink.now) c.args.work.now (g.F.Shelf.fetches c.args.shelf.now) in
+    let last = trace (g.K.Sink.state c.loop-n.sink) c.loop-n.work (g.F.Shelf.fetches c.loop-n.shelf) in
+    let lost = Consumes-Keeps _ _ _ t.bytes t.consumed c.in_default.ensures.bytes in
+    record {
+      runs = λ files script at_hand told. ends_source start files first last _ _ script t.bytes told lost (omega (arith, t.count))
+          (works_of start files first last c.loop-n.run.runner (cut_of t.bytes).lines (t.behind.runner files (c.loop-n.invariant.files ∙ at_hand)));
+      end = tt;
+      taken = t.bytes;
+      consumed = lost;
+      most = omega (arith, t.count);
+    }
+
+-- the run stopped in a piece
+
+pub returns-in_err-piece-clause-runs : goal.returns-in_err-piece-clause-runs
+returns-in_err-piece-clause-runs g c =
+    let p = err_from_is_err_and c.from_residual.result c.from_residual.ensures.1 in
+    let e : c.from_residual.result ≡ Err (end.Stopped c.in_err-piece.field-0.0) = cc (p.1, p.2) in
+    let t = c.loop-n.invariant.taken in
+    let start = carried_of c.args.run.now.runner.carrier in
+    let first = trace (g.K.Sink.state c.args.sink.now) c.args.work.now (g.F.Shelf.fetches c.args.shelf.now) in
+    let last = trace (g.K.Sink.state c.piece.new.sink) c.piece.new.work (g.F.Shelf.fetches c.piece.new.shelf) in
+    let buffer = c.read.new.buf in
+    let bytes = take c.in-Ok.n buffer in
+    let front : take c.min.result bytes ≡ take c.min.result buffer = take-take c.min.result c.in-Ok.n buffer (omega (arith, c.min.ensures)) in
+    let short = piece_short t.bytes buffer c.loop-n.left c.min.result t.count (omega (arith, c.min.ensures)) in
+    let lost = Consumes-Consumes _ _ _ t.bytes bytes t.consumed c.in-Ok.ensures.bytes.0 in
+    let stops = c.in_err-piece.ensures.stopped _ _ t.bytes short t.behind in
+    rw e (record {
+      runs = λ files script at_hand told. ends_stopped start files first last _ _ script t.bytes bytes c.loop-n.left c.min.result c.in_err-piece.field-0.0 told lost t.count (omega (arith, c.min.ensures))
+          (subst (λ (l : List ℕ). StopsIn start files first last (cut_of (t.bytes ++ l)).lines c.in_err-piece.field-0.0) (sym front) (stops files (c.loop-n.invariant.files ∙ at_hand)));
+      end = tt;
+      taken = t.bytes ++ bytes;
+      consumed = lost;
+      most = omega (arith, length-append t.bytes bytes, length-take c.in-Ok.n buffer, t.count, c.read.auto.buf, length-take c.min-room.result c.loop-n.buffer, c.min-room.ensures);
+    })
+
+-- one byte too many came
+
+pub returns-then-n-left-clause-runs : goal.returns-then-n-left-clause-runs
+returns-then-n-left-clause-runs g c =
+    let t = c.loop-n.invariant.taken in
+    let start = carried_of c.args.run.now.runner.carrier in
+    let first = trace (g.K.Sink.state c.args.sink.now) c.args.work.now (g.F.Shelf.fetches c.args.shelf.now) in
+    let last = trace (g.K.Sink.state c.piece.new.sink) c.piece.new.work (g.F.Shelf.fetches c.piece.new.shelf) in
+    let buffer = c.read.new.buf in
+    let bytes = take c.in-Ok.n buffer in
+    let most : c.min.result ≡ c.loop-n.left = omega (arith, c.min.ensures, c.if-n-left.true) in
+    let front : take c.loop-n.left bytes ≡ take c.min.result buffer = take-take c.loop-n.left c.in-Ok.n buffer (omega (arith, c.if-n-left.true)) ∙ ap (λ n. take n buffer) (sym most) in
+    let short = piece_short t.bytes buffer c.loop-n.left c.min.result t.count (omega (arith, c.min.ensures)) in
+    let many : length bytes ≡ c.loop-n.left + 1 = omega (arith, length-take c.in-Ok.n buffer, c.in-Ok.ensures.bound, c.if-n-left.true, c.read.auto.buf, length-take c.min-room.result c.loop-n.buffer, c.min-room.ensures) in
+    let lost = Consumes-Consumes _ _ _ t.bytes bytes t.consumed c.in-Ok.ensures.bytes.0 in
+    let read = c.in_ok-piece.ensures.done _ _ t.bytes short t.behind in
+    record {
+      runs = λ files script at_hand told. ends_long start files first last _ _ script t.bytes bytes c.loop-n.left told lost t.count many
+          (subst (λ (l : List ℕ). Works start files first last (cut_of (t.bytes ++ l)).lines) (sym front) (works_of start files first last _ _ (read.runner files (c.loop-n.invariant.files ∙ at_hand))));
+      end = tt;
+      taken = t.bytes ++ bytes;
+      consumed = lost;
+      most = omega (arith, length-append t.bytes bytes, many, t.count);
+    }
+
+-- the next piece
+
 pub loop-n-preserved : goal.loop-n-preserved
 loop-n-preserved g c =
     let t = c.loop-n.invariant.taken in
+    let buffer = c.read.new.buf in
+    let all : c.min.result ≡ c.in-Ok.n = omega (arith, c.min.ensures, c.if-n-left.false) in
+    let short = piece_short t.bytes buffer c.loop-n.left c.min.result t.count (omega (arith, c.min.ensures)) in
+    let read = c.in_ok-piece.ensures.done _ _ t.bytes short t.behind in
     record {
       bound = omega (arith, c.loop-n.invariant.bound);
-      numbers = omega (arith, c.loop-n.invariant.numbers, c.in_ok-n.ensures.numbers, c.in_ok-n.ensures.most);
-      taken = rw c.read_piece.ensures.files_stay (taken_on _ _ _ _ _ _ _ _ _ _ c.loop-n.left c.in_ok-n.n t c.in_ok-n.ensures.most (c.in_ok-n.ensures.reads _ _ t.bytes t.count t.behind));
-      files = c.read_piece.ensures.files_stay ∙ c.loop-n.invariant.files;
-      fetches = c.in_ok-n.ensures.shelf_failed ∙ c.loop-n.invariant.fetches;
-      painted = omega (arith, c.loop-n.invariant.painted, c.read_piece.ensures.painted);
-      measured = omega (arith, c.loop-n.invariant.measured, c.read_piece.ensures.measured);
-      reads = c.in_ok-n.ensures.source_failed ∙ c.loop-n.invariant.reads;
-      writes = c.in_ok-n.ensures.sink_failed ∙ c.loop-n.invariant.writes;
+      numbers = omega (arith, c.loop-n.invariant.numbers, c.piece.ensures.numbers, length-take c.min.result buffer, all, c.if-n-left.false);
+      taken = rw c.piece.ensures.files_stay (taken_on _ _ _ _ _ _ _ _ _ _ c.loop-n.left c.in-Ok.n c.min.result buffer t c.in-Ok.ensures.bytes.0 (omega (arith, c.in-Ok.ensures.bound)) (omega (arith, c.if-n-left.false)) all read);
+      files = c.piece.ensures.files_stay ∙ c.loop-n.invariant.files;
+      fetches = c.in_ok-piece.ensures.shelf_failed ∙ c.loop-n.invariant.fetches;
+      painted = omega (arith, c.loop-n.invariant.painted, c.piece.ensures.painted);
+      measured = omega (arith, c.loop-n.invariant.measured, c.piece.ensures.measured);
+      reads = c.in-Ok.ensures.counted ∙ c.loop-n.invariant.reads;
+      writes = c.in_ok-piece.ensures.counted ∙ c.loop-n.invariant.writes;
     }
 
-pub returns-in_err-n-clause-runs : goal.returns-in_err-n-clause-runs
-returns-in_err-n-clause-runs g c =
-    let p = err_from_is_err_and c.from_residual.result c.from_residual.ensures.1 in
-    let e : c.from_residual.result ≡ Err c.in_err-n.field-0.0 = cc (p.1, p.2) in
-    let t = c.loop-n.invariant.taken in
-    let q = c.in_err-n.ensures.reads _ _ t.bytes t.count t.behind in
-    rw e (record {
-      runs = λ files script at_hand told. ends_early _ files _ _ _ _ _ _ _ script t.bytes c.loop-n.left c.in_err-n.field-0.0 (c.loop-n.invariant.files ∙ at_hand) told t.consumed t.count q;
-      end = tt;
-      taken = t.bytes ++ q.bytes;
-      consumed = Consumes-Consumes _ _ _ t.bytes q.bytes t.consumed q.consumed;
-      most = omega (arith, length-append t.bytes q.bytes, t.count, q.within);
-    })
-
-pub returns-in_err-n-clause-world : goal.returns-in_err-n-clause-world
-returns-in_err-n-clause-world g c =
-    let p = err_from_is_err_and c.from_residual.result c.from_residual.ensures.1 in
-    let e : c.from_residual.result ≡ Err c.in_err-n.field-0.0 = cc (p.1, p.2) in
-    rw e (λ files script at_hand told. tt)
-
-pub returns-in_err-n-clause-source_failed : goal.returns-in_err-n-clause-source_failed
-returns-in_err-n-clause-source_failed g c =
-    let p = err_from_is_err_and c.from_residual.result c.from_residual.ensures.1 in
-    let e : c.from_residual.result ≡ Err c.in_err-n.field-0.0 = cc (p.1, p.2) in
-    rw e (c.in_err-n.ensures.source_failed ∙ ap (end_reads c.in_err-n.field-0.0) c.loop-n.invariant.reads)
-
-pub returns-in_err-n-clause-sink_failed : goal.returns-in_err-n-clause-sink_failed
-returns-in_err-n-clause-sink_failed g c =
-    let p = err_from_is_err_and c.from_residual.result c.from_residual.ensures.1 in
-    let e : c.from_residual.result ≡ Err c.in_err-n.field-0.0 = cc (p.1, p.2) in
-    rw e (c.in_err-n.ensures.sink_failed ∙ ap (end_writes c.in_err-n.field-0.0) c.loop-n.invariant.writes)
+-- the end of the script
 
 pub returns-in_err-finish-clause-runs : goal.returns-in_err-finish-clause-runs
 returns-in_err-finish-clause-runs g c =
     let p = err_from_is_err_and c.from_residual-in_err-finish.result c.from_residual-in_err-finish.ensures.1 in
     let e : c.from_residual-in_err-finish.result ≡ Err (end.Stopped c.in_err-finish.field-0.0) = cc (p.1, p.2) in
-    let t = c.loop-n.invariant.taken in
-    let q = c.in_ok-n.ensures.reads _ _ t.bytes t.count t.behind in
-    let none : c.in_ok-n.n ≡ 0 = omega (arith, c.if-n-eq0.true) in
-    let fits : length (t.bytes ++ q.bytes) ≤ max_script = omega (arith, length-append t.bytes q.bytes, t.count, q.count, none) in
-    let lost = Consumes-Consumes _ _ _ t.bytes q.bytes t.consumed q.consumed in
+    let start = carried_of c.args.run.now.runner.carrier in
+    let first = trace (g.K.Sink.state c.args.sink.now) c.args.work.now (g.F.Shelf.fetches c.args.shelf.now) in
+    let last = trace (g.K.Sink.state c.piece.new.sink) c.piece.new.work (g.F.Shelf.fetches c.piece.new.shelf) in
+    let so_far = c.loop-n.invariant.taken in
+    let buffer = c.read.new.buf in
+    let all : c.min.result ≡ c.in-Ok.n = omega (arith, c.min.ensures, c.if-n-left.false) in
+    let short = piece_short so_far.bytes buffer c.loop-n.left c.min.result so_far.count (omega (arith, c.min.ensures)) in
+    let read = c.in_ok-piece.ensures.done _ _ so_far.bytes short so_far.behind in
+    let t = taken_on start (g.F.Shelf.files c.loop-n.shelf) (g.S.Source.left c.args.source.now) _ (g.S.Source.left c.read.new.self) first _ last _ c.piece.new.self c.loop-n.left c.in-Ok.n c.min.result buffer so_far c.in-Ok.ensures.bytes.0
+    (omega (arith, c.in-Ok.ensures.bound)) (omega (arith, c.if-n-left.false)) all read in
+    let ended = c.in-Ok.ensures.bytes.1 (omega (arith, c.if-n-eq0.true)) (omega (arith, c.read.auto.buf, length-take c.min-room.result c.loop-n.buffer, c.min-room.ensures, c.min-room.array_long)) in
+    let fits : length t.bytes ≤ max_script = omega (arith, t.count) in
     rw e (record {
-      runs = λ files script at_hand told. ends_last _ files _ _ _ _ script (t.bytes ++ q.bytes) c.in_err-finish.field-0.0 told lost (c.in_ok-n.ensures.end (ap Ok none)) fits
-          (c.in_err-finish.ensures.stopped _ files _ (t.bytes ++ q.bytes) (c.read_piece.ensures.files_stay ∙ c.loop-n.invariant.files ∙ at_hand) (omega (arith, fits)) (rw c.read_piece.ensures.files_stay q.comes));
+      runs = λ files script at_hand told. ends_last _ files _ _ _ _ script t.bytes c.in_err-finish.field-0.0 told t.consumed ended fits
+          (c.in_err-finish.ensures.stopped start files first t.bytes (c.piece.ensures.files_stay ∙ c.loop-n.invariant.files ∙ at_hand) (omega (arith, fits)) (rw c.piece.ensures.files_stay t.behind));
       end = tt;
-      taken = t.bytes ++ q.bytes;
-      consumed = lost;
+      taken = t.bytes;
+      consumed = t.consumed;
       most = omega (arith, fits);
     })
 
-pub returns-in_err-finish-clause-world : goal.returns-in_err-finish-clause-world
-returns-in_err-finish-clause-world g c =
-    let p = err_from_is_err_and c.from_residual-in_err-finish.result c.from_residual-in_err-finish.ensures.1 in
-    let e : c.from_residual-in_err-finish.result ≡ Err (end.Stopped c.in_err-finish.field-0.0) = cc (p.1, p.2) in
-    rw e (λ files script at_hand told. tt)
-
-pub returns-in_err-finish-clause-source_failed : goal.returns-in_err-finish-clause-source_failed
-returns-in_err-finish-clause-source_failed g c =
-    let p = err_from_is_err_and c.from_residual-in_err-finish.result c.from_residual-in_err-finish.ensures.1 in
-    let e : c.from_residual-in_err-finish.result ≡ Err (end.Stopped c.in_err-finish.field-0.0) = cc (p.1, p.2) in
-    rw e (c.in_ok-n.ensures.source_failed ∙ c.loop-n.invariant.reads)
-
-pub returns-in_err-finish-clause-sink_failed : goal.returns-in_err-finish-clause-sink_failed
-returns-in_err-finish-clause-sink_failed g c =
-    let p = err_from_is_err_and c.from_residual-in_err-finish.result c.from_residual-in_err-finish.ensures.1 in
-    let e : c.from_residual-in_err-finish.result ≡ Err (end.Stopped c.in_err-finish.field-0.0) = cc (p.1, p.2) in
-    let stop = end_writes (end.Stopped c.in_err-finish.field-0.0) in
-    rw e (c.in_err-finish.ensures.counted ∙ ap stop (c.in_ok-n.ensures.sink_failed ∙ c.loop-n.invariant.writes))
-
 pub returns-clause-runs : goal.returns-clause-runs
 returns-clause-runs g c =
-    let t = c.loop-n.invariant.taken in
-    let q = c.in_ok-n.ensures.reads _ _ t.bytes t.count t.behind in
-    let none : c.in_ok-n.n ≡ 0 = omega (arith, c.if-n-eq0.true) in
-    let fits : length (t.bytes ++ q.bytes) ≤ max_script = omega (arith, length-append t.bytes q.bytes, t.count, q.count, none) in
-    let lost = Consumes-Consumes _ _ _ t.bytes q.bytes t.consumed q.consumed in
-    let ended = c.in_ok-n.ensures.end (ap Ok none) in
+    let start = carried_of c.args.run.now.runner.carrier in
+    let first = trace (g.K.Sink.state c.args.sink.now) c.args.work.now (g.F.Shelf.fetches c.args.shelf.now) in
+    let last = trace (g.K.Sink.state c.piece.new.sink) c.piece.new.work (g.F.Shelf.fetches c.piece.new.shelf) in
+    let so_far = c.loop-n.invariant.taken in
+    let buffer = c.read.new.buf in
+    let all : c.min.result ≡ c.in-Ok.n = omega (arith, c.min.ensures, c.if-n-left.false) in
+    let short = piece_short so_far.bytes buffer c.loop-n.left c.min.result so_far.count (omega (arith, c.min.ensures)) in
+    let read = c.in_ok-piece.ensures.done _ _ so_far.bytes short so_far.behind in
+    let t = taken_on start (g.F.Shelf.files c.loop-n.shelf) (g.S.Source.left c.args.source.now) _ (g.S.Source.left c.read.new.self) first _ last _ c.piece.new.self c.loop-n.left c.in-Ok.n c.min.result buffer so_far c.in-Ok.ensures.bytes.0
+    (omega (arith, c.in-Ok.ensures.bound)) (omega (arith, c.if-n-left.false)) all read in
+    let ended = c.in-Ok.ensures.bytes.1 (omega (arith, c.if-n-eq0.true)) (omega (arith, c.read.auto.buf, length-take c.min-room.result c.loop-n.buffer, c.min-room.ensures, c.min-room.array_long)) in
+    let fits : length t.bytes ≤ max_script = omega (arith, t.count) in
     rw c.refused.ensures (record {
-      runs = λ files script at_hand told. ends_well _ files _ _ _ _ script (t.bytes ++ q.bytes) c.finish.new.self.runner told lost ended fits
-          (c.in_ok-finish.ensures.done _ files (trace (g.K.Sink.state c.args.sink.now) c.args.work.now (g.F.Shelf.fetches c.args.shelf.now)) (t.bytes ++ q.bytes) (c.read_piece.ensures.files_stay ∙ c.loop-n.invariant.files ∙ at_hand) (omega (arith, fits)) (rw c.read_piece.ensures.files_stay q.comes));
+      runs = λ files script at_hand told. ends_well _ files _ _ _ _ script t.bytes c.finish.new.self.runner told t.consumed ended fits
+          (c.in_ok-finish.ensures.done start files first t.bytes (c.piece.ensures.files_stay ∙ c.loop-n.invariant.files ∙ at_hand) (omega (arith, fits)) (rw c.piece.ensures.files_stay t.behind));
       end = ended;
-      taken = t.bytes ++ q.bytes;
-      consumed = lost;
+      taken = t.bytes;
+      consumed = t.consumed;
       most = omega (arith, fits);
     })
 
 pub returns-clause-world : goal.returns-clause-world
 returns-clause-world g c files script at_hand told =
-    let t = c.loop-n.invariant.taken in
-    let q = c.in_ok-n.ensures.reads _ _ t.bytes t.count t.behind in
-    let none : c.in_ok-n.n ≡ 0 = omega (arith, c.if-n-eq0.true) in
-    let fits : length (t.bytes ++ q.bytes) ≤ max_script = omega (arith, length-append t.bytes q.bytes, t.count, q.count, none) in
-    let lost = Consumes-Consumes _ _ _ t.bytes q.bytes t.consumed q.consumed in
-    let all = taken_by_end _ _ script (t.bytes ++ q.bytes) told lost (c.in_ok-n.ensures.end (ap Ok none)) in
-    (c.in_ok-finish.ensures.done _ files (trace (g.K.Sink.state c.args.sink.now) c.args.work.now (g.F.Shelf.fetches c.args.shelf.now)) (t.bytes ++ q.bytes) (c.read_piece.ensures.files_stay ∙ c.loop-n.invariant.files ∙ at_hand) (omega (arith, fits)) (rw c.read_piece.ensures.files_stay q.comes)).carried
-    ∙ ap (λ (bytes : List ℕ). (after_from (carried_of c.args.run.now.runner.carrier) files (lines_of bytes)).carried) all
-
-pub returns-clause-source_failed : goal.returns-clause-source_failed
-returns-clause-source_failed g c = c.in_ok-n.ensures.source_failed ∙ c.loop-n.invariant.reads
-
-pub returns-clause-sink_failed : goal.returns-clause-sink_failed
-returns-clause-sink_failed g c = c.in_ok-finish.ensures.counted ∙ c.in_ok-n.ensures.sink_failed ∙ c.loop-n.invariant.writes
+    let start = carried_of c.args.run.now.runner.carrier in
+    let first = trace (g.K.Sink.state c.args.sink.now) c.args.work.now (g.F.Shelf.fetches c.args.shelf.now) in
+    let last = trace (g.K.Sink.state c.piece.new.sink) c.piece.new.work (g.F.Shelf.fetches c.piece.new.shelf) in
+    let so_far = c.loop-n.invariant.taken in
+    let buffer = c.read.new.buf in
+    let all : c.min.result ≡ c.in-Ok.n = omega (arith, c.min.ensures, c.if-n-left.false) in
+    let short = piece_short so_far.bytes buffer c.loop-n.left c.min.result so_far.count (omega (arith, c.min.ensures)) in
+    let read = c.in_ok-piece.ensures.done _ _ so_far.bytes short so_far.behind in
+    let t = taken_on start (g.F.Shelf.files c.loop-n.shelf) (g.S.Source.left c.args.source.now) _ (g.S.Source.left c.read.new.self) first _ last _ c.piece.new.self c.loop-n.left c.in-Ok.n c.min.result buffer so_far c.in-Ok.ensures.bytes.0
+    (omega (arith, c.in-Ok.ensures.bound)) (omega (arith, c.if-n-left.false)) all read in
+    let ended = c.in-Ok.ensures.bytes.1 (omega (arith, c.if-n-eq0.true)) (omega (arith, c.read.auto.buf, length-take c.min-room.result c.loop-n.buffer, c.min-room.ensures, c.min-room.array_long)) in
+    let fits : length t.bytes ≤ max_script = omega (arith, t.count) in
+    let whole = taken_by_end _ _ script t.bytes told t.consumed ended in
+    (c.in_ok-finish.ensures.done start files first t.bytes (c.piece.ensures.files_stay ∙ c.loop-n.invariant.files ∙ at_hand) (omega (arith, fits)) (rw c.piece.ensures.files_stay t.behind)).carried
+    ∙ ap (λ (bytes : List ℕ). (after_from start files (lines_of bytes)).carried) whole

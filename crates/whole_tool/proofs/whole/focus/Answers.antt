@@ -8,26 +8,26 @@ use Rattle.whole_tool.proofs.whole.focus.Goals as goal
 pub returns-clause-asks : goal.returns-clause-asks
 returns-clause-asks g c files script at_hand told =
     let first = trace (g.K.Sink.state c.args.sink.now) c.args.work.now (g.F.Shelf.fetches c.args.shelf.now) in
-    let last = trace (g.K.Sink.state c.focus_source.new.sink) c.focus_source.new.work (g.F.Shelf.fetches c.focus_source.new.shelf) in
-    subst (AsksWith files script c.args.question (g.S.Source.left c.focus_source.new.source) first last) (sym c.status.ensures)
-    (asks_with files script c.args.question _ first last c.focus_source.result (c.focus_source.ensures.asks.asks files script at_hand told))
+    let last = trace (g.K.Sink.state c.ask.new.sink) c.ask.new.work (g.F.Shelf.fetches c.ask.new.shelf) in
+    subst (AsksWith files script c.args.question (g.S.Source.left c.ask.new.source) first last) (sym c.status.ensures)
+    (asks_with files script c.args.question _ first last c.ask.result (c.ask.ensures.asks.asks files script at_hand told))
 
 pub returns-clause-source_failed : goal.returns-clause-source_failed
 returns-clause-source_failed g c =
     let before = g.S.Source.faults c.args.source.now in
-    rw c.status.ensures (c.focus_source.ensures.source_failed ∙ source_by_status c.focus_source.result before)
+    rw c.status.ensures (c.ask.ensures.source_failed ∙ source_by_status c.ask.result before)
 
 pub returns-clause-sink_failed : goal.returns-clause-sink_failed
 returns-clause-sink_failed g c =
     let before = (g.K.Sink.state c.args.sink.now).faults in
-    rw c.status.ensures (c.focus_source.ensures.sink_failed ∙ sink_by_status c.focus_source.result before)
+    rw c.status.ensures (c.ask.ensures.sink_failed ∙ sink_by_status c.ask.result before)
 
 pub returns-clause-shelf_failed : goal.returns-clause-shelf_failed
 returns-clause-shelf_failed g c not_5 =
-    rw c.status.ensures (shelf_by_status c.focus_source.result _ _ c.focus_source.ensures.shelf_failed (λ e. not_5 (c.status.ensures ∙ e)))
+    rw c.status.ensures (shelf_by_status c.ask.result _ _ c.ask.ensures.shelf_failed (λ e. not_5 (c.status.ensures ∙ e)))
 
 pub returns-clause-shelf_later : goal.returns-clause-shelf_later
-returns-clause-shelf_later g c = shelf_later c.focus_source.result _ _ c.focus_source.ensures.shelf_failed
+returns-clause-shelf_later g c = shelf_later c.ask.result _ _ c.ask.ensures.shelf_failed
 
 pub returns-clause-whole : goal.returns-clause-whole
-returns-clause-whole g c = rw c.status.ensures (ends_whole c.focus_source.result)
+returns-clause-whole g c = rw c.status.ensures (ends_whole c.ask.result)

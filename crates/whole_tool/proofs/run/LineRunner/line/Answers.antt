@@ -20,7 +20,7 @@ returns-then-is_passed-clause-done g c files first progress tally told short at 
 pub returns-in-Ok-clause-done : goal.returns-in-Ok-clause-done
 returns-in-Ok-clause-done g c files first progress tally told short at =
     let carried = c.in-Ok.ensures.carried files told in
-    done_at files first (trace (g.K.Sink.state c.args.sink.now) c.args.work.now (g.F.Shelf.fetches c.args.shelf.now)) (trace (g.K.Sink.state c.carry_out.new.sink) c.carry_out.new.work (g.F.Shelf.fetches c.carry_out.new.shelf)) c.args.self.now c.carry_out.new.carrier progress tally (line_now c.args.line) c.saturating_add-self.result carried.0
+    done_at files first (trace (g.K.Sink.state c.args.sink.now) c.args.work.now (g.F.Shelf.fetches c.args.shelf.now)) (trace (g.K.Sink.state c.carry_out.new.sink) c.carry_out.new.work (g.F.Shelf.fetches c.carry_out.new.shelf)) c.args.self.now c.carry_out.new.self progress tally (line_now c.args.line) c.saturating_add-self.result carried.0
     at carried.1 (omega (arith, c.saturating_add-self.ensures, at.lines, short)) carried.2 (c.in-Ok.ensures.tallied files tally first.work told at.tallied tt) c.carry_out.ensures.fetched
 
 pub returns-in-Ok-write_refusal-clause-done : goal.returns-in-Ok-write_refusal-clause-done
@@ -31,7 +31,7 @@ returns-in-Ok-write_refusal-clause-done g c files first progress tally told shor
     let told_of =
     subst (λ (gone : Option (List ℕ)). Appends gone (g.K.Sink.state c.write_refusal.new.sink).gone (refused_line c.saturating_add-self.result (plain_refusal refusal)))
     (ap (λ sink. (g.K.Sink.state sink).gone) same.1) c.in-Ok-write_refusal.ensures.whole in
-    refused_at files first (trace (g.K.Sink.state c.args.sink.now) c.args.work.now (g.F.Shelf.fetches c.args.shelf.now)) (trace (g.K.Sink.state c.write_refusal.new.sink) c.carry_out.new.work (g.F.Shelf.fetches c.carry_out.new.shelf)) c.args.self.now c.carry_out.new.carrier c.write_refusal.new.reply progress tally (line_now c.args.line)
+    refused_at files first (trace (g.K.Sink.state c.args.sink.now) c.args.work.now (g.F.Shelf.fetches c.args.shelf.now)) (trace (g.K.Sink.state c.write_refusal.new.sink) c.carry_out.new.work (g.F.Shelf.fetches c.carry_out.new.shelf)) c.args.self.now c.carry_out.new.self c.write_refusal.new.reply progress tally (line_now c.args.line)
     c.saturating_add-self.result c.saturating_add-self-in-Err-Refused.result (plain_refusal refusal) at same.0 idle c.carry_out.ensures.fetched
     (carried_refused _ _ _ _ c.in-Err-Refused.field-0 refusal c.in-Err-Refused.field-0-is (c.in-Err-Refused.ensures.carried files told)) (omega (arith, c.saturating_add-self.ensures, at.lines, short))
     (omega (arith, c.saturating_add-self-in-Err-Refused.ensures, at.refused, at.few, short)) told_of
@@ -54,7 +54,7 @@ returns-in-Err-Refused-clause-stopped g c start files first lines told short at 
 pub returns-in-Err-Sink-clause-stopped : goal.returns-in-Err-Sink-clause-stopped
 returns-in-Err-Sink-clause-stopped g c start files first lines told short at =
     let carried = carried_sink _ _ _ _ c.in-Err-Sink.field-0 c.in-Err-Sink.field-0-is (c.in-Err-Sink.ensures.carried files told) in
-    done_part start files first (trace (g.K.Sink.state c.args.sink.now) c.args.work.now (g.F.Shelf.fetches c.args.shelf.now)) (trace (g.K.Sink.state c.carry_out.new.sink) c.carry_out.new.work (g.F.Shelf.fetches c.carry_out.new.shelf)) c.args.self.now lines (line_now c.args.line) c.carry_out.new.carrier carried.0 at carried.1 carried.2
+    done_part start files first (trace (g.K.Sink.state c.args.sink.now) c.args.work.now (g.F.Shelf.fetches c.args.shelf.now)) (trace (g.K.Sink.state c.carry_out.new.sink) c.carry_out.new.work (g.F.Shelf.fetches c.carry_out.new.shelf)) c.args.self.now lines (line_now c.args.line) c.carry_out.new.self carried.0 at carried.1 carried.2
     (c.in-Err-Sink.ensures.tallied files (tally_from start files lines) first.work told at.tallied (is_done_sink c.in-Err-Sink.field-0 c.in-Err-Sink.field-0-is)) c.carry_out.ensures.fetched
 
 pub returns-in-Err-NoMemory-clause-stopped : goal.returns-in-Err-NoMemory-clause-stopped

@@ -4,7 +4,7 @@ use Rattle.std.proofs.lemmas.Result.{err_from_is_err_and}
 use Rattle.tool_io.specs.Counts.{raised}
 use Rattle.whole_tool.specs.Works.{trace}
 use Rattle.whole_tool.proofs.FocusLaws.{asks_answered, asks_cut}
-use Rattle.whole_tool.proofs.focusing.focus_source.Goals as goal
+use Rattle.whole_tool.proofs.focusing.Question.ask.Goals as goal
 use Rattle.whole_tool.specs.Carried.{Alone, world_in}
 use Rattle.whole_tool.specs.Carrier.{carried_of}
 use Rattle.whole_tool.specs.declared.carrier.Carrier.{Carrier}
@@ -52,7 +52,7 @@ returns-in-Ok-clause-asks g c =
     let left = g.S.Source.left c.run_to_end.new.source in
     record {
       asks = λ files script at_hand told.
-          asks_answered files script c.args.question left first mid (g.K.Sink.state c.write_answer.new.sink).gone c.in_ok-refused.refused c.is_err-unanswered.result c.answer_in-answer.result (world_in (carried_of c.carrier.result.now))
+          asks_answered files script c.args.self left first mid (g.K.Sink.state c.write_answer.new.sink).gone c.in_ok-refused.refused c.is_err-unanswered.result c.answer_in-answer.result (world_in (carried_of c.carrier.result.now))
           (runs.runs files script at_hand told) (ap (λ (c : Carrier). world_in (carried_of c)) c.carrier.ensures ∙ ap world_in (made files script at_hand told)) c.answer_in-answer.ensures.value c.is_err-unanswered.ensures.value c.in-Ok.ensures.whole;
       end = runs.end;
       taken = runs.taken;
@@ -73,7 +73,7 @@ returns-clause-asks g c =
     let left = g.S.Source.left c.run_to_end.new.source in
     record {
       asks = λ files script at_hand told.
-          asks_cut files script c.args.question left first mid (g.K.Sink.state c.write_answer.new.sink).gone c.in_ok-refused.refused c.answer_in-answer.result (world_in (carried_of c.carrier.result.now))
+          asks_cut files script c.args.self left first mid (g.K.Sink.state c.write_answer.new.sink).gone c.in_ok-refused.refused c.answer_in-answer.result (world_in (carried_of c.carrier.result.now))
           (runs.runs files script at_hand told) (ap (λ (c : Carrier). world_in (carried_of c)) c.carrier.ensures ∙ ap world_in (made files script at_hand told)) c.answer_in-answer.ensures.value c.in-Err.ensures.prefix;
       end = tt;
       taken = runs.taken;
