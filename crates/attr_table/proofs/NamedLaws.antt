@@ -19,7 +19,7 @@ use Rattle.view_model.specs.declared.refusals.TheConstants.{DUPLICATE, NO_SIZE, 
 use Rattle.view_model.specs.Refusals.{PlainRefusal, refusal_numbered, ◌>>=◌}
 use Rattle.view_model.specs.Resources.{Entries, Resource, Color, Dimen, Text}
 use Rattle.attr_table.specs.declared.draft.Draft.{Draft}
-use Rattle.attr_table.specs.declared.fault.AttrFault.{AttrFault}
+use Rattle.view_model.specs.declared.fault.Fault.{Fault}
 use Rattle.attr_table.specs.declared.given.Given.{Given}
 use Rattle.attr_table.specs.declared.given.Given.TheVariants as given
 use Rattle.attr_table.specs.declared.taking.Taken.{Taken}
@@ -529,7 +529,7 @@ named_where doc resources dpi None facets e = absurd cc
 named_where doc resources dpi (Some node) facets e = named_of doc resources dpi node facets e
 
 -- an element whose attributes were taken sets what they set by their names
-pub sets_named : (doc : Document) (resources : Entries) (dpi place : ℕ) (result : Result Taken AttrFault) → IsTakenAs (facets_at doc resources dpi place) result
+pub sets_named : (doc : Document) (resources : Entries) (dpi place : ℕ) (result : Result Taken Fault) → IsTakenAs (facets_at doc resources dpi place) result
     → IfOk result (λ taken. facets taken ≡ named_at doc resources dpi place)
 sets_named doc resources dpi place (Ok taken) sets = named_where doc resources dpi (slice_get doc.nodes place) (facets taken) sets
 sets_named doc resources dpi place (Err why) sets = tt

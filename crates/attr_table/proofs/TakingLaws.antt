@@ -7,8 +7,8 @@ use Rattle.axml_reader.specs.Document.{Document}
 use Rattle.view_model.specs.Refusals.{PlainRefusal, ◌>>=◌}
 use Rattle.view_model.specs.Resources.{Entries}
 use Rattle.attr_table.specs.declared.draft.Draft.{Draft}
-use Rattle.attr_table.specs.declared.fault.AttrFault.{AttrFault}
-use Rattle.attr_table.specs.declared.fault.AttrFault.TheVariants as fault
+use Rattle.view_model.specs.declared.fault.Fault.{Fault}
+use Rattle.view_model.specs.declared.fault.Fault.TheVariants as fault
 use Rattle.attr_table.specs.declared.taking.Taken.{Taken}
 use Rattle.attr_table.specs.Setting.{empty_draft}
 use Rattle.attr_table.specs.Taken.{DraftsAs, IsTakenAs}
@@ -23,12 +23,12 @@ facets-start doc resources dpi place start attrs draft at same empty =
     ∙ ap (λ first. with_attrs doc.pool resources dpi attrs first >>= finished) (sym empty)
 
 -- the attributes were taken
-pub taken-finished : (sets : Result Draft PlainRefusal) (draft : Draft) (result : Result Taken AttrFault) → sets ≡ Ok draft → IsTakenAs (finished draft) result
+pub taken-finished : (sets : Result Draft PlainRefusal) (draft : Draft) (result : Result Taken Fault) → sets ≡ Ok draft → IsTakenAs (finished draft) result
     → IsTakenAs (sets >>= finished) result
 taken-finished sets draft result is taken = subst (λ made. IsTakenAs (made >>= finished) result) (sym is) taken
 
 -- one was refused, or memory ran out
-pub taken-stopped : (sets : Result Draft PlainRefusal) (now : Draft) (why : AttrFault) (result : Result Taken AttrFault) → DraftsAs sets now (Err why)
+pub taken-stopped : (sets : Result Draft PlainRefusal) (now : Draft) (why : Fault) (result : Result Taken Fault) → DraftsAs sets now (Err why)
     → IsErrAnd result (λ given. given ≡ why) → IsTakenAs (sets >>= finished) result
 taken-stopped sets now why (Ok taken) stopped is = absurd is
 taken-stopped sets now (fault.Refused refusal) (Err given) stopped is = subst (λ why. IsTakenAs (sets >>= finished) (Err why)) (sym is) (ap (λ made. made >>= finished) stopped)

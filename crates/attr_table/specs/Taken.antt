@@ -9,8 +9,8 @@ use Rattle.res_values.specs.Values.{resource}
 use Rattle.view_model.specs.declared.refusal.Refusal.{Refusal}
 use Rattle.view_model.specs.Refusals.{PlainRefusal, plain_refusal}
 use Rattle.view_model.specs.Resources.{Resource}
-use Rattle.attr_table.specs.declared.fault.AttrFault.{AttrFault}
-use Rattle.attr_table.specs.declared.fault.AttrFault.TheVariants as fault
+use Rattle.view_model.specs.declared.fault.Fault.{Fault}
+use Rattle.view_model.specs.declared.fault.Fault.TheVariants as fault
 use Rattle.attr_table.specs.declared.draft.Draft.{Draft}
 use Rattle.attr_table.specs.declared.taking.Taken.{Taken}
 use Rattle.attr_table.specs.Taking.{Facets}
@@ -28,13 +28,13 @@ abbrev pub facets : Taken → Facets
 facets taken = record { facts = taken.facts; text = taken.text; ignored = taken.ignored }
 
 -- a result is what the element sets, or its first refusal; memory may run out in place of either
-abbrev pub IsTakenAs : Result Facets PlainRefusal → Result Taken AttrFault → Type 0
+abbrev pub IsTakenAs : Result Facets PlainRefusal → Result Taken Fault → Type 0
 IsTakenAs sets (Ok taken) = sets ≡ Ok (facets taken)
 IsTakenAs sets (Err (fault.Refused refusal)) = sets ≡ Err (plain_refusal refusal)
 IsTakenAs sets (Err fault.NoMemory) = Unit {0}
 
 -- the draft is now what a step makes of it, or the result is the step's refusal
-abbrev pub DraftsAs : Result Draft PlainRefusal → Draft → Result (Unit {0}) AttrFault → Type 0
+abbrev pub DraftsAs : Result Draft PlainRefusal → Draft → Result (Unit {0}) Fault → Type 0
 DraftsAs step now (Ok answer) = step ≡ Ok now
 DraftsAs step now (Err (fault.Refused refusal)) = step ≡ Err (plain_refusal refusal)
 DraftsAs step now (Err fault.NoMemory) = Unit {0}

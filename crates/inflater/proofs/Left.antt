@@ -21,8 +21,8 @@ use Rattle.inflater.specs.Elements.{begun, nested}
 use Rattle.inflater.specs.ClassNames.{class_in}
 use Rattle.inflater.specs.Inflating.{OneView, Plan, inflated, name_of, view_of, view_with}
 use Rattle.inflater.specs.declared.element.ElementView.{ElementView}
-use Rattle.inflater.specs.declared.fault.GrowFault.{GrowFault}
-use Rattle.inflater.specs.declared.fault.GrowFault.TheVariants as fault
+use Rattle.view_model.specs.declared.fault.Fault.{Fault}
+use Rattle.view_model.specs.declared.fault.Fault.TheVariants as fault
 use Rattle.inflater.proofs.PlaceLaws.{placed}
 use Rattle.inflater.proofs.PreorderLaws.{inflated_preorder}
 use Rattle.inflater.proofs.RootLaws.{Rooted}
@@ -174,7 +174,7 @@ few_there nodes i line ns name first count lt few is =
     some_is a b e = cc
 
 -- what holds of the element at a place holds of its node
-pub viewed : (doc : Document) (resources : Entries) (dpi element place : ℕ) (node : Node) (made : Result ElementView GrowFault) → slice_get doc.nodes place ≡ Some node
+pub viewed : (doc : Document) (resources : Entries) (dpi element place : ℕ) (node : Node) (made : Result ElementView Fault) → slice_get doc.nodes place ≡ Some node
     → ViewedAs (view_with element (class_in (slice_get doc.pool.texts (name_of node))) (facets_at doc resources dpi place)) made
     → ViewedAs (view_of doc resources dpi element node) made
 viewed doc resources dpi element place node made is view =
@@ -182,7 +182,7 @@ viewed doc resources dpi element place node made is view =
 
 -- one element was refused, or memory ran out
 pub fault_out : (doc : Document) (resources : Entries) (dpi depth element ignored : ℕ) (sprouts : List Sprout) (more : List Node)
-    (line ns name first count : ℕ) (fault : GrowFault)
+    (line ns name first count : ℕ) (fault : Fault)
     → IsLeftToInflate doc resources dpi depth element ignored sprouts (Start line ns name first count ∷ more) (row_of doc resources dpi 1 (placed 0 doc.nodes))
     → ViewedAs (view_of doc resources dpi (element + 1) (Start line ns name first count)) (Err fault)
     → GrownAs (inflated doc resources dpi) (Err fault)

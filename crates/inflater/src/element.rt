@@ -11,7 +11,7 @@ ghost use Rattle.inflater.specs.Answers.{ViewedAs};
 
 use crate::classes::class_of;
 use crate::fault::GrowFault;
-use attr_table::{AttrFault, Source, Taken, take};
+use attr_table::{Source, Taken, take};
 use std::alloc::Global;
 use view_model::refusals::UNKNOWN_CLASS;
 use view_model::{Class, Detail, Refusal};
@@ -61,9 +61,9 @@ pub fn element_view(
     };
     match take(alloc, source.doc, node, source.res, source.dpi) {
         Ok(taken) => Ok(ElementView { class, taken }),
-        Err(AttrFault::Refused(refusal)) => {
+        Err(GrowFault::Refused(refusal)) => {
             Err(GrowFault::Refused(refused_in(element, refusal.number)))
         }
-        Err(AttrFault::NoMemory) => Err(GrowFault::NoMemory),
+        Err(GrowFault::NoMemory) => Err(GrowFault::NoMemory),
     }
 }

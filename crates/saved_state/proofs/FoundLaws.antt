@@ -17,7 +17,7 @@ use Rattle.byteorder.specs.Numbers.{little_from-lt, little_from-take}
 use Rattle.saved_state.proofs.StateLaws.{ahead, read_end}
 use Rattle.saved_state.specs.Answers.{ReadAs}
 use Rattle.saved_state.specs.State.{◌>>=◌, IsState, IsValue, IsValueOf, RisesFrom, StateEntry, decoded, encoded_as, entries_of, entry_bytes, entry_of, entry_size, has_kind, head_of, id_of, kind_of, offset_of, text_of, value_bytes, value_of, value_size, words_of}
-use Rattle.saved_state.specs.declared.fault.StateFault.{StateFault}
+use Rattle.view_model.specs.declared.fault.Fault.{Fault}
 use Rattle.saved_state.specs.declared.value.Value.{Value}
 use Rattle.saved_state.specs.declared.value.Value.TheVariants.{Offset, Text}
 
@@ -319,7 +319,7 @@ state_read version count before place counter bytes done fit few none over rest 
     state_found version count 5 done (drop 5 bytes) (bytes_behind 5 bytes fit) few (sym rest ∙ read_end version done before place bytes count counter none over)
 
 -- what was read, as it is returned
-pub found_of : (bytes : List ℕ) (result : Result (List StateEntry) StateFault) → AreBytes bytes → ReadAs (decoded bytes) result
+pub found_of : (bytes : List ℕ) (result : Result (List StateEntry) Fault) → AreBytes bytes → ReadAs (decoded bytes) result
     → IfOk result (λ (entries : List StateEntry). IsState (slice_index bytes 2) entries × (bytes ≡ encoded_as (slice_index bytes 2) entries))
 found_of bytes (Ok made) fit is = decoded_found bytes made fit is
 found_of bytes (Err fault) fit is = tt

@@ -11,8 +11,8 @@ use Rattle.byteorder.specs.Endian.{little_bytes, little_number}
 use Rattle.byteorder.specs.Numbers.{little_number-reads_back}
 use Rattle.saved_state.specs.Answers.{FailsAs, ReadAs, is_bad_at}
 use Rattle.saved_state.specs.State.{◌>>=◌, IsState, IsValueOf, RisesFrom, StateEntry, decoded, encoded_as, entries_of, entry_bytes, entry_of, entry_size, has_kind, head_of, id_of, kind_of, offset_of, text_of, value_bytes, value_of, words_of}
-use Rattle.saved_state.specs.declared.fault.StateFault.{StateFault}
-use Rattle.saved_state.specs.declared.fault.StateFault.TheVariants as faults
+use Rattle.view_model.specs.declared.fault.Fault.{Fault}
+use Rattle.view_model.specs.declared.fault.Fault.TheVariants as faults
 use Rattle.saved_state.specs.declared.value.Value.{Value}
 use Rattle.saved_state.specs.declared.value.Value.TheVariants.{Offset, Text}
 
@@ -66,12 +66,12 @@ read_over version done before place bytes count counter none over =
     rw (zero_left, lt-ltb 0 (length (drop place bytes)) some) refl
 
 -- a fault is reported as it was, whatever was before it
-pub told_on : {A B : Type 0} (fault : StateFault) (first : Result A ℕ) (all : Result B ℕ) → ((wrong : ℕ) → first ≡ Err wrong → all ≡ Err wrong) → FailsAs first fault → FailsAs all fault
+pub told_on : {A B : Type 0} (fault : Fault) (first : Result A ℕ) (all : Result B ℕ) → ((wrong : ℕ) → first ≡ Err wrong → all ≡ Err wrong) → FailsAs first fault → FailsAs all fault
 told_on (faults.Refused refusal) first all goes says = (says.0, goes says.0 says.1, says.2)
 told_on faults.NoMemory first all goes says = tt
 
 -- a fault that reports the first wrong place
-pub told_at : {A : Type 0} (fault : StateFault) (read : Result A ℕ) (place : ℕ) → read ≡ Err place → is_bad_at place fault → FailsAs read fault
+pub told_at : {A : Type 0} (fault : Fault) (read : Result A ℕ) (place : ℕ) → read ≡ Err place → is_bad_at place fault → FailsAs read fault
 told_at (faults.Refused refusal) read place wrong bad = (place, wrong, bad)
 told_at faults.NoMemory read place wrong bad = absurd bad
 
@@ -169,7 +169,7 @@ decoded_encoded version list is =
     ∙ entries_back version list 0 5 is.rises
 
 -- the bytes of a state result in that state, if the decoded state is returned
-pub read_again : (version : ℕ) (bytes : List ℕ) (list : List StateEntry) (result : Result (List StateEntry) StateFault) → IsState version list → bytes ≡ encoded_as version list
+pub read_again : (version : ℕ) (bytes : List ℕ) (list : List StateEntry) (result : Result (List StateEntry) Fault) → IsState version list → bytes ≡ encoded_as version list
     → ReadAs (decoded bytes) result → ReadAs (Ok list) result
 read_again version bytes list result state is read =
     subst (λ (all : Result (List StateEntry) ℕ). ReadAs all result) (ap decoded is ∙ decoded_encoded version list state) read

@@ -1,38 +1,11 @@
 //! Why a state is not read, or not restored.
 ghost use Rattle.saved_state.specs.Answers.{is_bad_at, is_other_class};
 
-use std::alloc::{AllocError, AllocFailed};
 use view_model::refusals::{BAD_STATE, STATE_CLASS};
-use view_model::{Detail, Refusal};
+use view_model::{Detail, Fault, Refusal};
 
 /// Why a state is not read, or not restored.
-#[derive(Debug, Drop)]
-pub enum StateFault {
-    Refused(Refusal),
-    NoMemory,
-}
-
-impl From<AllocError> for StateFault {
-    ghost use Rattle.std.specs.Prelude.{◌≡◌};
-    ghost use Rattle.saved_state.specs.declared.fault.StateFault.TheVariants.{NoMemory};
-
-    ghost from_gives = { λ _ fault. fault ≡ NoMemory };
-
-    fn from(_error: AllocError) -> StateFault {
-        StateFault::NoMemory
-    }
-}
-
-impl<T: Drop> From<AllocFailed<T>> for StateFault {
-    ghost use Rattle.std.specs.Prelude.{◌≡◌};
-    ghost use Rattle.saved_state.specs.declared.fault.StateFault.TheVariants.{NoMemory};
-
-    ghost from_gives = { λ _ fault. fault ≡ NoMemory };
-
-    fn from(_error: AllocFailed<T>) -> StateFault {
-        StateFault::NoMemory
-    }
-}
+pub type StateFault = Fault;
 
 /// The field at this place is cut short or wrong, or does not belong to the state any more.
 pub fn bad_state(place: usize) -> StateFault

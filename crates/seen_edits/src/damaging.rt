@@ -12,6 +12,7 @@ ghost use Rattle.tree_edits.specs.Keeping.{KeepsViews};
 ghost use Rattle.tree_edits.specs.Scene.{scene_of};
 ghost use Rattle.view_model.specs.Geometry.{rect_at};
 ghost use Rattle.view_model.specs.Visible.{whole_window};
+ghost use Rattle.view_model.specs.declared.fault.Fault.TheVariants.{NoMemory};
 ghost use Rattle.view_tree.specs.Views.{IsLive};
 
 use crate::trees::note_tree;
@@ -42,7 +43,7 @@ pub fn change(
         (scene_of tree.new) result }
     ensures kept { OnOk result (KeepsViews tree.old tree.new edit.entry) }
     ensures unchanged { OnErr result (tree.new ≡ tree.old) }
-    ensures memory { result ≡ Err EditFault.NoMemory → MayWantMemory edit.entry }
+    ensures memory { result ≡ Err NoMemory → MayWantMemory edit.entry }
     ensures consistent { IsConsistent tree.old → IsConsistent tree.new }
     ensures asked { LeavesUnasked tree.old tree.new edit.entry }
     ensures measures { tree.new.counts.measures ≡ tree.old.counts.measures }
@@ -133,7 +134,7 @@ pub fn take(
         (scene_of tree.new) result }
     ensures kept { OnOk result (KeepsViews tree.old tree.new (Edit.Remove view)) }
     ensures unchanged { OnErr result (tree.new ≡ tree.old) }
-    ensures memory { result ≢ Err EditFault.NoMemory }
+    ensures memory { result ≢ Err NoMemory }
     ensures consistent { IsConsistent tree.old → IsConsistent tree.new }
     ensures asked { LeavesUnasked tree.old tree.new (Edit.Remove view) }
     ensures measures { tree.new.counts.measures ≡ tree.old.counts.measures }

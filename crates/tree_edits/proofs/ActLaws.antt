@@ -10,7 +10,7 @@ use Rattle.view_model.specs.declared.changes.Act.{Act}
 use Rattle.view_model.specs.Facts.{unscrolled_facts}
 use Rattle.view_model.specs.Forest.{Forest}
 use Rattle.view_model.specs.PlainTree.{PlainView, with_facts}
-use Rattle.view_tree.specs.declared.fault.AttachFault.{AttachFault}
+use Rattle.view_model.specs.declared.fault.Fault.{Fault}
 use Rattle.view_tree.specs.Faults.{IsRefusedOrCyclic}
 use Rattle.view_tree.specs.Rows.{Row, first_tree, part_from, head_view, changed_at_key, count_of_key}
 use Rattle.view_tree.specs.Views.{Held, IsLive, IsTree, KeepsOthers, SameTree, Views, facts_of, geometry_of, held_of, laid_rows, number_of, plain_of, plain_rows}
@@ -93,7 +93,7 @@ facts_scene old mid new view act facts is live turn made same held tree plain ne
     (ap (laid_rows (held_of new)) tree ∙ geometry-put (held_of mid) (held_of new) view change mid.tree (λ _. refl) bounds ∙ hid_geometry (hides act) old mid view is live same held))
 
 -- the cycle of the tree with other names is that of the tree after the act
-pub names_refused : (old : Views) (view : ℕ) (act : Act) (facts : Facts) (result : Result (Unit {0}) AttachFault) → IsTree old → IsLive old view → names_views act ≡ true
+pub names_refused : (old : Views) (view : ℕ) (act : Act) (facts : Facts) (result : Result (Unit {0}) Fault) → IsTree old → IsLive old view → names_views act ≡ true
     → facts ≡ facts_after_act act (facts_of old view)
     → IsRefusedOrCyclic None (first_cycle member.View (with_facts (number_of old view) (renamed facts) (plain_of old))) result
     → IsRefusedOrCyclic None (first_cycle member.View (with_facts (number_of old view) (facts_after_act act) (plain_of old))) result

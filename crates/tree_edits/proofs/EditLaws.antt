@@ -14,20 +14,18 @@ use Rattle.view_model.specs.Forest.{Nothing}
 use Rattle.view_model.specs.Directed.{running}
 use Rattle.view_model.specs.Growth.{grown_at, refusal_at}
 use Rattle.view_model.specs.PlainTree.{PlainView, pruned, single, view_in, with_facts, with_text}
-use Rattle.view_model.specs.Refusals.{refusal_numbered}
+use Rattle.view_model.specs.Refusals.{IsRefusedExactlyFor, refusal_numbered}
 use Rattle.view_model.specs.declared.refusals.TheConstants.{WRONG_CLASS}
 use Rattle.view_tree.specs.Attached.{Attached}
-use Rattle.view_tree.specs.declared.fault.AttachFault.{AttachFault}
-use Rattle.view_tree.specs.declared.fault.AttachFault.TheVariants as attach
-use Rattle.view_tree.specs.Faults.{IsRefusedExactlyFor, IsRefusedOrCyclic}
+use Rattle.view_model.specs.declared.fault.Fault.{Fault}
+use Rattle.view_tree.specs.Faults.{IsRefusedOrCyclic}
 use Rattle.view_tree.specs.Directions.{running_below}
 use Rattle.view_tree.specs.Rows.{first_tree, pruned_at_key, part_from, changed_at_key}
 use Rattle.view_tree.specs.Views.{Held, IsLive, IsTree, KeepsOutside, Views, class_of, held_of, laid_rows, number_of, plain_of}
 use Rattle.view_tree.proofs.values.GeometryLaws.{geometry-pruned_at_key, geometry-put, geometry-with_child}
 use Rattle.view_tree.proofs.forest.PlainLaws.{number_there}
-use Rattle.tree_edits.specs.Applied.{AppliesEdit, IsAddable, IsDoneOrCyclic, fault_of}
-use Rattle.tree_edits.specs.declared.fault.EditFault.{EditFault}
-use Rattle.tree_edits.specs.declared.fault.EditFault.TheVariants as fault
+use Rattle.tree_edits.specs.Applied.{AppliesEdit, IsAddable, IsDoneOrCyclic}
+use Rattle.view_model.specs.declared.fault.Fault.TheVariants as fault
 use Rattle.view_model.specs.Classes.{has_text}
 use Rattle.tree_edits.specs.Editing.{Add, Outcome, cycle_of_act, names_views, outcome_of_add, outcome_of_act, outcome_of_edit, outcome_unless, new_view, outcome_of_remove, takes, outcome_of_text}
 use Rattle.tree_edits.specs.Scene.{EditScene, scene_of}
@@ -73,16 +71,16 @@ attached_scene old new parent class width height key number is addable free atta
     ∙ ap (λ (n : ℕ). Ok (scene_of new, Some n)) (sym number_is)
 
 -- a view was not added
-pub not_attached : (old : Views) (after : EditScene) (parent : Option ℕ) (class : Class) (width height : ℤ) (given : AttachFault) (answer : Result (Option ℕ) EditFault)
+pub not_attached : (old : Views) (after : EditScene) (parent : Option ℕ) (class : Class) (width height : ℤ) (given : Fault) (answer : Result (Option ℕ) Fault)
     → IsRefusedExactlyFor {A = ℕ} (refusal_at (plain_of old) (option_map (number_of old) parent)) (Err given)
-    → IsErrAnd answer (λ fault. fault ≡ fault_of given)
+    → IsErrAnd answer (λ fault. fault ≡ given)
     → AppliesEdit (outcome_of_edit (scene_of old) (Add (option_map (number_of old) parent) class width height)) after answer
 not_attached old after parent class width height given (Ok number) refused is = absurd is
-not_attached old after parent class width height (attach.Refused refusal) (Err fault) refused is =
-    subst (λ (f : EditFault). AppliesEdit (outcome_of_edit (scene_of old) (Add (option_map (number_of old) parent) class width height)) after (Err f)) (sym is)
+not_attached old after parent class width height (fault.Refused refusal) (Err fault) refused is =
+    subst (λ (f : Fault). AppliesEdit (outcome_of_edit (scene_of old) (Add (option_map (number_of old) parent) class width height)) after (Err f)) (sym is)
     (ap (outcome_of_add (scene_of old) (option_map (number_of old) parent) class width height) refused)
-not_attached old after parent class width height attach.NoMemory (Err fault) refused is =
-    subst (λ (f : EditFault). AppliesEdit (outcome_of_edit (scene_of old) (Add (option_map (number_of old) parent) class width height)) after (Err f)) (sym is)
+not_attached old after parent class width height fault.NoMemory (Err fault) refused is =
+    subst (λ (f : Fault). AppliesEdit (outcome_of_edit (scene_of old) (Add (option_map (number_of old) parent) class width height)) after (Err f)) (sym is)
     (subst IsDoneOrCyclic (sym (ap (outcome_of_add (scene_of old) (option_map (number_of old) parent) class width height) refused)) tt)
 
 -- a view and all below it were taken away
@@ -117,22 +115,22 @@ written_by views view text class has is live class_is has_is =
     (sym (has_is ∙ ap has_text class_is))
 
 -- an act that names views was not done
-pub not_named : (scene : EditScene) (number : ℕ) (act : Act) (outcome : Outcome) (after : EditScene) (given : AttachFault) (answer : Result (Option ℕ) EditFault) → names_views act ≡ true
+pub not_named : (scene : EditScene) (number : ℕ) (act : Act) (outcome : Outcome) (after : EditScene) (given : Fault) (answer : Result (Option ℕ) Fault) → names_views act ≡ true
     → outcome ≡ outcome_unless scene number act (cycle_of_act scene.tree number act)
     → IsRefusedOrCyclic {A = Unit {0}} None (first_cycle member.View (with_facts number (facts_after_act act) scene.tree)) (Err given)
-    → IsErrAnd answer (λ fault. fault ≡ fault_of given)
+    → IsErrAnd answer (λ fault. fault ≡ given)
     → AppliesEdit outcome after answer
 not_named scene number act outcome after given (Ok made) names is refused fault_is = absurd fault_is
-not_named scene number act outcome after (attach.Refused refusal) (Err fault) names is refused fault_is =
-    subst (λ (f : EditFault). AppliesEdit outcome after (Err f)) (sym fault_is) (is ∙ ap (outcome_unless scene number act) (cycle_named scene number act names ∙ refused))
-not_named scene number act outcome after attach.NoMemory (Err fault) names is refused fault_is =
-    subst (λ (f : EditFault). AppliesEdit outcome after (Err f)) (sym fault_is) (subst IsDoneOrCyclic (sym is) (taken_or_cyclic scene number act names))
+not_named scene number act outcome after (fault.Refused refusal) (Err fault) names is refused fault_is =
+    subst (λ (f : Fault). AppliesEdit outcome after (Err f)) (sym fault_is) (is ∙ ap (outcome_unless scene number act) (cycle_named scene number act names ∙ refused))
+not_named scene number act outcome after fault.NoMemory (Err fault) names is refused fault_is =
+    subst (λ (f : Fault). AppliesEdit outcome after (Err f)) (sym fault_is) (subst IsDoneOrCyclic (sym is) (taken_or_cyclic scene number act names))
 
 -- what is done, unless it is out of memory
-pub no_memory : (outcome : Outcome) (made after : EditScene) (answer : Result (Option ℕ) EditFault) → outcome ≡ Ok (made, None)
+pub no_memory : (outcome : Outcome) (made after : EditScene) (answer : Result (Option ℕ) Fault) → outcome ≡ Ok (made, None)
     → IsErrAnd answer (λ given. given ≡ fault.NoMemory) → AppliesEdit outcome after answer
 no_memory outcome made after (Ok number) is fault_is = absurd fault_is
-no_memory outcome made after (Err fault) is fault_is = subst (λ (f : EditFault). AppliesEdit outcome after (Err f)) (sym fault_is) (subst IsDoneOrCyclic (sym is) tt)
+no_memory outcome made after (Err fault) is fault_is = subst (λ (f : Fault). AppliesEdit outcome after (Err f)) (sym fault_is) (subst IsDoneOrCyclic (sym is) tt)
 
 -- a text was set
 pub text_scene : (old new : Views) (view : ℕ) (text written : List ℕ) → written ≡ text

@@ -22,7 +22,7 @@ use Rattle.view_tree.proofs.forest.KeyLaws.{absent, or_else_live, zero_or_more}
 use Rattle.view_tree.proofs.forest.NumberLaws.{live-pruned_at_key, count_of_key-cut_le, count_of_key-put, put_absent}
 use Rattle.tree_edits.specs.declared.edits.Edit.{Edit}
 use Rattle.tree_edits.specs.declared.edits.Edit.TheVariants as edit
-use Rattle.tree_edits.specs.declared.fault.EditFault.{EditFault}
+use Rattle.view_model.specs.declared.fault.Fault.{Fault}
 use Rattle.tree_edits.specs.Applied.{IsAddable}
 use Rattle.tree_edits.specs.Asking.{acted_view, asked_by, asked_by_act, listed, nearest}
 use Rattle.tree_edits.specs.Editing.{hides, names_views, new_view, turns}
@@ -251,7 +251,7 @@ next_number old (edit.Remove view) = omega arith
 next_number old (edit.Act view act) = omega arith
 next_number old (edit.Text view text) = omega arith
 
-pub numbers_kept : (old new : Views) (edit : Edit) (result : Result (Option ℕ) EditFault) → OnOk result (KeepsViews old new edit) → OnErr result (new ≡ old)
+pub numbers_kept : (old new : Views) (edit : Edit) (result : Result (Option ℕ) Fault) → OnOk result (KeepsViews old new edit) → OnErr result (new ≡ old)
     → new.next ≤ old.next + 1
 numbers_kept old new edit (Ok number) kept same = let few = next_number old edit in let next = kept.next in omega arith
 numbers_kept old new edit (Err fault) kept same = let next = ap (λ (v : Views). v.next) same in omega arith

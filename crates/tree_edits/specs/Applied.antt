@@ -7,13 +7,11 @@ use Rattle.view_model.specs.declared.limits.TheConstants.{NUMBERS_END}
 use Rattle.view_model.specs.Forest.{Nothing}
 use Rattle.view_model.specs.Refusals.{plain_refusal}
 use Rattle.view_model.specs.declared.refusals.TheConstants.{CYCLE}
-use Rattle.view_tree.specs.declared.fault.AttachFault.{AttachFault}
-use Rattle.view_tree.specs.declared.fault.AttachFault.TheVariants as attach
+use Rattle.view_model.specs.declared.fault.Fault.{Fault}
 use Rattle.view_tree.specs.Views.{Views, IsLive, number_of}
 use Rattle.tree_edits.specs.declared.edits.Edit.{Edit}
 use Rattle.tree_edits.specs.declared.edits.Edit.TheVariants as edit
-use Rattle.tree_edits.specs.declared.fault.EditFault.{EditFault}
-use Rattle.tree_edits.specs.declared.fault.EditFault.TheVariants as fault
+use Rattle.view_model.specs.declared.fault.Fault.TheVariants as fault
 use Rattle.tree_edits.specs.Editing.{NumberedEdit, Add, Remove, ActOn, SetText, Outcome, names_views}
 use Rattle.tree_edits.specs.Scene.{EditScene}
 
@@ -65,12 +63,7 @@ IsDoneOrCyclic (Err refusal) = refusal.number ≡ CYCLE
 
 -- The result is the outcome: the scene and the number of the new view, or the refusal. An edit may run out of memory if
 -- there is no refusal, or only that of a cycle, since memory is taken before a cycle is known.
-abbrev pub AppliesEdit : Outcome → EditScene → Result (Option ℕ) EditFault → Type 0
+abbrev pub AppliesEdit : Outcome → EditScene → Result (Option ℕ) Fault → Type 0
 AppliesEdit outcome after (Ok number) = outcome ≡ Ok (after, number)
 AppliesEdit outcome after (Err (fault.Refused refusal)) = outcome ≡ Err (plain_refusal refusal)
 AppliesEdit outcome after (Err fault.NoMemory) = IsDoneOrCyclic outcome
-
--- the fault of an edit whose view the tree did not take
-abbrev pub fault_of : AttachFault → EditFault
-fault_of (attach.Refused refusal) = fault.Refused refusal
-fault_of attach.NoMemory = fault.NoMemory

@@ -8,6 +8,7 @@ ghost use Rattle.tree_edits.specs.Asking.{LeavesUnasked};
 ghost use Rattle.tree_edits.specs.Editing.{Add, ActOn, SetText, names_views, outcome_of_edit, outcome_of_remove};
 ghost use Rattle.tree_edits.specs.Keeping.{KeepsViews};
 ghost use Rattle.tree_edits.specs.Scene.{scene_of};
+ghost use Rattle.view_model.specs.declared.fault.Fault.TheVariants.{NoMemory};
 ghost use Rattle.view_tree.specs.Views.{IsLive, IsTree, number_of};
 
 use crate::acting::{names_views, set_direction, set_facts, set_names};
@@ -27,7 +28,7 @@ pub fn apply(alloc: Global, tree: &mut ViewTree, edit: Edit<'_>) -> Result<Optio
         (scene_of tree.new) result }
     ensures kept { OnOk result (KeepsViews tree.old tree.new edit.entry) }
     ensures unchanged { OnErr result (tree.new ≡ tree.old) }
-    ensures memory { result ≡ Err EditFault.NoMemory → MayWantMemory edit.entry }
+    ensures memory { result ≡ Err NoMemory → MayWantMemory edit.entry }
     ensures consistent { IsConsistent tree.old → IsConsistent tree.new }
     ensures asked { LeavesUnasked tree.old tree.new edit.entry }
     ensures measures { tree.new.counts.measures ≡ tree.old.counts.measures }
@@ -105,7 +106,7 @@ fn act_on(tree: &mut ViewTree, view: Key, act: Act) -> Result<Option<u64>, EditF
         (scene_of tree.new) result }
     ensures kept { OnOk result (KeepsViews tree.old tree.new (Edit.Act view act)) }
     ensures unchanged { OnErr result (tree.new ≡ tree.old) }
-    ensures memory { result ≡ Err EditFault.NoMemory → names_views act ≡ true }
+    ensures memory { result ≡ Err NoMemory → names_views act ≡ true }
     ensures consistent { IsConsistent tree.old → IsConsistent tree.new }
     ensures asked { LeavesUnasked tree.old tree.new (Edit.Act view act) }
     ensures measures { tree.new.counts.measures ≡ tree.old.counts.measures }

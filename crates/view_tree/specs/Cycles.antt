@@ -10,8 +10,8 @@ use Rattle.view_model.specs.Orders.{IsAcyclic, IsCycle}
 use Rattle.view_model.specs.PlainTree.{PlainView}
 use Rattle.view_model.specs.Refusals.{Cycle, PlainRefusal, plain_refusal}
 use Rattle.view_model.specs.SiblingRules.{leads}
-use Rattle.view_tree.specs.declared.fault.AttachFault.{AttachFault}
-use Rattle.view_tree.specs.declared.fault.AttachFault.TheVariants as fault
+use Rattle.view_model.specs.declared.fault.Fault.{Fault}
+use Rattle.view_model.specs.declared.fault.Fault.TheVariants as fault
 use Rattle.relative_layout.specs.declared.ordering.Orders.{Orders}
 use Rattle.view_model.specs.Classes.{is_relative}
 use Rattle.view_model.specs.Cycles.{links_in, numbers_in}
@@ -45,7 +45,7 @@ abbrev pub HasNoCycle : Forest PlainView → Type 0
 HasNoCycle tree = EveryBranch (λ (view : PlainView) (kids : Forest PlainView). is_relative view.class ≡ true → IsFree (links_in kids)) tree
 
 -- the result reports a cycle with these members, unless memory runs out
-abbrev pub IsToldOf : (ℕ → Member) → Bool → List ℕ → AttachFault → Type 0
+abbrev pub IsToldOf : (ℕ → Member) → Bool → List ℕ → Fault → Type 0
 IsToldOf name down members (fault.Refused refusal) = plain_refusal refusal ≡ record { number = CYCLE; reason = Cycle down (map name members) }
 IsToldOf name down members fault.NoMemory = Unit {0}
 
@@ -55,7 +55,7 @@ links_below views parent number link = linked_in number link (views_of (children
 
 -- orders of the children of a view's parent, once the view has another id and other rules, or why there are none; if
 -- the parent is no relative layout there is nothing to put in order
-abbrev pub AreNewOrders : Views → ℕ → Link → Option ℕ → Result (Option Orders) AttachFault → Type 0
+abbrev pub AreNewOrders : Views → ℕ → Link → Option ℕ → Result (Option Orders) Fault → Type 0
 AreNewOrders views view link None (Ok None) = Unit {0}
 AreNewOrders views view link None (Ok (Some orders)) = ⊥
 AreNewOrders views view link None (Err fault) = ⊥

@@ -10,8 +10,8 @@ use Rattle.view_model.specs.declared.sprout.Sprout.{Sprout}
 use Rattle.view_model.specs.Orders.{members_of}
 use Rattle.view_model.specs.Refusals.{PlainRefusal, plain_refusal}
 use Rattle.view_model.specs.SiblingRules.{leads}
-use Rattle.view_tree.specs.declared.fault.AttachFault.{AttachFault}
-use Rattle.view_tree.specs.declared.fault.AttachFault.TheVariants as fault
+use Rattle.view_model.specs.declared.fault.Fault.{Fault}
+use Rattle.view_model.specs.declared.fault.Fault.TheVariants as fault
 use Rattle.view_tree.specs.declared.groups.Group.{Group}
 use Rattle.view_tree.specs.Ordering.{IsGroupFor, PlainGroup, plain_group}
 use Rattle.view_tree.specs.Rows.{children_of_first, part_from, views_of}
@@ -77,13 +77,13 @@ AreEntries number (sprout ∷ more) entries =
     (own : List (ℕ × Group)) × (rest : List (ℕ × Group)) × (entries ≡ own ++ rest) × IsBehind number sprout more own × AreEntries (suc number) more rest
 
 -- a value is made, or the reason against it is reported, unless memory runs out
-abbrev pub IsMadeUnless : {A : Type 0} → Option PlainRefusal → (A → Type 0) → Result A AttachFault → Type 0
+abbrev pub IsMadeUnless : {A : Type 0} → Option PlainRefusal → (A → Type 0) → Result A Fault → Type 0
 IsMadeUnless reason Made (Ok made) = (reason ≡ None) × Made made
 IsMadeUnless reason Made (Err (fault.Refused refusal)) = reason ≡ Some (plain_refusal refusal)
 IsMadeUnless reason Made (Err fault.NoMemory) = Unit {0}
 
 -- the result for children that are to be put in order
-abbrev pub IsGroupOrCycle : (ℕ → Member) → List Link → List ℕ → Result Group AttachFault → Type 0
+abbrev pub IsGroupOrCycle : (ℕ → Member) → List Link → List ℕ → Result Group Fault → Type 0
 IsGroupOrCycle name links numbers result = IsMadeUnless (cycle_of name links numbers) (λ group. IsGroupFor links numbers (plain_group group)) result
 
 -- some entries come after others

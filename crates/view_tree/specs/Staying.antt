@@ -4,8 +4,8 @@ use Rattle.relative_layout.specs.declared.ordering.Orders.{Orders}
 use Rattle.view_model.specs.Forest.{Forest, Nothing, Branch}
 use Rattle.view_model.specs.SiblingRules.{names}
 use Rattle.view_model.specs.declared.relative.Axis.TheVariants.{Horizontal, Vertical}
-use Rattle.view_tree.specs.declared.fault.AttachFault.{AttachFault}
-use Rattle.view_tree.specs.declared.fault.AttachFault.TheVariants as fault
+use Rattle.view_model.specs.declared.fault.Fault.{Fault}
+use Rattle.view_model.specs.declared.fault.Fault.TheVariants as fault
 use Rattle.view_tree.specs.Ordering.{PlainOrders, plain_orders}
 use Rattle.view_tree.specs.Rows.{Row}
 
@@ -23,7 +23,7 @@ NamesNone id Nothing = Unit {0}
 NamesNone id (Branch row kids siblings) = (names Horizontal row.view.facts.rules id ≡ false) × (names Vertical row.view.facts.rules id ≡ false) × NamesNone id siblings
 
 -- these orders, unless memory runs out
-abbrev pub AreSameOrders : PlainOrders → Result (Option Orders) AttachFault → Type 0
+abbrev pub AreSameOrders : PlainOrders → Result (Option Orders) Fault → Type 0
 AreSameOrders old (Ok None) = ⊥
 AreSameOrders old (Ok (Some orders)) = plain_orders orders ≡ old
 AreSameOrders old (Err (fault.Refused refusal)) = ⊥

@@ -3,7 +3,7 @@ ghost use Rattle.std.specs.Prelude.{◌≡◌, ◌<◌, ◌≤◌, ◌+◌, ℕ,
 ghost use Rattle.indexmap.specs.IndexMap.{get as key_of, spare};
 ghost use Rattle.slab.specs.Slab.{HasRoomFor};
 ghost use Rattle.slab_link.specs.declared.link.TheConstants.{LINKS_END};
-ghost use Rattle.view_tree.specs.Faults.{IsRefusedExactlyFor};
+ghost use Rattle.view_model.specs.Refusals.{IsRefusedExactlyFor};
 
 use crate::fault::AttachFault;
 use crate::ids::Holders;

@@ -17,7 +17,7 @@ use Rattle.tree_edits.specs.Keeping.{KeepsViews, spread}
 use Rattle.tree_edits.specs.Scene.{EditScene, scene_of as edited_of}
 use Rattle.tree_edits.specs.declared.edits.Edit.{Edit}
 use Rattle.tree_edits.specs.declared.edits.Edit.TheVariants as edit
-use Rattle.tree_edits.specs.declared.fault.EditFault.{EditFault}
+use Rattle.view_model.specs.declared.fault.Fault.{Fault}
 use Rattle.view_model.specs.Changes.{facts_after_act}
 use Rattle.view_model.specs.Facts.{is_shown, unscrolled_facts}
 use Rattle.view_model.specs.Forest.{Forest, Nothing, Branch}
@@ -181,7 +181,7 @@ quiet_rests old new view act made quiet applied keeps leaves rests =
       unfired = ap (fired_in old.hooks) (lies_still old.views new (number_of old.views view) act made applied stays) ∙ rests.unfired;
     }
 
-rests_edit : (old : KeyedScreen) (new : Views) (edit : Edit) (made : Option ℕ) → AppliesEdit (outcome_of_edit (edited_of old.views) (numbered old.views edit)) (edited_of new) (let r : Result (Option ℕ) EditFault = Ok made in r)
+rests_edit : (old : KeyedScreen) (new : Views) (edit : Edit) (made : Option ℕ) → AppliesEdit (outcome_of_edit (edited_of old.views) (numbered old.views edit)) (edited_of new) (let r : Result (Option ℕ) Fault = Ok made in r)
     → KeepsViews old.views new edit → EditLeaves old.views new edit → leaves_layout (effect_of_edit edit) ≡ true → IsResting old → IsResting (record old { views = new })
 rests_edit old new (edit.Add parent class width height) made applied keeps leaves quiet rests = absurd cc
 rests_edit old new (edit.Remove view) made applied keeps leaves quiet rests = absurd cc
@@ -301,7 +301,7 @@ within_edit old new (edit.Text view text) box leaves was is made keeps size grow
     grows box lies own.0 own.1
 
 -- an edit that adds and removes no view was made, or none was
-pub edit_keeps : (old : KeyedScreen) (new : Views) (damage : Rect) (edit : Edit) (result : Result (Option ℕ) EditFault) → IsTree old.views → IsEdit old.views edit
+pub edit_keeps : (old : KeyedScreen) (new : Views) (damage : Rect) (edit : Edit) (result : Result (Option ℕ) Fault) → IsTree old.views → IsEdit old.views edit
     → AppliesEdit (outcome_of_edit (edited_of old.views) (numbered old.views edit)) (edited_of new) result → OnOk result (KeepsViews old.views new edit) → EditLeaves old.views new edit
     → new.counts.measures ≡ old.views.counts.measures → IsChange edit → (OnOk result (IsTree new)) → GrowsWithin (size_of old.surface) (edited edit) old.views new old.damage damage → (is_unseen edit ≡ true → damage ≡ old.damage)
     → OnOk result (KeepsEdit edit old (record old { views = new; damage = damage }))

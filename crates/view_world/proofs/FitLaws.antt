@@ -8,7 +8,7 @@ use Rattle.tree_edits.specs.Applied.{AppliesEdit}
 use Rattle.view_model.specs.Classes.{has_text}
 use Rattle.tree_edits.specs.Editing.{NumberedEdit, Add, Remove, ActOn, SetText, Outcome, after_act, cycle_of_act, hides, outcome_of_act, outcome_of_add, outcome_of_edit, outcome_of_text, outcome_unless, takes}
 use Rattle.tree_edits.specs.Scene.{EditScene, scene_of}
-use Rattle.tree_edits.specs.declared.fault.EditFault.{EditFault}
+use Rattle.view_model.specs.declared.fault.Fault.{Fault}
 use Rattle.view_model.specs.declared.changes.Act.{Act}
 use Rattle.view_model.specs.declared.kinds.Class.{Class}
 use Rattle.view_model.specs.Geometry.{Laid, without}
@@ -60,12 +60,12 @@ fit_edited scene (ActOn number act) fit = fit_done scene number act (view_in sce
 fit_edited scene (SetText number text) fit = fit_written scene number text (view_in scene.tree number) fit
 
 -- an edit that was made leaves such sizes
-pub fits_edited : (old new : Views) (edit : NumberedEdit) (number : Option ℕ) → AppliesEdit (outcome_of_edit (scene_of old) edit) (scene_of new) (let r : Result (Option ℕ) EditFault = Ok number in r)
+pub fits_edited : (old new : Views) (edit : NumberedEdit) (number : Option ℕ) → AppliesEdit (outcome_of_edit (scene_of old) edit) (scene_of new) (let r : Result (Option ℕ) Fault = Ok number in r)
     → FitAll (geometry_of old) → FitAll (geometry_of new)
 fits_edited old new edit number applied fit = subst FitOutcome applied (fit_edited (scene_of old) edit fit)
 
 -- and so does one that was not
-pub fits_applied : (old new : Views) (edit : NumberedEdit) (result : Result (Option ℕ) EditFault) → AppliesEdit (outcome_of_edit (scene_of old) edit) (scene_of new) result → OnErr result (new ≡ old)
+pub fits_applied : (old new : Views) (edit : NumberedEdit) (result : Result (Option ℕ) Fault) → AppliesEdit (outcome_of_edit (scene_of old) edit) (scene_of new) result → OnErr result (new ≡ old)
     → FitAll (geometry_of old) → FitAll (geometry_of new)
 fits_applied old new edit (Ok number) applied same fit = fits_edited old new edit number applied fit
 fits_applied old new edit (Err fault) applied same fit = subst (λ (v : Views). FitAll (geometry_of v)) (sym same) fit

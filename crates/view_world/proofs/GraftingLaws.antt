@@ -23,8 +23,8 @@ use Rattle.view_model.proofs.SproutLaws.{preorder-seeds_of}
 use Rattle.view_tree.specs.Faults.{IsRefusedOrCyclic}
 use Rattle.kept_views.specs.Kept.{IsConsistent}
 use Rattle.view_tree.specs.Views.{IsLive, IsTree, Views, geometry_of, held_of, number_of, plain_of, plain_rows}
-use Rattle.view_tree.specs.declared.fault.AttachFault.{AttachFault}
-use Rattle.view_tree.specs.declared.fault.AttachFault.TheVariants as attach
+use Rattle.view_model.specs.declared.fault.Fault.{Fault}
+use Rattle.view_model.specs.declared.fault.Fault.TheVariants as fault
 use Rattle.view_tree.proofs.forest.KeyLaws.{number_live, zero_or_more}
 use Rattle.view_tree.proofs.forest.PlainLaws.{plain-count}
 use Rattle.view_world.proofs.CaughtLaws.{times-plain}
@@ -34,7 +34,8 @@ use Rattle.view_world.proofs.GrownCaught.{gesture_grafted}
 use Rattle.view_world.proofs.GrownShown.{nowhere_numbered, shown_come}
 use Rattle.view_world.proofs.PartCounts.{times-joined}
 use Rattle.view_world.proofs.ShapeLaws.{times_in}
-use Rattle.view_world.specs.Changed.{CarriesOut, fault_of_graft}
+use Rattle.view_world.specs.Changed.{CarriesOut}
+use Rattle.view_world.specs.Faults.{step_fault_of}
 use Rattle.view_world.specs.KeyedScreen.{KeyedScreen}
 use Rattle.view_world.specs.Places.{AreOpened, HasGained}
 use Rattle.view_world.specs.Sound.{IsSound}
@@ -168,10 +169,10 @@ stay first count old new opened number was =
     ]
 
 -- the fault of a graft is the reply
-pub graft_told : (world : World) (number : Option ℕ) (plan : Plan) (new : KeyedScreen) (reason cycle : Option PlainRefusal) (why : AttachFault)
-    → IsRefusedOrCyclic reason cycle (let r : Result ℕ AttachFault = Err why in r) → CarriesOut (grafted world number plan (option_or reason cycle)) new (Err (fault_of_graft why))
-graft_told world number plan new reason cycle (attach.Refused refusal) told = rw told refl
-graft_told world number plan new reason cycle attach.NoMemory told = tt
+pub graft_told : (world : World) (number : Option ℕ) (plan : Plan) (new : KeyedScreen) (reason cycle : Option PlainRefusal) (why : Fault)
+    → IsRefusedOrCyclic reason cycle (let r : Result ℕ Fault = Err why in r) → CarriesOut (grafted world number plan (option_or reason cycle)) new (Err (step_fault_of why))
+graft_told world number plan new reason cycle (fault.Refused refusal) told = rw told refl
+graft_told world number plan new reason cycle fault.NoMemory told = tt
 
 -- the views of a file are in the tree, and have places
 pub sound_grafted : (inside : Inside) (new : Views) (gesture : Kept) (log : Log) (place : Option ℕ) (sprouts : List Sprout) → IsSound inside → IsTree inside.tree → IfSome place (λ (view : ℕ). IsLive inside.tree view)

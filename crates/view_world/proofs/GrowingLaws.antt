@@ -19,7 +19,7 @@ use Rattle.tree_edits.specs.Editing.{Add, new_view, outcome_of_add, outcome_of_e
 use Rattle.tree_edits.specs.Keeping.{KeepsViews}
 use Rattle.tree_edits.specs.Scene.{EditScene, scene_of}
 use Rattle.tree_edits.specs.declared.edits.Edit.TheVariants as edit
-use Rattle.tree_edits.specs.declared.fault.EditFault.{EditFault}
+use Rattle.view_model.specs.declared.fault.Fault.{Fault}
 use Rattle.view_model.specs.Directed.{rtl_at, running}
 use Rattle.view_model.specs.Forest.{Nothing, count_of}
 use Rattle.view_model.specs.Growth.{grown_at, refusal_at}
@@ -53,7 +53,7 @@ on_err P (Ok value) h = tt
 on_err P (Err error) h = h
 
 -- an edit that was made is no fault
-pub made_well : (P : Type 0) (made : Result (Option ℕ) EditFault) (result : Result Response StepFault) → false ≡ is_err made → result ≡ response_of made → OnErr result P
+pub made_well : (P : Type 0) (made : Result (Option ℕ) Fault) (result : Result Response StepFault) → false ≡ is_err made → result ≡ response_of made → OnErr result P
 made_well P (Ok number) result ok is = rw is tt
 made_well P (Err error) result ok is = absurd (cc)
 
@@ -65,7 +65,7 @@ refused_any reply world other (Err fault.NoMemory) err told = told
 refused_any reply world other (Err fault.Sink) err told = told
 refused_any reply world other (Err fault.Shelf) err told = told
 
-pub refused_still : (reply : Reply) (world other : KeyedScreen) (made : Result (Option ℕ) EditFault) → true ≡ is_err made → CarriesOut reply world (response_of made) → CarriesOut reply other (response_of made)
+pub refused_still : (reply : Reply) (world other : KeyedScreen) (made : Result (Option ℕ) Fault) → true ≡ is_err made → CarriesOut reply world (response_of made) → CarriesOut reply other (response_of made)
 refused_still reply world other (Ok number) err told = absurd (cc)
 refused_still reply world other (Err error) err told = refused_any reply world other (response_of (Err error)) refl told
 
@@ -139,13 +139,13 @@ added_geometry scene after parent class width height number None e = sym (ap (λ
     same_outcome e = cc
 
 -- a new view has no bounds
-pub grown_nowhere : (old new : Views) (parent : Option ℕ) (class : Class) (width height : ℤ) (result : Result (Option ℕ) EditFault) → false ≡ is_err result
+pub grown_nowhere : (old new : Views) (parent : Option ℕ) (class : Class) (width height : ℤ) (result : Result (Option ℕ) Fault) → false ≡ is_err result
     → AppliesEdit (outcome_of_edit (scene_of old) (Add (option_map (number_of old) parent) class width height)) (scene_of new) result → geometry_of new ≡ geometry_of old
 grown_nowhere old new parent class width height (Err error) ok applied = absurd (cc)
 grown_nowhere old new parent class width height (Ok number) ok applied =
     added_geometry (scene_of old) (scene_of new) (option_map (number_of old) parent) class width height number (refusal_at (plain_of old) (option_map (number_of old) parent)) applied
 
-pub grown_as : (old new : Views) (parent : Option ℕ) (class : Class) (width height : ℤ) (result : Result (Option ℕ) EditFault) → false ≡ is_err result
+pub grown_as : (old new : Views) (parent : Option ℕ) (class : Class) (width height : ℤ) (result : Result (Option ℕ) Fault) → false ≡ is_err result
     → AppliesEdit (outcome_of_edit (scene_of old) (Add (option_map (number_of old) parent) class width height)) (scene_of new) result
     → (let place = option_map (number_of old) parent in plain_of new ≡ grown_at place (single (running (rtl_at place (plain_of old)) (new_view old.next class width height))) (plain_of old))
 grown_as old new parent class width height (Err error) ok applied = absurd (cc)

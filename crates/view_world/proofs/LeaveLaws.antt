@@ -16,8 +16,8 @@ use Rattle.touch_event.specs.declared.event.Point.{Point}
 use Rattle.tree_edits.specs.Applied.{AppliesEdit}
 use Rattle.tree_edits.specs.Editing.{ActOn, Outcome, Remove, hides, names_views, outcome_of_act, outcome_of_edit}
 use Rattle.tree_edits.specs.Scene.{EditScene as Edited, scene_of as edited_of}
-use Rattle.tree_edits.specs.declared.fault.EditFault.{EditFault}
-use Rattle.tree_edits.specs.declared.fault.EditFault.TheVariants as fault
+use Rattle.view_model.specs.declared.fault.Fault.{Fault}
+use Rattle.view_model.specs.declared.fault.Fault.TheVariants as fault
 use Rattle.view_model.specs.Facts.{is_shown}
 use Rattle.view_model.specs.Forest.{Forest, Nothing, map_rows}
 use Rattle.view_model.specs.PlainTree.{PlainView, numbers_of, part_of, pruned, view_in}
@@ -156,13 +156,13 @@ outcome_number : Outcome → Option ℕ
 outcome_number (Ok outcome) = outcome.1
 outcome_number (Err refusal) = None
 
-done_is : (scene after : Edited) (result : Result (Option ℕ) EditFault) → AppliesEdit (Ok (scene, None)) after result → (result ≡ Err fault.NoMemory → ⊥) → result ≡ Ok None
+done_is : (scene after : Edited) (result : Result (Option ℕ) Fault) → AppliesEdit (Ok (scene, None)) after result → (result ≡ Err fault.NoMemory → ⊥) → result ≡ Ok None
 unfolding outcome_number
 done_is scene after (Ok number) applied memory = ap Ok (sym (ap outcome_number applied))
 done_is scene after (Err (fault.Refused refusal)) applied memory = absurd (cc)
 done_is scene after (Err fault.NoMemory) applied memory = absurd (memory refl)
 
-pub remove_done : (scene after : Edited) (number : ℕ) (result : Result (Option ℕ) EditFault) → AppliesEdit (outcome_of_edit scene (Remove number)) after result
+pub remove_done : (scene after : Edited) (number : ℕ) (result : Result (Option ℕ) Fault) → AppliesEdit (outcome_of_edit scene (Remove number)) after result
     → (result ≡ Err fault.NoMemory → ⊥) → result ≡ Ok None
 remove_done scene after number result applied memory = done_is _ after result applied memory
 
@@ -175,12 +175,12 @@ pub plain_removed : (old new : Views) (number : ℕ) (made : Option ℕ) → out
 unfolding outcome_tree
 plain_removed old new number made applied = sym (ap outcome_tree applied)
 
-visible_done : (scene after : Edited) (number : ℕ) (visibility : Visibility) (view : Option PlainView) (result : Result (Option ℕ) EditFault)
+visible_done : (scene after : Edited) (number : ℕ) (visibility : Visibility) (view : Option PlainView) (result : Result (Option ℕ) Fault)
     → AppliesEdit (outcome_of_act scene number (act.Visible visibility) view) after result → (result ≡ Err fault.NoMemory → ⊥) → result ≡ Ok None
 visible_done scene after number visibility None result applied memory = done_is _ after result applied memory
 visible_done scene after number visibility (Some view) result applied memory = done_is _ after result applied memory
 
-pub hide_done : (scene after : Edited) (number : ℕ) (doing : Act) (result : Result (Option ℕ) EditFault) → hides doing ≡ true
+pub hide_done : (scene after : Edited) (number : ℕ) (doing : Act) (result : Result (Option ℕ) Fault) → hides doing ≡ true
     → AppliesEdit (outcome_of_edit scene (ActOn number doing)) after result → (result ≡ Err fault.NoMemory → names_views doing ≡ true) → result ≡ Ok None
 hide_done scene after number (act.Visible visibility) result hiding applied memory =
     visible_done scene after number visibility (view_in scene.tree number) result applied (λ e. let named = memory e in absurd (cc))
@@ -202,7 +202,7 @@ same_number : (old mid : Views) (key : ℕ) → SameTree old mid → number_of m
 same_number old mid key same = ap (λ tree. number_of (record mid { tree = tree }) key) same.tree
 
 -- it was hidden
-pub Changed-hide : (old mid : KeyedScreen) (new : Views) (key : ℕ) (doing : Act) (result : Result (Option ℕ) EditFault) → hides doing ≡ true → SameTree old.views mid.views
+pub Changed-hide : (old mid : KeyedScreen) (new : Views) (key : ℕ) (doing : Act) (result : Result (Option ℕ) Fault) → hides doing ≡ true → SameTree old.views mid.views
     → world_of mid ≡ after_progress (world_of old) (leaving (world_of old) (number_of old.views key)) → mid.told ≡ (leaving (world_of old) (number_of old.views key)).entries
     → result ≡ Ok None → AppliesEdit (outcome_of_edit (edited_of mid.views) (ActOn (number_of mid.views key) doing)) (edited_of new) result
     → (let now : KeyedScreen = record mid { views = new } in CarriesOut (acted (world_of old) (number_of old.views key) doing) now (Ok (deliveries_only mid.told)))
@@ -221,7 +221,7 @@ Changed-hide old mid new key doing result hiding same world told done applied =
     (reply ∙ all.0, all.1)
 
 -- it was removed, with all that was kept of it
-pub Changed-remove : (old mid : KeyedScreen) (new : Views) (kept : Kept) (hooks : List Hook) (key : ℕ) (result : Result (Option ℕ) EditFault) → IsTree mid.views → IsLive mid.views key → SameTree old.views mid.views
+pub Changed-remove : (old mid : KeyedScreen) (new : Views) (kept : Kept) (hooks : List Hook) (key : ℕ) (result : Result (Option ℕ) Fault) → IsTree mid.views → IsLive mid.views key → SameTree old.views mid.views
     → world_of mid ≡ after_progress (world_of old) (leaving (world_of old) (number_of old.views key)) → mid.told ≡ (leaving (world_of old) (number_of old.views key)).entries
     → gesture_of kept ≡ all_closed (numbers_of (part_at mid.views key)) (gesture_of mid.gesture) → hooks ≡ all_disarmed (numbers_of (part_at mid.views key)) mid.hooks
     → result ≡ Ok None → AppliesEdit (outcome_of_edit (edited_of mid.views) (Remove (number_of mid.views key))) (edited_of new) result

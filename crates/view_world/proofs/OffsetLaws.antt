@@ -22,7 +22,7 @@ use Rattle.tree_edits.specs.Editing.{cycle_of_act, hides, outcome_of_act, outcom
 use Rattle.tree_edits.specs.Scene.{EditScene, scene_of}
 use Rattle.tree_edits.specs.declared.edits.Edit.{Edit}
 use Rattle.tree_edits.specs.declared.edits.Edit.TheVariants as edit
-use Rattle.tree_edits.specs.declared.fault.EditFault.{EditFault}
+use Rattle.view_model.specs.declared.fault.Fault.{Fault}
 use Rattle.view_model.specs.Changes.{facts_after_act, facts_after_change}
 use Rattle.view_model.specs.Directed.{directed, rtl_at, running}
 use Rattle.view_model.specs.Facts.{padding_down}
@@ -195,7 +195,7 @@ hides_within (act.Intercept actions) hidden = tt
 hides_within (act.Scroll offset) hidden = absurd (cc)
 
 -- an edit was made, or was not
-pub offsets_edited : (old new : Views) (edit : Edit) (result : Result (Option ℕ) EditFault) → EditsWithin edit
+pub offsets_edited : (old new : Views) (edit : Edit) (result : Result (Option ℕ) Fault) → EditsWithin edit
     → AppliesEdit (outcome_of_edit (scene_of old) (numbered old edit)) (scene_of new) result → OnErr result (new ≡ old)
     → OffsetsFit (plain_of old) → OffsetsFit (plain_of new)
 offsets_edited old new edit (Ok number) within applied same every = subst Fits applied (fits_edited old edit within every)

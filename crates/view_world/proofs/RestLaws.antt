@@ -10,7 +10,7 @@ use Rattle.size_hooks.specs.Hooks.{armed}
 use Rattle.touch_dispatch.specs.TreeEvents.{OnlyScrolls}
 use Rattle.touch_event.specs.declared.event.Event.{Event}
 use Rattle.traversal.specs.Frames.{fired_in}
-use Rattle.tree_edits.specs.declared.fault.EditFault.{EditFault}
+use Rattle.view_model.specs.declared.fault.Fault.{Fault}
 use Rattle.traversal.specs.Resting.{IsAtPlace, IsAtRest}
 use Rattle.view_model.specs.Facts.{is_shown}
 use Rattle.view_model.specs.Forest.{Forest}
@@ -117,7 +117,7 @@ pub ok_then : {A E : Type 0} {P Q : Type 0} (result : Result A E) → (P → Q) 
 ok_then (Ok value) then p = then p
 ok_then (Err error) then p = tt
 
-pub responded : (P : Type 0) (made : Result (Option ℕ) EditFault) (result : Result Response StepFault) → result ≡ response_of made → OnOk made P → OnOk result P
+pub responded : (P : Type 0) (made : Result (Option ℕ) Fault) (result : Result Response StepFault) → result ≡ response_of made → OnOk made P → OnOk result P
 responded P (Ok number) result is ok = rw is ok
 responded P (Err fault) result is ok = rw is tt
 

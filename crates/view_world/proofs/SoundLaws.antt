@@ -11,7 +11,7 @@ use Rattle.seen_edits.specs.Shown.{KeepsShown}
 use Rattle.traversal.specs.Changing.{FitAll}
 use Rattle.tree_edits.specs.Keeping.{KeepsViews}
 use Rattle.tree_edits.specs.declared.edits.Edit.{Edit}
-use Rattle.tree_edits.specs.declared.fault.EditFault.{EditFault}
+use Rattle.view_model.specs.declared.fault.Fault.{Fault}
 use Rattle.touch_dispatch.specs.Kept.{Kept}
 use Rattle.touch_dispatch.specs.TreeEvents.{IsGestureIn, room_of}
 use Rattle.view_model.specs.Forest.{Forest, count_of}
@@ -40,7 +40,7 @@ sound_stays inside new damage shown stays consistent narrow offsets sound = reco
 }
 
 -- an edit that adds and removes no view was made, or none was
-pub result_stays : (old new : Views) (edit : Edit) (kept : Kept) (result : Result (Option ℕ) EditFault) → LeavesViews edit → OnOk result (KeepsViews old new edit) → OnErr result (new ≡ old)
+pub result_stays : (old new : Views) (edit : Edit) (kept : Kept) (result : Result (Option ℕ) Fault) → LeavesViews edit → OnOk result (KeepsViews old new edit) → OnErr result (new ≡ old)
     → Stays old new kept
 result_stays old new edit kept (Ok number) leaves keeps same = edit_stays old new edit kept leaves keeps
 result_stays old new edit kept (Err fault) leaves keeps same = same_stays old new kept same

@@ -1,19 +1,12 @@
 -- How states are read and restored in lines.
 use Rattle.std.specs.Prelude.{◌≡◌, ℕ, Bool, true, false, List, Result, Ok, Err}
 use Rattle.saved_state.specs.State.{StateEntry}
-use Rattle.saved_state.specs.declared.fault.StateFault.{StateFault}
-use Rattle.saved_state.specs.declared.fault.StateFault.TheVariants as state
 use Rattle.view_model.specs.Refusals.{AtPlace, plain_refusal, refusal_numbered}
 use Rattle.view_model.specs.declared.refusals.TheConstants.{BAD_STATE, STATE_CLASS}
 use Rattle.view_world.specs.declared.fault.StepFault.{StepFault}
 use Rattle.view_world.specs.declared.fault.StepFault.TheVariants as fault
 use Rattle.view_world.specs.declared.response.Response.{Response}
 use Rattle.view_world.specs.declared.response.Response.TheVariants as response
-
--- the fault of a line by which a state was not read, or not restored
-abbrev pub fault_of_state : StateFault → StepFault
-fault_of_state (state.Refused refusal) = fault.Refused refusal
-fault_of_state state.NoMemory = fault.NoMemory
 
 -- the state was read that is defined, or its first wrong place is reported
 abbrev pub ReadsState : Result (List StateEntry) ℕ → Result (List StateEntry) StepFault → Type 0

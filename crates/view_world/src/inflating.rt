@@ -14,7 +14,7 @@ ghost use Rattle.view_world.specs.Inflating.{bytes_in, fault_refusal, inflation_
 use crate::fault::StepFault;
 use axml_chunks::{Fault, ReadFault};
 use axml_reader::read;
-use inflater::{GrowFault, Grown, inflate};
+use inflater::{Grown, inflate};
 use res_values::Resources;
 use script_lines::{Command, Name};
 use std::alloc::Global;
@@ -97,9 +97,5 @@ pub fn views_of(
         Err(ReadFault::Bad(fault)) => return Err(StepFault::Refused(refused_for(fault))),
         Err(ReadFault::NoMemory) => return Err(StepFault::NoMemory),
     };
-    match inflate(alloc, &doc, resources, dpi) {
-        Ok(grown) => Ok(grown),
-        Err(GrowFault::Refused(refusal)) => Err(StepFault::Refused(refusal)),
-        Err(GrowFault::NoMemory) => Err(StepFault::NoMemory),
-    }
+    Ok(inflate(alloc, &doc, resources, dpi)?)
 }

@@ -47,7 +47,7 @@ use arrayvec::ArrayVec;
 use damage_rect::Damage;
 use geom_core::Size;
 use pixel_raster::Surface;
-use res_values::{ResFault, Resources};
+use res_values::Resources;
 use saved_state::States;
 use script_lines::{Command, Given, Name};
 use seen_edits::{change, damage_all, paint_damage};
@@ -443,11 +443,8 @@ impl Screen {
         ensures keeps { OnOk result (IsIdle self.old self.new) }
     {
         let value = value_of(alloc, given)?;
-        match self.resources.define(id, value) {
-            Ok(()) => Ok(Response::Nothing),
-            Err(ResFault::Refused(refusal)) => Err(StepFault::Refused(refusal)),
-            Err(ResFault::NoMemory) => Err(StepFault::NoMemory),
-        }
+        self.resources.define(id, value)?;
+        Ok(Response::Nothing)
     }
 
     /// Makes an edit that adds and removes no view.

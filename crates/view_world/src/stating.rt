@@ -14,13 +14,13 @@ ghost use Rattle.view_model.specs.Forest.{rows};
 ghost use Rattle.kept_views.specs.Kept.{IsConsistent};
 ghost use Rattle.view_tree.specs.Views.{IsTree, geometry_of, held_of, plain_of};
 ghost use Rattle.view_world.specs.Replies.{state_bytes, state_text};
-ghost use Rattle.view_world.specs.Stated.{ReadsState, TakesUp, fault_of_state};
+ghost use Rattle.view_world.specs.Stated.{ReadsState, TakesUp};
 
 use crate::fault::StepFault;
 use crate::response::Response;
 use damage_rect::Damage;
 use geom_core::Size;
-use saved_state::{StateFault, States, read};
+use saved_state::{States, read};
 use seen_edits::restore_views;
 use std::alloc::Global;
 use text_lines::TextBuffer;
@@ -66,24 +66,11 @@ pub fn bytes_of(alloc: Global, digits: &str) -> Result<Vec<u8>, StepFault>
     }
 }
 
-/// The fault of a line by which a state was not read, or not restored.
-fn fault_of(fault: StateFault) -> StepFault
-    ensures { result ≡ fault_of_state fault }
-{
-    match fault {
-        StateFault::Refused(refusal) => StepFault::Refused(refusal),
-        StateFault::NoMemory => StepFault::NoMemory,
-    }
-}
-
 /// The state that bytes represent.
 pub fn state_of(alloc: Global, bytes: &[u8]) -> Result<States, StepFault>
     ensures { ReadsState (decoded bytes.now) result }
 {
-    match read(alloc, bytes) {
-        Ok(states) => Ok(states),
-        Err(fault) => Err(fault_of(fault)),
-    }
+    Ok(read(alloc, bytes)?)
 }
 
 /// Sets the offsets and texts that a state has. Where they are seen in a window of this size is damage.
@@ -113,8 +100,6 @@ pub fn take_up(
     ensures consistent { IsConsistent tree.old → IsConsistent tree.new }
     ensures fits { OffsetsFit (plain_of tree.old) → OffsetsFit (plain_of tree.new) }
 {
-    match restore_views(alloc, tree, window, states, damage) {
-        Ok(()) => Ok(Response::Nothing),
-        Err(fault) => Err(fault_of(fault)),
-    }
+    restore_views(alloc, tree, window, states, damage)?;
+    Ok(Response::Nothing)
 }

@@ -3,8 +3,7 @@ use Rattle.std.proofs.Common.{◌≡◌, ◌+◌, ◌∙◌, ℕ, suc, Bool, Opt
 use Rattle.view_model.specs.declared.kinds.Class.{Class}
 use Rattle.view_model.specs.Forest.{count_of}
 use Rattle.view_model.specs.Growth.{growth_refusal, refusal_at}
-use Rattle.view_model.specs.Refusals.{PlainRefusal}
-use Rattle.view_tree.specs.Faults.{RefusesExactlyFor}
+use Rattle.view_model.specs.Refusals.{RefusesExactlyFor, PlainRefusal}
 use Rattle.view_tree.specs.Rows.{ancestors, has_kids}
 use Rattle.view_tree.specs.Views.{IsLive, IsTree, Views, class_of, number_of, plain_of}
 use Rattle.view_model.specs.declared.refusal.Refusal.{Refusal}

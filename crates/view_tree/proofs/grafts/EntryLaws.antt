@@ -13,8 +13,8 @@ use Rattle.view_model.specs.Cycles.{each, member_from, numbers_in}
 use Rattle.view_model.specs.Forest.{Forest, count_of}
 use Rattle.view_model.specs.PlainTree.{PlainView}
 use Rattle.view_model.specs.Refusals.{PlainRefusal, plain_refusal}
-use Rattle.view_tree.specs.declared.fault.AttachFault.{AttachFault}
-use Rattle.view_tree.specs.declared.fault.AttachFault.TheVariants as fault
+use Rattle.view_model.specs.declared.fault.Fault.{Fault}
+use Rattle.view_model.specs.declared.fault.Fault.TheVariants as fault
 use Rattle.view_tree.specs.declared.groups.Group.{Group}
 use Rattle.view_tree.specs.Faults.{IsRefusedOrCyclic}
 use Rattle.view_tree.specs.Grafting.{AreEntries, HasAdded, IsBehind, IsGroupOrCycle, IsMadeUnless, IsOwnFor, IsParentEntry, behind, cycle_of, links_behind, links_then, numbers_behind, numbers_then, parent_cycle, sprout_link}
@@ -109,7 +109,7 @@ near_then views parent is live p small =
     ]
 
 -- a group that is made is added
-pub added : (relative : Bool) (name : ℕ → Member) (number : ℕ) (links : List Link) (numbers : List ℕ) (group : Group) (old new : List (ℕ × Group)) (result : Result (Unit {0}) AttachFault)
+pub added : (relative : Bool) (name : ℕ → Member) (number : ℕ) (links : List Link) (numbers : List ℕ) (group : Group) (old new : List (ℕ × Group)) (result : Result (Unit {0}) Fault)
     → relative ≡ true → IsGroupOrCycle name links numbers (Ok group) → IsMadeUnless None (λ _. new ≡ old ++ (number, group) ∷ []) result
     → IsMadeUnless (if relative then cycle_of name links numbers else None) (λ _. HasAdded old new (IsOwnFor relative number links numbers)) result
 added false name number links numbers group old new result is made push = absurd (cc)
@@ -119,7 +119,7 @@ added true name number links numbers group old new (Err (fault.Refused refusal))
 added true name number links numbers group old new (Err fault.NoMemory) is made push = tt
 
 -- the same as all that there is, of a parent
-pub parent_added : (views : Views) (parent : ℕ) (sprout : Sprout) (group : Group) (result : Result (Vec (ℕ × Group) Global) AttachFault) → is_relative (class_of views parent) ≡ true
+pub parent_added : (views : Views) (parent : ℕ) (sprout : Sprout) (group : Group) (result : Result (Vec (ℕ × Group) Global) Fault) → is_relative (class_of views parent) ≡ true
     → IsGroupOrCycle (member_from views.next) (links_then views parent (sprout_link sprout)) (numbers_then views parent) (Ok group)
     → IsMadeUnless None (λ entries. entries.items ≡ (number_of views parent, group) ∷ []) result
     → IsMadeUnless (parent_cycle views (Some parent) sprout) (λ entries. IsParentEntry views (Some parent) sprout entries.items) result
@@ -141,7 +141,7 @@ pub entries_end : (number start : ℕ) (first : List (ℕ × Group)) (all : List
 entries_end number start first all old made = subst (λ entries. HasAdded first entries (AreEntries start all)) (append-nil old) (made [] refl)
 
 -- why a sapling is refused
-pub refused_or : (A B : Type 0) (reason cycle told : Option PlainRefusal) (fault : AttachFault) (Made : B → Type 0) → reason ≡ None → cycle ≡ told → IsMadeUnless {A = B} told Made (Err fault)
+pub refused_or : (A B : Type 0) (reason cycle told : Option PlainRefusal) (fault : Fault) (Made : B → Type 0) → reason ≡ None → cycle ≡ told → IsMadeUnless {A = B} told Made (Err fault)
     → IsRefusedOrCyclic {A = A} reason cycle (Err fault)
 refused_or A B reason cycle told (fault.Refused refusal) Made none same is = rw none (same ∙ is)
 refused_or A B reason cycle told fault.NoMemory Made none same is = none

@@ -8,8 +8,8 @@ use Rattle.relative_layout.specs.Sorting.{IsFaultOf}
 use Rattle.std.specs.Prelude.{Vec, Bool, false, ◌==◌, if◌then◌else◌, option_map, slice_index, IfSome, Ok, Err}
 use Rattle.relative_layout.specs.declared.ordering.Orders.{Orders}
 use Rattle.view_model.specs.declared.limits.TheConstants.{MAX_VIEWS}
-use Rattle.view_tree.specs.declared.fault.AttachFault.{AttachFault}
-use Rattle.view_tree.specs.declared.fault.AttachFault.TheVariants as fault
+use Rattle.view_model.specs.declared.fault.Fault.{Fault}
+use Rattle.view_model.specs.declared.fault.Fault.TheVariants as fault
 use Rattle.view_model.specs.declared.refusal.Member.{Member}
 use Rattle.view_model.specs.declared.refusal.Member.TheVariants as member
 use Rattle.relative_layout.proofs.OrderLaws.{acyclic}
@@ -332,7 +332,7 @@ grouped-ruled at now views new key link change is live class same reads plain gr
 -- the reason why there are none is the reason why the tree is refused
 pub refused_for : (A : Type 0) (views : Views) (key : ℕ) (link : Link) (change : PlainView → PlainView) → IsTree views
     → ((view : PlainView) → (change view).class ≡ view.class) → ((view : PlainView) → (change view).number ≡ view.number) → ((view : PlainView) → link_of (change view) ≡ link)
-    → HasNoCycle (plain_of views) → (above : Option ℕ) (fault : AttachFault) → IfSome above (λ parent. IsLive views parent)
+    → HasNoCycle (plain_of views) → (above : Option ℕ) (fault : Fault) → IfSome above (λ parent. IsLive views parent)
     → ((parent : ℕ) → above ≡ Some parent → FoundChild (held_of views) views.tree (number_of views key) (Some parent))
     → EveryBranch (λ (view : PlainView) (kids : Forest PlainView). HasParent (number_of views key) (group_number views above) view kids) (plain_of views)
     → AreNewOrders views key link above (Err fault) → IsRefusedOrCyclic {A = A} None (first_cycle member.View (changed (number_of views key) change (plain_of views))) (Err fault)

@@ -15,8 +15,8 @@ use Rattle.view_model.specs.Refusals.{Cycle, PlainRefusal}
 use Rattle.view_model.specs.SiblingRules.{leads}
 use Rattle.view_model.proofs.MemberLaws.{leads_inside, members_are, no_members}
 use Rattle.view_tree.specs.Cycles.{AreCyclic, IsFree, IsToldOf}
-use Rattle.view_tree.specs.declared.fault.AttachFault.{AttachFault}
-use Rattle.view_tree.specs.declared.fault.AttachFault.TheVariants as fault
+use Rattle.view_model.specs.declared.fault.Fault.{Fault}
+use Rattle.view_model.specs.declared.fault.Fault.TheVariants as fault
 use Rattle.view_tree.specs.Grafting.{IsGroupOrCycle, cycle_of}
 
 module _ (name : ℕ → Member) (links : List Link) (numbers : List ℕ) where
@@ -55,7 +55,7 @@ module _ (name : ℕ → Member) (links : List Link) (numbers : List ℕ) where
   cyclic_of false members is = is
 
   -- what is reported of a fault is what is computed
-  pub told_is : (down : Bool) (members : Vec ℕ Global) (fault : AttachFault) → IsFaultOf links (order.Cycle down members)
+  pub told_is : (down : Bool) (members : Vec ℕ Global) (fault : Fault) → IsFaultOf links (order.Cycle down members)
       → IsToldOf (λ place. name (slice_index numbers place)) down members.items fault → IsGroupOrCycle name links numbers (Err fault)
   told_is down members (fault.Refused refusal) is told =
       told_of down members.items (cyclic_of down members is)

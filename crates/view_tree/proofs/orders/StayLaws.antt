@@ -16,8 +16,8 @@ use Rattle.view_model.specs.declared.relative.Axis.TheVariants.{Horizontal, Vert
 use Rattle.view_model.specs.declared.relative.Link.{Link}
 use Rattle.relative_layout.specs.declared.ordering.Orders.{Orders}
 use Rattle.view_tree.specs.Cycles.{AreNewOrders, links_below}
-use Rattle.view_tree.specs.declared.fault.AttachFault.{AttachFault}
-use Rattle.view_tree.specs.declared.fault.AttachFault.TheVariants as fault
+use Rattle.view_model.specs.declared.fault.Fault.{Fault}
+use Rattle.view_model.specs.declared.fault.Fault.TheVariants as fault
 use Rattle.view_tree.specs.Ordering.{AreOrders, PlainOrders, link_or}
 use Rattle.view_tree.specs.Rows.{Row, children_of_first, count_of_key, head_view, later_siblings, part_from, siblings_from, views_of}
 use Rattle.view_tree.specs.Staying.{AddsNone, AreSameOrders, IsLastIn, NamesNone}
@@ -228,7 +228,7 @@ module _ (views : Views) (parent view : ℕ) (link : Link) (is : IsTree views) (
   }
 
 -- orders that are the same are new ones
-pub same_new : (views : Views) (view parent : ℕ) (link : Link) (result : Result (Option Orders) AttachFault) → is_relative (class_of views parent) ≡ true
+pub same_new : (views : Views) (view parent : ℕ) (link : Link) (result : Result (Option Orders) Fault) → is_relative (class_of views parent) ≡ true
     → AreOrders (links_below views parent (number_of views view) link) (orders_of views parent) → AreSameOrders (orders_of views parent) result → AreNewOrders views view link (Some parent) result
 same_new views view parent link (Ok None) relative are same = absurd same
 same_new views view parent link (Ok (Some orders)) relative are same = (relative, subst (AreOrders (links_below views parent (number_of views view) link)) (sym same) are)

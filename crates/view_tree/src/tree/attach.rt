@@ -7,7 +7,7 @@ ghost use Rattle.view_model.specs.Growth.{growth_refusal, refusal_at};
 ghost use Rattle.view_model.specs.PlainTree.{PlainView};
 ghost use Rattle.view_tree.specs.Attached.{Attached};
 ghost use Rattle.view_tree.specs.Directions.{running_below};
-ghost use Rattle.view_tree.specs.Faults.{IsRefusedExactlyFor, RefusesExactlyFor};
+ghost use Rattle.view_model.specs.Refusals.{IsRefusedExactlyFor, RefusesExactlyFor};
 ghost use Rattle.view_tree.specs.Rows.{ancestors};
 ghost use Rattle.view_tree.specs.Views.{IsLive, group_number, number_of, orders_under, plain_of};
 

@@ -8,7 +8,7 @@ ghost use Rattle.tree_edits.specs.Editing.{Add};
 ghost use Rattle.view_model.specs.Forest.{Nothing};
 ghost use Rattle.view_model.specs.declared.limits.TheConstants.{MAX_VIEWS, NUMBERS_END};
 ghost use Rattle.view_tree.specs.Views.{IsLive, number_of, plain_of};
-ghost use Rattle.view_world.specs.Changed.{CarriesOut, IsPlace, fault_of_graft};
+ghost use Rattle.view_world.specs.Changed.{CarriesOut, IsPlace};
 ghost use Rattle.view_world.specs.KeyedScreen.{world_of};
 ghost use Rattle.view_model.specs.Sprouts.{seeds_of};
 ghost use Rattle.view_world.specs.Offsets.{AreUnscrolled};
@@ -28,7 +28,7 @@ use inflater::Grown;
 use std::alloc::Global;
 use tree_edits::{Edit, apply};
 use view_model::Class;
-use view_tree::{AttachFault, Key};
+use view_tree::Key;
 
 impl Screen {
     /// Makes a view; the room for its touches is made before anything changes.
@@ -105,18 +105,8 @@ impl Screen {
             }
             Err(fault) => {
                 close_all(&mut self.gesture, first, count);
-                Err(fault_of(fault))
+                Err(fault.into())
             }
         }
-    }
-}
-
-/// The fault of a line by which the tree did not take views.
-fn fault_of(fault: AttachFault) -> StepFault
-    ensures { result ≡ fault_of_graft fault }
-{
-    match fault {
-        AttachFault::Refused(refusal) => StepFault::Refused(refusal),
-        AttachFault::NoMemory => StepFault::NoMemory,
     }
 }

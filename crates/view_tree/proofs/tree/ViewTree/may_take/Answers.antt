@@ -3,7 +3,7 @@ use Rattle.std.proofs.lemmas.Result.{err_from_is_err_and}
 use Rattle.std.specs.Option.{is_some, option_map, option_or}
 use Rattle.view_model.specs.Grafts.{graft_refusal, refusal_below}
 use Rattle.view_model.specs.Sprouts.{seeds_of}
-use Rattle.view_tree.specs.Faults.{RefusesExactlyFor}
+use Rattle.view_model.specs.Refusals.{RefusesExactlyFor}
 use Rattle.view_tree.specs.Rows.{part_from}
 use Rattle.view_tree.specs.Views.{IsLive, number_of, plain_of}
 use Rattle.view_model.specs.declared.sprout.Sprout.{Sprout}

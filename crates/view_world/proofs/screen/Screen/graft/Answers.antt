@@ -6,7 +6,7 @@ use Rattle.view_model.specs.Forest.{Forest, Nothing}
 use Rattle.view_model.specs.Sprouts.{Seed, seeds_of}
 use Rattle.view_model.specs.Grafts.{graft_refusal}
 use Rattle.view_tree.specs.Faults.{IsRefusedOrCyclic}
-use Rattle.view_tree.specs.declared.fault.AttachFault.{AttachFault}
+use Rattle.view_model.specs.declared.fault.Fault.{Fault}
 use Rattle.view_tree.specs.Views.{number_of, plain_of}
 use Rattle.view_world.proofs.FreshLaws.{are_free}
 use Rattle.view_world.proofs.GraftingLaws.{graft_told, sound_grafted}
@@ -92,7 +92,7 @@ returns-in-Err-clause-changed c number plan place grown =
     let old : KeyedScreen = keyed c.self.inside in
     let now = c.args.self.now in
     let at : IsPlace old.views number c.args.place = subst (λ (w : KeyedScreen). IsPlace w.views number c.args.place) (sym c.self.view_is) place in
-    let why : Result ℕ AttachFault = Err c.in-Err.fault in
+    let why : Result ℕ Fault = Err c.in-Err.fault in
     let reads = λ (n : Option ℕ) (seeds : Forest Seed). IsRefusedOrCyclic (graft_refusal (plain_of old.views) n seeds) (graft_cycle (plain_of old.views) n old.views.next seeds) why in
     let first : reads (option_map (number_of old.views) c.args.place) (seeds_of c.args.grown.sapling.sprouts.items) = c.in-Err.ensures.refused in
     let refused = subst (λ n. reads n plan.seeds) (sym (place_number old.views number c.args.place at)) (subst (reads (option_map (number_of old.views) c.args.place)) grown.seeds first) in
@@ -100,7 +100,7 @@ returns-in-Err-clause-changed c number plan place grown =
     let cycle = λ (w : KeyedScreen). graft_cycle (plain_of w.views) number w.views.next plan.seeds in
     let told : IsRefusedOrCyclic (refusal now) (cycle now) why = subst (λ (w : KeyedScreen). IsRefusedOrCyclic (refusal w) (cycle w) why) c.self.view_is refused in
     let new : KeyedScreen = record old { views = c.graft.new.tree; gesture = c.close_all.new.gesture; told = c.reserve.new.self.entries.items } in
-    rw c.fault_of.ensures (graft_told (world_of now) number plan new (refusal now) (cycle now) c.in-Err.fault told)
+    rw c.into.ensures (graft_told (world_of now) number plan new (refusal now) (cycle now) c.in-Err.fault told)
 
 pub returns-in-Ok-clause-keeps : goal.returns-in-Ok-clause-keeps
 returns-in-Ok-clause-keeps c =
