@@ -1,4 +1,5 @@
 pub mod Attached
+pub mod Bed
 pub mod Codes
 pub mod Cycles
 pub mod Detached

@@ -2,6 +2,7 @@
 ghost use Rattle.std.specs.Prelude.{◌≡◌, ◌≢◌, ◌<◌, ◌≤◌, ◌+◌, ℕ, Some, None, IfSome};
 ghost use Rattle.slab.specs.Slab.{get, slab_len, ContainsKey, HasRoomFor};
 ghost use Rattle.slab_link.specs.declared.link.TheConstants.{LINKS_END};
+ghost use Rattle.view_model.specs.Sprouts.{seed_of, view_of};
 ghost use Rattle.view_tree.specs.Nodes.{PlainNode, IsAround, changed_at, held_in, linked, replaced_if_none, key_or, last_child, links_at, unlinked};
 ghost use Rattle.view_tree.specs.Views.{fresh_held};
 
@@ -11,7 +12,7 @@ use crate::state::fresh_state;
 use measure_cache::Cache;
 use slab::Slab;
 use slab_link::Link;
-use view_model::{Class, Facts, Text};
+use view_model::Sprout;
 
 /// Sets the next sibling of a node, if there is one.
 fn set_next(nodes: &mut Slab<Node>, key: Option<usize>, next: Link)
@@ -98,14 +99,12 @@ fn last_of(nodes: &Slab<Node>, parent: Option<usize>) -> Link
     }
 }
 
-/// Makes a node, the last child of its parent.
+/// Makes the node of a view with this number, the last child of its parent. How deep the sprout is does not matter.
 pub fn link_last(
     nodes: &mut Slab<Node>,
     parent: Option<usize>,
     number: u64,
-    class: Class,
-    facts: Facts,
-    text: Text,
+    sprout: Sprout,
 ) -> usize
     requires room { HasRoomFor nodes.old 1 }
     requires small { nodes.old.capacity ≤ LINKS_END }
@@ -115,10 +114,9 @@ pub fn link_last(
     ensures unused { get nodes.old result ≡ None }
     ensures small { result < LINKS_END }
     ensures links { (x : ℕ)
-        → links_at nodes.new x ≡ linked
-        (links_at nodes.old) parent result (record { number = number; class = class; facts = facts; text = text })
+        → links_at nodes.new x ≡ linked (links_at nodes.old) parent result (view_of number (seed_of sprout))
         (last_child (links_at nodes.old) parent) x }
-    ensures held { held_in (get nodes.new result) ≡ Some (fresh_held facts.offset) }
+    ensures held { held_in (get nodes.new result) ≡ Some (fresh_held sprout.facts.offset) }
     ensures others { (x : ℕ) → x ≢ result → held_in (get nodes.new x) ≡ held_in (get nodes.old x) }
     ensures len { slab_len nodes.new ≡ slab_len nodes.old + 1 }
     ensures capacity { nodes.new.capacity ≡ nodes.old.capacity }
@@ -126,9 +124,9 @@ pub fn link_last(
     let last = last_of(nodes, parent);
     let key = nodes.insert_reserved(Node {
         number,
-        class,
-        facts,
-        text,
+        class: sprout.class,
+        facts: sprout.facts,
+        text: sprout.text,
         links: Links {
             parent: Link::of(parent),
             first: Link::none(),

@@ -6,13 +6,13 @@ ghost use Rattle.view_tree.specs.Rows.{rest_from, first_key};
 ghost use Rattle.view_tree.specs.Views.{IsLive, IsTree, no_views};
 
 mod attach;
+mod bed;
 mod detach;
 mod direct;
 mod find;
 mod graft;
 mod look_up;
 mod plain;
-mod plant;
 mod preorder;
 mod relatives;
 mod request;

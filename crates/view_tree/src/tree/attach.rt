@@ -11,7 +11,7 @@ ghost use Rattle.view_model.specs.Refusals.{IsRefusedExactlyFor, RefusesExactlyF
 ghost use Rattle.view_tree.specs.Rows.{ancestors};
 ghost use Rattle.view_tree.specs.Views.{IsLive, group_number, number_of, orders_under, plain_of};
 
-use super::plant::plant;
+use super::bed::Bed;
 use super::{Key, ViewTree};
 use crate::fault::AttachFault;
 use crate::groups::{join_group, make_group_room};
@@ -55,15 +55,14 @@ impl ViewTree {
             text,
             depth: 1,
         };
-        let key = plant(
-            &mut self.nodes,
-            &mut self.keys,
-            &mut self.ids,
-            &mut self.root,
-            &mut self.next,
-            parent,
-            sprout,
-        );
+        let mut bed = Bed {
+            nodes: &mut self.nodes,
+            keys: &mut self.keys,
+            ids: &mut self.ids,
+            root: &mut self.root,
+            next: &mut self.next,
+        };
+        let key = bed.plant(parent, sprout);
         join_group(&mut self.groups, group, number, class);
         Ok(key)
     }

@@ -14,7 +14,7 @@ ghost use Rattle.view_tree.specs.Grafting.{AreGrafted, IsGroupOrCycle, IsMadeUnl
 ghost use Rattle.view_tree.specs.Views.{IsLive, group_number, number_of, orders_under, plain_of};
 
 use super::attach::growth;
-use super::plant::{plant, sow};
+use super::bed::Bed;
 use super::relatives::{push_entry, sprout_link, with_entries};
 use super::{Key, ViewTree};
 use crate::fault::AttachFault;
@@ -58,24 +58,15 @@ impl ViewTree {
         let Some(outermost) = sprouts.next() else {
             unreachable!()
         };
-        let key = plant(
-            &mut self.nodes,
-            &mut self.keys,
-            &mut self.ids,
-            &mut self.root,
-            &mut self.next,
-            parent,
-            outermost,
-        );
-        sow(
-            &mut self.nodes,
-            &mut self.keys,
-            &mut self.ids,
-            &mut self.root,
-            &mut self.next,
-            key,
-            sprouts,
-        );
+        let mut bed = Bed {
+            nodes: &mut self.nodes,
+            keys: &mut self.keys,
+            ids: &mut self.ids,
+            root: &mut self.root,
+            next: &mut self.next,
+        };
+        let key = bed.plant(parent, outermost);
+        bed.sow(key, sprouts);
         note_groups(&mut self.groups, entries);
         Ok(key)
     }

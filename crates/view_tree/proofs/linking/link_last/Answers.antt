@@ -1,4 +1,5 @@
 use Rattle.std.proofs.Common.{◌∙◌, ap}
+use Rattle.view_model.specs.Sprouts.{seed_of, view_of}
 use Rattle.view_tree.specs.Nodes.{linked, links_at}
 use Rattle.view_tree.proofs.nodes.LinkedNodes.{hung_is}
 use Rattle.view_tree.proofs.linking.link_last.Goals as goal
@@ -9,4 +10,4 @@ returns-clause-links c = λ x.
     (rw (c.of.ensures, c.none.ensures, c.none-2.ensures, c.none-3.ensures) at c.insert_reserved-key.ensures.updates)
     (rw (c.key.ensures, c.to.ensures) at c.set_next.ensures.links) c.set_last.ensures.links x
     ∙ ap (λ before. linked (links_at c.args.nodes.now) c.args.parent c.insert_reserved-key.result
-    (record { number = c.args.number; class = c.args.class; facts = c.args.facts; text = c.args.text }) before x) c.last_of-last.ensures
+    (view_of c.args.number (seed_of c.args.sprout)) before x) c.last_of-last.ensures

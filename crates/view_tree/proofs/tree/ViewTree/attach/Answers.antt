@@ -1,6 +1,7 @@
 use Rattle.std.proofs.Common.{◌≡◌, ◌∙◌, ap, refl, subst, sym}
 use Rattle.view_model.specs.PlainTree.{PlainView}
 use Rattle.view_tree.specs.Attached.{Attached}
+use Rattle.view_tree.specs.Bed.{represented}
 use Rattle.view_tree.specs.Directions.{running_below}
 use Rattle.view_tree.specs.Nodes.{value_of, views_in}
 use Rattle.view_tree.specs.Ordering.{HasNoOther, IsGrouped, group_at, orders_in}
@@ -50,12 +51,12 @@ join_group-requires-clause-few c = λ k told.
     (grouped (goal.at.join_group-requires-clause-few c).After-branch-make_group_room) k (sym c.group_number-group.ensures ∙ told)
 
 came : (c : After-plant-key) → value_of (record c.self.inside { nodes = c.make_room.new.nodes; keys = c.make_room.new.keys; ids = c.make_room.new.ids; groups = c.make_group_room.new.groups }) ≡ c.args.self.now
-    → (new : Views) → new ≡ record (views_in c.plant-key.new.nodes c.plant-key.new.root c.plant-key.new.next) { orders = new.orders; counts = new.counts }
+    → (new : Views) → new ≡ record (represented c.plant-key.new.self) { orders = new.orders; counts = new.counts }
     → Attached c.args.self.now c.args.parent (running_below c.args.parent c.args.self.now.tree (record { number = c.args.self.now.next; class = c.args.class; facts = c.args.facts; text = c.args.text })) c.plant-key.result new
 came c same new is =
     subst (λ (v : Views). Attached v c.args.parent (running_below c.args.parent v.tree (record { number = v.next; class = c.args.class; facts = c.args.facts; text = c.args.text })) c.plant-key.result new) same
     (subst (Attached _ _ _ _) (sym is)
-    (attached-orders (views_in c.make_room.new.nodes c.self.inside.root c.self.inside.next) (views_in c.plant-key.new.nodes c.plant-key.new.root c.plant-key.new.next) c.args.parent
+    (attached-orders (views_in c.make_room.new.nodes c.self.inside.root c.self.inside.next) (represented c.plant-key.new.self) c.args.parent
     (running_below c.args.parent (views_in c.make_room.new.nodes c.self.inside.root c.self.inside.next).tree (record { number = c.self.inside.next; class = c.args.class; facts = c.args.facts; text = c.args.text })) c.plant-key.result
     (orders_in c.make_group_room.new.groups.entries) new.orders c.self.inside.counts new.counts c.plant-key.ensures.attached))
 
@@ -64,12 +65,12 @@ invariant_of-self-2 c =
     let at = goal.at.invariant_of-self-2 c in
     let room = at.After-branch-make_group_room in
     let b : Inside = record c.self.inside {
-      nodes = c.plant-key.new.nodes;
-      keys = c.plant-key.new.keys;
-      ids = c.plant-key.new.ids;
+      nodes = c.plant-key.new.self.nodes.now;
+      keys = c.plant-key.new.self.keys.now;
+      ids = c.plant-key.new.self.ids.now;
       groups = c.join_group.new.groups;
-      root = c.plant-key.new.root;
-      next = c.plant-key.new.next;
+      root = c.plant-key.new.self.root.now;
+      next = c.plant-key.new.self.next.now;
     } in
     let number = ap (λ (v : Views). v.next) c.self.view_is in
     record {

@@ -11,6 +11,7 @@ use Rattle.view_model.specs.Grafts.{graft_refusal}
 use Rattle.view_model.specs.Growth.{refusal_at}
 use Rattle.view_model.specs.Sprouts.{seed_of, seeds_of, view_of}
 use Rattle.view_tree.specs.Attached.{Attached}
+use Rattle.view_tree.specs.Bed.{represented}
 use Rattle.view_tree.specs.Directions.{running_below}
 use Rattle.view_tree.specs.Grafted.{Grafted}
 use Rattle.view_tree.specs.Grafting.{AreGrafted, IsMadeUnless, entries_cycle}
@@ -30,7 +31,7 @@ use Rattle.view_tree.proofs.nodes.WholeTree.{attached-orders, gained-orders, gro
 use Rattle.view_tree.proofs.orders.OnlyLayouts.{only-same}
 use Rattle.view_tree.proofs.orders.RowLaws.{orders_kept}
 use Rattle.view_tree.proofs.tree.ViewTree.graft.Goals as goal
-use Rattle.view_tree.proofs.tree.ViewTree.graft.Goals.{After-branch-make_group_room, After-plant-key, After-sow, After-note_groups}
+use Rattle.view_tree.proofs.tree.ViewTree.graft.Goals.{After-branch-make_group_room, After-plant-key, After-note_groups}
 
 abbrev roomy : After-branch-make_group_room → Inside
 roomy c = record c.self.inside { nodes = c.make_room.new.nodes; keys = c.make_room.new.keys; ids = c.make_room.new.ids; groups = c.make_group_room.new.groups }
@@ -56,23 +57,23 @@ made c = subst (λ (sprouts : List Sprout). AreGrafted c.args.self.now c.args.pa
 came : (c : After-plant-key)
     → value_of (record c.self.inside { nodes = c.make_room.new.nodes; keys = c.make_room.new.keys; ids = c.make_room.new.ids; groups = c.make_group_room.new.groups }) ≡ c.args.self.now
     → graft_refusal (plain_of c.args.self.now) (option_map (number_of c.args.self.now) c.args.parent) (seeds_of c.args.sapling.sprouts.items) ≡ None
-    → OutermostCame c.args.self.now (views_in c.plant-key.new.nodes c.plant-key.new.root c.plant-key.new.next) c.args.parent c.plant-key.result
+    → OutermostCame c.args.self.now (represented c.plant-key.new.self) c.args.parent c.plant-key.result
     (into_iter_items c.next.new.self) c.args.sapling.sprouts.items
 came c same free =
     outermost_came c.args.self.now _ c.args.parent c.plant-key.result c.in-Some.outermost (into_iter_items c.next.new.self) c.args.sapling.sprouts.items
     (is_tree c.self.inside c.args.self.now c.self.invariant.planted c.self.view_is) c.requires.live c.requires.root
     (subst
-    (λ (v : Views). Attached v c.args.parent (running_below c.args.parent v.tree (view_of v.next (seed_of c.in-Some.outermost))) c.plant-key.result (views_in c.plant-key.new.nodes c.plant-key.new.root c.plant-key.new.next))
+    (λ (v : Views). Attached v c.args.parent (running_below c.args.parent v.tree (view_of v.next (seed_of c.in-Some.outermost))) c.plant-key.result (represented c.plant-key.new.self))
     same
-    (attached-orders (views_in c.make_room.new.nodes c.self.inside.root c.self.inside.next) (views_in c.plant-key.new.nodes c.plant-key.new.root c.plant-key.new.next) c.args.parent
+    (attached-orders (views_in c.make_room.new.nodes c.self.inside.root c.self.inside.next) (represented c.plant-key.new.self) c.args.parent
     (running_below c.args.parent (views_in c.make_room.new.nodes c.self.inside.root c.self.inside.next).tree (view_of c.self.inside.next (seed_of c.in-Some.outermost))) c.plant-key.result (orders_in c.make_group_room.new.groups.entries) [] c.self.inside.counts no_counts c.plant-key.ensures.attached))
     (sym c.into_iter-sprouts.ensures.rest ∙ c.in-Some.ensures.items) c.args.sapling.preorder free
 
 abbrev end : After-note_groups → Inside
-end c = record c.self.inside { nodes = c.sow.new.nodes; keys = c.sow.new.keys; ids = c.sow.new.ids; groups = c.note_groups.new.groups; root = c.sow.new.root; next = c.sow.new.next }
+end c = record c.self.inside { nodes = c.sow.new.self.nodes.now; keys = c.sow.new.self.keys.now; ids = c.sow.new.self.ids.now; groups = c.note_groups.new.groups; root = c.sow.new.self.root.now; next = c.sow.new.self.next.now }
 
 grafted : (c : After-note_groups)
-    → OutermostCame c.args.self.now (views_in c.plant-key.new.nodes c.plant-key.new.root c.plant-key.new.next) c.args.parent c.plant-key.result
+    → OutermostCame c.args.self.now (represented c.plant-key.new.self) c.args.parent c.plant-key.result
     (into_iter_items c.next.new.self) c.args.sapling.sprouts.items
     → Grafted c.args.self.now c.args.parent (seeds_of c.args.sapling.sprouts.items) c.plant-key.result (value_of (end c))
 grafted c whole = whole.grafted (value_of (end c)) (gained-orders _ _ c.plant-key.result (orders_in c.note_groups.new.groups.entries) c.self.inside.counts c.sow.ensures.gained) c.sow.ensures.plain c.sow.ensures.next
