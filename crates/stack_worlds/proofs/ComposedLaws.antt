@@ -16,9 +16,9 @@ use Rattle.text_lines.proofs.Sending.{sends_as, sends_both}
 use Rattle.text_lines.specs.BufferedText.{BufferedText, Sends}
 use Rattle.text_lines.specs.Joined.{◌⧺◌}
 use Rattle.tool_io.specs.SinkState.{SinkState}
-use Rattle.view_world.specs.KeyedWorld.{KeyedWorld, world_of}
-use Rattle.view_world.specs.Replies.{pixel_text, pixels_text, separator, texts_below}
-use Rattle.view_world.specs.World.{World}
+use Rattle.view_world.specs.world.KeyedWorld.{KeyedWorld, world_of}
+use Rattle.view_world.specs.replying.Replies.{pixel_text, pixels_text, separator, texts_below}
+use Rattle.view_world.specs.world.World.{World}
 use Rattle.window_stack.specs.PlainPanes.{corner_of}
 
 -- one text more of those by number

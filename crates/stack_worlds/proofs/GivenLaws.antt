@@ -11,12 +11,12 @@ use Rattle.stack_worlds.specs.PlainStack.{PlainStack, Given, StackReply, Done, R
 use Rattle.stack_worlds.specs.StackCarried.{WritesStack}
 use Rattle.tool_io.specs.Fetched.{Files}
 use Rattle.tool_io.specs.SinkState.{SinkState}
-use Rattle.view_world.specs.Carried.{IsDone, WritesReply}
-use Rattle.view_world.specs.KeyedWorld.{KeyedWorld, world_of}
-use Rattle.view_world.specs.Inflating.{asked_file}
-use Rattle.view_world.specs.Step.{Reply, step}
-use Rattle.view_world.specs.Step as world_reply
-use Rattle.view_world.specs.World.{World}
+use Rattle.view_world.specs.world.Carried.{IsDone, WritesReply}
+use Rattle.view_world.specs.world.KeyedWorld.{KeyedWorld, world_of}
+use Rattle.view_world.specs.editing.Inflating.{asked_file}
+use Rattle.view_world.specs.world.Step.{Reply, step}
+use Rattle.view_world.specs.world.Step as world_reply
+use Rattle.view_world.specs.world.World.{World}
 use Rattle.view_world.specs.declared.fault.StepFault.{StepFault}
 
 -- what the world of the window replies, the stack replies

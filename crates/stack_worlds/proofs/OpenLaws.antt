@@ -5,7 +5,7 @@ use Rattle.std.specs.Option.{is_some}
 use Rattle.std.proofs.lemmas.Bool.{cases_Bool, cases_eq, eq-eqb, ne_eqb}
 use Rattle.std.proofs.lemmas.List.{get_or-set_same, get_or-set_other, length-set}
 use Rattle.stack_worlds.specs.KeptStack.{HasWorlds}
-use Rattle.view_world.specs.KeyedWorld.{KeyedWorld}
+use Rattle.view_world.specs.world.KeyedWorld.{KeyedWorld}
 use Rattle.window_stack.specs.PlainPanes.{PlainPanes, closed, is_open, only, pane_at, placed, raised, set_at, without}
 use Rattle.window_stack.specs.declared.panes.Pane.{Pane}
 

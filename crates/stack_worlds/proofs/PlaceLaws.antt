@@ -7,7 +7,7 @@ use Rattle.std.specs.declared.alloc.Global.{Global}
 use Rattle.std.proofs.lemmas.List.{get_or-set_same, get_or-set_other, length-map, length-set, map-set, set-get_or}
 use Rattle.window_stack.specs.PlainPanes.{PlainPanes, is_open}
 use Rattle.stack_worlds.specs.KeptStack.{HasWorlds, KeyedStack, kept_world, keyed_at}
-use Rattle.view_world.specs.KeyedWorld.{KeyedWorld}
+use Rattle.view_world.specs.world.KeyedWorld.{KeyedWorld}
 
 pub keep_worlds : (panes : PlainPanes) (worlds : List (Option KeyedWorld)) (k : ℕ) (world : Option KeyedWorld) → k ≤ 7 → HasWorlds (record { panes = panes; worlds = worlds })
     → is_some world ≡ is_some (get_or worlds k None) → HasWorlds (record { panes = panes; worlds = set worlds k world })

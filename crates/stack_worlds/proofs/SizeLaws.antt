@@ -4,8 +4,8 @@ use Rattle.std.specs.Prelude.{Box, Option, map}
 use Rattle.std.specs.Option.{option_map}
 use Rattle.std.specs.declared.alloc.Global.{Global}
 use Rattle.stack_worlds.specs.KeptStack.{kept_world}
-use Rattle.view_world.specs.KeyedWorld.{KeyedWorld, world_of}
-use Rattle.view_world.specs.World.{World}
+use Rattle.view_world.specs.world.KeyedWorld.{KeyedWorld, world_of}
+use Rattle.view_world.specs.world.World.{World}
 
 abbrev Place : Type 0
 Place = Option (Box KeyedWorld Global)

@@ -9,10 +9,10 @@ use Rattle.stack_worlds.specs.Isolation.{IsAfterLine, IsAlone, Shared, after_sha
 use Rattle.stack_worlds.specs.KeptStack.{HasWorlds, KeyedStack, keyed_at, stack_of}
 use Rattle.stack_worlds.specs.PlainStack.{PlainStack, Done, after_given, stack_step, with_world, world_at}
 use Rattle.stack_worlds.specs.StackCarried.{IsReplied, WritesStack}
-use Rattle.view_world.specs.Carried.{IsDone, WritesReply}
-use Rattle.view_world.specs.KeyedWorld.{KeyedWorld, world_of}
-use Rattle.view_world.specs.Step.{Reply}
-use Rattle.view_world.specs.World.{World}
+use Rattle.view_world.specs.world.Carried.{IsDone, WritesReply}
+use Rattle.view_world.specs.world.KeyedWorld.{KeyedWorld, world_of}
+use Rattle.view_world.specs.world.Step.{Reply}
+use Rattle.view_world.specs.world.World.{World}
 use Rattle.view_world.specs.declared.fault.StepFault.{StepFault}
 use Rattle.view_world.specs.declared.fault.StepFault.TheVariants as fault
 use Rattle.window_stack.specs.PlainPanes.{is_open}

@@ -5,8 +5,8 @@ use Rattle.tool_io.specs.Fetched.{Files}
 use Rattle.stack_worlds.specs.PlainStack.{PlainStack, PlainWay, Given, Missed, RefusedBy, ToStack, StackReply, empty_stack, stack_step, way_of, world_at}
 use Rattle.stack_worlds.specs.PlainStack as stack_reply
 use Rattle.stack_worlds.specs.declared.stack.way.Own.TheVariants as own
-use Rattle.view_world.specs.Step.{Reply, Done, Refused, step}
-use Rattle.view_world.specs.World.{World, empty_world}
+use Rattle.view_world.specs.world.Step.{Reply, Done, Refused, step}
+use Rattle.view_world.specs.world.World.{World, empty_world}
 use Rattle.window_stack.specs.PlainPanes.{is_open}
 use Rattle.window_stack.specs.StackLines.{PlainLine}
 

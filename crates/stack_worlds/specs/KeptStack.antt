@@ -6,7 +6,7 @@ use Rattle.std.specs.declared.alloc.Global.{Global}
 use Rattle.view_model.specs.declared.limits.TheConstants.{NUMBERS_END}
 use Rattle.stack_worlds.specs.PlainStack.{PlainStack}
 use Rattle.stack_worlds.specs.declared.stack.Stack.TheInside.{Inside}
-use Rattle.view_world.specs.KeyedWorld.{KeyedWorld, world_code, world_of}
+use Rattle.view_world.specs.world.KeyedWorld.{KeyedWorld, world_code, world_of}
 use Rattle.window_stack.specs.KeptPanes.{panes_code}
 use Rattle.window_stack.specs.PlainPanes.{PlainPanes, is_open, no_panes}
 

@@ -14,11 +14,11 @@ use Rattle.view_model.specs.declared.refusals.TheConstants.{OUT_OF_RANGE, WRONG_
 use Rattle.stack_worlds.specs.declared.stack.way.Own.{Own}
 use Rattle.stack_worlds.specs.declared.stack.way.Own.TheVariants as own
 use Rattle.stack_worlds.specs.declared.stack.way.TheConstants.{NO_PANE}
-use Rattle.view_world.specs.Inflating.{asked_file}
-use Rattle.view_world.specs.Replies.{pixels_text}
-use Rattle.view_world.specs.Step.{Reply, step}
-use Rattle.view_world.specs.Step as world_reply
-use Rattle.view_world.specs.World.{World, Stage, NoWindow, NoFrame, Unsettled, Settled, empty_world}
+use Rattle.view_world.specs.editing.Inflating.{asked_file}
+use Rattle.view_world.specs.replying.Replies.{pixels_text}
+use Rattle.view_world.specs.world.Step.{Reply, step}
+use Rattle.view_world.specs.world.Step as world_reply
+use Rattle.view_world.specs.world.World.{World, Stage, NoWindow, NoFrame, Unsettled, Settled, empty_world}
 use Rattle.window_stack.specs.PlainPanes.{PlainPanes, closed, corner_of, holds_gesture, is_open, no_panes, raised, set_at, topmost}
 use Rattle.window_stack.specs.StackLines.{PlainLine, At, Raise, Close, In, Compose, Down, Move, Up, Cancel}
 

@@ -15,7 +15,7 @@ use Rattle.stack_worlds.specs.declared.stack.way.Own.TheVariants as own
 use Rattle.stack_worlds.specs.declared.stack.way.Way.{Way}
 use Rattle.stack_worlds.specs.declared.stack.way.Way.TheVariants as way
 use Rattle.script_lines.specs.PlainCommands.{PlainCommand, plain_command, text_length}
-use Rattle.view_world.specs.Carried.{MayWantMemory}
+use Rattle.view_world.specs.world.Carried.{MayWantMemory}
 use Rattle.view_world.specs.declared.fault.StepFault.{StepFault}
 use Rattle.view_world.specs.declared.fault.StepFault.TheVariants as fault
 use Rattle.window_stack.specs.PlainPanes.{is_open}

@@ -9,14 +9,14 @@ use Rattle.stack_worlds.specs.declared.stack.way.Own.{Own}
 use Rattle.stack_worlds.specs.declared.stack.way.Own.TheVariants as own
 use Rattle.view_model.specs.declared.limits.TheConstants.{MAX_VIEWS}
 use Rattle.view_model.specs.declared.work.Work.{Work}
-use Rattle.view_world.specs.Asked.{LeavesUnasked}
-use Rattle.view_world.specs.Carried.{IsDone}
-use Rattle.view_world.specs.Counting.{FillsAlike, RisesWithin, paint_bound}
-use Rattle.view_world.specs.KeyedScreen.{window_of}
-use Rattle.view_world.specs.KeyedWorld.{KeyedWorld, new_world, world_of}
-use Rattle.view_world.specs.Marks.{marks_after, measure_bound}
-use Rattle.view_world.specs.Resting.{CountsMeasures, LaysOut}
-use Rattle.view_world.specs.Watched.{HasBox, IsWatched, IsWorth, costs_of, watched_after, watched_in}
+use Rattle.view_world.specs.frames.Asked.{LeavesUnasked}
+use Rattle.view_world.specs.world.Carried.{IsDone}
+use Rattle.view_world.specs.frames.Counting.{FillsAlike, RisesWithin, paint_bound}
+use Rattle.view_world.specs.screen.KeyedScreen.{window_of}
+use Rattle.view_world.specs.world.KeyedWorld.{KeyedWorld, new_world, world_of}
+use Rattle.view_world.specs.world.Marks.{marks_after, measure_bound}
+use Rattle.view_world.specs.frames.Resting.{CountsMeasures, LaysOut}
+use Rattle.view_world.specs.frames.Watched.{HasBox, IsWatched, IsWorth, costs_of, watched_after, watched_in}
 use Rattle.view_world.specs.declared.fault.StepFault.{StepFault}
 use Rattle.window_stack.specs.PlainPanes.{is_open}
 

@@ -10,8 +10,8 @@ ghost use Rattle.stack_worlds.specs.StackCarried.{IsGivenSound, IsOwnSound, IsRe
 ghost use Rattle.stack_worlds.specs.WindowLines.{WorksBy, next_at, worlds_after};
 ghost use Rattle.script_lines.specs.PlainCommands.{Frame};
 ghost use Rattle.view_model.specs.declared.limits.TheConstants.{MAX_VIEWS};
-ghost use Rattle.view_world.specs.Carried.{AreAtHand, CountsShelf, IsDone, faults_after_line, fetches_after};
-ghost use Rattle.view_world.specs.KeyedWorld.{KeyedWorld, world_of};
+ghost use Rattle.view_world.specs.world.Carried.{AreAtHand, CountsShelf, IsDone, faults_after_line, fetches_after};
+ghost use Rattle.view_world.specs.world.KeyedWorld.{KeyedWorld, world_of};
 ghost use Rattle.window_stack.specs.PlainPanes.{is_open};
 ghost use Rattle.window_stack.specs.StackLines.{In, IsLineInBounds, plain_line, text_length_in};
 ghost use Rattle.window_stack.specs.declared.lines.TheConstants.{MAX_PANE};

@@ -1,33 +1,21 @@
 //! The world of a script: what its lines so far have made, and what each line does to it.
 //!
-//! `world` is all of it: a screen, and `marks`, what is known of the next frame. `screen` has what lines have made, and
-//! carries them out; the other files are parts of that, each for the lines or the replies that it names. `readers` lends
-//! what others look at.
+//! `world` is all of it: a screen, and `world::marks`, what is known of the next frame. `screen` has what lines have
+//! made, as the tree, the picture, the stage and the resources, and carries lines out. What these need is in a folder
+//! for each subject: `editing` the views that lines name, what lines give them, views that are added and views that go
+//! away; `touching` the pointers and the gesture; `saving` saved states; `replying` what is printed. `fault` is why a
+//! line was not carried out.
 #![tactic(auto)]
 
-mod bounds;
-mod deliveries;
+mod editing;
 mod fault;
-mod forgetting;
-mod grafting;
-mod hooking;
-mod inflating;
-mod marks;
-mod naming;
-mod opening;
-mod pixels;
-mod pointers;
-mod replies;
-mod resources;
-mod response;
+mod replying;
+mod saving;
 mod screen;
-mod stage;
-mod stating;
-mod texts;
 mod touching;
 mod world;
 
+pub use editing::naming::find;
 pub use fault::StepFault;
-pub use naming::find;
-pub use stage::Stage;
+pub use screen::stage::Stage;
 pub use world::World;

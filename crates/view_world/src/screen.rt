@@ -12,37 +12,39 @@ ghost use Rattle.tree_edits.specs.Editing.{names_views};
 ghost use Rattle.view_model.specs.declared.limits.TheConstants.{MAX_VIEWS, NUMBERS_END};
 ghost use Rattle.view_model.specs.Forest.{Nothing};
 ghost use Rattle.view_model.specs.Resources.{definition_refusal_of};
-ghost use Rattle.view_world.specs.World.{World as PlainWorld};
+ghost use Rattle.view_world.specs.world.World.{World as PlainWorld};
 ghost use Rattle.view_tree.specs.Views.{plain_of};
-ghost use Rattle.view_world.specs.AfterLine.{Reports};
-ghost use Rattle.view_world.specs.Carried.{AreAtHand, CountsShelf, IsDone, MayWantMemory, WritesReply, faults_after_line, fetches_after};
-ghost use Rattle.view_world.specs.Changed.{CarriesOut, Inflates, LeavesViews, Pictured};
-ghost use Rattle.view_world.specs.Counting.{RisesWithin, paint_bound};
-ghost use Rattle.view_world.specs.Inflating.{asked_file, asked_for, inflation_of};
-ghost use Rattle.view_world.specs.Offsets.{EditsWithin};
-ghost use Rattle.view_world.specs.Responses.{IsTellable, response_text};
-ghost use Rattle.view_world.specs.Seen.{black_picture, has_any_scrolled};
-ghost use Rattle.view_world.specs.Step.{Done, after_edit, defined, dpi_told, inflation, resource_given, step, with_window};
-ghost use Rattle.view_world.specs.KeyedScreen.{new_screen, window_of, world_of};
-ghost use Rattle.view_world.specs.Marks.{has_settled};
-ghost use Rattle.view_world.specs.Resting.{IsFrameDone, IsIdle, IsShown, KeepsEdit, KeepsLine};
+ghost use Rattle.view_world.specs.world.AfterLine.{Reports};
+ghost use Rattle.view_world.specs.world.Carried.{AreAtHand, CountsShelf, IsDone, MayWantMemory, WritesReply, faults_after_line, fetches_after};
+ghost use Rattle.view_world.specs.screen.Changed.{CarriesOut, Inflates, LeavesViews, Pictured};
+ghost use Rattle.view_world.specs.frames.Counting.{RisesWithin, paint_bound};
+ghost use Rattle.view_world.specs.editing.Inflating.{asked_file, asked_for, inflation_of};
+ghost use Rattle.view_world.specs.saving.Offsets.{EditsWithin};
+ghost use Rattle.view_world.specs.replying.Responses.{IsTellable, response_text};
+ghost use Rattle.view_world.specs.frames.Seen.{black_picture, has_any_scrolled};
+ghost use Rattle.view_world.specs.world.Step.{Done, after_edit, defined, dpi_told, inflation, resource_given, step, with_window};
+ghost use Rattle.view_world.specs.screen.KeyedScreen.{new_screen, window_of, world_of};
+ghost use Rattle.view_world.specs.world.Marks.{has_settled};
+ghost use Rattle.view_world.specs.frames.Resting.{IsFrameDone, IsIdle, IsShown, KeepsEdit, KeepsLine};
 
 mod grow;
 mod hook;
 mod leave;
 mod readers;
+mod resources;
+pub mod stage;
 mod state;
 mod touch;
 
+use crate::editing::inflating::{fetch, inflation_of, views_of};
+use crate::editing::naming::{find, place_of, resolve, tell_tree};
+use crate::editing::texts::resolved;
 use crate::fault::StepFault;
-use crate::inflating::{fetch, inflation_of, views_of};
-use crate::naming::{find, place_of, resolve, tell_tree};
-use crate::pixels::part_in;
-use crate::resources::value_of;
-use crate::response::{ReplySource, Response, respond, write_response};
-use crate::stage::Stage;
-use crate::texts::resolved;
-use crate::touching::{has_any_scrolled, hides};
+use crate::replying::pixels::part_in;
+use crate::replying::response::{ReplySource, Response, respond, write_response};
+use crate::screen::resources::value_of;
+use crate::screen::stage::Stage;
+use crate::touching::gesture::{has_any_scrolled, hides};
 use arrayvec::ArrayVec;
 use damage_rect::Damage;
 use geom_core::Size;
@@ -96,13 +98,13 @@ pub struct Screen {
 }
 
 impl Model for Screen {
-    ghost use Rattle.view_world.specs.KeyedScreen.{KeyedScreen, screen_code};
+    ghost use Rattle.view_world.specs.screen.KeyedScreen.{KeyedScreen, screen_code};
 
     ghost Value = { KeyedScreen };
 
     ghost coded = { screen_code };
 
-    ghost use Rattle.view_world.specs.Sound.{IsSound, keyed};
+    ghost use Rattle.view_world.specs.screen.Sound.{IsSound, keyed};
 
     ghost view = { keyed };
 

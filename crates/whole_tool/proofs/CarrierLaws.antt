@@ -13,11 +13,11 @@ use Rattle.whole_tool.specs.Carrier.{IsFirst, IsWatching, WritesLine, carried_of
 use Rattle.whole_tool.specs.Tally.{Watching, WatchedWorld, WatchedWindows, carried_in, watching_first}
 use Rattle.whole_tool.specs.declared.carrier.Carrier.{Carrier}
 use Rattle.whole_tool.specs.declared.carrier.Carrier.TheVariants as carrier
-use Rattle.view_world.specs.Carried.{IsDone, WritesReply}
-use Rattle.view_world.specs.KeyedWorld.{KeyedWorld}
-use Rattle.view_world.specs.Step.{Reply}
-use Rattle.view_world.specs.Watched.{Watched}
-use Rattle.view_world.specs.World.{World}
+use Rattle.view_world.specs.world.Carried.{IsDone, WritesReply}
+use Rattle.view_world.specs.world.KeyedWorld.{KeyedWorld}
+use Rattle.view_world.specs.world.Step.{Reply}
+use Rattle.view_world.specs.frames.Watched.{Watched}
+use Rattle.view_world.specs.world.World.{World}
 use Rattle.view_world.specs.declared.fault.StepFault.{StepFault}
 use Rattle.view_world.specs.declared.fault.StepFault.TheVariants as fault
 

@@ -21,8 +21,8 @@ use Rattle.whole_tool.specs.WorksWith.{WorksWithFrom}
 use Rattle.whole_tool.proofs.LongScriptLaws.{carried_front, carried_short}
 use Rattle.whole_tool.proofs.SumLaws.{worth_none}
 use Rattle.whole_tool.proofs.ToolLaws.{not_ended}
-use Rattle.view_world.specs.Watched.{IsWorth}
-use Rattle.view_world.specs.World.{empty_world}
+use Rattle.view_world.specs.frames.Watched.{IsWorth}
+use Rattle.view_world.specs.world.World.{empty_world}
 
 pub works_none : (start : Carried) (files : Files) (work : Work) (lines : List Line) → WorksPartFrom start files work work lines
 unfolding tally_from

@@ -28,8 +28,8 @@ use Rattle.view_model.specs.declared.refusal.Refusal.{Refusal}
 use Rattle.view_model.specs.Refusals.{PlainRefusal, plain_refusal}
 use Rattle.view_world.specs.declared.fault.StepFault.{StepFault}
 use Rattle.view_world.specs.declared.fault.StepFault.TheVariants as step
-use Rattle.view_world.specs.Carried.{IsDone, fetches_after}
-use Rattle.view_world.specs.Watched.{IsWorth}
+use Rattle.view_world.specs.world.Carried.{IsDone, fetches_after}
+use Rattle.view_world.specs.frames.Watched.{IsWorth}
 use Rattle.whole_tool.proofs.CarrierLaws.{watching_same}
 use Rattle.whole_tool.proofs.SumLaws.{worth_same}
 use Rattle.whole_tool.proofs.TallyLaws.{passed_cost, refused_cost, tally_from-append, tally_from-push}

@@ -2,7 +2,7 @@
 use Rattle.std.proofs.Common.{◌≡◌, sym, subst, arith}
 use Rattle.view_model.specs.declared.work.Work.{Work}
 use Rattle.whole_tool.specs.Tally.{with_costs}
-use Rattle.view_world.specs.Watched.{LineCosts, IsWorth, no_costs}
+use Rattle.view_world.specs.frames.Watched.{LineCosts, IsWorth, no_costs}
 
 pub worth_none : (work : Work) → IsWorth no_costs work work
 worth_none work = record { measured = omega arith; measured_later = omega arith; least = omega arith; most = omega arith }

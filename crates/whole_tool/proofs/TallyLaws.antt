@@ -26,12 +26,12 @@ use Rattle.whole_tool.specs.declared.carrier.Carrier.TheVariants as carrier
 use Rattle.whole_tool.specs.WatchedStack.{WatchedStack, plain_stack}
 use Rattle.whole_tool.proofs.SumLaws.{worth_both}
 use Rattle.whole_tool.proofs.WatchedLaws.{stack_same, way_watched}
-use Rattle.view_world.specs.Carried.{IsDone, WritesReply}
-use Rattle.view_world.specs.KeyedWorld.{KeyedWorld, world_of}
-use Rattle.view_world.specs.Step.{Reply, step}
-use Rattle.view_world.specs.Step as world
-use Rattle.view_world.specs.Watched.{LineCosts, HasBox, IsWatched, IsWorth, Watched, costs_of, watched_after, watched_in}
-use Rattle.view_world.specs.World.{World}
+use Rattle.view_world.specs.world.Carried.{IsDone, WritesReply}
+use Rattle.view_world.specs.world.KeyedWorld.{KeyedWorld, world_of}
+use Rattle.view_world.specs.world.Step.{Reply, step}
+use Rattle.view_world.specs.world.Step as world
+use Rattle.view_world.specs.frames.Watched.{LineCosts, HasBox, IsWatched, IsWorth, Watched, costs_of, watched_after, watched_in}
+use Rattle.view_world.specs.world.World.{World}
 use Rattle.view_world.specs.declared.fault.StepFault.{StepFault}
 use Rattle.view_world.specs.declared.fault.StepFault.TheVariants as fault
 use Rattle.window_stack.specs.StackLines.{PlainLine, stack_line_of}

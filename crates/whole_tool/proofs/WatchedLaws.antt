@@ -15,12 +15,12 @@ use Rattle.view_model.specs.declared.work.Work.{Work}
 use Rattle.whole_tool.specs.Carrier.{AreWatched, IsWatchedAt, IsWatchedStack, greatest_next}
 use Rattle.whole_tool.specs.WatchedStack.{WatchedStack, after_own, after_said, after_way, costs_in, costs_of_way, plain_stack, watched_at, watched_first}
 use Rattle.whole_tool.proofs.SumLaws.{worth_none}
-use Rattle.view_world.specs.Carried.{IsDone}
-use Rattle.view_world.specs.KeyedWorld.{KeyedWorld, new_world, world_of}
-use Rattle.view_world.specs.Step.{Reply, step}
-use Rattle.view_world.specs.Step as world
-use Rattle.view_world.specs.Watched.{IsWatched, IsWorth, Watched, costs_of, no_costs, watched_after}
-use Rattle.view_world.specs.World.{World, empty_world}
+use Rattle.view_world.specs.world.Carried.{IsDone}
+use Rattle.view_world.specs.world.KeyedWorld.{KeyedWorld, new_world, world_of}
+use Rattle.view_world.specs.world.Step.{Reply, step}
+use Rattle.view_world.specs.world.Step as world
+use Rattle.view_world.specs.frames.Watched.{IsWatched, IsWorth, Watched, costs_of, no_costs, watched_after}
+use Rattle.view_world.specs.world.World.{World, empty_world}
 use Rattle.view_world.specs.declared.fault.StepFault.{StepFault}
 use Rattle.window_stack.specs.PlainPanes.{PlainPanes, is_open}
 

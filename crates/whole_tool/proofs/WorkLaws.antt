@@ -5,7 +5,7 @@ use Rattle.script_lines.specs.PlainCommands.{PlainCommand}
 use Rattle.script_lines.specs.PlainCommands as command
 use Rattle.view_model.specs.declared.work.Work.{Work}
 use Rattle.view_world.specs.declared.fault.StepFault.{StepFault}
-use Rattle.view_world.specs.Carried.{IsDone}
+use Rattle.view_world.specs.world.Carried.{IsDone}
 
 stays : (before after : Work) → after ≡ before → min before.measured (2 ^ 64 - 1) ≤ after.measured
 stays before after e = omega (arith, ap (λ (work : Work). work.measured) e)

@@ -10,11 +10,11 @@ use Rattle.stack_worlds.specs.StackCarried.{LineWants}
 use Rattle.tool_io.specs.Fetched.{Files}
 use Rattle.view_model.specs.Refusals.{PlainRefusal, refusal_numbered}
 use Rattle.view_model.specs.declared.refusals.TheConstants.{OUT_OF_RANGE, SYNTAX}
-use Rattle.view_world.specs.Carried.{MayWantMemory}
-use Rattle.view_world.specs.Inflating.{asked_file}
-use Rattle.view_world.specs.Step.{Reply, step}
-use Rattle.view_world.specs.Step as world_reply
-use Rattle.view_world.specs.World.{World, empty_world}
+use Rattle.view_world.specs.world.Carried.{MayWantMemory}
+use Rattle.view_world.specs.editing.Inflating.{asked_file}
+use Rattle.view_world.specs.world.Step.{Reply, step}
+use Rattle.view_world.specs.world.Step as world_reply
+use Rattle.view_world.specs.world.World.{World, empty_world}
 use Rattle.window_stack.specs.StackLines.{PlainLine, stack_line_of}
 
 -- what the lines of a script make: a world, or a stack of windows

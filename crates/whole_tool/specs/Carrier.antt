@@ -12,8 +12,8 @@ use Rattle.whole_tool.specs.Tally.{Watching, WatchedWorld, WatchedWindows}
 use Rattle.whole_tool.specs.WatchedStack.{WatchedStack}
 use Rattle.whole_tool.specs.declared.carrier.Carrier.{Carrier}
 use Rattle.whole_tool.specs.declared.carrier.Carrier.TheVariants as carrier
-use Rattle.view_world.specs.KeyedWorld.{KeyedWorld, new_world, world_of}
-use Rattle.view_world.specs.Watched.{IsWatched, Watched}
+use Rattle.view_world.specs.world.KeyedWorld.{KeyedWorld, new_world, world_of}
+use Rattle.view_world.specs.frames.Watched.{IsWatched, Watched}
 use Rattle.view_world.specs.declared.fault.StepFault.{StepFault}
 use Rattle.view_world.specs.declared.fault.StepFault.TheVariants as fault
 

@@ -9,9 +9,9 @@ use Rattle.stack_worlds.specs.PlainStack as stack_reply
 use Rattle.tool_io.specs.Fetched.{Files}
 use Rattle.whole_tool.specs.Carried.{Carried, Alone, Stacked}
 use Rattle.whole_tool.specs.WatchedStack.{WatchedStack, after_way, costs_of_way, plain_stack, stack_first, watched_first}
-use Rattle.view_world.specs.Step.{Reply, Done, Refused, step}
-use Rattle.view_world.specs.Watched.{LineCosts, Watched, costs_of, no_costs, watched_after}
-use Rattle.view_world.specs.World.{empty_world}
+use Rattle.view_world.specs.world.Step.{Reply, Done, Refused, step}
+use Rattle.view_world.specs.frames.Watched.{LineCosts, Watched, costs_of, no_costs, watched_after}
+use Rattle.view_world.specs.world.World.{empty_world}
 use Rattle.window_stack.specs.StackLines.{PlainLine, stack_line_of}
 
 -- the costs of some lines, and of the lines after them

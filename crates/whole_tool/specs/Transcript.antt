@@ -7,7 +7,7 @@ use Rattle.view_model.specs.Refusals.{refusal_numbered}
 use Rattle.view_model.specs.declared.refusals.TheConstants.{LONG_LINE}
 use Rattle.whole_tool.specs.Carried.{Carried, Alone, Stacked, LineReply, Done, Refused, BytesWant, asked_by_bytes, reply_to_bytes}
 use Rattle.whole_tool.specs.Refusals.{refused_line}
-use Rattle.view_world.specs.World.{empty_world}
+use Rattle.view_world.specs.world.World.{empty_world}
 
 -- what a line does: too long a line is refused whatever it begins with, and one that is passed over does nothing
 unfoldable pub reply_to_line : Files → Carried → Line → LineReply

@@ -12,8 +12,8 @@ ghost use Rattle.whole_tool.specs.Carrier.{IsFirst, WritesLine, carried_of, next
 ghost use Rattle.whole_tool.specs.Run.{HasTallied, IsShort, line_now};
 ghost use Rattle.whole_tool.specs.Tally.{Tally, after_bytes, with_cost};
 ghost use Rattle.whole_tool.specs.Transcript.{Asks, MayWant, asked_by_line, reply_to_line};
-ghost use Rattle.view_world.specs.Carried.{CountsShelf, IsDone, faults_after_line, fetches_after};
-ghost use Rattle.view_world.specs.World.{empty_world};
+ghost use Rattle.view_world.specs.world.Carried.{CountsShelf, IsDone, faults_after_line, fetches_after};
+ghost use Rattle.view_world.specs.world.World.{empty_world};
 
 use script_lines::{LineFault, line};
 use stack_worlds::Stack;

@@ -10,7 +10,7 @@ ghost use Rattle.whole_tool.specs.Focus.{AsksFrom, IsNamed, answer_of, answer_te
 ghost use Rattle.whole_tool.specs.Script.{CountsEnd, ends_counted, reads_counted};
 ghost use Rattle.whole_tool.specs.Works.{trace};
 ghost use Rattle.view_tree.specs.Views.{IsLive, number_of};
-ghost use Rattle.view_world.specs.KeyedWorld.{world_of};
+ghost use Rattle.view_world.specs.world.KeyedWorld.{world_of};
 
 use crate::carrier::Carrier;
 use crate::refusals::{put_counted, put_refused};

@@ -16,8 +16,8 @@ ghost use Rattle.whole_tool.specs.Tally.{costs_of_script, tally_from};
 ghost use Rattle.whole_tool.specs.Tool.{IsOneOf};
 ghost use Rattle.whole_tool.specs.Transcript.{after_lines, max_script};
 ghost use Rattle.whole_tool.specs.Works.{WorksPart};
-ghost use Rattle.view_world.specs.Watched.{IsWorth};
-ghost use Rattle.view_world.specs.World.{empty_world};
+ghost use Rattle.view_world.specs.frames.Watched.{IsWorth};
+ghost use Rattle.view_world.specs.world.World.{empty_world};
 
 use crate::carrier::Carrier;
 use crate::dump::status_of;

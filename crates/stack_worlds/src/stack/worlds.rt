@@ -8,12 +8,12 @@ ghost use Rattle.tool_io.specs.Fetched.{Files};
 ghost use Rattle.view_model.specs.declared.limits.TheConstants.{NUMBERS_END};
 ghost use Rattle.stack_worlds.specs.KeptStack.{HaveNumbers, kept_world, keyed_at, stack_of};
 ghost use Rattle.stack_worlds.specs.PlainStack.{is_none_down, size_in, sizes_of};
-ghost use Rattle.view_world.specs.Carried.{AreAtHand, CountsShelf, IsDone, MayWantMemory, WritesReply, faults_after_line, fetches_after};
-ghost use Rattle.view_world.specs.Inflating.{asked_file};
-ghost use Rattle.view_world.specs.KeyedWorld.{KeyedWorld, new_world, world_of};
+ghost use Rattle.view_world.specs.world.Carried.{AreAtHand, CountsShelf, IsDone, MayWantMemory, WritesReply, faults_after_line, fetches_after};
+ghost use Rattle.view_world.specs.editing.Inflating.{asked_file};
+ghost use Rattle.view_world.specs.world.KeyedWorld.{KeyedWorld, new_world, world_of};
 ghost use Rattle.stack_worlds.specs.WindowLines.{WorksIn};
-ghost use Rattle.view_world.specs.Step.{Done, step};
-ghost use Rattle.view_world.specs.World.{World as PlainWorld};
+ghost use Rattle.view_world.specs.world.Step.{Done, step};
+ghost use Rattle.view_world.specs.world.World.{World as PlainWorld};
 ghost use Rattle.window_stack.specs.PlainPanes.{is_open};
 ghost use Rattle.window_stack.specs.declared.lines.TheConstants.{MAX_PANE};
 

@@ -2,17 +2,17 @@
 ghost use Rattle.std.specs.Prelude.{◌≡◌, ◌≢◌, [], Err, OnErr, OnOk};
 ghost use Rattle.script_lines.specs.PlainCommands.{Hook};
 ghost use Rattle.view_tree.specs.Views.{IsLive, number_of};
-ghost use Rattle.view_world.specs.Changed.{CarriesOut};
-ghost use Rattle.view_world.specs.KeyedScreen.{world_of};
-ghost use Rattle.view_world.specs.Resting.{KeepsBut, KeepsLine};
-ghost use Rattle.view_world.specs.Step.{hooked, step};
-ghost use Rattle.view_world.specs.declared.marks.Effect.TheVariants.{Leaves};
+ghost use Rattle.view_world.specs.screen.Changed.{CarriesOut};
+ghost use Rattle.view_world.specs.screen.KeyedScreen.{world_of};
+ghost use Rattle.view_world.specs.frames.Resting.{KeepsBut, KeepsLine};
+ghost use Rattle.view_world.specs.world.Step.{hooked, step};
+ghost use Rattle.view_world.specs.declared.world.marks.Effect.TheVariants.{Leaves};
 
 use super::Screen;
+use crate::editing::hooking::{may_change_all, numbered_edits, size_at};
+use crate::editing::naming::{resolve, tell_tree};
 use crate::fault::StepFault;
-use crate::hooking::{may_change_all, numbered_edits, size_at};
-use crate::naming::{resolve, tell_tree};
-use crate::response::Response;
+use crate::replying::response::Response;
 use arrayvec::ArrayVec;
 use script_lines::{Asked, Name};
 use view_model::limits::MAX_EDITS;

@@ -2,16 +2,16 @@
 ghost use Rattle.std.specs.Prelude.{◌≡◌, [], OnErr, OnOk};
 ghost use Rattle.std.specs.Option.{option_map};
 ghost use Rattle.script_lines.specs.PlainCommands.{Restore, Save};
-ghost use Rattle.view_world.specs.Changed.{CarriesOut};
-ghost use Rattle.view_world.specs.KeyedScreen.{world_of};
-ghost use Rattle.view_world.specs.Resting.{IsIdle, KeepsLine};
-ghost use Rattle.view_world.specs.Step.{step};
+ghost use Rattle.view_world.specs.screen.Changed.{CarriesOut};
+ghost use Rattle.view_world.specs.screen.KeyedScreen.{world_of};
+ghost use Rattle.view_world.specs.frames.Resting.{IsIdle, KeepsLine};
+ghost use Rattle.view_world.specs.world.Step.{step};
 
 use super::Screen;
+use crate::editing::naming::tell_tree;
 use crate::fault::StepFault;
-use crate::naming::tell_tree;
-use crate::response::Response;
-use crate::stating::{bytes_of, state_of, take_up};
+use crate::replying::response::Response;
+use crate::saving::{bytes_of, state_of, take_up};
 use saved_state::save;
 use std::alloc::Global;
 use view_model::Refusal;

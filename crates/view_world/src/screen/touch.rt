@@ -2,24 +2,24 @@
 ghost use Rattle.std.specs.Prelude.{◌≡◌, ◌≢◌, ◌<◌, [], Err, Ok, OnErr, OnOk};
 ghost use Rattle.script_lines.specs.PlainCommands.{Cancel, Disallow, Down, Move, Up};
 ghost use Rattle.touch_event.specs.declared.event.TheConstants.{MAX_POINTERS};
-ghost use Rattle.view_world.specs.Changed.{CarriesOut, IsTouchable};
-ghost use Rattle.view_world.specs.KeyedScreen.{world_of};
-ghost use Rattle.view_world.specs.Pointers.{AreDown};
-ghost use Rattle.view_world.specs.Resting.{IsIdle, KeepsBut, KeepsLine};
-ghost use Rattle.view_world.specs.Step.{after_event, step};
-ghost use Rattle.view_world.specs.Seen.{deliveries_of, scrolled_in};
-ghost use Rattle.view_world.specs.declared.marks.Effect.TheVariants.{Touches};
-ghost use Rattle.view_world.specs.declared.stage.Stage.TheVariants.{Settled};
+ghost use Rattle.view_world.specs.screen.Changed.{CarriesOut, IsTouchable};
+ghost use Rattle.view_world.specs.screen.KeyedScreen.{world_of};
+ghost use Rattle.view_world.specs.touching.Pointers.{AreDown};
+ghost use Rattle.view_world.specs.frames.Resting.{IsIdle, KeepsBut, KeepsLine};
+ghost use Rattle.view_world.specs.world.Step.{after_event, step};
+ghost use Rattle.view_world.specs.frames.Seen.{deliveries_of, scrolled_in};
+ghost use Rattle.view_world.specs.declared.world.marks.Effect.TheVariants.{Touches};
+ghost use Rattle.view_world.specs.declared.screen.stage.Stage.TheVariants.{Settled};
 
 use super::Screen;
+use crate::editing::naming::resolve;
 use crate::fault::StepFault;
-use crate::naming::resolve;
-use crate::pointers::{
+use crate::replying::response::Response;
+use crate::screen::stage::Stage;
+use crate::touching::gesture::{disallow_from, slop_at};
+use crate::touching::pointers::{
     down_action, event_at, event_of, is_pressed, set_points, up_action, without_point,
 };
-use crate::response::Response;
-use crate::stage::Stage;
-use crate::touching::{disallow_from, slop_at};
 use script_lines::Name;
 use seen_edits::note_scrolled;
 use touch_dispatch::dispatch;

@@ -4,13 +4,13 @@ ghost use Rattle.std.specs.Prelude.{◌≡◌, ◌↔◌, ℕ, [], IfSome};
 ghost use Rattle.std.specs.Option.{is_some};
 ghost use Rattle.touch_event.specs.PointerSets.{has_id};
 ghost use Rattle.view_tree.specs.Views.{geometry_of};
-ghost use Rattle.view_world.specs.KeyedScreen.{window_of};
-ghost use Rattle.view_world.specs.KeyedWorld.{world_of};
-ghost use Rattle.view_world.specs.Pointers.{is_pressed};
-ghost use Rattle.view_world.specs.declared.stage.Stage.TheVariants.{Settled};
+ghost use Rattle.view_world.specs.screen.KeyedScreen.{window_of};
+ghost use Rattle.view_world.specs.world.KeyedWorld.{world_of};
+ghost use Rattle.view_world.specs.touching.Pointers.{is_pressed};
+ghost use Rattle.view_world.specs.declared.screen.stage.Stage.TheVariants.{Settled};
 
 use super::World;
-use crate::stage::Stage;
+use crate::screen::stage::Stage;
 use geom_core::Size;
 use pixel_raster::Surface;
 use view_tree::ViewTree;

@@ -7,7 +7,7 @@ use Rattle.whole_tool.specs.WorksWith.{WorksWithFrom}
 use Rattle.whole_tool.proofs.CostLaws.{works_with}
 use Rattle.whole_tool.proofs.StatusLaws.{ends_known, ends_read}
 use Rattle.whole_tool.proofs.ToolLaws.{ends_whole, runs_with, shelf_by_status, shelf_later, sink_by_status, source_by_status}
-use Rattle.view_world.specs.World.{empty_world}
+use Rattle.view_world.specs.world.World.{empty_world}
 use Rattle.whole_tool.proofs.whole.run.Goals as goal
 
 pub returns-clause-runs : goal.returns-clause-runs

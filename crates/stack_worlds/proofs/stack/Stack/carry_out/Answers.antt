@@ -3,7 +3,7 @@ use Rattle.stack_worlds.proofs.stack.Stack.carry_out.Goals as goal
 use Rattle.stack_worlds.specs.KeptStack.{stack_of}
 use Rattle.stack_worlds.specs.PlainStack.{PlainWay, asked_on, by_way}
 use Rattle.stack_worlds.specs.StackCarried.{WritesStack}
-use Rattle.view_world.specs.Carried.{AreAtHand, fetches_after}
+use Rattle.view_world.specs.world.Carried.{AreAtHand, fetches_after}
 
 pub returns-in-Given-clause-carried : goal.returns-in-Given-clause-carried
 returns-in-Given-clause-carried g c files hand =

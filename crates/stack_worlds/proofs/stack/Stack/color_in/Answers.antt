@@ -6,7 +6,7 @@ use Rattle.stack_worlds.proofs.ComposedLaws.{black_there, color_same, color_ther
 use Rattle.stack_worlds.proofs.stack.Stack.color_in.Goals as goal
 use Rattle.stack_worlds.specs.KeptStack.{KeyedStack}
 use Rattle.stack_worlds.specs.PlainStack.{color_from}
-use Rattle.view_world.specs.KeyedWorld.{KeyedWorld, world_of}
+use Rattle.view_world.specs.world.KeyedWorld.{KeyedWorld, world_of}
 use Rattle.window_stack.specs.PlainPanes.{corner_of}
 
 pub returns-in-Some : goal.returns-in-Some

@@ -6,7 +6,7 @@ use Rattle.stack_worlds.proofs.OpenLaws.{has_opened, has_same, set_keeps}
 use Rattle.stack_worlds.proofs.stack.Stack.set.Goals as goal
 use Rattle.stack_worlds.specs.KeptStack.{HasWorlds, KeyedStack, kept_world, stack_of}
 use Rattle.stack_worlds.specs.PlainStack.{placed_at}
-use Rattle.view_world.specs.KeyedWorld.{new_world}
+use Rattle.view_world.specs.world.KeyedWorld.{new_world}
 use Rattle.window_stack.specs.PlainPanes.{PlainPanes, is_open, set_at}
 
 pub invariant_of-self : goal.invariant_of-self

@@ -5,7 +5,7 @@ use Rattle.stack_worlds.proofs.SizeLaws.{read_each}
 use Rattle.stack_worlds.proofs.stack.Stack.sizes.Goals as goal
 use Rattle.stack_worlds.specs.KeptStack.{KeyedStack, kept_world, stack_of}
 use Rattle.stack_worlds.specs.PlainStack.{size_in, sizes_of}
-use Rattle.view_world.specs.KeyedWorld.{world_of}
+use Rattle.view_world.specs.world.KeyedWorld.{world_of}
 
 pub returns : goal.returns
 returns c =

@@ -1,7 +1,7 @@
 use Rattle.std.proofs.Common.{◌∙◌, ◌<◌, ap, subst, sym, inl, inr}
 use Rattle.std.specs.Prelude.{Option, IfSome, Some, slice_set}
 use Rattle.view_model.specs.declared.limits.TheConstants.{NUMBERS_END}
-use Rattle.view_world.specs.KeyedWorld.{KeyedWorld}
+use Rattle.view_world.specs.world.KeyedWorld.{KeyedWorld}
 use Rattle.stack_worlds.specs.KeptStack.{HasWorlds, KeyedStack, keyed_at}
 use Rattle.stack_worlds.proofs.PlaceLaws.{place_is, place_kept, place_same, place_set}
 use Rattle.stack_worlds.proofs.StackLaws.{there}

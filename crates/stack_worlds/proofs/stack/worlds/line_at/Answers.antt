@@ -2,10 +2,10 @@ use Rattle.std.proofs.Common.{◌∙◌, ap, refl, subst, sym}
 use Rattle.script_lines.specs.PlainCommands.{plain_command}
 use Rattle.stack_worlds.specs.KeptStack.{kept_world}
 use Rattle.stack_worlds.specs.WindowLines.{WorksIn}
-use Rattle.view_world.specs.Carried.{AreAtHand, WritesReply, fetches_after}
-use Rattle.view_world.specs.Inflating.{asked_file}
-use Rattle.view_world.specs.KeyedWorld.{KeyedWorld, world_of}
-use Rattle.view_world.specs.Step.{step}
+use Rattle.view_world.specs.world.Carried.{AreAtHand, WritesReply, fetches_after}
+use Rattle.view_world.specs.editing.Inflating.{asked_file}
+use Rattle.view_world.specs.world.KeyedWorld.{KeyedWorld, world_of}
+use Rattle.view_world.specs.world.Step.{step}
 use Rattle.stack_worlds.proofs.PlaceLaws.{some_of}
 use Rattle.stack_worlds.proofs.stack.worlds.line_at.Goals as goal
 

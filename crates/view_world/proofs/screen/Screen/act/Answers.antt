@@ -1,11 +1,11 @@
 use Rattle.std.proofs.Common.{◌≡◌, false, ap}
 use Rattle.tree_edits.specs.Editing.{hides}
 use Rattle.view_tree.specs.Views.{number_of}
-use Rattle.view_world.specs.KeyedScreen.{KeyedScreen, world_of}
-use Rattle.view_world.specs.Step.{acted}
-use Rattle.view_world.proofs.WorldLaws.{Changed-acted, Changed-on}
-use Rattle.view_world.proofs.OffsetLaws.{bounds_within}
-use Rattle.view_world.proofs.NamedLaws.{named_on}
+use Rattle.view_world.specs.screen.KeyedScreen.{KeyedScreen, world_of}
+use Rattle.view_world.specs.world.Step.{acted}
+use Rattle.view_world.proofs.worlds.WorldLaws.{Changed-acted, Changed-on}
+use Rattle.view_world.proofs.states.OffsetLaws.{bounds_within}
+use Rattle.view_world.proofs.edits.NamedLaws.{named_on}
 use Rattle.view_world.proofs.screen.Screen.act.Goals as goal
 
 pub edit-requires-clause-scrolls : goal.edit-requires-clause-scrolls

@@ -1,8 +1,8 @@
 use Rattle.std.proofs.Common.{ap}
 use Rattle.std.proofs.lemmas.Int.{to_z-of_z}
-use Rattle.view_world.specs.KeyedScreen.{KeyedScreen}
-use Rattle.view_world.proofs.WorldLaws.{Changed-on}
-use Rattle.view_world.proofs.NamedLaws.{named_on}
+use Rattle.view_world.specs.screen.KeyedScreen.{KeyedScreen}
+use Rattle.view_world.proofs.worlds.WorldLaws.{Changed-on}
+use Rattle.view_world.proofs.edits.NamedLaws.{named_on}
 use Rattle.view_world.proofs.screen.Screen.add.Goals as goal
 
 pub returns-clause-changed : goal.returns-clause-changed

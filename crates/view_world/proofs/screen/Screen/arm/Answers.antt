@@ -3,19 +3,19 @@ use Rattle.std.specs.Prelude.{Err, None, Ok, Result, length}
 use Rattle.size_hooks.specs.Hooks.{hook_of}
 use Rattle.view_model.specs.declared.limits.TheConstants.{MAX_HOOKS}
 use Rattle.view_tree.specs.Views.{number_of}
-use Rattle.view_world.specs.Changed.{CarriesOut}
-use Rattle.view_world.specs.KeyedScreen.{KeyedScreen, geometry_in, world_of}
-use Rattle.view_world.specs.Sound.{keyed}
-use Rattle.view_world.specs.Step.{Refused, hooked, size_in}
+use Rattle.view_world.specs.screen.Changed.{CarriesOut}
+use Rattle.view_world.specs.screen.KeyedScreen.{KeyedScreen, geometry_in, world_of}
+use Rattle.view_world.specs.screen.Sound.{keyed}
+use Rattle.view_world.specs.world.Step.{Refused, hooked, size_in}
 use Rattle.view_world.specs.declared.fault.StepFault.{StepFault}
 use Rattle.view_world.specs.declared.fault.StepFault.TheVariants as fault
-use Rattle.view_world.specs.declared.response.Response.{Response}
-use Rattle.view_world.specs.declared.response.Response.TheVariants as response
-use Rattle.view_world.proofs.HookLaws.{armed_world, full_world}
+use Rattle.view_world.specs.declared.replying.response.Response.{Response}
+use Rattle.view_world.specs.declared.replying.response.Response.TheVariants as response
+use Rattle.view_world.proofs.edits.HookLaws.{armed_world, full_world}
 use Rattle.std.specs.Prelude.{OnOk}
-use Rattle.view_world.proofs.RestLaws.{armed_keeps}
-use Rattle.view_world.specs.Resting.{KeepsBut}
-use Rattle.view_world.specs.declared.marks.Effect.TheVariants.{Leaves}
+use Rattle.view_world.proofs.frames.RestLaws.{armed_keeps}
+use Rattle.view_world.specs.frames.Resting.{KeepsBut}
+use Rattle.view_world.specs.declared.world.marks.Effect.TheVariants.{Leaves}
 use Rattle.view_world.proofs.screen.Screen.arm.Goals.{in-Ok, in-Err}
 use Rattle.view_world.proofs.screen.Screen.arm.Goals as goal
 

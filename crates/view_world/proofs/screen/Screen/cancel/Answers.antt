@@ -1,8 +1,8 @@
 use Rattle.std.proofs.Common.{◌≡◌, [], false, refl, sym, ◌∙◌, ap}
 use Rattle.touch_dispatch.specs.Handling.{is_nil}
-use Rattle.view_world.specs.KeyedScreen.{KeyedScreen}
-use Rattle.view_world.proofs.LeaveLaws.{nil-length}
-use Rattle.view_world.proofs.TouchLaws.{Changed-cancel}
+use Rattle.view_world.specs.screen.KeyedScreen.{KeyedScreen}
+use Rattle.view_world.proofs.edits.LeaveLaws.{nil-length}
+use Rattle.view_world.proofs.touches.TouchLaws.{Changed-cancel}
 use Rattle.view_world.proofs.screen.Screen.cancel.Goals as goal
 
 pub returns-clause-changed : goal.returns-clause-changed

@@ -2,10 +2,10 @@ use Rattle.std.proofs.Common.{FitsSigned, w32, arith}
 use Rattle.std.proofs.lemmas.Int.{ints, to_z-of_z}
 use Rattle.script_lines.specs.Pixels.{IsPart}
 use Rattle.script_lines.specs.Touches.{IsTouchInBounds}
-use Rattle.view_world.proofs.CommandLaws.{restore_plain}
+use Rattle.view_world.proofs.states.CommandLaws.{restore_plain}
 use Rattle.std.proofs.Common.{[]}
-use Rattle.view_world.proofs.RestLaws.{idle_keeps, idle_same, idle_still, ok_any, ok_then, window_keeps}
-use Rattle.view_world.specs.declared.marks.Effect.TheVariants.{Leaves}
+use Rattle.view_world.proofs.frames.RestLaws.{idle_keeps, idle_same, idle_still, ok_any, ok_then, window_keeps}
+use Rattle.view_world.specs.declared.world.marks.Effect.TheVariants.{Leaves}
 use Rattle.view_world.proofs.screen.Screen.carry_out.Goals as goal
 
 pub returns-in-Down-clause-changed : goal.returns-in-Down-clause-changed

@@ -2,9 +2,9 @@ use Rattle.std.specs.Prelude.{Err}
 use Rattle.std.proofs.Common.{◌≡◌, []}
 use Rattle.std.proofs.lemmas.Result.{err_from_is_err_and}
 use Rattle.script_lines.specs.PlainCommands.{plain_command}
-use Rattle.view_world.specs.KeyedScreen.{world_of}
-use Rattle.view_world.specs.Step.{step}
-use Rattle.view_world.proofs.AfterLineLaws.{reported, sinkless, undone}
+use Rattle.view_world.specs.screen.KeyedScreen.{world_of}
+use Rattle.view_world.specs.world.Step.{step}
+use Rattle.view_world.proofs.worlds.AfterLineLaws.{reported, sinkless, undone}
 use Rattle.view_world.proofs.screen.Screen.command.Goals as goal
 
 pub returns-clause-carried : goal.returns-clause-carried

@@ -5,15 +5,15 @@ use Rattle.view_model.specs.Refusals.{plain_refusal}
 use Rattle.view_tree.specs.Views.{number_of, plain_of, view_at}
 use Rattle.view_tree.proofs.forest.PlainLaws.{number_there}
 use Rattle.touch_dispatch.specs.Kept.{gesture_of}
-use Rattle.view_world.specs.Changed.{CarriesOut}
-use Rattle.view_world.specs.KeyedScreen.{KeyedScreen, world_of}
-use Rattle.view_world.specs.Sound.{keyed}
-use Rattle.view_world.specs.Step.{disallow_told, Refused}
-use Rattle.view_world.specs.Touching.{ancestors_of}
+use Rattle.view_world.specs.screen.Changed.{CarriesOut}
+use Rattle.view_world.specs.screen.KeyedScreen.{KeyedScreen, world_of}
+use Rattle.view_world.specs.screen.Sound.{keyed}
+use Rattle.view_world.specs.world.Step.{disallow_told, Refused}
+use Rattle.view_world.specs.touching.Touching.{ancestors_of}
 use Rattle.view_world.specs.declared.fault.StepFault.TheVariants as fault
-use Rattle.view_world.specs.declared.response.Response.TheVariants as response
-use Rattle.view_world.proofs.TouchLaws.{Changed-disallow, Refused-disallow, closed_along, gesture_along, targets-disallowed}
-use Rattle.view_world.proofs.WorldLaws.{Changed-on}
+use Rattle.view_world.specs.declared.replying.response.Response.TheVariants as response
+use Rattle.view_world.proofs.touches.TouchLaws.{Changed-disallow, Refused-disallow, closed_along, gesture_along, targets-disallowed}
+use Rattle.view_world.proofs.worlds.WorldLaws.{Changed-on}
 use Rattle.view_world.proofs.screen.Screen.disallow.Goals as goal
 
 pub returns-then-not-is_group-clause-changed : goal.returns-then-not-is_group-clause-changed

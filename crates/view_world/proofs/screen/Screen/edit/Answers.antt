@@ -3,21 +3,21 @@ use Rattle.std.specs.Prelude.{Result}
 use Rattle.damage_rect.specs.declared.bounding.Damage.{Damage}
 use Rattle.tree_edits.specs.Applied.{numbered}
 use Rattle.tree_edits.proofs.KeepLaws.{numbers_kept}
-use Rattle.view_world.specs.Changed.{CarriesOut}
-use Rattle.view_world.specs.Step.{after_edit}
-use Rattle.view_world.specs.KeyedScreen.{KeyedScreen, world_of}
+use Rattle.view_world.specs.screen.Changed.{CarriesOut}
+use Rattle.view_world.specs.world.Step.{after_edit}
+use Rattle.view_world.specs.screen.KeyedScreen.{KeyedScreen, world_of}
 use Rattle.view_world.specs.declared.fault.StepFault.{StepFault}
-use Rattle.view_world.specs.declared.response.Response.{Response}
-use Rattle.view_world.specs.Sound.{keyed}
-use Rattle.view_world.proofs.FitLaws.{fits_applied}
-use Rattle.view_world.proofs.SoundLaws.{result_stays, sound_stays}
-use Rattle.view_world.proofs.WorldLaws.{Changed-edit, at_stage}
-use Rattle.view_world.proofs.OffsetLaws.{offsets_edited}
+use Rattle.view_world.specs.declared.replying.response.Response.{Response}
+use Rattle.view_world.specs.screen.Sound.{keyed}
+use Rattle.view_world.proofs.worlds.FitLaws.{fits_applied}
+use Rattle.view_world.proofs.worlds.SoundLaws.{result_stays, sound_stays}
+use Rattle.view_world.proofs.worlds.WorldLaws.{Changed-edit, at_stage}
+use Rattle.view_world.proofs.states.OffsetLaws.{offsets_edited}
 use Rattle.std.specs.Prelude.{OnOk}
 use Rattle.tree_edits.specs.Applied.{IsEdit}
-use Rattle.view_world.proofs.EditRest.{edit_keeps}
-use Rattle.view_world.proofs.RestLaws.{ok_any, responded}
-use Rattle.view_world.specs.Resting.{KeepsEdit}
+use Rattle.view_world.proofs.frames.EditRest.{edit_keeps}
+use Rattle.view_world.proofs.frames.RestLaws.{ok_any, responded}
+use Rattle.view_world.specs.frames.Resting.{KeepsEdit}
 use Rattle.view_world.proofs.screen.Screen.edit.Goals as goal
 
 pub returns-clause-changed : goal.returns-clause-changed

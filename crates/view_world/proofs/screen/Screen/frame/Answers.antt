@@ -10,23 +10,23 @@ use Rattle.geom_core.specs.declared.geometry.Size.{Size}
 use Rattle.traversal.proofs.ShapeLaws.{count_of-same}
 use Rattle.traversal.specs.Frames.{after_frame as frame_of}
 use Rattle.traversal.specs.Covering.{HasShifted}
-use Rattle.view_world.proofs.ShiftLaws.{shifted_in}
+use Rattle.view_world.proofs.frames.ShiftLaws.{shifted_in}
 use Rattle.pixel_raster.specs.Raster.{size_of}
 use Rattle.view_tree.specs.Views.{geometry_of, plain_of}
-use Rattle.view_world.specs.Counting.{RisesWithin, paint_bound}
-use Rattle.view_world.specs.Replies.{framed_text}
-use Rattle.view_world.specs.Step.{Done, framed, picture_in}
-use Rattle.view_world.specs.KeyedScreen.{KeyedScreen, window_of, world_of}
-use Rattle.view_world.specs.declared.stage.Stage.TheVariants.{Unsettled, Settled}
-use Rattle.view_world.specs.Sound.{keyed}
+use Rattle.view_world.specs.frames.Counting.{RisesWithin, paint_bound}
+use Rattle.view_world.specs.replying.Replies.{framed_text}
+use Rattle.view_world.specs.world.Step.{Done, framed, picture_in}
+use Rattle.view_world.specs.screen.KeyedScreen.{KeyedScreen, window_of, world_of}
+use Rattle.view_world.specs.declared.screen.stage.Stage.TheVariants.{Unsettled, Settled}
+use Rattle.view_world.specs.screen.Sound.{keyed}
 use Rattle.seen_edits.proofs.ShownLaws.{shows_framed, shows_none}
 use Rattle.view_model.specs.Forest.{count_of}
-use Rattle.view_world.proofs.FrameLaws.{Changed-settled, Changed-unsettled, is_false, is_true, paints_within, rises_all, sound_framed}
-use Rattle.view_world.proofs.WorldLaws.{window-size}
-use Rattle.view_world.proofs.OffsetLaws.{offsets_framed}
-use Rattle.view_world.proofs.FrameLaws.{damage_most, frame_done, still_clean, still_lain, still_shown, still_work, unsettled_paints}
+use Rattle.view_world.proofs.frames.FrameLaws.{Changed-settled, Changed-unsettled, is_false, is_true, paints_within, rises_all, sound_framed}
+use Rattle.view_world.proofs.worlds.WorldLaws.{window-size}
+use Rattle.view_world.proofs.states.OffsetLaws.{offsets_framed}
+use Rattle.view_world.proofs.frames.FrameLaws.{damage_most, frame_done, still_clean, still_lain, still_shown, still_work, unsettled_paints}
 use Rattle.traversal.specs.Resting.{IsAtRest}
-use Rattle.view_world.specs.Resting.{IsFrameDone, IsShown}
+use Rattle.view_world.specs.frames.Resting.{IsFrameDone, IsShown}
 use Rattle.view_world.proofs.screen.Screen.frame.Goals as goal
 
 pub invariant_of-self : goal.invariant_of-self

@@ -8,21 +8,21 @@ use Rattle.view_model.specs.Grafts.{graft_refusal}
 use Rattle.view_tree.specs.Faults.{IsRefusedOrCyclic}
 use Rattle.view_model.specs.declared.fault.Fault.{Fault}
 use Rattle.view_tree.specs.Views.{number_of, plain_of}
-use Rattle.view_world.proofs.FreshLaws.{are_free}
-use Rattle.view_world.proofs.GraftingLaws.{graft_told, sound_grafted}
-use Rattle.view_world.proofs.GrowingLaws.{carried_with, same_world, sound_same}
-use Rattle.view_world.proofs.InflatingLaws.{grafted_world, place_number}
-use Rattle.view_world.specs.Changed.{CarriesOut, IsPlace}
-use Rattle.view_world.specs.KeyedScreen.{KeyedScreen, world_of}
-use Rattle.view_world.specs.Places.{AreFree, AreOpened}
-use Rattle.view_world.specs.Sound.{keyed}
-use Rattle.view_world.specs.Step.{graft_reason, grafted}
-use Rattle.view_world.specs.declared.response.Response.TheVariants as response
-use Rattle.view_world.proofs.OffsetLaws.{offsets_grafted}
-use Rattle.view_world.proofs.AskedLaws.{graft_keeps}
-use Rattle.view_world.specs.Asked.{listed}
-use Rattle.view_world.specs.Resting.{KeepsBut}
-use Rattle.view_world.specs.declared.marks.Effect.TheVariants.{Asks}
+use Rattle.view_world.proofs.edits.FreshLaws.{are_free}
+use Rattle.view_world.proofs.edits.GraftingLaws.{graft_told, sound_grafted}
+use Rattle.view_world.proofs.edits.GrowingLaws.{carried_with, same_world, sound_same}
+use Rattle.view_world.proofs.edits.InflatingLaws.{grafted_world, place_number}
+use Rattle.view_world.specs.screen.Changed.{CarriesOut, IsPlace}
+use Rattle.view_world.specs.screen.KeyedScreen.{KeyedScreen, world_of}
+use Rattle.view_world.specs.editing.Places.{AreFree, AreOpened}
+use Rattle.view_world.specs.screen.Sound.{keyed}
+use Rattle.view_world.specs.world.Step.{graft_reason, grafted}
+use Rattle.view_world.specs.declared.replying.response.Response.TheVariants as response
+use Rattle.view_world.proofs.states.OffsetLaws.{offsets_grafted}
+use Rattle.view_world.proofs.frames.AskedLaws.{graft_keeps}
+use Rattle.view_world.specs.frames.Asked.{listed}
+use Rattle.view_world.specs.frames.Resting.{KeepsBut}
+use Rattle.view_world.specs.declared.world.marks.Effect.TheVariants.{Asks}
 use Rattle.std.specs.Prelude.{IfSome}
 use Rattle.view_tree.specs.Views.{IsLive}
 use Rattle.view_world.proofs.screen.Screen.graft.Goals as goal

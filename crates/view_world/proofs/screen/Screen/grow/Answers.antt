@@ -11,25 +11,25 @@ use Rattle.tree_edits.specs.Keeping.{KeepsViews}
 use Rattle.tree_edits.specs.declared.edits.Edit.TheVariants as edit
 use Rattle.view_model.specs.Directed.{rtl_at, running}
 use Rattle.view_tree.specs.Views.{number_of, plain_of}
-use Rattle.view_world.proofs.FitLaws.{fits_applied}
-use Rattle.view_world.proofs.GrownShown.{nowhere_next, shown_come}
+use Rattle.view_world.proofs.worlds.FitLaws.{fits_applied}
+use Rattle.view_world.proofs.edits.GrownShown.{nowhere_next, shown_come}
 use Rattle.pixel_raster.specs.Raster.{size_of}
 use Rattle.view_model.specs.PlainTree.{single}
-use Rattle.view_world.proofs.GrowingLaws.{addable_root, carried_with, failed, grown_as, grown_nowhere, plain_root, made_well, on_err, place_back, refused_still, same_world, sound_grown, sound_same}
-use Rattle.view_world.proofs.OpeningLaws.{done}
-use Rattle.view_world.proofs.WorldLaws.{Changed-edit, at_stage}
-use Rattle.view_world.specs.Changed.{CarriesOut}
-use Rattle.view_world.specs.KeyedScreen.{KeyedScreen, world_of}
-use Rattle.view_world.specs.Responses.{response_of}
-use Rattle.view_world.specs.Sound.{keyed}
-use Rattle.view_world.specs.Step.{after_edit}
+use Rattle.view_world.proofs.edits.GrowingLaws.{addable_root, carried_with, failed, grown_as, grown_nowhere, plain_root, made_well, on_err, place_back, refused_still, same_world, sound_grown, sound_same}
+use Rattle.view_world.proofs.edits.OpeningLaws.{done}
+use Rattle.view_world.proofs.worlds.WorldLaws.{Changed-edit, at_stage}
+use Rattle.view_world.specs.screen.Changed.{CarriesOut}
+use Rattle.view_world.specs.screen.KeyedScreen.{KeyedScreen, world_of}
+use Rattle.view_world.specs.replying.Responses.{response_of}
+use Rattle.view_world.specs.screen.Sound.{keyed}
+use Rattle.view_world.specs.world.Step.{after_edit}
 use Rattle.view_world.specs.declared.fault.StepFault.{StepFault}
-use Rattle.view_world.specs.declared.response.Response.{Response}
-use Rattle.view_world.proofs.OffsetLaws.{offsets_edited}
-use Rattle.view_world.proofs.EditRest.{loud_keeps}
-use Rattle.view_world.proofs.LeaveLaws.{scrolls_none}
-use Rattle.view_world.proofs.RestLaws.{ok_any}
-use Rattle.view_world.specs.Resting.{KeepsEdit}
+use Rattle.view_world.specs.declared.replying.response.Response.{Response}
+use Rattle.view_world.proofs.states.OffsetLaws.{offsets_edited}
+use Rattle.view_world.proofs.frames.EditRest.{loud_keeps}
+use Rattle.view_world.proofs.edits.LeaveLaws.{scrolls_none}
+use Rattle.view_world.proofs.frames.RestLaws.{ok_any}
+use Rattle.view_world.specs.frames.Resting.{KeepsEdit}
 use Rattle.std.specs.Prelude.{OnOk}
 use Rattle.view_world.proofs.screen.Screen.grow.Goals as goal
 use Rattle.view_world.proofs.screen.Screen.grow.Goals.{then-is_err, else-is_err}

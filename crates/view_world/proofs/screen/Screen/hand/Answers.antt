@@ -6,19 +6,19 @@ use Rattle.pixel_raster.specs.Raster.{size_of}
 use Rattle.touch_event.specs.declared.event.Point.{Point}
 use Rattle.seen_edits.proofs.ScrolledLaws.{shown_scrolled, logs_by}
 use Rattle.seen_edits.proofs.ShownLaws.{shows_on}
-use Rattle.view_world.specs.Changed.{CarriesOut}
-use Rattle.view_world.specs.KeyedScreen.{KeyedScreen, world_of}
-use Rattle.view_world.specs.Sound.{keyed}
-use Rattle.view_world.specs.Step.{after_event}
-use Rattle.view_world.specs.declared.response.Response.TheVariants as response
-use Rattle.view_world.proofs.EventLaws.{delivered, handed, room_cleared, sound_scrolled}
-use Rattle.view_world.proofs.SeenLaws.{scrolled_seen}
-use Rattle.view_world.specs.Seen.{deliveries_of, scrolled_in}
-use Rattle.view_world.proofs.OffsetLaws.{offsets_scrolled}
-use Rattle.view_world.proofs.PointerLaws.{few}
-use Rattle.view_world.proofs.RestLaws.{scrolls_keep}
-use Rattle.view_world.specs.Resting.{AreSeenIn, KeepsBut}
-use Rattle.view_world.specs.declared.marks.Effect.TheVariants.{Touches}
+use Rattle.view_world.specs.screen.Changed.{CarriesOut}
+use Rattle.view_world.specs.screen.KeyedScreen.{KeyedScreen, world_of}
+use Rattle.view_world.specs.screen.Sound.{keyed}
+use Rattle.view_world.specs.world.Step.{after_event}
+use Rattle.view_world.specs.declared.replying.response.Response.TheVariants as response
+use Rattle.view_world.proofs.touches.EventLaws.{delivered, handed, room_cleared, sound_scrolled}
+use Rattle.view_world.proofs.frames.SeenLaws.{scrolled_seen}
+use Rattle.view_world.specs.frames.Seen.{deliveries_of, scrolled_in}
+use Rattle.view_world.proofs.states.OffsetLaws.{offsets_scrolled}
+use Rattle.view_world.proofs.touches.PointerLaws.{few}
+use Rattle.view_world.proofs.frames.RestLaws.{scrolls_keep}
+use Rattle.view_world.specs.frames.Resting.{AreSeenIn, KeepsBut}
+use Rattle.view_world.specs.declared.world.marks.Effect.TheVariants.{Touches}
 use Rattle.view_world.proofs.screen.Screen.hand.Goals as goal
 
 pub dispatch-yes-requires-clause-room : goal.dispatch-yes-requires-clause-room

@@ -6,26 +6,26 @@ use Rattle.tree_edits.specs.declared.edits.Edit.TheVariants as edit
 use Rattle.view_model.specs.Forest.{Forest}
 use Rattle.view_tree.specs.Rows.{Row, count_of_key}
 use Rattle.view_tree.specs.Views.{SameTree, number_of, plain_of}
-use Rattle.view_world.specs.Changed.{CarriesOut}
-use Rattle.view_world.specs.KeyedScreen.{KeyedScreen, world_of}
-use Rattle.view_world.specs.Sound.{keyed}
-use Rattle.view_world.specs.Step.{acted}
-use Rattle.view_world.specs.Touching.{after_progress, leaving}
-use Rattle.view_world.specs.declared.response.Response.{Response}
-use Rattle.view_world.proofs.EditedCaught.{edit_stays}
-use Rattle.view_world.proofs.FitLaws.{fits_edited}
-use Rattle.view_world.proofs.LeaveLaws.{Changed-hide, hide_done}
-use Rattle.view_world.proofs.SoundLaws.{sound_stays}
-use Rattle.view_world.proofs.OffsetLaws.{hides_within, offsets_edited}
+use Rattle.view_world.specs.screen.Changed.{CarriesOut}
+use Rattle.view_world.specs.screen.KeyedScreen.{KeyedScreen, world_of}
+use Rattle.view_world.specs.screen.Sound.{keyed}
+use Rattle.view_world.specs.world.Step.{acted}
+use Rattle.view_world.specs.touching.Touching.{after_progress, leaving}
+use Rattle.view_world.specs.declared.replying.response.Response.{Response}
+use Rattle.view_world.proofs.touches.EditedCaught.{edit_stays}
+use Rattle.view_world.proofs.worlds.FitLaws.{fits_edited}
+use Rattle.view_world.proofs.edits.LeaveLaws.{Changed-hide, hide_done}
+use Rattle.view_world.proofs.worlds.SoundLaws.{sound_stays}
+use Rattle.view_world.proofs.states.OffsetLaws.{hides_within, offsets_edited}
 use Rattle.damage_rect.specs.Within.{LiesIn}
 use Rattle.damage_rect.specs.declared.bounding.Damage.{Damage}
 use Rattle.geom_core.specs.declared.geometry.Rect.{Rect}
 use Rattle.pixel_raster.specs.Raster.{size_of}
-use Rattle.view_world.proofs.EditRest.{edited_same, hides_asks, loud_keeps, within_edit}
-use Rattle.view_world.proofs.SceneLaws.{scrolls_geometry}
-use Rattle.view_world.proofs.SeenLaws.{seen_mid}
-use Rattle.view_world.specs.Resting.{AreSeenIn}
-use Rattle.view_world.specs.Seen.{numbers_edited}
+use Rattle.view_world.proofs.frames.EditRest.{edited_same, hides_asks, loud_keeps, within_edit}
+use Rattle.view_world.proofs.touches.SceneLaws.{scrolls_geometry}
+use Rattle.view_world.proofs.frames.SeenLaws.{seen_mid}
+use Rattle.view_world.specs.frames.Resting.{AreSeenIn}
+use Rattle.view_world.specs.frames.Seen.{numbers_edited}
 use Rattle.view_tree.proofs.values.KeptLaws.{is_tree-same}
 use Rattle.touch_dispatch.specs.TreeEvents.{OnlyScrolls}
 use Rattle.view_tree.specs.Views.{IsTree}

@@ -1,11 +1,11 @@
 use Rattle.std.proofs.Common.{◌≡◌, ℕ, true, ap, sym, subst, ◌∙◌}
 use Rattle.std.specs.Prelude.{Some}
 use Rattle.view_tree.specs.Views.{number_of, plain_of}
-use Rattle.view_world.specs.KeyedScreen.{KeyedScreen, world_of}
-use Rattle.view_world.specs.Sound.{keyed}
-use Rattle.view_world.specs.Step.{hook_asked, hooked, numbered_edits}
-use Rattle.view_world.proofs.HookLaws.{are_made, asked_well}
-use Rattle.view_world.proofs.WorldLaws.{Changed-as, Changed-on}
+use Rattle.view_world.specs.screen.KeyedScreen.{KeyedScreen, world_of}
+use Rattle.view_world.specs.screen.Sound.{keyed}
+use Rattle.view_world.specs.world.Step.{hook_asked, hooked, numbered_edits}
+use Rattle.view_world.proofs.edits.HookLaws.{are_made, asked_well}
+use Rattle.view_world.proofs.worlds.WorldLaws.{Changed-as, Changed-on}
 use Rattle.view_world.proofs.screen.Screen.hook.Goals as goal
 
 pub returns-clause-changed : goal.returns-clause-changed

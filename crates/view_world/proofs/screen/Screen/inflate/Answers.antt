@@ -1,25 +1,25 @@
 use Rattle.std.proofs.Common.{◌≡◌, [], List, ℕ, ap, sym, subst, ◌∙◌}
 use Rattle.std.specs.Prelude.{Ok, Err, Some}
 use Rattle.view_tree.specs.Views.{plain_of}
-use Rattle.view_world.specs.Carried.{AreAtHand, fetches_after}
-use Rattle.view_world.specs.Changed.{IsPlace}
-use Rattle.view_world.specs.Inflating.{asked_for, views_in, views_of}
-use Rattle.view_world.specs.KeyedScreen.{KeyedScreen, world_of}
-use Rattle.view_world.specs.Step.{graft_reason, grafted, inflation}
-use Rattle.view_world.specs.Sound.{keyed}
-use Rattle.view_world.proofs.AfterLineLaws.{fetches_placed, fetches_unplaced}
-use Rattle.view_world.proofs.FileLaws.{counts_nothing}
-use Rattle.view_world.proofs.InflatingLaws.{inflated_as, inflates_as, told_where_asked, views_of-bytes}
-use Rattle.view_world.proofs.SeedOffsets.{grown_unscrolled}
-use Rattle.view_world.proofs.InflatingLaws.{place_number}
-use Rattle.view_world.proofs.NamedLaws.{place_asked}
+use Rattle.view_world.specs.world.Carried.{AreAtHand, fetches_after}
+use Rattle.view_world.specs.screen.Changed.{IsPlace}
+use Rattle.view_world.specs.editing.Inflating.{asked_for, views_in, views_of}
+use Rattle.view_world.specs.screen.KeyedScreen.{KeyedScreen, world_of}
+use Rattle.view_world.specs.world.Step.{graft_reason, grafted, inflation}
+use Rattle.view_world.specs.screen.Sound.{keyed}
+use Rattle.view_world.proofs.worlds.AfterLineLaws.{fetches_placed, fetches_unplaced}
+use Rattle.view_world.proofs.edits.FileLaws.{counts_nothing}
+use Rattle.view_world.proofs.edits.InflatingLaws.{inflated_as, inflates_as, told_where_asked, views_of-bytes}
+use Rattle.view_world.proofs.states.SeedOffsets.{grown_unscrolled}
+use Rattle.view_world.proofs.edits.InflatingLaws.{place_number}
+use Rattle.view_world.proofs.edits.NamedLaws.{place_asked}
 use Rattle.std.specs.Prelude.{OnOk}
 use Rattle.view_tree.specs.Views.{number_of}
 use Rattle.std.specs.Option.{option_map}
-use Rattle.view_world.specs.Asked.{asked_views, listed}
+use Rattle.view_world.specs.frames.Asked.{asked_views, listed}
 use Rattle.script_lines.specs.PlainCommands.{Inflate}
-use Rattle.view_world.specs.Resting.{KeepsBut}
-use Rattle.view_world.specs.declared.marks.Effect.TheVariants.{Asks}
+use Rattle.view_world.specs.frames.Resting.{KeepsBut}
+use Rattle.view_world.specs.declared.world.marks.Effect.TheVariants.{Asks}
 use Rattle.view_world.proofs.screen.Screen.inflate.Goals as goal
 
 pub graft-requires-clause-unscrolled : goal.graft-requires-clause-unscrolled

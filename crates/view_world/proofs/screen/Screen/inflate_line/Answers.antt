@@ -1,8 +1,8 @@
 use Rattle.std.specs.Prelude.{Err}
 use Rattle.std.proofs.Common.{◌≡◌, ap}
 use Rattle.std.proofs.lemmas.Result.{err_from_is_err_and}
-use Rattle.view_world.proofs.AfterLineLaws.{reported, undone}
-use Rattle.view_world.proofs.InflatingLaws.{told_counts, writes_fault}
+use Rattle.view_world.proofs.worlds.AfterLineLaws.{reported, undone}
+use Rattle.view_world.proofs.edits.InflatingLaws.{told_counts, writes_fault}
 use Rattle.view_world.proofs.screen.Screen.inflate_line.Goals as goal
 
 pub returns-in_err-response-clause-carried : goal.returns-in_err-response-clause-carried

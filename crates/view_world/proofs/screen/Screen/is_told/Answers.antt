@@ -4,10 +4,10 @@ use Rattle.std.specs.Option.{is_some}
 use Rattle.touch_dispatch.specs.Handling.{is_nil}
 use Rattle.view_model.specs.Facts.{is_shown}
 use Rattle.view_tree.specs.Views.{IsLive, facts_of, number_of}
-use Rattle.view_world.specs.KeyedScreen.{KeyedScreen, world_of}
-use Rattle.view_world.specs.Sound.{keyed}
-use Rattle.view_world.specs.Touching.{is_told, parent_of}
-use Rattle.view_world.proofs.LeaveLaws.{nil-length, told_child, told_root}
+use Rattle.view_world.specs.screen.KeyedScreen.{KeyedScreen, world_of}
+use Rattle.view_world.specs.screen.Sound.{keyed}
+use Rattle.view_world.specs.touching.Touching.{is_told, parent_of}
+use Rattle.view_world.proofs.edits.LeaveLaws.{nil-length, told_child, told_root}
 use Rattle.view_world.proofs.screen.Screen.is_told.Goals as goal
 
 -- whether a view of a world gets a cancel is what was found

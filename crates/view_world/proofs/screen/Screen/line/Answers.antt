@@ -1,10 +1,10 @@
 use Rattle.std.proofs.Common.{◌≡◌, refl, sym, ◌∙◌}
 use Rattle.std.specs.Prelude.{None, Some}
 use Rattle.script_lines.specs.PlainCommands.{plain_command}
-use Rattle.view_world.specs.Inflating.{inflation_of}
-use Rattle.view_world.specs.KeyedScreen.{world_of}
-use Rattle.view_world.proofs.FileLaws.{inflates, unaided}
-use Rattle.view_world.proofs.InflatingLaws.{inflation_tells}
+use Rattle.view_world.specs.editing.Inflating.{inflation_of}
+use Rattle.view_world.specs.screen.KeyedScreen.{world_of}
+use Rattle.view_world.proofs.edits.FileLaws.{inflates, unaided}
+use Rattle.view_world.proofs.edits.InflatingLaws.{inflation_tells}
 use Rattle.view_world.proofs.screen.Screen.line.Goals as goal
 
 pub returns-in-Some-clause-carried : goal.returns-in-Some-clause-carried

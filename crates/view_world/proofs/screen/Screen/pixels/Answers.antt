@@ -1,8 +1,8 @@
 use Rattle.std.proofs.Common.{sym, subst}
 use Rattle.std.proofs.lemmas.Int.{to_z-of_z}
-use Rattle.view_world.specs.Responses.{IsPartOf}
-use Rattle.view_world.specs.declared.pixels.Part.{Part}
-use Rattle.view_world.proofs.WorldLaws.{Changed-pixels, part-lies}
+use Rattle.view_world.specs.replying.Responses.{IsPartOf}
+use Rattle.view_world.specs.declared.replying.pixels.Part.{Part}
+use Rattle.view_world.proofs.worlds.WorldLaws.{Changed-pixels, part-lies}
 use Rattle.view_world.proofs.screen.Screen.pixels.Goals as goal
 
 pub returns-in-Some-clause-changed : goal.returns-in-Some-clause-changed

@@ -1,7 +1,7 @@
 use Rattle.std.proofs.Common.{ap}
-use Rattle.view_world.specs.KeyedScreen.{KeyedScreen}
-use Rattle.view_world.proofs.WorldLaws.{Changed-on}
-use Rattle.view_world.proofs.NamedLaws.{named_on}
+use Rattle.view_world.specs.screen.KeyedScreen.{KeyedScreen}
+use Rattle.view_world.proofs.worlds.WorldLaws.{Changed-on}
+use Rattle.view_world.proofs.edits.NamedLaws.{named_on}
 use Rattle.view_world.proofs.screen.Screen.remove.Goals as goal
 
 pub returns-clause-changed : goal.returns-clause-changed

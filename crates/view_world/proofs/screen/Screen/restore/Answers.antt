@@ -3,16 +3,16 @@ use Rattle.std.specs.Option.{option_map}
 use Rattle.saved_state.specs.Restored.{Retells}
 use Rattle.saved_state.specs.State.{decoded}
 use Rattle.view_tree.specs.Views.{plain_of}
-use Rattle.view_world.proofs.SoundLaws.{sound_restored}
-use Rattle.view_world.proofs.StateLaws.{kept_taken, values_taken, rooted, text_taken}
-use Rattle.view_world.specs.Changed.{CarriesOut}
-use Rattle.view_world.specs.KeyedScreen.{KeyedScreen, world_of}
-use Rattle.view_world.specs.Sound.{keyed}
-use Rattle.view_world.specs.Step.{taken_up}
-use Rattle.view_world.proofs.RestoredAsked.{kept_keeps, ok_follows, text_keeps}
+use Rattle.view_world.proofs.worlds.SoundLaws.{sound_restored}
+use Rattle.view_world.proofs.states.StateLaws.{kept_taken, values_taken, rooted, text_taken}
+use Rattle.view_world.specs.screen.Changed.{CarriesOut}
+use Rattle.view_world.specs.screen.KeyedScreen.{KeyedScreen, world_of}
+use Rattle.view_world.specs.screen.Sound.{keyed}
+use Rattle.view_world.specs.world.Step.{taken_up}
+use Rattle.view_world.proofs.states.RestoredAsked.{kept_keeps, ok_follows, text_keeps}
 use Rattle.script_lines.specs.PlainCommands.{Restore}
 use Rattle.std.specs.Prelude.{OnOk}
-use Rattle.view_world.specs.Resting.{KeepsLine}
+use Rattle.view_world.specs.frames.Resting.{KeepsLine}
 use Rattle.view_world.proofs.screen.Screen.restore.Goals as goal
 
 pub returns-in_default-clause-changed : goal.returns-in_default-clause-changed

@@ -2,12 +2,12 @@ use Rattle.std.proofs.Common.{ap, sym, subst, ◌∙◌}
 use Rattle.std.specs.Prelude.{Ok}
 use Rattle.saved_state.specs.State.{decoded}
 use Rattle.view_tree.specs.Views.{plain_of}
-use Rattle.view_world.proofs.StateLaws.{rooted, state_kept}
-use Rattle.view_world.specs.Changed.{CarriesOut}
-use Rattle.view_world.specs.KeyedScreen.{KeyedScreen, world_of}
-use Rattle.view_world.specs.Sound.{keyed}
-use Rattle.view_world.specs.Step.{saved}
-use Rattle.view_world.specs.declared.response.Response.TheVariants as response
+use Rattle.view_world.proofs.states.StateLaws.{rooted, state_kept}
+use Rattle.view_world.specs.screen.Changed.{CarriesOut}
+use Rattle.view_world.specs.screen.KeyedScreen.{KeyedScreen, world_of}
+use Rattle.view_world.specs.screen.Sound.{keyed}
+use Rattle.view_world.specs.world.Step.{saved}
+use Rattle.view_world.specs.declared.replying.response.Response.TheVariants as response
 use Rattle.view_world.proofs.screen.Screen.save.Goals as goal
 
 pub save-requires : goal.save-requires

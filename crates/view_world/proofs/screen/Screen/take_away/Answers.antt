@@ -4,26 +4,26 @@ use Rattle.tree_edits.specs.Editing.{Remove}
 use Rattle.tree_edits.specs.declared.edits.Edit.TheVariants as edit
 use Rattle.tree_edits.specs.Scene.{scene_of as edited_of}
 use Rattle.view_tree.specs.Views.{IsLive, IsTree, SameTree, number_of, plain_of}
-use Rattle.view_world.specs.Changed.{CarriesOut}
-use Rattle.view_world.specs.KeyedScreen.{KeyedScreen, world_of}
-use Rattle.view_world.specs.Sound.{keyed}
-use Rattle.view_world.specs.Step.{removed}
-use Rattle.view_world.specs.Touching.{after_progress, leaving}
-use Rattle.view_world.specs.declared.response.Response.{Response}
-use Rattle.view_world.proofs.FitLaws.{fits_edited}
-use Rattle.view_world.proofs.LeaveLaws.{Changed-remove, plain_removed, remove_done}
-use Rattle.view_world.proofs.LeaveSound.{sound_removed}
-use Rattle.view_world.proofs.OffsetLaws.{offsets_edited}
+use Rattle.view_world.specs.screen.Changed.{CarriesOut}
+use Rattle.view_world.specs.screen.KeyedScreen.{KeyedScreen, world_of}
+use Rattle.view_world.specs.screen.Sound.{keyed}
+use Rattle.view_world.specs.world.Step.{removed}
+use Rattle.view_world.specs.touching.Touching.{after_progress, leaving}
+use Rattle.view_world.specs.declared.replying.response.Response.{Response}
+use Rattle.view_world.proofs.worlds.FitLaws.{fits_edited}
+use Rattle.view_world.proofs.edits.LeaveLaws.{Changed-remove, plain_removed, remove_done}
+use Rattle.view_world.proofs.edits.LeaveSound.{sound_removed}
+use Rattle.view_world.proofs.states.OffsetLaws.{offsets_edited}
 use Rattle.damage_rect.specs.Within.{LiesIn}
 use Rattle.geom_core.specs.declared.geometry.Rect.{Rect}
 use Rattle.pixel_raster.specs.Raster.{size_of}
 use Rattle.seen_edits.specs.Shown.{seen_of}
 use Rattle.view_model.specs.Forest.{Forest}
 use Rattle.view_tree.specs.Rows.{Row, head_view, part_from}
-use Rattle.view_world.proofs.EditRest.{loud_keeps}
-use Rattle.view_world.proofs.SceneLaws.{scrolls_geometry}
-use Rattle.view_world.proofs.SeenLaws.{among_first, seen_alike, seen_named}
-use Rattle.view_world.specs.Resting.{seen_on}
+use Rattle.view_world.proofs.frames.EditRest.{loud_keeps}
+use Rattle.view_world.proofs.touches.SceneLaws.{scrolls_geometry}
+use Rattle.view_world.proofs.frames.SeenLaws.{among_first, seen_alike, seen_named}
+use Rattle.view_world.specs.frames.Resting.{seen_on}
 use Rattle.view_tree.proofs.values.KeptLaws.{is_tree-same}
 use Rattle.touch_dispatch.specs.TreeEvents.{OnlyScrolls}
 use Rattle.view_world.proofs.screen.Screen.take_away.Goals as goal

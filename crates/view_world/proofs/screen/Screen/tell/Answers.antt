@@ -1,5 +1,5 @@
 use Rattle.std.proofs.Common.{refl}
-use Rattle.view_world.specs.Responses.{response_text}
+use Rattle.view_world.specs.replying.Responses.{response_text}
 use Rattle.view_world.proofs.screen.Screen.tell.Goals as goal
 use Rattle.view_world.proofs.screen.Screen.tell.Goals.{in-Ok, in-Err}
 

@@ -1,14 +1,14 @@
 use Rattle.std.proofs.Common.{◌≡◌, sym, ◌∙◌, ap, subst}
 use Rattle.touch_dispatch.specs.Handling.{Progress}
 use Rattle.view_tree.specs.Views.{IsLive, number_of, plain_of}
-use Rattle.view_world.specs.KeyedScreen.{KeyedScreen, world_of}
-use Rattle.view_world.specs.Sound.{keyed}
-use Rattle.view_world.specs.Touching.{after_progress, leaving}
-use Rattle.view_world.proofs.EventLaws.{sound_scrolled}
-use Rattle.view_world.proofs.LeaveLaws.{leaving_silent, leaving_told, plain_cancelled, scrolls_none, world_told}
-use Rattle.view_world.proofs.SceneLaws.{scrolls_geometry}
-use Rattle.view_world.proofs.GrownShown.{shows_alike}
-use Rattle.view_world.proofs.OffsetLaws.{offsets_scrolled}
+use Rattle.view_world.specs.screen.KeyedScreen.{KeyedScreen, world_of}
+use Rattle.view_world.specs.screen.Sound.{keyed}
+use Rattle.view_world.specs.touching.Touching.{after_progress, leaving}
+use Rattle.view_world.proofs.touches.EventLaws.{sound_scrolled}
+use Rattle.view_world.proofs.edits.LeaveLaws.{leaving_silent, leaving_told, plain_cancelled, scrolls_none, world_told}
+use Rattle.view_world.proofs.touches.SceneLaws.{scrolls_geometry}
+use Rattle.view_world.proofs.edits.GrownShown.{shows_alike}
+use Rattle.view_world.proofs.states.OffsetLaws.{offsets_scrolled}
 use Rattle.touch_dispatch.specs.TreeEvents.{OnlyScrolls}
 use Rattle.view_world.proofs.screen.Screen.tell_leaving.Goals as goal
 

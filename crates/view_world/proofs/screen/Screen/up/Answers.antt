@@ -1,8 +1,8 @@
 use Rattle.std.proofs.Common.{◌≡◌, true, sym, ◌∙◌, ap}
 use Rattle.touch_event.specs.declared.event.Action.{Action}
-use Rattle.view_world.specs.KeyedScreen.{KeyedScreen}
-use Rattle.view_world.specs.Pointers.{event_of, is_pressed, up_action, without_point}
-use Rattle.view_world.proofs.TouchLaws.{Changed-up}
+use Rattle.view_world.specs.screen.KeyedScreen.{KeyedScreen}
+use Rattle.view_world.specs.touching.Pointers.{event_of, is_pressed, up_action, without_point}
+use Rattle.view_world.proofs.touches.TouchLaws.{Changed-up}
 use Rattle.view_world.proofs.screen.Screen.up.Goals as goal
 
 pub returns-clause-changed : goal.returns-clause-changed

@@ -2,25 +2,25 @@ use Rattle.std.proofs.Common.{◌≡◌, true, ◌+◌, ◌≤◌, inl, inr, ap,
 use Rattle.script_lines.specs.PlainCommands.{plain_command}
 use Rattle.geom_core.specs.declared.geometry.Rect.{Rect}
 use Rattle.script_lines.specs.PlainCommands.{Frame, PlainCommand}
-use Rattle.view_world.proofs.WorthLaws.{after_framed, box_kept, done_reply, shows_after, watched_line, worth_frame, worth_other}
-use Rattle.view_world.specs.Counting.{FillsAlike}
-use Rattle.view_world.specs.Marked.{keyed}
-use Rattle.view_world.specs.Watched.{HasBox, IsWatched, IsWorth, box_after, costs_of, watched_after, watched_in}
-use Rattle.view_world.specs.declared.marks.Marks.{Marks}
-use Rattle.view_world.proofs.MarkLaws.{bounded, frame_or_not, leaves_all, marks_are, marks_line, measures_same, unchanged_all, world_same}
-use Rattle.view_world.specs.Asked.{LeavesUnasked}
-use Rattle.view_world.proofs.AfterLineLaws.{parts_stay}
-use Rattle.view_world.specs.Carried.{AreAtHand, IsDone, WritesReply, fetches_after}
-use Rattle.view_world.specs.Inflating.{asked_file}
-use Rattle.view_world.specs.Step.{Done, step}
-use Rattle.view_world.specs.World.{World}
+use Rattle.view_world.proofs.frames.WorthLaws.{after_framed, box_kept, done_reply, shows_after, watched_line, worth_frame, worth_other}
+use Rattle.view_world.specs.frames.Counting.{FillsAlike}
+use Rattle.view_world.specs.world.Marked.{keyed}
+use Rattle.view_world.specs.frames.Watched.{HasBox, IsWatched, IsWorth, box_after, costs_of, watched_after, watched_in}
+use Rattle.view_world.specs.declared.world.marks.Marks.{Marks}
+use Rattle.view_world.proofs.worlds.MarkLaws.{bounded, frame_or_not, leaves_all, marks_are, marks_line, measures_same, unchanged_all, world_same}
+use Rattle.view_world.specs.frames.Asked.{LeavesUnasked}
+use Rattle.view_world.proofs.worlds.AfterLineLaws.{parts_stay}
+use Rattle.view_world.specs.world.Carried.{AreAtHand, IsDone, WritesReply, fetches_after}
+use Rattle.view_world.specs.editing.Inflating.{asked_file}
+use Rattle.view_world.specs.world.Step.{Done, step}
+use Rattle.view_world.specs.world.World.{World}
 use Rattle.tool_io.specs.Fetched.{Files}
 use Rattle.std.specs.Prelude.{◌⊎◌, [], None, Some}
 use Rattle.geom_core.specs.declared.geometry.Size.{Size}
-use Rattle.view_world.specs.KeyedScreen.{window_of, world_of as world_on}
-use Rattle.view_world.specs.KeyedWorld.{KeyedWorld, world_of}
-use Rattle.view_world.specs.Marks.{marks_after, measure_bound}
-use Rattle.view_world.specs.Resting.{CountsMeasures, LaysOut}
+use Rattle.view_world.specs.screen.KeyedScreen.{window_of, world_of as world_on}
+use Rattle.view_world.specs.world.KeyedWorld.{KeyedWorld, world_of}
+use Rattle.view_world.specs.world.Marks.{marks_after, measure_bound}
+use Rattle.view_world.specs.frames.Resting.{CountsMeasures, LaysOut}
 use Rattle.view_world.specs.declared.world.World.TheInside.{Inside}
 use Rattle.view_world.proofs.world.World.carry.Goals as goal
 

@@ -4,8 +4,8 @@ use Rattle.script_lines.specs.PlainCommands.{plain_command}
 use Rattle.script_lines.specs.Words.{map_ok}
 use Rattle.stack_worlds.specs.KeptStack.{stack_of}
 use Rattle.stack_worlds.specs.PlainStack.{stack_step}
-use Rattle.view_world.specs.KeyedWorld.{world_of}
-use Rattle.view_world.specs.Step.{step}
+use Rattle.view_world.specs.world.KeyedWorld.{world_of}
+use Rattle.view_world.specs.world.Step.{step}
 use Rattle.whole_tool.specs.Carried.{Alone, Stacked, BytesWant, Refused, asked_by_bytes, reply_to_bytes}
 use Rattle.whole_tool.specs.Carrier.{WritesLine, carried_of, next_of}
 use Rattle.whole_tool.specs.Run.{HasTallied}

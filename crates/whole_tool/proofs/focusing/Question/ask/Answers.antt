@@ -8,7 +8,7 @@ use Rattle.whole_tool.proofs.focusing.Question.ask.Goals as goal
 use Rattle.whole_tool.specs.Carried.{Alone, world_in}
 use Rattle.whole_tool.specs.Carrier.{carried_of}
 use Rattle.whole_tool.specs.declared.carrier.Carrier.{Carrier}
-use Rattle.view_world.specs.World.{empty_world}
+use Rattle.view_world.specs.world.World.{empty_world}
 
 pub returns-in_err-refused-clause-asks : goal.returns-in_err-refused-clause-asks
 returns-in_err-refused-clause-asks g c =

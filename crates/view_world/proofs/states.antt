@@ -1,0 +1,7 @@
+-- Laws of saved states, and of the offsets that they have.
+pub mod CommandLaws
+pub mod HexLaws
+pub mod OffsetLaws
+pub mod RestoredAsked
+pub mod SeedOffsets
+pub mod StateLaws

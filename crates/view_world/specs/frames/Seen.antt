@@ -1,0 +1,157 @@
+-- Which views a line changes, so that they may be seen otherwise after it, and where they are seen.
+use Rattle.std.specs.Prelude.{ℕ, Bool, true, false, ◌||◌, ◌&&◌, not, if◌then◌else◌, List, [], ◌∷◌, ◌++◌, filter, Option, Some, None}
+use Rattle.std.specs.List.{list_any}
+use Rattle.std.specs.Ordering.{int_eq}
+use Rattle.geom_core.specs.Rects.{hull_of}
+use Rattle.geom_core.specs.declared.color.Argb.{Argb}
+use Rattle.geom_core.specs.declared.geometry.Rect.{Rect}
+use Rattle.geom_core.specs.declared.geometry.Size.{Size}
+use Rattle.pixel_raster.specs.Raster.{black_raster}
+use Rattle.script_lines.specs.PlainCommands.{PlainCommand}
+use Rattle.script_lines.specs.PlainCommands as command
+use Rattle.touch_dispatch.specs.Scrolled.{is_scroll}
+use Rattle.touch_dispatch.specs.declared.log.Entry.{Entry}
+use Rattle.touch_event.specs.declared.event.Action.TheVariants.{Move as Moved, Cancel as Cancelled}
+use Rattle.touch_event.specs.declared.event.Event.{Event}
+use Rattle.touch_event.specs.declared.event.Point.{Point}
+use Rattle.tree_edits.specs.Asking.{requests_layout as act_requests}
+use Rattle.tree_edits.specs.declared.edits.Edit.{Edit}
+use Rattle.tree_edits.specs.declared.edits.Edit.TheVariants as edit
+use Rattle.view_model.specs.declared.changes.Act.{Act}
+use Rattle.view_model.specs.declared.changes.Act.TheVariants as act
+use Rattle.view_model.specs.declared.changes.Change.{Change}
+use Rattle.view_model.specs.declared.changes.Change.TheVariants as change
+use Rattle.view_model.specs.declared.changes.Flag.{Flag}
+use Rattle.view_model.specs.declared.changes.Flag.TheVariants as flag
+use Rattle.view_model.specs.Geometry.{rect_in}
+use Rattle.view_model.specs.PlainTree.{numbers_of}
+use Rattle.view_model.specs.Visible.{no_rect, visible_rect}
+use Rattle.view_tree.specs.Views.{Views, number_of}
+use Rattle.view_world.specs.frames.Asked.{listed, restored_numbers}
+use Rattle.view_world.specs.editing.Naming.{named}
+use Rattle.view_world.specs.touching.Pointers.{down_action, event_of, up_action, with_point, without_point}
+use Rattle.view_world.specs.touching.Touching.{offsets_in, reached_in}
+use Rattle.view_world.specs.world.World.{World}
+
+-- whether a change is painted, and layout does not read it
+abbrev pub change_paints : Change → Bool
+change_paints (change.Size width height) = false
+change_paints (change.Min size) = false
+change_paints (change.Margins sides) = false
+change_paints (change.Padding sides) = false
+change_paints (change.Weight weight) = false
+change_paints (change.Gravity kids gravity) = false
+change_paints (change.Background color) = true
+
+-- the same of a flag
+abbrev pub flag_paints : Flag → Bool
+flag_paints flag.Clip = true
+flag_paints flag.Fill = false
+flag_paints flag.Split = false
+
+-- and of an act: a colour, or whether children are clipped
+abbrev pub act_paints : Act → Bool
+act_paints (act.Change change) = change_paints change
+act_paints (act.WeightSum sum) = false
+act_paints (act.Orient vertical) = false
+act_paints (act.Direction direction) = false
+act_paints (act.Flag flag on) = flag_paints flag
+act_paints (act.Visible visibility) = false
+act_paints (act.Ink color) = true
+act_paints (act.Id id) = false
+act_paints (act.Rule verb value) = false
+act_paints (act.Answer answer) = false
+act_paints (act.Intercept actions) = false
+act_paints (act.Scroll offset) = false
+
+-- the view of an act that may change the layout or the picture
+abbrev pub edited_by_act : Option ℕ → Act → List ℕ
+edited_by_act view act = if act_requests act || act_paints act then listed view else []
+
+-- the numbers of the views that a line edits or removes, so that it may show
+abbrev pub edited_views : World → PlainCommand → List ℕ
+edited_views world (command.Remove view) = listed (named world.tree view)
+edited_views world (command.Act view act) = edited_by_act (named world.tree view) act
+edited_views world (command.SetText view text) = listed (named world.tree view)
+edited_views world (command.Restore text) = restored_numbers world text
+edited_views world line = []
+
+-- the same of an edit
+abbrev pub numbers_edited : Views → Edit → List ℕ
+numbers_edited views (edit.Add parent class width height) = []
+numbers_edited views (edit.Remove view) = number_of views view ∷ []
+numbers_edited views (edit.Act view act) = edited_by_act (Some (number_of views view)) act
+numbers_edited views (edit.Text view text) = number_of views view ∷ []
+
+-- the deliveries of an event
+abbrev pub deliveries_of : World → Event → List Entry
+deliveries_of world event = (reached_in world event).progress.entries
+
+-- the deliveries of a line that touches views
+abbrev pub line_deliveries : World → PlainCommand → List Entry
+line_deliveries world (command.Down p x y) =
+    let point : Point = record { id = p; x = x; y = y } in
+    deliveries_of world (event_of (down_action world.pointers) p (with_point point world.pointers))
+line_deliveries world (command.Move p x y) =
+    let point : Point = record { id = p; x = x; y = y } in deliveries_of world (event_of Moved p (with_point point world.pointers))
+line_deliveries world (command.Up p) = deliveries_of world (event_of (up_action (without_point p world.pointers)) p world.pointers)
+line_deliveries world command.Cancel = deliveries_of world (event_of Cancelled 0 [])
+line_deliveries world line = []
+
+-- the numbers of the views that have moved their children
+abbrev pub scrolled_in : List Entry → List ℕ
+scrolled_in [] = []
+scrolled_in (entry ∷ entries) = if is_scroll entry.kind then entry.view ∷ scrolled_in entries else scrolled_in entries
+
+-- whether any view has
+abbrev pub has_any_scrolled : List Entry → Bool
+has_any_scrolled entries = list_any (λ (entry : Entry). is_scroll entry.kind) entries
+
+-- the numbers of the views that a line edits, removes or scrolls
+abbrev pub changed_views : World → PlainCommand → List ℕ
+changed_views world (command.Down p x y) = scrolled_in (line_deliveries world (command.Down p x y))
+changed_views world (command.Move p x y) = scrolled_in (line_deliveries world (command.Move p x y))
+changed_views world (command.Up p) = scrolled_in (line_deliveries world (command.Up p))
+changed_views world command.Cancel = scrolled_in (line_deliveries world command.Cancel)
+changed_views world line = edited_views world line
+
+abbrev pub same_rect : Rect → Rect → Bool
+same_rect one other = int_eq one.left other.left && int_eq one.top other.top && int_eq one.right other.right && int_eq one.bottom other.bottom
+
+-- whether two places of a view differ
+abbrev pub place_differs : Option Rect → Option Rect → Bool
+place_differs None None = false
+place_differs None (Some after) = true
+place_differs (Some before) None = true
+place_differs (Some before) (Some after) = not (same_rect before after)
+
+-- whether the view of this number has other bounds after a line, or another offset
+abbrev pub has_moved : World → World → ℕ → Bool
+has_moved before after number =
+    place_differs (rect_in before.geometry number) (rect_in after.geometry number) || not (int_eq (offsets_in before.tree number) (offsets_in after.tree number))
+
+-- the views that do
+abbrev pub moved_views : World → World → List ℕ
+moved_views before after = filter (has_moved before after) (numbers_of before.tree)
+
+-- where a view is seen in the window, if there is one
+abbrev pub seen_through : Option Size → World → ℕ → Rect
+seen_through None world number = no_rect
+seen_through (Some window) world number = visible_rect world.tree world.geometry window number
+
+abbrev pub seen : World → ℕ → Rect
+seen world number = seen_through world.window world number
+
+-- the picture of a window that nothing was painted in
+abbrev pub black_picture : Option Size → List Argb
+black_picture None = []
+black_picture (Some window) = (black_raster window).pixels
+
+-- the smallest rectangle around what is seen of some views in one world and in another
+abbrev pub box_around : World → World → List ℕ → Rect
+box_around before after [] = no_rect
+box_around before after (number ∷ numbers) = hull_of (hull_of (seen before number) (seen after number)) (box_around before after numbers)
+
+-- the box of a line: around what is seen, before and after it, of the views that it changes
+abbrev pub line_box : World → PlainCommand → World → Rect
+line_box before line after = box_around before after (changed_views before line ++ moved_views before after)

@@ -1,0 +1,92 @@
+-- What is printed for a line that was carried out.
+use Rattle.std.specs.Prelude.{◌≢◌, Bool, true, false, List, [], ◌∷◌, ℕ, ◌+◌, ◌<◌, ◌≤◌, ◌^◌, ℤ, unsigned_abs, Option, Some, None, Result, Ok, Err}
+use Rattle.geom_core.specs.declared.color.Argb.{Argb}
+use Rattle.pixel_raster.specs.Bytes.{digest_of}
+use Rattle.pixel_raster.specs.Raster.{Raster, color_at}
+use Rattle.text_lines.specs.Joined.{◌⧺◌}
+use Rattle.touch_dispatch.specs.declared.log.Entry.{Entry}
+use Rattle.view_model.specs.declared.fault.Fault.{Fault}
+use Rattle.view_model.specs.Forest.{Nothing}
+use Rattle.view_tree.specs.Views.{Views, IsLive, geometry_of, plain_of, view_at}
+use Rattle.view_world.specs.declared.fault.StepFault.{StepFault}
+use Rattle.view_world.specs.declared.replying.pixels.Part.{Part}
+use Rattle.view_world.specs.declared.replying.response.Response.{Response}
+use Rattle.view_world.specs.declared.replying.response.Response.TheVariants as response
+use Rattle.view_world.specs.replying.Deliveries.{done_text, entries_text}
+use Rattle.view_world.specs.Faults.{step_fault_of}
+use Rattle.view_world.specs.replying.Replies.{added_text, digest_text, framed_text, inflated_text, pixels_text, state_text}
+use Rattle.view_world.specs.world.Step.{bounds_of, bounds_text}
+
+-- the part that a line asks for
+abbrev pub part_of : ℤ → ℤ → ℤ → ℤ → Part
+part_of x y w h = record { left = unsigned_abs x; top = unsigned_abs y; width = unsigned_abs w; height = unsigned_abs h }
+
+-- a part of a picture lies in it
+pub record IsPartOf (surface : Raster) (part : Part) : Type 0 where
+  pub some : 0 < part.height
+  pub right : part.left + part.width ≤ surface.width
+  pub bottom : part.top + part.height ≤ surface.height
+  pub across : part.left + part.width < 2 ^ 31
+  pub down : part.top + part.height < 2 ^ 31
+
+-- the colour of a pixel of a part, counted from its corner
+abbrev pub color_of : Raster → Part → ℕ → ℕ → Argb
+color_of surface part column row = color_at surface (part.left + column) (part.top + row)
+
+-- deliveries, and after those of an event what the root has said to it
+abbrev pub deliveries_text : List Entry → Option Bool → List ℕ
+deliveries_text entries None = entries_text entries
+deliveries_text entries (Some yes_) = entries_text entries ⧺ done_text yes_
+
+-- the text of a response, if these are the views, the picture, the deliveries and the saved bytes after the line
+abbrev pub response_text : Views → Raster → List Entry → List ℕ → Response → List ℕ
+response_text views surface told saved response.Nothing = []
+response_text views surface told saved (response.Made number) = added_text number
+response_text views surface told saved (response.Inflated first last ignored) = inflated_text first last ignored
+response_text views surface told saved (response.Framed settled fired) = framed_text settled fired
+response_text views surface told saved (response.Bounds None) = bounds_text (geometry_of views) (plain_of views)
+response_text views surface told saved (response.Bounds (Some view)) = bounds_of (geometry_of views) (view_at views view)
+response_text views surface told saved (response.Pixels part) = pixels_text (color_of surface part) part.width part.height
+response_text views surface told saved (response.Deliveries said) = deliveries_text told said
+response_text views surface told saved response.Digest = digest_text (digest_of surface.pixels)
+response_text views surface told saved response.State = state_text saved
+
+-- the text of deliveries, if there are any
+abbrev pub deliveries_only : List Entry → Response
+deliveries_only [] = response.Nothing
+deliveries_only (entry ∷ entries) = response.Deliveries None
+
+-- whether there is nothing to print
+abbrev pub is_nothing : Response → Bool
+is_nothing response.Nothing = true
+is_nothing (response.Made number) = false
+is_nothing (response.Inflated first last ignored) = false
+is_nothing (response.Framed settled fired) = false
+is_nothing (response.Bounds view) = false
+is_nothing (response.Pixels part) = false
+is_nothing response.Digest = false
+is_nothing (response.Deliveries said) = false
+is_nothing response.State = false
+
+-- what a response prints is there
+abbrev pub IsTellable : Views → Raster → List Entry → List ℕ → Response → Type 0
+IsTellable views surface told saved response.Nothing = Unit {0}
+IsTellable views surface told saved (response.Made number) = Unit {0}
+IsTellable views surface told saved (response.Inflated first last ignored) = Unit {0}
+IsTellable views surface told saved (response.Framed settled fired) = Unit {0}
+IsTellable views surface told saved (response.Bounds None) = views.tree ≢ Nothing
+IsTellable views surface told saved (response.Bounds (Some view)) = IsLive views view
+IsTellable views surface told saved (response.Pixels part) = IsPartOf surface part
+IsTellable views surface told saved response.Digest = Unit {0}
+IsTellable views surface told saved (response.Deliveries None) = told ≢ []
+IsTellable views surface told saved (response.Deliveries (Some yes_)) = Unit {0}
+IsTellable views surface told saved response.State = Unit {0}
+
+abbrev pub made : Option ℕ → Response
+made None = response.Nothing
+made (Some number) = response.Made number
+
+-- what a line responds whose edit was made, or was not
+abbrev pub response_of : Result (Option ℕ) Fault → Result Response StepFault
+response_of (Ok number) = Ok (made number)
+response_of (Err fault) = Err (step_fault_of fault)

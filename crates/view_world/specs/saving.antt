@@ -1,0 +1,3 @@
+-- States that are saved and restored.
+pub mod Offsets
+pub mod Stated

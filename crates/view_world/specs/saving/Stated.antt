@@ -1,0 +1,25 @@
+-- How states are read and restored in lines.
+use Rattle.std.specs.Prelude.{◌≡◌, ℕ, Bool, true, false, List, Result, Ok, Err}
+use Rattle.saved_state.specs.State.{StateEntry}
+use Rattle.view_model.specs.Refusals.{AtPlace, plain_refusal, refusal_numbered}
+use Rattle.view_model.specs.declared.refusals.TheConstants.{BAD_STATE, STATE_CLASS}
+use Rattle.view_world.specs.declared.fault.StepFault.{StepFault}
+use Rattle.view_world.specs.declared.fault.StepFault.TheVariants as fault
+use Rattle.view_world.specs.declared.replying.response.Response.{Response}
+use Rattle.view_world.specs.declared.replying.response.Response.TheVariants as response
+
+-- the state was read that is defined, or its first wrong place is reported
+abbrev pub ReadsState : Result (List StateEntry) ℕ → Result (List StateEntry) StepFault → Type 0
+ReadsState decoded (Ok states) = decoded ≡ Ok states
+ReadsState decoded (Err (fault.Refused refusal)) = (place : ℕ) × (decoded ≡ Err place) × (plain_refusal refusal ≡ record { number = BAD_STATE; reason = AtPlace place })
+ReadsState decoded (Err fault.NoMemory) = Unit {0}
+ReadsState decoded (Err fault.Sink) = ⊥
+ReadsState decoded (Err fault.Shelf) = ⊥
+
+-- a state is taken up, without a reply, unless it is for views of other classes; only if it is not, memory may run out
+abbrev pub TakesUp : Bool → Result Response StepFault → Type 0
+TakesUp other (Ok told) = (other ≡ false) × (told ≡ response.Nothing)
+TakesUp other (Err (fault.Refused refusal)) = (other ≡ true) × (plain_refusal refusal ≡ refusal_numbered STATE_CLASS)
+TakesUp other (Err fault.NoMemory) = other ≡ false
+TakesUp other (Err fault.Sink) = ⊥
+TakesUp other (Err fault.Shelf) = ⊥

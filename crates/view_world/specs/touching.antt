@@ -1,0 +1,3 @@
+-- Pointers, and what events do.
+pub mod Pointers
+pub mod Touching

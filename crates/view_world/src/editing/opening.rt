@@ -1,0 +1,46 @@
+//! Places for views that are to be added.
+
+ghost use Rattle.std.specs.Prelude.{◌≡◌, ◌<◌, ◌+◌, ◌^◌, OnErr, OnOk};
+ghost use Rattle.touch_dispatch.specs.Kept.{Kept, gesture_of};
+ghost use Rattle.view_world.specs.editing.Places.{AreFree, AreOpened, AreUnknown, with_places};
+
+use std::alloc::AllocError;
+use touch_dispatch::Gesture;
+
+/// Keeps places for this many views, from this number on; for all of them, or for none.
+pub fn open_all(gesture: &mut Gesture, first: u64, count: usize) -> Result<(), AllocError>
+    requires numbers { first + count < 2 ^ 64 }
+    requires free { AreFree first gesture.old }
+    ensures added { OnOk result (gesture.new ≡ with_places first count gesture.old) }
+    ensures gesture { gesture_of gesture.new ≡ gesture_of gesture.old }
+    ensures opened { OnOk result (AreOpened first count gesture.old gesture.new) }
+    ensures unknown { OnOk result (AreUnknown first count gesture.old) }
+    ensures unchanged { OnErr result (gesture.new ≡ gesture.old) }
+{
+    let mut opened = 0;
+    while opened < count {
+        let number = first + opened as u64;
+        if gesture.open(number).is_err() {
+            close_all(gesture, first, opened);
+            return Err(AllocError);
+        }
+        opened += 1;
+    }
+    Ok(())
+}
+
+/// Removes the places of this many views again, the last one first.
+pub fn close_all(gesture: &mut Gesture, first: u64, count: usize)
+    requires { first + count < 2 ^ 64 }
+    ensures { (before : Kept)
+        → gesture.old ≡ with_places first count before
+        → AreFree first before
+        → AreUnknown first count before
+        → gesture.new ≡ before }
+{
+    let mut left = count;
+    while 0 < left {
+        left -= 1;
+        gesture.close(first + left as u64);
+    }
+}
