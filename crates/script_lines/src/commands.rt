@@ -1,6 +1,6 @@
 //! What a line asks for.
 
-use crate::naming::Name;
+use crate::words::naming::Name;
 use arrayvec::ArrayVec;
 use geom_core::Argb;
 use view_model::limits::MAX_EDITS;

@@ -2,9 +2,9 @@
 
 ghost use Rattle.std.specs.Prelude.{◌≡◌, ◌≢◌, ℕ, ◌+◌, ◌<◌, ◌≤◌, ◌↔◌, ◌⊎◌, false, List, [], ◌++◌, length, take, drop, min, slice_index};
 ghost use Rattle.std.specs.List.{list_all, position_or_len};
-ghost use Rattle.script_lines.specs.Lines.{ArePassedOver, begins_passed, cut_of, is_line_feed, is_passed_over, is_space, last_of, lines_of, without_return};
-ghost use Rattle.script_lines.specs.LineBuffer.{LineBuffer, IsLent, IsAfter, lines_as, lines_at};
-ghost use Rattle.script_lines.specs.Pieces.{FeedSequence, Feed, bytes_in, lines_in};
+ghost use Rattle.script_lines.specs.cutting.Lines.{ArePassedOver, begins_passed, cut_of, is_line_feed, is_passed_over, is_space, last_of, lines_of, without_return};
+ghost use Rattle.script_lines.specs.cutting.LineBuffer.{LineBuffer, IsLent, IsAfter, lines_as, lines_at};
+ghost use Rattle.script_lines.specs.cutting.Pieces.{FeedSequence, Feed, bytes_in, lines_in};
 
 use crate::places::place_of;
 use std::marker::Model;
@@ -57,8 +57,8 @@ pub struct Lines {
 
 impl Model for Lines {
     ghost use Rattle.std.specs.Prelude.{◌+◌, ◌≤◌, take};
-    ghost use Rattle.script_lines.specs.LineBuffer.{LineBuffer};
-    ghost use Rattle.script_lines.specs.Lines.{max_line};
+    ghost use Rattle.script_lines.specs.cutting.LineBuffer.{LineBuffer};
+    ghost use Rattle.script_lines.specs.cutting.Lines.{max_line};
 
     ghost Value = { LineBuffer };
 
@@ -285,7 +285,7 @@ fn keep(buffer: &mut [u8], len: usize, bytes: &[u8]) -> usize
 }
 
 /// How long a line is without one carriage return at its end.
-#[tactic(auto, unfolding(crate::specs::Lines::without_return))]
+#[tactic(auto, unfolding(crate::specs::cutting::Lines::without_return))]
 fn without_return_len(line: &[u8]) -> usize
     ensures within { result ≤ length line.now }
     ensures bytes { take result line.now ≡ without_return line.now }

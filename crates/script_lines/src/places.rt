@@ -6,7 +6,7 @@ ghost use Rattle.std.specs.List.{position_or_len};
 use memchr::memchr;
 
 /// The place of the first such byte, or the length if there is none.
-#[tactic(auto, using(crate::proofs::PlaceLaws::place_none, crate::proofs::PlaceLaws::place_some))]
+#[tactic(auto, using(crate::proofs::texts::PlaceLaws::place_none, crate::proofs::texts::PlaceLaws::place_some))]
 #[inline]
 pub fn place_of(byte: u8, bytes: &[u8]) -> usize
     ensures place { result ≡ position_or_len (λ b. b == byte) bytes.now }

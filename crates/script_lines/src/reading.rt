@@ -1,28 +1,39 @@
-//! The command of a line.
+//! The command of a line. `changes` reads what is set of a view, with `actions` and `rules`; `hooks` reads a hook, whose
+//! edits `parting` parts; `resources`, `touches`, `states` and `pixels` read lines of their own.
 
 ghost use Rattle.std.specs.Prelude.{◌≡◌, ◌≤◌, true, length, Ok, Err, IfOk, IsTrue};
 ghost use Rattle.std.specs.Str.{is_utf8};
-ghost use Rattle.script_lines.specs.Commands.{IsInBounds, add_of, bounds_of, class_of, command_by, command_in, command_of, digest_of, disallow_of, dpi_of, frame_of, inflate_of, into_of, keep_by, remove_of, set_of, set_text_of, touch_by, window_of};
-ghost use Rattle.script_lines.specs.Hooks.{begins_edit};
-ghost use Rattle.script_lines.specs.Lines.{is_passed_over};
-ghost use Rattle.script_lines.specs.PlainCommands.{PlainCommand, plain_command, text_length};
-ghost use Rattle.script_lines.specs.Spelled.{HasLine, spelled};
-ghost use Rattle.script_lines.specs.Words.{map_ok, words};
-ghost use Rattle.script_lines.specs.Written.{IsWritten};
+ghost use Rattle.script_lines.specs.reading.Commands.{IsInBounds, add_of, bounds_of, class_of, command_by, command_in, command_of, digest_of, disallow_of, dpi_of, frame_of, inflate_of, into_of, keep_by, remove_of, set_of, set_text_of, touch_by, window_of};
+ghost use Rattle.script_lines.specs.reading.Hooks.{begins_edit};
+ghost use Rattle.script_lines.specs.cutting.Lines.{is_passed_over};
+ghost use Rattle.script_lines.specs.commands.PlainCommands.{PlainCommand, plain_command, text_length};
+ghost use Rattle.script_lines.specs.commands.Spelled.{HasLine, spelled};
+ghost use Rattle.script_lines.specs.words.Words.{map_ok, words};
+ghost use Rattle.script_lines.specs.commands.Written.{IsWritten};
 
-use crate::changes::read_act;
+mod actions;
+mod changes;
+mod hooks;
+mod parting;
+pub mod pixels;
+mod resources;
+mod rules;
+mod states;
+pub mod touches;
+
 use crate::commands::{Command, MAX_DPI, MAX_WINDOW, MIN_DPI};
-use crate::dimension::extents;
-use crate::escapes::rest_text;
 use crate::fault::LineFault;
-use crate::file_name::file_name_word;
-use crate::hooks::{begins_edit, hook, read_asked};
-use crate::naming::{Name, name_word, parent_word};
-use crate::number::{natural_within, number, pair};
-use crate::pixels::pixels;
-use crate::resources::res;
-use crate::states::{restore, save};
-use crate::touches::{cancel, down, moved, up};
+use crate::reading::changes::read_act;
+use crate::reading::hooks::{begins_edit, hook, read_asked};
+use crate::reading::pixels::pixels;
+use crate::reading::resources::res;
+use crate::reading::states::{restore, save};
+use crate::reading::touches::{cancel, down, moved, up};
+use crate::words::dimension::extents;
+use crate::words::escapes::rest_text;
+use crate::words::file_name::file_name_word;
+use crate::words::naming::{Name, name_word, parent_word};
+use crate::words::number::{natural_within, number, pair};
 use crate::words::{end, is, is_text, literal, read_on, word};
 use view_model::{Act, Class};
 
@@ -35,7 +46,7 @@ fn window(bytes: &[u8]) -> Result<Command<'_>, LineFault>
 }
 
 /// A density.
-#[tactic(auto, unfolding(crate::specs::Commands::dpi_of))]
+#[tactic(auto, unfolding(crate::specs::reading::Commands::dpi_of))]
 fn dpi(bytes: &[u8]) -> Result<Command<'_>, LineFault>
     ensures value { map_ok plain_command result ≡ dpi_of (words bytes.now) }
     ensures bounds { IfOk result (λ command. IsInBounds (plain_command command)) }
@@ -47,7 +58,7 @@ fn dpi(bytes: &[u8]) -> Result<Command<'_>, LineFault>
 }
 
 /// The view below which a tree goes, if one is named.
-#[tactic(auto, unfolding(crate::specs::Commands::into_of))]
+#[tactic(auto, unfolding(crate::specs::reading::Commands::into_of))]
 fn into(bytes: &[u8]) -> Result<Option<Name>, LineFault>
     ensures { result ≡ into_of (words bytes.now) }
 {
@@ -60,7 +71,7 @@ fn into(bytes: &[u8]) -> Result<Option<Name>, LineFault>
     Ok(Some(view))
 }
 
-#[tactic(auto, unfolding(crate::specs::Commands::inflate_of))]
+#[tactic(auto, unfolding(crate::specs::reading::Commands::inflate_of))]
 fn inflate(bytes: &[u8]) -> Result<Command<'_>, LineFault>
     ensures value { map_ok plain_command result ≡ inflate_of (words bytes.now) }
     ensures bounds { IfOk result (λ command. IsInBounds (plain_command command)) }
@@ -71,7 +82,7 @@ fn inflate(bytes: &[u8]) -> Result<Command<'_>, LineFault>
 }
 
 /// The class that a word names.
-#[tactic(auto, unfolding(crate::specs::Commands::class_of))]
+#[tactic(auto, unfolding(crate::specs::reading::Commands::class_of))]
 fn read_class(word: &[u8]) -> Result<Class, LineFault>
     ensures { result ≡ class_of word.now }
 {
@@ -96,7 +107,7 @@ fn read_class(word: &[u8]) -> Result<Class, LineFault>
     Err(LineFault::Syntax)
 }
 
-#[tactic(auto, unfolding(crate::specs::Commands::add_of))]
+#[tactic(auto, unfolding(crate::specs::reading::Commands::add_of))]
 fn add(bytes: &[u8]) -> Result<Command<'_>, LineFault>
     ensures value { map_ok plain_command result ≡ add_of (words bytes.now) }
     ensures bounds { IfOk result (λ command. IsInBounds (plain_command command)) }
@@ -113,7 +124,7 @@ fn add(bytes: &[u8]) -> Result<Command<'_>, LineFault>
     })
 }
 
-#[tactic(auto, unfolding(crate::specs::Commands::remove_of))]
+#[tactic(auto, unfolding(crate::specs::reading::Commands::remove_of))]
 fn remove(bytes: &[u8]) -> Result<Command<'_>, LineFault>
     ensures value { map_ok plain_command result ≡ remove_of (words bytes.now) }
     ensures bounds { IfOk result (λ command. IsInBounds (plain_command command)) }
@@ -123,7 +134,7 @@ fn remove(bytes: &[u8]) -> Result<Command<'_>, LineFault>
     Ok(Command::Remove(view))
 }
 
-#[tactic(auto, unfolding(crate::specs::Commands::frame_of))]
+#[tactic(auto, unfolding(crate::specs::reading::Commands::frame_of))]
 fn frame(bytes: &[u8]) -> Result<Command<'_>, LineFault>
     ensures value { map_ok plain_command result ≡ frame_of (words bytes.now) }
     ensures bounds { IfOk result (λ command. IsInBounds (plain_command command)) }
@@ -132,7 +143,7 @@ fn frame(bytes: &[u8]) -> Result<Command<'_>, LineFault>
     Ok(Command::Frame)
 }
 
-#[tactic(auto, unfolding(crate::specs::Commands::digest_of))]
+#[tactic(auto, unfolding(crate::specs::reading::Commands::digest_of))]
 fn digest(bytes: &[u8]) -> Result<Command<'_>, LineFault>
     ensures value { map_ok plain_command result ≡ digest_of (words bytes.now) }
     ensures bounds { IfOk result (λ command. IsInBounds (plain_command command)) }
@@ -141,7 +152,7 @@ fn digest(bytes: &[u8]) -> Result<Command<'_>, LineFault>
     Ok(Command::Digest)
 }
 
-#[tactic(auto, unfolding(crate::specs::Commands::bounds_of))]
+#[tactic(auto, unfolding(crate::specs::reading::Commands::bounds_of))]
 fn bounds(bytes: &[u8]) -> Result<Command<'_>, LineFault>
     ensures value { map_ok plain_command result ≡ bounds_of (words bytes.now) }
     ensures bounds { IfOk result (λ command. IsInBounds (plain_command command)) }
@@ -155,7 +166,7 @@ fn bounds(bytes: &[u8]) -> Result<Command<'_>, LineFault>
 }
 
 /// Whether a view and all above it are prevented from taking pointers away from their children.
-#[tactic(auto, unfolding(crate::specs::Commands::disallow_of))]
+#[tactic(auto, unfolding(crate::specs::reading::Commands::disallow_of))]
 fn disallow(bytes: &[u8]) -> Result<Command<'_>, LineFault>
     ensures value { map_ok plain_command result ≡ disallow_of (words bytes.now) }
     ensures bounds { IfOk result (λ command. IsInBounds (plain_command command)) }
@@ -168,7 +179,7 @@ fn disallow(bytes: &[u8]) -> Result<Command<'_>, LineFault>
 }
 
 /// A line that sets something of a view.
-#[tactic(auto, unfolding(crate::specs::Commands::set_of))]
+#[tactic(auto, unfolding(crate::specs::reading::Commands::set_of))]
 fn set<'a>(head: &[u8], bytes: &'a [u8]) -> Result<Command<'a>, LineFault>
     ensures value { map_ok plain_command result ≡ set_of head.now (words bytes.now) }
     ensures bounds { IfOk result (λ command. IsInBounds (plain_command command)) }
@@ -179,7 +190,7 @@ fn set<'a>(head: &[u8], bytes: &'a [u8]) -> Result<Command<'a>, LineFault>
 }
 
 /// A line that sets the text of a view.
-#[tactic(auto, unfolding(crate::specs::Commands::set_text_of))]
+#[tactic(auto, unfolding(crate::specs::reading::Commands::set_text_of))]
 fn set_text(bytes: &[u8]) -> Result<Command<'_>, LineFault>
     ensures value { map_ok plain_command result ≡ set_text_of bytes.now }
     ensures bounds { IfOk result (λ command. IsInBounds (plain_command command)) }
@@ -230,7 +241,7 @@ fn read_touch<'a>(head: &[u8], bytes: &'a [u8]) -> Result<Command<'a>, LineFault
 }
 
 /// The command of a line by its first word and what comes after that.
-#[tactic(auto, unfolding(crate::specs::Commands::command_by))]
+#[tactic(auto, unfolding(crate::specs::reading::Commands::command_by))]
 fn read_command<'a>(head: &[u8], bytes: &'a [u8]) -> Result<Command<'a>, LineFault>
     ensures value { map_ok plain_command result ≡ command_by head.now (words bytes.now) }
     ensures bounds { IfOk result (λ command. IsInBounds (plain_command command)) }
@@ -267,7 +278,7 @@ fn read_command<'a>(head: &[u8], bytes: &'a [u8]) -> Result<Command<'a>, LineFau
 
 /// The command of a line by its first word and what comes after that: the spaces in a text count.
 #[inline(never)]
-#[tactic(auto, unfolding(crate::specs::Commands::command_in))]
+#[tactic(auto, unfolding(crate::specs::reading::Commands::command_in))]
 fn read_rest<'a>(head: &[u8], bytes: &'a [u8]) -> Result<Command<'a>, LineFault>
     ensures value { map_ok plain_command result ≡ command_in head.now bytes.now }
     ensures bounds { IfOk result (λ command. IsInBounds (plain_command command)) }
@@ -282,7 +293,7 @@ fn read_rest<'a>(head: &[u8], bytes: &'a [u8]) -> Result<Command<'a>, LineFault>
 }
 
 /// A line that sets something which a hook can set too.
-#[tactic(auto, using(crate::proofs::EditLaws::edit_line))]
+#[tactic(auto, using(crate::proofs::readings::EditLaws::edit_line))]
 fn edit<'a>(head: &[u8], bytes: &'a [u8]) -> Result<Command<'a>, LineFault>
     requires { begins_edit head.now ≡ true }
     ensures value { map_ok plain_command result ≡ command_in head.now bytes.now }
@@ -296,7 +307,7 @@ fn edit<'a>(head: &[u8], bytes: &'a [u8]) -> Result<Command<'a>, LineFault>
 }
 
 /// The command of a line. Those that come most often are looked for first.
-#[tactic(auto, unfolding(crate::specs::Commands::command_of), using(crate::proofs::EditLaws::add_line, crate::proofs::EditLaws::frame_line, crate::proofs::EditLaws::restore_line))]
+#[tactic(auto, unfolding(crate::specs::reading::Commands::command_of), using(crate::proofs::readings::EditLaws::add_line, crate::proofs::readings::EditLaws::frame_line, crate::proofs::readings::EditLaws::restore_line))]
 fn read_line(bytes: &[u8]) -> Result<Command<'_>, LineFault>
     ensures value { map_ok plain_command result ≡ command_of bytes.now }
     ensures bounds { IfOk result (λ command. IsInBounds (plain_command command)) }

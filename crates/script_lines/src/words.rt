@@ -1,10 +1,20 @@
-//! The words of a line.
+//! The words of a line. Each module below reads what one word may say: a colour, a dimension, a text, the name of a file
+//! or of a view, a gravity, a number or a weight.
 
 ghost use Rattle.std.specs.Prelude.{◌≡◌, ◌≤◌, length, IfOk};
 ghost use Rattle.std.specs.List.{prefix_len};
 ghost use Rattle.std.specs.Str.{bytes_eq, is_utf8};
-ghost use Rattle.script_lines.specs.Lines.{is_space};
-ghost use Rattle.script_lines.specs.Words.{after_word, end_of, first_word, in_word, literal_in, map_ok, on_of, text_of, word_in, words};
+ghost use Rattle.script_lines.specs.cutting.Lines.{is_space};
+ghost use Rattle.script_lines.specs.words.Words.{after_word, end_of, first_word, in_word, literal_in, map_ok, on_of, text_of, word_in, words};
+
+pub mod colors;
+pub mod dimension;
+pub mod escapes;
+pub mod file_name;
+pub mod gravity;
+pub mod naming;
+pub mod number;
+pub mod weights;
 
 use crate::fault::LineFault;
 
@@ -33,7 +43,7 @@ fn word_len(bytes: &[u8]) -> usize
 }
 
 /// The first word, or the empty one if there is none, and what comes after it.
-#[tactic(auto, unfolding(crate::specs::Words::first_word, crate::specs::Words::after_word))]
+#[tactic(auto, unfolding(crate::specs::words::Words::first_word, crate::specs::words::Words::after_word))]
 fn first(bytes: &[u8]) -> (&[u8], &[u8])
     ensures word { result.0.now ≡ first_word bytes.now }
     ensures rest { result.1.now ≡ after_word bytes.now }
@@ -44,7 +54,7 @@ fn first(bytes: &[u8]) -> (&[u8], &[u8])
 }
 
 /// The first word, and what comes after it.
-#[tactic(auto, using(crate::proofs::WordLaws::words_none, crate::proofs::WordLaws::words_some))]
+#[tactic(auto, using(crate::proofs::texts::WordLaws::words_none, crate::proofs::texts::WordLaws::words_some))]
 pub fn word(bytes: &[u8]) -> Result<(&[u8], &[u8]), LineFault>
     ensures value { map_ok (λ r. (r.0.now, words r.1.now)) result ≡ word_in (words bytes.now) }
     ensures rest { IfOk result (λ r. r.1.now ≡ after_word bytes.now) }
@@ -82,7 +92,7 @@ pub fn literal<'a>(name: &[u8], bytes: &'a [u8]) -> Result<&'a [u8], LineFault>
 }
 
 /// No words are left.
-#[tactic(auto, using(crate::proofs::WordLaws::words_none, crate::proofs::WordLaws::words_some))]
+#[tactic(auto, using(crate::proofs::texts::WordLaws::words_none, crate::proofs::texts::WordLaws::words_some))]
 pub fn end(bytes: &[u8]) -> Result<(), LineFault>
     ensures { result ≡ end_of (words bytes.now) }
 {
@@ -101,7 +111,7 @@ pub fn is_text(line: &[u8]) -> bool
 }
 
 /// Bytes as a text, if they are valid UTF-8.
-#[tactic(auto, unfolding(crate::specs::Words::text_of))]
+#[tactic(auto, unfolding(crate::specs::words::Words::text_of))]
 pub fn text(bytes: &[u8]) -> Result<&str, LineFault>
     ensures value { map_ok (λ text. text.now) result ≡ text_of bytes.now }
     ensures same { IfOk result (λ text. text.now ≡ bytes.now) }
@@ -113,7 +123,7 @@ pub fn text(bytes: &[u8]) -> Result<&str, LineFault>
 }
 
 /// Whether something is on.
-#[tactic(auto, unfolding(crate::specs::Words::on_of))]
+#[tactic(auto, unfolding(crate::specs::words::Words::on_of))]
 pub fn read_on(word: &[u8]) -> Result<bool, LineFault>
     ensures { result ≡ on_of word.now }
 {

@@ -5,7 +5,7 @@ use Rattle.std.proofs.lemmas.List.{map-set}
 use Rattle.std.specs.Option.{option_map}
 use Rattle.std.specs.Prelude.{Option, Some, None, Box, Result, Ok, Err, ℤ, pos, negsuc, ◌≤ℤ◌, unsigned_abs, if◌then◌else◌, map}
 use Rattle.std.specs.declared.alloc.Global.{Global}
-use Rattle.script_lines.specs.Pixels.{IsPart}
+use Rattle.script_lines.specs.reading.Pixels.{IsPart}
 use Rattle.stack_worlds.proofs.ComposedLaws.{some_text}
 use Rattle.stack_worlds.proofs.PlaceLaws.{place_set}
 use Rattle.stack_worlds.specs.KeptStack.{KeyedStack, kept_world, stack_of}

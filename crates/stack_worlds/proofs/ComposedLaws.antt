@@ -6,7 +6,7 @@ use Rattle.std.specs.Prelude.{ℤ, pos, negsuc, ◌≤ℤ◌, unsigned_abs, Opti
 use Rattle.geom_core.specs.declared.color.Argb.{Argb}
 use Rattle.geom_core.specs.declared.color.TheConstants.{BLACK}
 use Rattle.stack_worlds.proofs.StackLaws.{plain_at, plain_there}
-use Rattle.script_lines.specs.Pixels.{IsPart}
+use Rattle.script_lines.specs.reading.Pixels.{IsPart}
 use Rattle.stack_worlds.specs.Composed.{IsComposed, part_of}
 use Rattle.stack_worlds.specs.KeptStack.{KeyedStack, keyed_at, stack_of}
 use Rattle.stack_worlds.specs.PlainStack.{color_from, color_in, settled_sizes}

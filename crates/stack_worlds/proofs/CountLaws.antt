@@ -2,8 +2,8 @@
 use Rattle.std.proofs.Common.{◌≡◌, ℕ, zero, suc, ◌+◌, ◌-◌, ◌≤◌, ◌^◌, List, [], ◌∷◌, ap, arith, inl, inr, get_or, set, refl}
 use Rattle.std.specs.Prelude.{◌⊎◌, Option, Some, None, Result, ℤ, min}
 use Rattle.std.proofs.lemmas.Bool.{cases_Bool}
-use Rattle.script_lines.specs.PlainCommands.{PlainCommand, Frame}
-use Rattle.script_lines.specs.PlainCommands as command
+use Rattle.script_lines.specs.commands.PlainCommands.{PlainCommand, Frame}
+use Rattle.script_lines.specs.commands.PlainCommands as command
 use Rattle.stack_worlds.specs.KeptStack.{KeyedStack, stack_of}
 use Rattle.stack_worlds.specs.PlainStack.{PlainStack, PlainWay, Given, Missed, RefusedBy, ToStack, from_corner, target_of, touch_at, way_down, way_held, way_move, way_of, way_open}
 use Rattle.stack_worlds.specs.WindowLines.{WorksBy, next_at, next_in, worlds_after}

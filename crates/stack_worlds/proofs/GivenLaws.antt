@@ -3,7 +3,7 @@ use Rattle.std.proofs.Common.{◌≡◌, ◌∙◌, ℕ, List, [], ap, sym, subs
 use Rattle.std.specs.Prelude.{Option, Some, None, Result}
 use Rattle.std.specs.Option.{option_map}
 use Rattle.std.proofs.lemmas.List.{get_or-set_same, map-set}
-use Rattle.script_lines.specs.PlainCommands.{PlainCommand}
+use Rattle.script_lines.specs.commands.PlainCommands.{PlainCommand}
 use Rattle.stack_worlds.proofs.IsolationLaws.{within}
 use Rattle.stack_worlds.proofs.StackLaws.{given_writes, plain_there}
 use Rattle.stack_worlds.specs.KeptStack.{KeyedStack, keyed_at, stack_of}

@@ -5,7 +5,7 @@ use Rattle.std.specs.Prelude.{Option, Some, None, fold, if◌then◌else◌, not
 use Rattle.std.proofs.lemmas.Bool.{cases_Bool, cases_eq, eq-eqb, ne_eqb}
 use Rattle.std.proofs.lemmas.Grind.{fold-append}
 use Rattle.std.proofs.lemmas.List.{append-nil, get_or-set_same, get_or-set_other}
-use Rattle.script_lines.specs.PlainCommands.{PlainCommand}
+use Rattle.script_lines.specs.commands.PlainCommands.{PlainCommand}
 use Rattle.tool_io.specs.Fetched.{Files}
 use Rattle.stack_worlds.specs.Isolation.{AreAlike, DependsOnShare, IsAlone, IsIsolated, Shared, after_shared, given_by, nothing_shared, opens, replies_alone, replies_from, reply_in, reply_of, share, shared_by, stack_or, world_alone, world_or}
 use Rattle.stack_worlds.specs.PlainStack.{PlainStack, PlainWay, Given, Missed, RefusedBy, ToStack, after_given, by_way, empty_stack, given_to, own_step, way_of, world_at}

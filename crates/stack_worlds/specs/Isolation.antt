@@ -1,6 +1,6 @@
 -- Each window has its own world: that of the commands that were given to it since it was opened.
 use Rattle.std.specs.Prelude.{◌≡◌, ℕ, ◌==◌, Bool, false, not, ◌&&◌, if◌then◌else◌, List, [], ◌∷◌, ◌++◌, Option, Some, None, fold}
-use Rattle.script_lines.specs.PlainCommands.{PlainCommand}
+use Rattle.script_lines.specs.commands.PlainCommands.{PlainCommand}
 use Rattle.tool_io.specs.Fetched.{Files}
 use Rattle.stack_worlds.specs.PlainStack.{PlainStack, PlainWay, Given, Missed, RefusedBy, ToStack, StackReply, empty_stack, stack_step, way_of, world_at}
 use Rattle.stack_worlds.specs.PlainStack as stack_reply

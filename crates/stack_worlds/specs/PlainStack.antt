@@ -4,8 +4,8 @@ use Rattle.geom_core.specs.declared.color.Argb.{Argb}
 use Rattle.geom_core.specs.declared.color.TheConstants.{BLACK}
 use Rattle.geom_core.specs.declared.geometry.Size.{Size}
 use Rattle.pixel_raster.specs.Raster.{pixel_at}
-use Rattle.script_lines.specs.PlainCommands.{PlainCommand}
-use Rattle.script_lines.specs.PlainCommands as command
+use Rattle.script_lines.specs.commands.PlainCommands.{PlainCommand}
+use Rattle.script_lines.specs.commands.PlainCommands as command
 use Rattle.script_lines.specs.declared.commands.TheConstants.{MAX_TOUCH, MIN_TOUCH}
 use Rattle.tool_io.specs.Fetched.{Files}
 use Rattle.touch_event.specs.declared.event.Point.{Point}

@@ -1,8 +1,8 @@
 -- How a line of a stack was carried out.
 use Rattle.std.specs.Prelude.{◌≡◌, ◌<◌, ◌≤◌, ◌^◌, ℕ, List, Option, IfSome, Result, Ok, Err, true, false}
 use Rattle.std.specs.Io.KnownBytes.{Appends}
-use Rattle.script_lines.specs.Commands.{IsInBounds}
-use Rattle.script_lines.specs.Pixels.{IsPart}
+use Rattle.script_lines.specs.reading.Commands.{IsInBounds}
+use Rattle.script_lines.specs.reading.Pixels.{IsPart}
 use Rattle.text_lines.specs.Prefix.{AppendsPrefix}
 use Rattle.tool_io.specs.Counts.{raised}
 use Rattle.tool_io.specs.SinkState.{SinkState}
@@ -14,7 +14,7 @@ use Rattle.stack_worlds.specs.declared.stack.way.Own.{Own}
 use Rattle.stack_worlds.specs.declared.stack.way.Own.TheVariants as own
 use Rattle.stack_worlds.specs.declared.stack.way.Way.{Way}
 use Rattle.stack_worlds.specs.declared.stack.way.Way.TheVariants as way
-use Rattle.script_lines.specs.PlainCommands.{PlainCommand, plain_command, text_length}
+use Rattle.script_lines.specs.commands.PlainCommands.{PlainCommand, plain_command, text_length}
 use Rattle.view_world.specs.world.Carried.{MayWantMemory}
 use Rattle.view_world.specs.declared.fault.StepFault.{StepFault}
 use Rattle.view_world.specs.declared.fault.StepFault.TheVariants as fault

@@ -2,7 +2,7 @@
 use Rattle.std.specs.Prelude.{◌≡◌, ◌≢◌, ◌⊎◌, ◌+◌, ◌≤◌, ℕ, true, if◌then◌else◌, Option, Some, None, Result, List, slice_set}
 use Rattle.geom_core.specs.declared.geometry.Rect.{Rect}
 use Rattle.geom_core.specs.declared.geometry.Size.{Size}
-use Rattle.script_lines.specs.PlainCommands.{PlainCommand, Frame}
+use Rattle.script_lines.specs.commands.PlainCommands.{PlainCommand, Frame}
 use Rattle.stack_worlds.specs.KeptStack.{KeyedStack, keyed_at}
 use Rattle.stack_worlds.specs.PlainStack.{PlainWay, Given, Missed, RefusedBy, ToStack}
 use Rattle.stack_worlds.specs.declared.stack.way.Own.{Own}

@@ -1,14 +1,14 @@
 //! A stack of windows, each with a world of its own.
 
 ghost use Rattle.std.specs.Prelude.{◌≡◌, ◌≢◌, ◌⊎◌, ◌+◌, ◌-◌, ◌<◌, ◌≤◌, ◌^◌, ℕ, min, [], true, false, Err, IfErr, IfSome, None, OnOk, Option, Some};
-ghost use Rattle.script_lines.specs.PlainCommands.{plain_command};
+ghost use Rattle.script_lines.specs.commands.PlainCommands.{plain_command};
 ghost use Rattle.tool_io.specs.Fetched.{Files};
 ghost use Rattle.stack_worlds.specs.Isolation.{IsAfterLine, IsAlone, Shared};
 ghost use Rattle.stack_worlds.specs.KeptStack.{HaveNumbers, keyed_at, no_windows, stack_of};
 ghost use Rattle.stack_worlds.specs.PlainStack.{Done, PlainStack, asked_by, asked_on, by_way, holder_after, own_step, placed_at, stack_step, way_of, world_at};
 ghost use Rattle.stack_worlds.specs.StackCarried.{IsGivenSound, IsOwnSound, IsReplied, LineWants, OwnWants, WayWants, WritesStack, plain_given, written};
 ghost use Rattle.stack_worlds.specs.WindowLines.{WorksBy, next_at, worlds_after};
-ghost use Rattle.script_lines.specs.PlainCommands.{Frame};
+ghost use Rattle.script_lines.specs.commands.PlainCommands.{Frame};
 ghost use Rattle.view_model.specs.declared.limits.TheConstants.{MAX_VIEWS};
 ghost use Rattle.view_world.specs.world.Carried.{AreAtHand, CountsShelf, IsDone, faults_after_line, fetches_after};
 ghost use Rattle.view_world.specs.world.KeyedWorld.{KeyedWorld, world_of};

@@ -1,10 +1,10 @@
 //! The screen of a script: what its lines so far have made, and what each line does to it.
 ghost use Rattle.std.specs.Prelude.{pos, ◌≡◌, ◌≢◌, ◌⊎◌, true, ◌+◌, ◌-◌, ◌≤◌, ◌<◌, ◌^◌, [], length, Option, None, Some, Err, OnErr, OnOk, IfOk};
-ghost use Rattle.script_lines.specs.PlainCommands.{Frame, Inflate, Add, Remove, Act, SetText, Bounds, Pixels, Digest, given_text_length, plain_command, plain_given, text_length};
-ghost use Rattle.script_lines.specs.Changes.{IsActInBounds};
-ghost use Rattle.script_lines.specs.Commands.{IsInBounds};
-ghost use Rattle.script_lines.specs.Numbers.{IsWithin};
-ghost use Rattle.script_lines.specs.Pixels.{IsPart};
+ghost use Rattle.script_lines.specs.commands.PlainCommands.{Frame, Inflate, Add, Remove, Act, SetText, Bounds, Pixels, Digest, given_text_length, plain_command, plain_given, text_length};
+ghost use Rattle.script_lines.specs.reading.Changes.{IsActInBounds};
+ghost use Rattle.script_lines.specs.reading.Commands.{IsInBounds};
+ghost use Rattle.script_lines.specs.words.Numbers.{IsWithin};
+ghost use Rattle.script_lines.specs.reading.Pixels.{IsPart};
 ghost use Rattle.script_lines.specs.declared.commands.TheConstants.{MAX_WINDOW};
 ghost use Rattle.tool_io.specs.Fetched.{Files};
 ghost use Rattle.tree_edits.specs.Applied.{IsEdit, MayWantMemory as EditMayWantMemory, numbered};

@@ -3,7 +3,7 @@ use Rattle.std.proofs.Common.{◌≡◌, ℕ, ◌≤◌, length, List, [], ◌�
 use Rattle.std.specs.Prelude.{Bool, true, false, Option, Result, Ok, Err}
 use Rattle.std.proofs.lemmas.List.{append-nil}
 use Rattle.load_maker.specs.Load.{load}
-use Rattle.script_lines.specs.Lines.{Line, cut_of, lines_of}
+use Rattle.script_lines.specs.cutting.Lines.{Line, cut_of, lines_of}
 use Rattle.tool_io.specs.Fetched.{Files}
 use Rattle.view_model.specs.declared.work.Work.{Work}
 use Rattle.whole_tool.specs.Carried.{Carried, Alone}

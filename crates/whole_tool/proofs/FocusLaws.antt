@@ -5,7 +5,7 @@ use Rattle.std.specs.Io.KnownBytes.{Appends}
 use Rattle.std.proofs.lemmas.List.{append-nil}
 use Rattle.focus_finder.specs.Focus.{next_focus}
 use Rattle.geom_core.specs.declared.geometry.Size.{Size}
-use Rattle.script_lines.specs.Lines.{Line, lines_of}
+use Rattle.script_lines.specs.cutting.Lines.{Line, lines_of}
 use Rattle.text_lines.specs.Prefix.{AppendsPrefix}
 use Rattle.text_lines.proofs.Prefixes.{appends_both, prefix_of_first, prefix_of_second}
 use Rattle.tool_io.specs.Fetched.{Files}

@@ -2,7 +2,7 @@
 use Rattle.std.proofs.Common.{◌≡◌, ℕ, List, [], refl}
 use Rattle.std.specs.Prelude.{None, Some}
 use Rattle.load_maker.specs.Load.{load}
-use Rattle.script_lines.specs.Lines.{lines_of}
+use Rattle.script_lines.specs.cutting.Lines.{lines_of}
 use Rattle.sha2.specs.Sha256.{sha256}
 use Rattle.view_model.specs.declared.work.Work.{Work}
 use Rattle.whole_tool.specs.declared.loading.Outcome.{Outcome}

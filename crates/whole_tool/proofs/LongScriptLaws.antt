@@ -3,8 +3,8 @@ use Rattle.std.proofs.Common.{◌≡◌, ℕ, ◌+◌, ◌-◌, ◌<◌, ◌≤�
 use Rattle.std.proofs.lemmas.Bool.{cases_lt, lt-ltb, le-ltb}
 use Rattle.std.proofs.lemmas.List.{take-append-drop, take_all}
 use Rattle.std.proofs.Math.Seq.{take-append-add}
-use Rattle.script_lines.proofs.LineLaws.{cut_lines-append}
-use Rattle.script_lines.specs.Lines.{Line, cut_of, last_of, lines_of}
+use Rattle.script_lines.proofs.lines.LineLaws.{cut_lines-append}
+use Rattle.script_lines.specs.cutting.Lines.{Line, cut_of, last_of, lines_of}
 use Rattle.text_lines.proofs.Prefixes.{take_further}
 use Rattle.whole_tool.specs.Transcript.{carried_lines, max_script}
 

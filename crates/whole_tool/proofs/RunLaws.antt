@@ -5,8 +5,8 @@ use Rattle.std.specs.List.{list_all}
 use Rattle.std.specs.Io.KnownBytes.{Appends}
 use Rattle.std.proofs.lemmas.Grind.{fold-append}
 use Rattle.std.proofs.lemmas.List.{append-nil, take-append-drop}
-use Rattle.script_lines.specs.LineBuffer.{LineBuffer, IsAfter}
-use Rattle.script_lines.specs.Lines.{ArePassedOver, Line, Text, LongLine, cut_of, is_idle, last_of, lines_of, is_passed_over}
+use Rattle.script_lines.specs.cutting.LineBuffer.{LineBuffer, IsAfter}
+use Rattle.script_lines.specs.cutting.Lines.{ArePassedOver, Line, Text, LongLine, cut_of, is_idle, last_of, lines_of, is_passed_over}
 use Rattle.text_lines.specs.BufferedText.{BufferedText as BufferedText}
 use Rattle.text_lines.specs.Prefix.{AppendsPrefix}
 use Rattle.text_lines.proofs.Prefixes.{appends_both, prefix_of_first}
@@ -33,7 +33,7 @@ use Rattle.view_world.specs.frames.Watched.{IsWorth}
 use Rattle.whole_tool.proofs.CarrierLaws.{watching_same}
 use Rattle.whole_tool.proofs.SumLaws.{worth_same}
 use Rattle.whole_tool.proofs.TallyLaws.{passed_cost, refused_cost, tally_from-append, tally_from-push}
-use Rattle.script_lines.proofs.LineLaws.{cut_lines-append, cut_lines-length}
+use Rattle.script_lines.proofs.lines.LineLaws.{cut_lines-append, cut_lines-length}
 
 after_from-append : (start : Carried) (files : Files) (lines more : List Line) → after_from start files (lines ++ more) ≡ fold (after_line files) (after_from start files lines) more
 unfolding after_from

@@ -4,7 +4,7 @@ use Rattle.std.specs.Prelude.{nat_lt, Option, Some, None, Ok, Err}
 use Rattle.std.specs.Io.KnownBytes.{Consumes, IsAtEnd, Keeps}
 use Rattle.std.proofs.lemmas.List.{append-nil, take-append-drop, take-append-le}
 use Rattle.std.proofs.Math.Seq.{take-append-add}
-use Rattle.script_lines.specs.Lines.{Line, cut_of, lines_of}
+use Rattle.script_lines.specs.cutting.Lines.{Line, cut_of, lines_of}
 use Rattle.tool_io.specs.Fetched.{Files}
 use Rattle.whole_tool.specs.Carried.{Carried}
 use Rattle.whole_tool.specs.declared.run.LineRunner.{LineRunner}

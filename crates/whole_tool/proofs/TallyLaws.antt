@@ -4,9 +4,9 @@ use Rattle.std.specs.Prelude.{true, false, Result, Ok, Err, fold}
 use Rattle.std.proofs.lemmas.Bool.{cases_Bool}
 use Rattle.std.proofs.lemmas.Grind.{fold-append}
 use Rattle.geom_core.specs.declared.geometry.Rect.{Rect}
-use Rattle.script_lines.specs.Commands.{command_of}
-use Rattle.script_lines.specs.Lines.{Line, Text, LongLine, is_idle, is_passed_over}
-use Rattle.script_lines.specs.PlainCommands.{PlainCommand}
+use Rattle.script_lines.specs.reading.Commands.{command_of}
+use Rattle.script_lines.specs.cutting.Lines.{Line, Text, LongLine, is_idle, is_passed_over}
+use Rattle.script_lines.specs.commands.PlainCommands.{PlainCommand}
 use Rattle.script_lines.specs.declared.fault.LineFault.{LineFault}
 use Rattle.stack_worlds.specs.KeptStack.{KeyedStack, stack_of}
 use Rattle.stack_worlds.specs.PlainStack.{PlainStack, StackReply, stack_step, way_of}

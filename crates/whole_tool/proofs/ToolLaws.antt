@@ -6,7 +6,7 @@ use Rattle.std.specs.List.{list_any}
 use Rattle.std.proofs.lemmas.Bool.{cases_Bool}
 use Rattle.std.proofs.lemmas.Bool.Decides.{nat_tests}
 use Rattle.std.proofs.lemmas.List.{append-nil}
-use Rattle.script_lines.specs.Lines.{Line, cut_of, lines_of}
+use Rattle.script_lines.specs.cutting.Lines.{Line, cut_of, lines_of}
 use Rattle.text_lines.specs.Prefix.{AppendsPrefix}
 use Rattle.text_lines.proofs.Prefixes.{prefix_of_second}
 use Rattle.whole_tool.specs.Carried.{Carried}

@@ -3,7 +3,7 @@ use Rattle.std.proofs.Common.{◌≡◌, ◌≤◌, ℕ, zero, suc, List, [], �
 use Rattle.std.specs.Prelude.{Option, Some, None, Result, map, replicate, slice_index_or, slice_set}
 use Rattle.std.specs.Option.{option_map}
 use Rattle.std.proofs.lemmas.Bool.{cases_Bool}
-use Rattle.script_lines.specs.PlainCommands.{PlainCommand}
+use Rattle.script_lines.specs.commands.PlainCommands.{PlainCommand}
 use Rattle.stack_worlds.specs.KeptStack.{KeyedStack, stack_of}
 use Rattle.stack_worlds.specs.PlainStack.{PlainStack, PlainWay, Given, Missed, RefusedBy, ToStack, after_given, by_way, given_to, with_world}
 use Rattle.stack_worlds.specs.PlainStack as stack_reply

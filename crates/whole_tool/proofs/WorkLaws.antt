@@ -1,8 +1,8 @@
 -- How much is counted in a line.
 use Rattle.std.proofs.Common.{◌≡◌, ◌≢◌, ℕ, ◌+◌, ◌-◌, ◌^◌, ◌≤◌, min, ap, refl, arith, inl, inr}
 use Rattle.std.specs.Prelude.{◌⊎◌, Result}
-use Rattle.script_lines.specs.PlainCommands.{PlainCommand}
-use Rattle.script_lines.specs.PlainCommands as command
+use Rattle.script_lines.specs.commands.PlainCommands.{PlainCommand}
+use Rattle.script_lines.specs.commands.PlainCommands as command
 use Rattle.view_model.specs.declared.work.Work.{Work}
 use Rattle.view_world.specs.declared.fault.StepFault.{StepFault}
 use Rattle.view_world.specs.world.Carried.{IsDone}

@@ -1,7 +1,7 @@
 -- What carries out the lines of a script, and what a line does there.
 use Rattle.std.specs.Prelude.{ℕ, List, Option, None, Result, Ok, Err}
-use Rattle.script_lines.specs.Commands.{command_of}
-use Rattle.script_lines.specs.PlainCommands.{PlainCommand}
+use Rattle.script_lines.specs.reading.Commands.{command_of}
+use Rattle.script_lines.specs.commands.PlainCommands.{PlainCommand}
 use Rattle.script_lines.specs.declared.fault.LineFault.{LineFault}
 use Rattle.script_lines.specs.declared.fault.LineFault.TheVariants as fault
 use Rattle.stack_worlds.specs.PlainStack.{PlainStack, StackReply, asked_by, stack_step}

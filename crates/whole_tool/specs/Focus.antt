@@ -5,8 +5,8 @@ use Rattle.std.specs.Io.KnownBytes.{Appends, Consumes, IsAtEnd}
 use Rattle.focus_finder.specs.Focus.{next_focus}
 use Rattle.focus_finder.specs.declared.side.Side.{Side}
 use Rattle.geom_core.specs.declared.geometry.Size.{Size}
-use Rattle.script_lines.specs.Lines.{lines_of}
-use Rattle.script_lines.specs.PlainCommands as command
+use Rattle.script_lines.specs.cutting.Lines.{lines_of}
+use Rattle.script_lines.specs.commands.PlainCommands as command
 use Rattle.text_lines.specs.Joined.{◌⧺◌}
 use Rattle.text_lines.specs.Prefix.{AppendsPrefix}
 use Rattle.tool_io.specs.Fetched.{Files}

@@ -2,7 +2,7 @@
 use Rattle.std.specs.Prelude.{ℕ, List, [], codes, decimal}
 use Rattle.hex.specs.Hex.{encode_lower}
 use Rattle.load_maker.specs.Load.{load}
-use Rattle.script_lines.specs.Lines.{lines_of}
+use Rattle.script_lines.specs.cutting.Lines.{lines_of}
 use Rattle.sha2.specs.Sha256.{sha256}
 use Rattle.text_lines.specs.Joined.{◌⧺◌}
 use Rattle.whole_tool.specs.declared.loading.Outcome.{Outcome}

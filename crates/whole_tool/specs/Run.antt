@@ -2,8 +2,8 @@
 use Rattle.std.specs.Prelude.{◌≡◌, ◌≤◌, ℕ, List, [], ◌∷◌, ◌++◌, Option, Some, None, Result, Ok, Err, IfSome, length}
 use Rattle.std.proofs.Common.{Bor}
 use Rattle.std.specs.Io.KnownBytes.{Appends}
-use Rattle.script_lines.specs.LineBuffer.{IsAfter}
-use Rattle.script_lines.specs.Lines.{Line, Text, LongLine, cut_of, max_line}
+use Rattle.script_lines.specs.cutting.LineBuffer.{IsAfter}
+use Rattle.script_lines.specs.cutting.Lines.{Line, Text, LongLine, cut_of, max_line}
 use Rattle.tool_io.specs.Counts.{raised}
 use Rattle.tool_io.specs.Fetched.{Files}
 use Rattle.view_model.specs.declared.work.Work.{Work}

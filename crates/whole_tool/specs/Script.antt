@@ -1,7 +1,7 @@
 -- A script that is read in pieces while it is carried out.
 use Rattle.std.specs.Prelude.{◌≡◌, ℕ, ◌+◌, ◌<◌, ◌≤◌, nat_lt, Bool, List, ◌++◌, length, Option, Some, Result, Ok, Err, IfOk}
 use Rattle.std.specs.Io.KnownBytes.{Appends, Consumes, IsAtEnd}
-use Rattle.script_lines.specs.Lines.{cut_of, lines_of}
+use Rattle.script_lines.specs.cutting.Lines.{cut_of, lines_of}
 use Rattle.tool_io.specs.Counts.{raised}
 use Rattle.tool_io.specs.Fetched.{Files}
 use Rattle.whole_tool.specs.Carried.{Carried, Alone}

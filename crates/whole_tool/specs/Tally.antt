@@ -1,8 +1,8 @@
 -- What the lines of a script cost, one after another, from its start.
 use Rattle.std.specs.Prelude.{ℕ, ◌+◌, if◌then◌else◌, List, Result, Ok, Err, fold}
-use Rattle.script_lines.specs.Commands.{command_of}
-use Rattle.script_lines.specs.Lines.{Line, Text, LongLine, is_passed_over, lines_of}
-use Rattle.script_lines.specs.PlainCommands.{PlainCommand}
+use Rattle.script_lines.specs.reading.Commands.{command_of}
+use Rattle.script_lines.specs.cutting.Lines.{Line, Text, LongLine, is_passed_over, lines_of}
+use Rattle.script_lines.specs.commands.PlainCommands.{PlainCommand}
 use Rattle.script_lines.specs.declared.fault.LineFault.{LineFault}
 use Rattle.stack_worlds.specs.PlainStack.{StackReply, empty_stack, stack_step, way_of}
 use Rattle.stack_worlds.specs.PlainStack as stack_reply

@@ -2,7 +2,7 @@
 use Rattle.std.specs.Prelude.{◌≡◌, ◌⊎◌, ℕ, ◌<◌, ◌≤◌, nat_lt, Bool, true, ◌==◌, if◌then◌else◌, List, length, Option, Some, Result, Ok, Err}
 use Rattle.std.specs.List.{list_any}
 use Rattle.std.specs.Io.KnownBytes.{Appends}
-use Rattle.script_lines.specs.Lines.{lines_of}
+use Rattle.script_lines.specs.cutting.Lines.{lines_of}
 use Rattle.text_lines.specs.Prefix.{AppendsPrefix}
 use Rattle.whole_tool.specs.Carried.{Carried}
 use Rattle.whole_tool.specs.declared.run.Stop.TheVariants as stop

@@ -1,6 +1,6 @@
 -- What the tool writes for a script: the texts of its lines, one after another, from the empty world or from no window.
 use Rattle.std.specs.Prelude.{◌≢◌, ℕ, suc, ◌+◌, Bool, nat_lt, if◌then◌else◌, length, List, [], ◌++◌, Option, Some, None, fold, take}
-use Rattle.script_lines.specs.Lines.{Line, Text, LongLine, cut_of, is_passed_over, lines_of}
+use Rattle.script_lines.specs.cutting.Lines.{Line, Text, LongLine, cut_of, is_passed_over, lines_of}
 use Rattle.stack_worlds.specs.PlainStack.{empty_stack}
 use Rattle.tool_io.specs.Fetched.{Files}
 use Rattle.view_model.specs.Refusals.{refusal_numbered}

@@ -7,10 +7,10 @@ use Rattle.std.specs.declared.alloc.Global.{Global}
 use Rattle.std.specs.declared.string.String.{String}
 use Rattle.focus_finder.specs.declared.side.Side.{Side}
 use Rattle.focus_finder.specs.declared.side.Side.TheVariants.{Left, Right, Up, Down}
-use Rattle.script_lines.specs.FileNames.{is_file_name}
-use Rattle.script_lines.specs.Names.{hex_of, name_of}
-use Rattle.script_lines.specs.Numbers.{natural_of}
-use Rattle.script_lines.specs.declared.naming.Name.{Name}
+use Rattle.script_lines.specs.words.FileNames.{is_file_name}
+use Rattle.script_lines.specs.words.Names.{hex_of, name_of}
+use Rattle.script_lines.specs.words.Numbers.{natural_of}
+use Rattle.script_lines.specs.declared.words.naming.Name.{Name}
 use Rattle.whole_tool.specs.declared.focusing.Question.{Question}
 use Rattle.whole_tool.specs.declared.usage.Form.{Form}
 use Rattle.whole_tool.specs.declared.usage.Form.TheVariants as form

@@ -2,7 +2,7 @@
 -- was asked.
 use Rattle.std.specs.Prelude.{◌≡◌, ℕ, zero, suc, List, [], ◌∷◌, ◌++◌, Option}
 use Rattle.std.specs.Io.KnownBytes.{Appends}
-use Rattle.script_lines.specs.Lines.{Line}
+use Rattle.script_lines.specs.cutting.Lines.{Line}
 use Rattle.text_lines.specs.Prefix.{AppendsPrefix}
 use Rattle.tool_io.specs.Counts.{one_more}
 use Rattle.tool_io.specs.Fetched.{Files}

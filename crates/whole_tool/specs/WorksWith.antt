@@ -1,6 +1,6 @@
 -- What was counted in the run of a script that ended with a status.
 use Rattle.std.specs.Prelude.{◌≡◌, ℕ, List, Option}
-use Rattle.script_lines.specs.Lines.{lines_of}
+use Rattle.script_lines.specs.cutting.Lines.{lines_of}
 use Rattle.tool_io.specs.Fetched.{Files}
 use Rattle.whole_tool.specs.Carried.{Carried, Alone}
 use Rattle.whole_tool.specs.Script.{WorksTaken}

@@ -1,7 +1,7 @@
 //! What carries out the lines of a script: a world, or a stack of windows.
 
 ghost use Rattle.std.specs.Prelude.{◌≡◌, ◌≢◌, ◌⊎◌, ◌+◌, ◌-◌, ◌<◌, ◌≤◌, ◌^◌, Err, None, Some, false, length, min};
-ghost use Rattle.script_lines.specs.Lines.{is_idle, max_line};
+ghost use Rattle.script_lines.specs.cutting.Lines.{is_idle, max_line};
 ghost use Rattle.stack_worlds.specs.PlainStack.{empty_stack};
 ghost use Rattle.tool_io.specs.Fetched.{Files};
 ghost use Rattle.view_model.specs.Refusals.{plain_refusal};

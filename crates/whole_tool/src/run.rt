@@ -1,8 +1,8 @@
 //! A script that is carried out as its bytes come.
 
 ghost use Rattle.std.specs.Prelude.{nat_lt, ◌≡◌, ℕ, ◌+◌, ◌-◌, ◌*◌, ◌<◌, ◌≤◌, ◌^◌, min, List, ◌∷◌, [], ◌++◌, Option, Some, OnOk, IfOk, IfErr, IfSome, length, take};
-ghost use Rattle.script_lines.specs.LineBuffer.{IsLent, lines_at};
-ghost use Rattle.script_lines.specs.Lines.{Line, cut_of, is_idle, lines_of, max_line};
+ghost use Rattle.script_lines.specs.cutting.LineBuffer.{IsLent, lines_at};
+ghost use Rattle.script_lines.specs.cutting.Lines.{Line, cut_of, is_idle, lines_of, max_line};
 ghost use Rattle.tool_io.specs.Fetched.{Files};
 ghost use Rattle.view_model.specs.declared.work.Work.{Work};
 ghost use Rattle.view_model.specs.declared.limits.TheConstants.{MAX_VIEWS, NUMBERS_END};

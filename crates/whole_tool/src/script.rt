@@ -1,7 +1,7 @@
 //! A source that is read in pieces while the script on it is carried out.
 
 ghost use Rattle.std.specs.Prelude.{◌≡◌, ℕ, ◌-◌, ◌≤◌, ◌^◌, List, [], Option, Some, Ok, OnOk, min};
-ghost use Rattle.script_lines.specs.Lines.{lines_of};
+ghost use Rattle.script_lines.specs.cutting.Lines.{lines_of};
 ghost use Rattle.tool_io.specs.Fetched.{Files};
 ghost use Rattle.whole_tool.specs.Carrier.{carried_of, next_of};
 ghost use Rattle.whole_tool.specs.Run.{HasReadUpTo};

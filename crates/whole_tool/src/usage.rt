@@ -145,7 +145,7 @@ fn side_of(word: &String) -> Option<Side>
 }
 
 /// The view that a word names, as in a line of a script.
-#[tactic(auto, unfolding(script_lines::specs::Names::name_of, script_lines::specs::Names::id_of))]
+#[tactic(auto, unfolding(script_lines::specs::words::Names::name_of, script_lines::specs::words::Names::id_of))]
 fn name_from(word: &[u8]) -> Option<Name>
     ensures { result ≡ name_from word.now }
 {

@@ -3,7 +3,7 @@
 ghost use Rattle.std.specs.Prelude.{◌≡◌, ◌≢◌, ℕ, ◌+◌, ◌-◌, ◌^◌, ◌<◌, ◌≤◌, ◌↔◌, ◌⊎◌, ◌==◌, List, [], ◌∷◌, Some, length, min, if◌then◌else◌};
 ghost use Rattle.std.specs.Io.KnownBytes.{Appends, Consumes, IsAtEnd};
 ghost use Rattle.load_maker.specs.Load.{load};
-ghost use Rattle.script_lines.specs.Lines.{lines_of};
+ghost use Rattle.script_lines.specs.cutting.Lines.{lines_of};
 ghost use Rattle.stack_worlds.specs.PlainStack.{empty_stack};
 ghost use Rattle.tool_io.specs.Counts.{Rose, one_more, raised};
 ghost use Rattle.tool_io.specs.Fetched.{Files};

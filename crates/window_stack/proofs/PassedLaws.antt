@@ -4,11 +4,11 @@ use Rattle.std.proofs.lemmas.Bool.{cases_Bool}
 use Rattle.std.specs.List.{list_all, prefix_len}
 use Rattle.std.specs.Prelude.{◌==◌, ◌&&◌, nat_lt, slice_index, Err}
 use Rattle.std.specs.Str.{is_utf8}
-use Rattle.script_lines.specs.Lines.{is_passed_over, is_space}
-use Rattle.script_lines.specs.Words.{◌>>=◌, after_word, first_word, in_word, word_in, words}
+use Rattle.script_lines.specs.cutting.Lines.{is_passed_over, is_space}
+use Rattle.script_lines.specs.words.Words.{◌>>=◌, after_word, first_word, in_word, word_in, words}
 use Rattle.script_lines.specs.declared.fault.LineFault.TheVariants.{Syntax}
-use Rattle.script_lines.proofs.CommandLaws.{and-left, and-right}
-use Rattle.script_lines.proofs.WordLaws.{one_add, word_space, words_some}
+use Rattle.script_lines.proofs.readings.CommandLaws.{and-left, and-right}
+use Rattle.script_lines.proofs.texts.WordLaws.{one_add, word_space, words_some}
 use Rattle.window_stack.specs.StackLines.{stack_line_by, stack_line_of}
 
 -- a line without words

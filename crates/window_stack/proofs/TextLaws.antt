@@ -2,8 +2,8 @@
 use Rattle.std.proofs.Common.{ℕ, ◌≤◌, List, length, arith, length-drop}
 use Rattle.std.specs.List.{prefix_len}
 use Rattle.std.specs.Prelude.{IfOk, Result, Ok, Err}
-use Rattle.script_lines.specs.Lines.{is_space}
-use Rattle.script_lines.specs.Words.{after_spaces, after_word, in_word}
+use Rattle.script_lines.specs.cutting.Lines.{is_space}
+use Rattle.script_lines.specs.words.Words.{after_spaces, after_word, in_word}
 use Rattle.script_lines.specs.declared.fault.LineFault.{LineFault}
 use Rattle.window_stack.specs.StackLines.{plain_line, text_length_in}
 use Rattle.window_stack.specs.declared.lines.StackLine.{StackLine}

@@ -1,12 +1,12 @@
 -- The grammar of a line of a stack, over its words. All words are read before a number's bounds are looked at.
 use Rattle.std.specs.Prelude.{ℕ, ◌≤◌, ◌||◌, Bool, if◌then◌else◌, ℤ, pos, List, codes, Result, Ok, Err}
 use Rattle.std.specs.Str.{bytes_eq, is_utf8}
-use Rattle.script_lines.specs.Commands.{IsInBounds, command_of}
-use Rattle.script_lines.specs.Numbers.{IsWithin, integer_in, integer_of, natural_within, within_of}
-use Rattle.script_lines.specs.Pixels.{IsPart, is_small}
-use Rattle.script_lines.specs.PlainCommands.{PlainCommand, plain_command, text_length}
-use Rattle.script_lines.specs.Touches.{IsTouchInBounds, pointer_of, touch_of}
-use Rattle.script_lines.specs.Words.{after_word, ◌>>=◌, map_ok, word_in, end_of, words}
+use Rattle.script_lines.specs.reading.Commands.{IsInBounds, command_of}
+use Rattle.script_lines.specs.words.Numbers.{IsWithin, integer_in, integer_of, natural_within, within_of}
+use Rattle.script_lines.specs.reading.Pixels.{IsPart, is_small}
+use Rattle.script_lines.specs.commands.PlainCommands.{PlainCommand, plain_command, text_length}
+use Rattle.script_lines.specs.reading.Touches.{IsTouchInBounds, pointer_of, touch_of}
+use Rattle.script_lines.specs.words.Words.{after_word, ◌>>=◌, map_ok, word_in, end_of, words}
 use Rattle.script_lines.specs.declared.commands.TheConstants.{MAX_POINT, MAX_POINTER, MAX_WINDOW}
 use Rattle.script_lines.specs.declared.fault.LineFault.{LineFault}
 use Rattle.script_lines.specs.declared.fault.LineFault.TheVariants.{Syntax, Range}

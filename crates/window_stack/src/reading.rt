@@ -1,11 +1,11 @@
 //! What the line of a stack asks for.
 
 ghost use Rattle.std.specs.Prelude.{◌≡◌, ◌≤◌, true, length, Err, IfOk};
-ghost use Rattle.script_lines.specs.Lines.{is_passed_over};
-ghost use Rattle.script_lines.specs.Words.{map_ok, words};
+ghost use Rattle.script_lines.specs.cutting.Lines.{is_passed_over};
+ghost use Rattle.script_lines.specs.words.Words.{map_ok, words};
 ghost use Rattle.window_stack.specs.StackLines.{IsLineInBounds, at_of, close_of, compose_of, given_of, in_of, is_touch_word, pane_of, part_by, plain_line, raise_of, stack_line_by, stack_line_of, scancel_of, sdown_of, smove_of, sup_of, text_length_in, touch_line_by};
-ghost use Rattle.script_lines.specs.Commands.{IsInBounds};
-ghost use Rattle.script_lines.specs.PlainCommands.{plain_command, text_length};
+ghost use Rattle.script_lines.specs.reading.Commands.{IsInBounds};
+ghost use Rattle.script_lines.specs.commands.PlainCommands.{plain_command, text_length};
 ghost use Rattle.window_stack.specs.declared.lines.TheConstants.{MAX_PANE};
 
 use crate::lines::{MAX_CORNER, MAX_PANE, MIN_CORNER, StackLine};

@@ -5,7 +5,7 @@
 ghost use Rattle.std.specs.Prelude.{◌≡◌, ◌<◌, ◌≤◌, ◌+◌, ◌-ℤ◌, unsigned_abs, Some};
 ghost use Rattle.std.specs.Option.{option_map};
 ghost use Rattle.pixel_raster.specs.Raster.{size_of};
-ghost use Rattle.script_lines.specs.Pixels.{IsPart};
+ghost use Rattle.script_lines.specs.reading.Pixels.{IsPart};
 ghost use Rattle.text_lines.specs.BufferedText.{Sends};
 ghost use Rattle.text_lines.specs.Delivered.{Delivered};
 ghost use Rattle.text_lines.specs.Joined.{◌⧺◌};

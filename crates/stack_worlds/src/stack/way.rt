@@ -1,10 +1,10 @@
 //! Where a line of a stack goes.
 
 ghost use Rattle.std.specs.Prelude.{◌≡◌, ◌<◌, ◌≤◌, ◌^◌, true, IfSome, Some};
-ghost use Rattle.script_lines.specs.Commands.{IsInBounds};
-ghost use Rattle.script_lines.specs.PlainCommands.{Down, Move, plain_command, text_length};
-ghost use Rattle.script_lines.specs.Numbers.{IsWithin};
-ghost use Rattle.script_lines.specs.Touches.{IsTouchInBounds};
+ghost use Rattle.script_lines.specs.reading.Commands.{IsInBounds};
+ghost use Rattle.script_lines.specs.commands.PlainCommands.{Down, Move, plain_command, text_length};
+ghost use Rattle.script_lines.specs.words.Numbers.{IsWithin};
+ghost use Rattle.script_lines.specs.reading.Touches.{IsTouchInBounds};
 ghost use Rattle.stack_worlds.specs.KeptStack.{stack_of};
 ghost use Rattle.stack_worlds.specs.PlainStack.{Given as GivenTo, ToStack, from_corner, from_edge, target_of, way_down, way_held, way_move, way_of, way_open};
 ghost use Rattle.stack_worlds.specs.StackCarried.{IsOwnSound, IsWaySound, plain_way};

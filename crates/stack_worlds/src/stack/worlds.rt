@@ -2,8 +2,8 @@
 
 ghost use Rattle.std.specs.Prelude.{◌≡◌, ◌≢◌, ◌⊎◌, ◌<◌, ◌≤◌, ◌^◌, [], true, Err, IfSome, None, Ok, OnErr, Option, Some, slice_set};
 ghost use Rattle.std.specs.Option.{is_some, option_map};
-ghost use Rattle.script_lines.specs.Commands.{IsInBounds};
-ghost use Rattle.script_lines.specs.PlainCommands.{plain_command, text_length};
+ghost use Rattle.script_lines.specs.reading.Commands.{IsInBounds};
+ghost use Rattle.script_lines.specs.commands.PlainCommands.{plain_command, text_length};
 ghost use Rattle.tool_io.specs.Fetched.{Files};
 ghost use Rattle.view_model.specs.declared.limits.TheConstants.{NUMBERS_END};
 ghost use Rattle.stack_worlds.specs.KeptStack.{HaveNumbers, kept_world, keyed_at, stack_of};

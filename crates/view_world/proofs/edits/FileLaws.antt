@@ -1,9 +1,9 @@
 -- Files at hand: what is asked for, and that a command that asks for none does the same with any.
 use Rattle.std.proofs.Common.{◌≡◌, ◌≢◌, ℕ, List, [], refl, subst, arith}
 use Rattle.std.specs.Prelude.{Option, None, Some, Result, Ok, Err}
-use Rattle.script_lines.specs.PlainCommands.{PlainCommand}
-use Rattle.script_lines.specs.PlainCommands as command
-use Rattle.script_lines.specs.declared.naming.Name.{Name}
+use Rattle.script_lines.specs.commands.PlainCommands.{PlainCommand}
+use Rattle.script_lines.specs.commands.PlainCommands as command
+use Rattle.script_lines.specs.declared.words.naming.Name.{Name}
 use Rattle.tool_io.specs.Fetched.{Files}
 use Rattle.view_world.specs.world.World.{World}
 use Rattle.view_world.specs.world.Carried.{CountsShelf}

@@ -15,7 +15,7 @@ use Rattle.touch_dispatch.specs.TreeEvents.{OnlyScrolls}
 use Rattle.traversal.specs.Changing.{IsFramed}
 use Rattle.traversal.specs.Frames.{Pass, after_frame, after_pass, edited_by, edits_of, ended, fired_in, followed, spent}
 use Rattle.traversal.specs.declared.outcome.Frame.{Frame}
-use Rattle.script_lines.specs.Changes.{IsActInBounds}
+use Rattle.script_lines.specs.reading.Changes.{IsActInBounds}
 use Rattle.tree_edits.specs.Applied.{AppliesEdit, numbered}
 use Rattle.view_model.specs.Classes.{has_text, scrolls}
 use Rattle.tree_edits.specs.Editing.{cycle_of_act, hides, outcome_of_act, outcome_of_add, outcome_of_edit, outcome_of_text, outcome_unless, takes, new_view, turns}

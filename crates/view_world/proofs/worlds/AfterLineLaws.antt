@@ -2,7 +2,7 @@
 use Rattle.std.proofs.Common.{◌≡◌, ◌≢◌, ℕ, List, refl, sym, ap, subst, inl, inr}
 use Rattle.std.specs.Prelude.{◌⊎◌, Option, None, Some, Result, Ok, Err}
 use Rattle.geom_core.specs.declared.geometry.Rect.{Rect}
-use Rattle.script_lines.specs.declared.naming.Name.{Name}
+use Rattle.script_lines.specs.declared.words.naming.Name.{Name}
 use Rattle.tool_io.specs.Counts.{one_more}
 use Rattle.tool_io.specs.SinkState.{SinkState}
 use Rattle.view_model.specs.Forest.{Forest}

@@ -2,8 +2,8 @@
 use Rattle.std.proofs.Common.{◌≡◌, ◌≢◌, ℕ, ◌+◌, ◌≤◌, Bool, true, false, List, [], ◌∷◌, Option, Result, refl, sym, ◌∙◌, ap, subst, arith, inl, inr}
 use Rattle.std.proofs.lemmas.Bool.{cases_Bool}
 use Rattle.std.specs.Prelude.{◌⊎◌, ◌&&◌, not}
-use Rattle.script_lines.specs.PlainCommands.{PlainCommand}
-use Rattle.script_lines.specs.PlainCommands as command
+use Rattle.script_lines.specs.commands.PlainCommands.{PlainCommand}
+use Rattle.script_lines.specs.commands.PlainCommands as command
 use Rattle.tree_edits.specs.Asking.{requests_layout}
 use Rattle.touch_dispatch.specs.Handling.{is_nil}
 use Rattle.touch_dispatch.specs.Scrolled.{is_scroll}

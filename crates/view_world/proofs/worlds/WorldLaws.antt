@@ -6,8 +6,8 @@ use Rattle.std.proofs.lemmas.Int.{ints}
 use Rattle.geom_core.specs.declared.geometry.Size.{Size}
 use Rattle.pixel_raster.specs.Cuts.{from_zero}
 use Rattle.pixel_raster.specs.Raster.{Raster, black_raster, size_of}
-use Rattle.script_lines.specs.Pixels.{IsPart}
-use Rattle.script_lines.specs.declared.naming.Name.{Name}
+use Rattle.script_lines.specs.reading.Pixels.{IsPart}
+use Rattle.script_lines.specs.declared.words.naming.Name.{Name}
 use Rattle.tree_edits.specs.Applied.{AppliesEdit}
 use Rattle.view_model.specs.Classes.{has_text}
 use Rattle.tree_edits.specs.Editing.{NumberedEdit, Add, Remove, ActOn, SetText, Outcome, cycle_of_act, outcome_of_add, outcome_of_act, outcome_of_edit, outcome_unless, hidden, hides, takes, outcome_of_text, tree_after_act}

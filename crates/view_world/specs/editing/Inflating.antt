@@ -5,9 +5,9 @@ use Rattle.axml_chunks.specs.declared.fault.Fault.{Fault}
 use Rattle.axml_reader.specs.Decoding.{decoded}
 use Rattle.axml_reader.specs.Document.{Document}
 use Rattle.inflater.specs.Inflating.{Plan, inflated}
-use Rattle.script_lines.specs.PlainCommands.{PlainCommand}
-use Rattle.script_lines.specs.PlainCommands as command
-use Rattle.script_lines.specs.declared.naming.Name.{Name}
+use Rattle.script_lines.specs.commands.PlainCommands.{PlainCommand}
+use Rattle.script_lines.specs.commands.PlainCommands as command
+use Rattle.script_lines.specs.declared.words.naming.Name.{Name}
 use Rattle.tool_io.specs.Fetched.{Files, file_of}
 use Rattle.view_model.specs.Forest.{Forest, Nothing, Branch}
 use Rattle.view_model.specs.PlainTree.{PlainView}

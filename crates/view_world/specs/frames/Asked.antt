@@ -3,8 +3,8 @@ use Rattle.std.specs.Prelude.{◌≡◌, ℕ, Bool, true, false, if◌then◌els
 use Rattle.std.specs.Option.{option_map}
 use Rattle.saved_state.specs.Restoring.{given}
 use Rattle.saved_state.specs.State.{StateEntry, decoded}
-use Rattle.script_lines.specs.PlainCommands.{PlainCommand}
-use Rattle.script_lines.specs.PlainCommands as command
+use Rattle.script_lines.specs.commands.PlainCommands.{PlainCommand}
+use Rattle.script_lines.specs.commands.PlainCommands as command
 use Rattle.tree_edits.specs.Asking.{requests_layout as act_requests}
 use Rattle.tree_edits.specs.Editing.{hides, turns}
 use Rattle.tree_edits.specs.declared.edits.Edit.{Edit}

@@ -8,7 +8,7 @@ use Rattle.geom_core.specs.declared.geometry.Size.{Size}
 use Rattle.kept_views.specs.Laying.{differ}
 use Rattle.measure_pass.specs.Caches.{Grew}
 use Rattle.pixel_raster.specs.Raster.{size_of}
-use Rattle.script_lines.specs.PlainCommands.{PlainCommand}
+use Rattle.script_lines.specs.commands.PlainCommands.{PlainCommand}
 use Rattle.seen_edits.specs.Differing.{differing}
 use Rattle.traversal.specs.Frames.{after_frame as frame_of, fired_in}
 use Rattle.traversal.specs.Growing.{IsMeasuredByFrame, IsUnedited, frame_edits}

@@ -6,8 +6,8 @@ use Rattle.geom_core.specs.Rects.{hull_of}
 use Rattle.geom_core.specs.declared.color.Argb.{Argb}
 use Rattle.geom_core.specs.declared.geometry.Rect.{Rect}
 use Rattle.geom_core.specs.declared.geometry.Size.{Size}
-use Rattle.script_lines.specs.PlainCommands.{PlainCommand}
-use Rattle.script_lines.specs.PlainCommands as command
+use Rattle.script_lines.specs.commands.PlainCommands.{PlainCommand}
+use Rattle.script_lines.specs.commands.PlainCommands as command
 use Rattle.seen_edits.specs.Differing.{differing}
 use Rattle.traversal.specs.Frames.{Framed, after_frame as frame_of}
 use Rattle.view_model.specs.Forest.{count_of}

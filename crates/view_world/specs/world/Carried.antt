@@ -1,8 +1,8 @@
 -- How a command was carried out.
 use Rattle.std.specs.Prelude.{◌≡◌, ◌≤◌, ◌⊎◌, true, ℕ, List, Option, Some, None, Result, Ok, Err}
 use Rattle.std.specs.Io.KnownBytes.{Appends}
-use Rattle.script_lines.specs.PlainCommands.{PlainCommand}
-use Rattle.script_lines.specs.PlainCommands as command
+use Rattle.script_lines.specs.commands.PlainCommands.{PlainCommand}
+use Rattle.script_lines.specs.commands.PlainCommands as command
 use Rattle.text_lines.specs.Prefix.{AppendsPrefix}
 use Rattle.tool_io.specs.Counts.{one_more, raised}
 use Rattle.tool_io.specs.Fetched.{Files}

@@ -3,7 +3,7 @@
 ghost use Rattle.std.specs.Prelude.{◌≡◌, ◌≢◌, Some, Err};
 ghost use Rattle.std.specs.Option.{option_map};
 ghost use Rattle.inflater.specs.Answers.{IsGrown};
-ghost use Rattle.script_lines.specs.PlainCommands.{plain_command};
+ghost use Rattle.script_lines.specs.commands.PlainCommands.{plain_command};
 ghost use Rattle.tool_io.specs.Counts.{one_more};
 ghost use Rattle.tool_io.specs.Fetched.{Files, file_of};
 ghost use Rattle.view_model.specs.Refusals.{plain_refusal};

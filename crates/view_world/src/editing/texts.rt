@@ -2,7 +2,7 @@
 
 ghost use Rattle.std.specs.Prelude.{◌≡◌, ◌≤◌, IfOk, chars, encode_utf8_all, length};
 ghost use Rattle.std.specs.String.{string_bytes};
-ghost use Rattle.script_lines.specs.Escapes.{unescaped};
+ghost use Rattle.script_lines.specs.words.Escapes.{unescaped};
 
 use script_lines::Unescaped;
 use std::alloc::{AllocError, Global};

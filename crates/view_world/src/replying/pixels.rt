@@ -5,8 +5,8 @@ ghost use Rattle.std.specs.Prelude.{◌≡◌, ◌<◌, ◌+ℤ◌, int_le, pos,
 ghost use Rattle.std.specs.Option.{is_some};
 ghost use Rattle.hex.specs.Hex.{encode_lower};
 ghost use Rattle.pixel_raster.specs.Bytes.{digest_of};
-ghost use Rattle.script_lines.specs.Numbers.{IsWithin};
-ghost use Rattle.script_lines.specs.Pixels.{IsPart};
+ghost use Rattle.script_lines.specs.words.Numbers.{IsWithin};
+ghost use Rattle.script_lines.specs.reading.Pixels.{IsPart};
 ghost use Rattle.script_lines.specs.declared.commands.TheConstants.{MAX_POINT, MAX_WINDOW};
 ghost use Rattle.text_lines.specs.BufferedText.{Sends};
 ghost use Rattle.text_lines.specs.Joined.{◌⧺◌};

@@ -1,6 +1,6 @@
 //! Lines that arm hooks.
 ghost use Rattle.std.specs.Prelude.{◌≡◌, ◌≢◌, [], Err, OnErr, OnOk};
-ghost use Rattle.script_lines.specs.PlainCommands.{Hook};
+ghost use Rattle.script_lines.specs.commands.PlainCommands.{Hook};
 ghost use Rattle.view_tree.specs.Views.{IsLive, number_of};
 ghost use Rattle.view_world.specs.screen.Changed.{CarriesOut};
 ghost use Rattle.view_world.specs.screen.KeyedScreen.{world_of};

@@ -2,8 +2,8 @@
 
 ghost use Rattle.std.specs.Prelude.{◌≡◌, ◌<◌, ◌^◌, IfOk, chars, length};
 ghost use Rattle.res_values.specs.Values.{resource};
-ghost use Rattle.script_lines.specs.Escapes.{unescaped};
-ghost use Rattle.script_lines.specs.PlainCommands.{given_text_length, plain_given};
+ghost use Rattle.script_lines.specs.words.Escapes.{unescaped};
+ghost use Rattle.script_lines.specs.commands.PlainCommands.{given_text_length, plain_given};
 ghost use Rattle.view_world.specs.world.Step.{resource_given};
 
 use res_values::Value;

@@ -1,7 +1,7 @@
 //! Lines that save the state of a tree, or restore one.
 ghost use Rattle.std.specs.Prelude.{◌≡◌, [], OnErr, OnOk};
 ghost use Rattle.std.specs.Option.{option_map};
-ghost use Rattle.script_lines.specs.PlainCommands.{Restore, Save};
+ghost use Rattle.script_lines.specs.commands.PlainCommands.{Restore, Save};
 ghost use Rattle.view_world.specs.screen.Changed.{CarriesOut};
 ghost use Rattle.view_world.specs.screen.KeyedScreen.{world_of};
 ghost use Rattle.view_world.specs.frames.Resting.{IsIdle, KeepsLine};

@@ -1,6 +1,6 @@
 //! Lines that touch views.
 ghost use Rattle.std.specs.Prelude.{◌≡◌, ◌≢◌, ◌<◌, [], Err, Ok, OnErr, OnOk};
-ghost use Rattle.script_lines.specs.PlainCommands.{Cancel, Disallow, Down, Move, Up};
+ghost use Rattle.script_lines.specs.commands.PlainCommands.{Cancel, Disallow, Down, Move, Up};
 ghost use Rattle.touch_event.specs.declared.event.TheConstants.{MAX_POINTERS};
 ghost use Rattle.view_world.specs.screen.Changed.{CarriesOut, IsTouchable};
 ghost use Rattle.view_world.specs.screen.KeyedScreen.{world_of};

@@ -1,6 +1,6 @@
 //! What the lines since the last frame have left for the next one to do.
 ghost use Rattle.std.specs.Prelude.{◌≡◌};
-ghost use Rattle.script_lines.specs.PlainCommands.{plain_command};
+ghost use Rattle.script_lines.specs.commands.PlainCommands.{plain_command};
 ghost use Rattle.view_world.specs.world.Marks.{effect_of, effect_of_act, marked, no_marks};
 ghost use Rattle.view_world.specs.frames.Seen.{act_paints};
 

@@ -1,8 +1,8 @@
 use Rattle.std.proofs.Common.{◌≡◌, ◌+◌, ◌-◌, ◌∙◌, arith, ap, subst, inr, take, drop, length, length-drop, length-take}
 use Rattle.std.proofs.lemmas.List.{take_all}
 use Rattle.std.specs.List.{position_or_len}
-use Rattle.script_lines.specs.Lines.{ArePassedOver, is_line_feed}
-use Rattle.script_lines.proofs.PassedLaws.{comment_passed}
+use Rattle.script_lines.specs.cutting.Lines.{ArePassedOver, is_line_feed}
+use Rattle.script_lines.proofs.lines.PassedLaws.{comment_passed}
 use Rattle.script_lines.proofs.cutting.comment_len.Goals as goal
 
 pub returns-clause-passed : goal.returns-clause-passed

@@ -1,6 +1,6 @@
 use Rattle.std.proofs.Common.{arith, ap, ◌∙◌, ◌++◌, ◌+◌, take, length-take}
 use Rattle.std.proofs.lemmas.Slice.{take-put_mid}
-use Rattle.script_lines.proofs.FeedLaws.{take_room}
+use Rattle.script_lines.proofs.lines.FeedLaws.{take_room}
 use Rattle.script_lines.proofs.cutting.keep.Goals as goal
 
 pub returns-clause-front : goal.returns-clause-front

@@ -1,7 +1,7 @@
 use Rattle.std.proofs.Common.{◌++◌, ◌-◌, ◌∙◌, inl, inr, ap, arith, sym, take, drop, length, length-drop, length-take}
 use Rattle.std.proofs.lemmas.List.{take_all}
 use Rattle.std.proofs.Math.Seq.{take-add}
-use Rattle.script_lines.proofs.PassedLaws.{one_more_passed}
+use Rattle.script_lines.proofs.lines.PassedLaws.{one_more_passed}
 use Rattle.script_lines.proofs.cutting.passed_front.Goals as goal
 
 pub loop-bytes-preserved : goal.loop-bytes-preserved

@@ -1,5 +1,5 @@
 use Rattle.std.proofs.Common.{◌≤◌, ◌-◌, length, take}
-use Rattle.script_lines.specs.Lines.{ArePassedOver}
+use Rattle.script_lines.specs.cutting.Lines.{ArePassedOver}
 use Rattle.script_lines.proofs.cutting.passed_front.Given as goal
 
 abbrev pub invariant-loop-bytes : goal.invariant-loop-bytes

@@ -1,5 +1,5 @@
 use Rattle.std.proofs.Common.{inr, rules}
-use Rattle.script_lines.proofs.PassedLaws.{empty_passed}
+use Rattle.script_lines.proofs.lines.PassedLaws.{empty_passed}
 use Rattle.script_lines.proofs.cutting.passed_len.Goals as goal
 
 pub returns-then-bytes-eq10-clause-passed : goal.returns-then-bytes-eq10-clause-passed

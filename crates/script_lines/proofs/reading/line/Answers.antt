@@ -1,13 +1,13 @@
 use Rattle.std.proofs.Common.{ap, ◌∙◌}
-use Rattle.script_lines.specs.Commands.{command_of}
-use Rattle.script_lines.specs.PlainCommands.{plain_command}
+use Rattle.script_lines.specs.reading.Commands.{command_of}
+use Rattle.script_lines.specs.commands.PlainCommands.{plain_command}
 use Rattle.script_lines.specs.declared.fault.LineFault.TheVariants.{Syntax}
-use Rattle.script_lines.proofs.CommandLaws.{map_ok-fault, passed_over}
-use Rattle.script_lines.proofs.ReadLines.{command_of-given}
-use Rattle.script_lines.proofs.SpelledCommands.{command_of-spelled}
-use Rattle.script_lines.proofs.OkLaws.{from_plain}
-use Rattle.script_lines.proofs.TextLengthLaws.{command_of-short}
-use Rattle.script_lines.proofs.WrittenCommands.{command_of-written}
+use Rattle.script_lines.proofs.readings.CommandLaws.{map_ok-fault, passed_over}
+use Rattle.script_lines.proofs.written.ReadLines.{command_of-given}
+use Rattle.script_lines.proofs.spelled.SpelledCommands.{command_of-spelled}
+use Rattle.script_lines.proofs.readings.OkLaws.{from_plain}
+use Rattle.script_lines.proofs.readings.TextLengthLaws.{command_of-short}
+use Rattle.script_lines.proofs.written.WrittenCommands.{command_of-written}
 use Rattle.script_lines.proofs.reading.line.Goals as goal
 
 pub returns-clause-spelled : goal.returns-clause-spelled

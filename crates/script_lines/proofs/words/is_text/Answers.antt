@@ -1,5 +1,5 @@
 use Rattle.std.proofs.Common.{◌∙◌}
-use Rattle.script_lines.proofs.TextLaws.{is_ok-is_utf8}
+use Rattle.script_lines.proofs.texts.TextLaws.{is_ok-is_utf8}
 use Rattle.script_lines.proofs.words.is_text.Goals as goal
 
 pub returns : goal.returns

@@ -1,6 +1,6 @@
 use Rattle.std.proofs.Common.{◌≡◌, ◌≤◌, ◌+◌, ◌-◌, length, drop}
 use Rattle.std.specs.List.{prefix_len}
-use Rattle.script_lines.specs.Lines.{is_space}
+use Rattle.script_lines.specs.cutting.Lines.{is_space}
 use Rattle.script_lines.proofs.words.spaces.Given as goal
 
 abbrev pub invariant-loop-at : goal.invariant-loop-at

@@ -1,7 +1,7 @@
 use Rattle.std.proofs.Common.{Ok, ap, refl}
 use Rattle.std.proofs.lemmas.Str.{is_utf8-from_IsUtf8}
-use Rattle.script_lines.specs.Words.{text_of}
-use Rattle.script_lines.proofs.TextLaws.{not_utf8}
+use Rattle.script_lines.specs.words.Words.{text_of}
+use Rattle.script_lines.proofs.texts.TextLaws.{not_utf8}
 use Rattle.script_lines.proofs.words.text.Goals as goal
 
 pub returns-in-Ok-clause-value : goal.returns-in-Ok-clause-value

@@ -1,6 +1,6 @@
 use Rattle.std.proofs.Common.{◌≡◌, ◌≤◌, ◌+◌, ◌-◌, length, drop}
 use Rattle.std.specs.List.{prefix_len}
-use Rattle.script_lines.specs.Words.{in_word}
+use Rattle.script_lines.specs.words.Words.{in_word}
 use Rattle.script_lines.proofs.words.word_len.Given as goal
 
 abbrev pub invariant-loop-at : goal.invariant-loop-at

@@ -2,7 +2,7 @@ use Rattle.std.proofs.Common.{◌≡◌, ◌<◌, ◌^◌, [], length, ap, sym, 
 use Rattle.std.specs.Prelude.{Err, None, Option, Some}
 use Rattle.std.proofs.lemmas.List.{append-nil}
 use Rattle.std.proofs.lemmas.Result.{err_from_is_err_and}
-use Rattle.script_lines.specs.Lines.{cut_of, lines_of}
+use Rattle.script_lines.specs.cutting.Lines.{cut_of, lines_of}
 use Rattle.tool_io.specs.Fetched.{Files}
 use Rattle.tool_io.specs.Files.{named_files}
 use Rattle.whole_tool.specs.Carried.{Alone}

@@ -1,6 +1,6 @@
 use Rattle.std.proofs.Common.{◌≡◌, [], ap, ◌∙◌}
 use Rattle.std.proofs.lemmas.List.{append-nil}
-use Rattle.script_lines.specs.Lines.{lines_of}
+use Rattle.script_lines.specs.cutting.Lines.{lines_of}
 use Rattle.tool_io.specs.MemorySink.{ListedSink}
 use Rattle.whole_tool.specs.Carried.{Alone}
 use Rattle.view_world.specs.world.World.{empty_world}

@@ -1,6 +1,6 @@
 use Rattle.std.proofs.Common.{◌≡◌, List, subst, arith, ◌∙◌}
 use Rattle.std.specs.Io.KnownBytes.{Appends}
-use Rattle.script_lines.specs.Lines.{Line}
+use Rattle.script_lines.specs.cutting.Lines.{Line}
 use Rattle.stack_worlds.specs.PlainStack.{empty_stack}
 use Rattle.whole_tool.specs.Carried.{Stacked}
 use Rattle.whole_tool.specs.Tool.{Writes}

@@ -1,5 +1,5 @@
 use Rattle.std.proofs.Common.{◌∙◌}
-use Rattle.script_lines.proofs.CommandLaws.{map_ok-fault}
+use Rattle.script_lines.proofs.readings.CommandLaws.{map_ok-fault}
 use Rattle.script_lines.specs.declared.fault.LineFault.TheVariants.{Syntax}
 use Rattle.window_stack.proofs.PassedLaws.{passed_over}
 use Rattle.window_stack.specs.StackLines.{plain_line}

@@ -1,8 +1,8 @@
 use Rattle.std.proofs.Common.{◌≡◌, arith, ap, sym, ◌∙◌, take, length, length-take, ◌∷◌, []}
-use Rattle.script_lines.specs.Lines.{cut_of, Text}
-use Rattle.script_lines.specs.LineBuffer.{held_of}
-use Rattle.script_lines.proofs.FeedLaws.{last_of-long, last_of-none, last_of-text}
-use Rattle.script_lines.proofs.PieceLaws.{lines_in_pieces}
+use Rattle.script_lines.specs.cutting.Lines.{cut_of, Text}
+use Rattle.script_lines.specs.cutting.LineBuffer.{held_of}
+use Rattle.script_lines.proofs.lines.FeedLaws.{last_of-long, last_of-none, last_of-text}
+use Rattle.script_lines.proofs.lines.PieceLaws.{lines_in_pieces}
 use Rattle.script_lines.proofs.cutting.Lines.finish.Goals as goal
 
 pub returns-then-len-eq0-clause-lines : goal.returns-then-len-eq0-clause-lines

@@ -1,5 +1,5 @@
 use Rattle.std.proofs.Common.{arith, ap, sym, ◌∙◌, take, length-take}
-use Rattle.script_lines.proofs.FeedLaws.{held_now, fed_none-lines, fed_none-stands, fed_long-lines, fed_line-lines, fed-stands, lent_line-lines, lent_long-lines, none_held, take_take}
+use Rattle.script_lines.proofs.lines.FeedLaws.{held_now, fed_none-lines, fed_none-stands, fed_long-lines, fed_line-lines, fed-stands, lent_line-lines, lent_long-lines, none_held, take_take}
 use Rattle.script_lines.proofs.cutting.Lines.next_line.Goals as goal
 
 pub returns-then-end-gt-MAX_LINE-clause-lines : goal.returns-then-end-gt-MAX_LINE-clause-lines

@@ -1,5 +1,5 @@
 use Rattle.std.proofs.Common.{◌≡◌, ◌∙◌, ap, sym, arith, take}
-use Rattle.script_lines.proofs.PassedLaws.{passed-lines, passed-stands}
+use Rattle.script_lines.proofs.lines.PassedLaws.{passed-lines, passed-stands}
 use Rattle.script_lines.proofs.cutting.Lines.passed_over.Goals as goal
 
 pub returns-clause-lines : goal.returns-clause-lines

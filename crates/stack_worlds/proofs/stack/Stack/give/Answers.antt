@@ -1,6 +1,6 @@
 use Rattle.std.proofs.Common.{◌≡◌, ◌∙◌, ap, sym, subst, true, ℕ, List}
 use Rattle.std.specs.Prelude.{IfSome, Option}
-use Rattle.script_lines.specs.PlainCommands.{plain_command}
+use Rattle.script_lines.specs.commands.PlainCommands.{plain_command}
 use Rattle.stack_worlds.proofs.GivenLaws.{asked_there, given_done, held_after, silent_there}
 use Rattle.stack_worlds.proofs.stack.Stack.give.Goals as goal
 use Rattle.view_world.specs.world.Carried.{AreAtHand, fetches_after}

@@ -1,5 +1,5 @@
 use Rattle.std.proofs.Common.{◌∙◌, ap, refl, subst, sym}
-use Rattle.script_lines.specs.PlainCommands.{plain_command}
+use Rattle.script_lines.specs.commands.PlainCommands.{plain_command}
 use Rattle.stack_worlds.specs.KeptStack.{kept_world}
 use Rattle.stack_worlds.specs.WindowLines.{WorksIn}
 use Rattle.view_world.specs.world.Carried.{AreAtHand, WritesReply, fetches_after}

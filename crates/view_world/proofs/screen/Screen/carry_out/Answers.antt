@@ -1,7 +1,7 @@
 use Rattle.std.proofs.Common.{FitsSigned, w32, arith}
 use Rattle.std.proofs.lemmas.Int.{ints, to_z-of_z}
-use Rattle.script_lines.specs.Pixels.{IsPart}
-use Rattle.script_lines.specs.Touches.{IsTouchInBounds}
+use Rattle.script_lines.specs.reading.Pixels.{IsPart}
+use Rattle.script_lines.specs.reading.Touches.{IsTouchInBounds}
 use Rattle.view_world.proofs.states.CommandLaws.{restore_plain}
 use Rattle.std.proofs.Common.{[]}
 use Rattle.view_world.proofs.frames.RestLaws.{idle_keeps, idle_same, idle_still, ok_any, ok_then, window_keeps}

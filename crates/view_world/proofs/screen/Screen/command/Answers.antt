@@ -1,7 +1,7 @@
 use Rattle.std.specs.Prelude.{Err}
 use Rattle.std.proofs.Common.{◌≡◌, []}
 use Rattle.std.proofs.lemmas.Result.{err_from_is_err_and}
-use Rattle.script_lines.specs.PlainCommands.{plain_command}
+use Rattle.script_lines.specs.commands.PlainCommands.{plain_command}
 use Rattle.view_world.specs.screen.KeyedScreen.{world_of}
 use Rattle.view_world.specs.world.Step.{step}
 use Rattle.view_world.proofs.worlds.AfterLineLaws.{reported, sinkless, undone}

@@ -17,7 +17,7 @@ use Rattle.std.specs.Prelude.{OnOk}
 use Rattle.view_tree.specs.Views.{number_of}
 use Rattle.std.specs.Option.{option_map}
 use Rattle.view_world.specs.frames.Asked.{asked_views, listed}
-use Rattle.script_lines.specs.PlainCommands.{Inflate}
+use Rattle.script_lines.specs.commands.PlainCommands.{Inflate}
 use Rattle.view_world.specs.frames.Resting.{KeepsBut}
 use Rattle.view_world.specs.declared.world.marks.Effect.TheVariants.{Asks}
 use Rattle.view_world.proofs.screen.Screen.inflate.Goals as goal

@@ -1,6 +1,6 @@
 use Rattle.std.proofs.Common.{◌≡◌, refl, sym, ◌∙◌}
 use Rattle.std.specs.Prelude.{None, Some}
-use Rattle.script_lines.specs.PlainCommands.{plain_command}
+use Rattle.script_lines.specs.commands.PlainCommands.{plain_command}
 use Rattle.view_world.specs.editing.Inflating.{inflation_of}
 use Rattle.view_world.specs.screen.KeyedScreen.{world_of}
 use Rattle.view_world.proofs.edits.FileLaws.{inflates, unaided}

@@ -10,7 +10,7 @@ use Rattle.view_world.specs.screen.KeyedScreen.{KeyedScreen, world_of}
 use Rattle.view_world.specs.screen.Sound.{keyed}
 use Rattle.view_world.specs.world.Step.{taken_up}
 use Rattle.view_world.proofs.states.RestoredAsked.{kept_keeps, ok_follows, text_keeps}
-use Rattle.script_lines.specs.PlainCommands.{Restore}
+use Rattle.script_lines.specs.commands.PlainCommands.{Restore}
 use Rattle.std.specs.Prelude.{OnOk}
 use Rattle.view_world.specs.frames.Resting.{KeepsLine}
 use Rattle.view_world.proofs.screen.Screen.restore.Goals as goal

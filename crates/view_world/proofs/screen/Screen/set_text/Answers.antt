@@ -1,6 +1,6 @@
 use Rattle.std.proofs.Common.{◌≡◌, ℕ, List, Result, ap, ◌∙◌}
 use Rattle.std.specs.Str.{chars}
-use Rattle.script_lines.specs.declared.naming.Name.{Name}
+use Rattle.script_lines.specs.declared.words.naming.Name.{Name}
 use Rattle.tree_edits.specs.Editing.{SetText}
 use Rattle.view_tree.specs.Views.{Views, number_of, plain_of}
 use Rattle.view_world.specs.declared.fault.StepFault.{StepFault}

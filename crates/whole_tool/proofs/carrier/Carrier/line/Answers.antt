@@ -1,7 +1,7 @@
 use Rattle.std.proofs.Common.{◌≡◌, ap, arith, refl, sym, subst, ◌∙◌, inl}
 use Rattle.std.specs.Prelude.{None}
-use Rattle.script_lines.specs.PlainCommands.{plain_command}
-use Rattle.script_lines.specs.Words.{map_ok}
+use Rattle.script_lines.specs.commands.PlainCommands.{plain_command}
+use Rattle.script_lines.specs.words.Words.{map_ok}
 use Rattle.stack_worlds.specs.KeptStack.{stack_of}
 use Rattle.stack_worlds.specs.PlainStack.{stack_step}
 use Rattle.view_world.specs.world.KeyedWorld.{world_of}

@@ -1,5 +1,5 @@
 use Rattle.std.proofs.Common.{◌≡◌, ◌∷◌, ◌++◌, []}
-use Rattle.script_lines.specs.Lines.{Text, LongLine, cut_of, lines_of}
+use Rattle.script_lines.specs.cutting.Lines.{Text, LongLine, cut_of, lines_of}
 use Rattle.whole_tool.specs.Tally.{tally_from}
 use Rattle.whole_tool.specs.Transcript.{after_from}
 use Rattle.whole_tool.proofs.RunLaws.{after_from-push, counted_short, last_none, last_one, lines_short}

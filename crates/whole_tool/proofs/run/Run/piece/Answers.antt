@@ -2,7 +2,7 @@ use Rattle.std.proofs.Common.{◌<◌, ◌-◌, ◌++◌, ◌∙◌, ℕ, List, 
 use Rattle.std.proofs.lemmas.List.{take_all}
 use Rattle.std.proofs.lemmas.Result.{err_from_is_err_and}
 use Rattle.std.specs.Prelude.{◌≡◌, Err}
-use Rattle.script_lines.specs.Lines.{cut_of}
+use Rattle.script_lines.specs.cutting.Lines.{cut_of}
 use Rattle.whole_tool.specs.Run.{HasReadUpTo, StopsIn}
 use Rattle.whole_tool.specs.Works.{trace}
 use Rattle.whole_tool.proofs.LongScriptLaws.{rest_short, taken_more, taken_rest, taken_short}

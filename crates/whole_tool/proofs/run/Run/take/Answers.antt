@@ -1,8 +1,8 @@
 use Rattle.std.proofs.Common.{arith, ◌≡◌, ◌++◌, List, ℕ, sym, ap, ◌∙◌}
 use Rattle.std.specs.Prelude.{Err}
 use Rattle.std.proofs.lemmas.Result.{err_from_is_err_and}
-use Rattle.script_lines.specs.LineBuffer.{lines_at}
-use Rattle.script_lines.specs.Lines.{Line, cut_of}
+use Rattle.script_lines.specs.cutting.LineBuffer.{lines_at}
+use Rattle.script_lines.specs.cutting.Lines.{Line, cut_of}
 use Rattle.whole_tool.specs.Run.{line_now}
 use Rattle.whole_tool.specs.Tally.{tally_from}
 use Rattle.whole_tool.specs.Transcript.{after_from}

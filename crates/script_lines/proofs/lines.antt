@@ -1,0 +1,6 @@
+-- Laws of bytes that are cut into lines.
+pub mod FeedLaws
+pub mod LineExamples
+pub mod LineLaws
+pub mod PassedLaws
+pub mod PieceLaws

@@ -1,0 +1,16 @@
+-- Laws of lines that are read, and worked lines.
+pub mod ActionLaws
+pub mod ChangeExamples
+pub mod CommandExamples
+pub mod CommandLaws
+pub mod EditLaws
+pub mod HookExamples
+pub mod HookLaws
+pub mod LimitExamples
+pub mod OkLaws
+pub mod PartLaws
+pub mod ResourceExamples
+pub mod StateExamples
+pub mod StateLaws
+pub mod TextLengthLaws
+pub mod TouchExamples

@@ -1,0 +1,111 @@
+-- Lines that have no command.
+use Rattle.std.proofs.Common.{◌≡◌, ℕ, ◌<◌, Bool, true, false, refl, ap, ◌∙◌, inl, inr, List, [], ◌∷◌, length, take, arith}
+use Rattle.std.specs.Prelude.{◌==◌, ◌&&◌, ◌||◌, nat_lt, slice_index, drop, Option, Some, None, Result, Ok, Err}
+use Rattle.std.specs.List.{list_all, prefix_len}
+use Rattle.std.specs.Str.{is_utf8}
+use Rattle.std.proofs.lemmas.Bool.{cases_Bool}
+use Rattle.script_lines.specs.reading.Changes.{act_of, change_of}
+use Rattle.script_lines.specs.reading.Commands.{command_by, command_in, command_of, set_of}
+use Rattle.script_lines.specs.cutting.Lines.{is_passed_over, is_space}
+use Rattle.script_lines.specs.words.Names.{begins_with, hex_of, id_of, known, name_in, name_of}
+use Rattle.script_lines.specs.words.Numbers.{natural_of}
+use Rattle.script_lines.specs.words.Words.{after_word, first_word, in_word, map_ok, ◌>>=◌, word_in, words}
+use Rattle.script_lines.specs.declared.fault.LineFault.{LineFault}
+use Rattle.script_lines.specs.declared.fault.LineFault.TheVariants.{Syntax}
+use Rattle.script_lines.proofs.texts.WordLaws.{one_add, word_space, words_some}
+
+-- a line without words
+no_words : (line : List ℕ) → words line ≡ [] → command_of line ≡ Err Syntax
+unfolding command_of
+no_words line e = elim (cases_Bool (is_utf8 line)) [
+  | inl t ↦ rw (t, e) refl
+  | inr f ↦ rw f refl
+]
+
+pub and-left : (a b : Bool) → (a && b) ≡ true → a ≡ true
+and-left true b h = refl
+and-left false b h = absurd (cc)
+
+pub and-right : (a b : Bool) → (a && b) ≡ true → b ≡ true
+and-right true b h = h
+and-right false b h = absurd (cc)
+
+or-right : (a b : Bool) → a ≡ false → (a || b) ≡ true → b ≡ true
+or-right true b e h = absurd (cc)
+or-right false b e h = h
+
+words-spaces : (line : List ℕ) → list_all is_space line ≡ true → words line ≡ []
+unfolding words
+words-spaces [] h = refl
+words-spaces (b ∷ bs) h = word_space b bs (and-left (is_space b) (list_all is_space bs) h) ∙ words-spaces bs (and-right (is_space b) (list_all is_space bs) h)
+
+first_word-mark : (bs : List ℕ) → first_word (35 ∷ bs) ≡ 35 ∷ take (prefix_len in_word bs) bs
+unfolding first_word
+first_word-mark bs = ap (λ n. take n (35 ∷ bs)) (one_add (prefix_len in_word bs))
+
+-- a reading whose only fault is Syntax
+abbrev OnlySyntax : {A : Type 0} → Result A LineFault → Type 0
+OnlySyntax (Ok a) = Unit {0}
+OnlySyntax (Err fault) = fault ≡ Syntax
+
+known-only_syntax : {A B : Type 0} (f : A → B) (o : Option A) → OnlySyntax (map_ok f (known o))
+known-only_syntax f None = refl
+known-only_syntax f (Some a) = tt
+
+name_of-only_syntax : (word : List ℕ) → OnlySyntax (name_of word)
+unfolding name_of id_of
+name_of-only_syntax word = elim (cases_Bool (begins_with 118 word)) [
+  | inl e ↦ rw e (known-only_syntax _ (natural_of (drop 1 word)))
+  | inr e ↦ elim (cases_Bool (begins_with 64 word)) [
+    | inl i ↦ rw (e, i) (known-only_syntax _ (hex_of (drop 1 word)))
+    | inr i ↦ rw (e, i) refl
+  ]
+]
+
+then-only_syntax : {A B : Type 0} (r : Result A LineFault) (next : A → Result B LineFault) → OnlySyntax r → ((a : A) → next a ≡ Err Syntax) → (r >>= next) ≡ Err Syntax
+then-only_syntax (Ok a) next h k = k a
+then-only_syntax (Err fault) next h k = ap Err h
+
+then-ok : {A B : Type 0} (r : Result A LineFault) (f : A → B) → OnlySyntax r → OnlySyntax (r >>= λ a. Ok (f a))
+then-ok (Ok a) f h = tt
+then-ok (Err fault) f h = h
+
+name_in-only_syntax : (words : List (List ℕ)) → OnlySyntax (name_in words)
+name_in-only_syntax [] = refl
+name_in-only_syntax (word ∷ words) = then-ok (name_of word) _ (name_of-only_syntax word)
+
+-- no first word begins with the mark of a comment
+command_by-mark : (word : List ℕ) (words : List (List ℕ)) → command_by (35 ∷ word) words ≡ Err Syntax
+unfolding command_by set_of act_of change_of
+command_by-mark word words = then-only_syntax (name_in words) _ (name_in-only_syntax words) (λ view. refl)
+
+command_in-mark : (word rest : List ℕ) → command_in (35 ∷ word) rest ≡ Err Syntax
+unfolding command_in
+command_in-mark word rest = command_by-mark word (words rest)
+
+comment : (bs : List ℕ) → command_of (35 ∷ bs) ≡ Err Syntax
+unfolding command_of
+comment bs = elim (cases_Bool (is_utf8 (35 ∷ bs))) [
+  | inl t ↦ rw t (
+      let mark = first_word-mark bs in
+      let some : 0 < length (first_word (35 ∷ bs)) = omega (arith, ap length mark) in
+      ap (λ ws. word_in ws >>= λ head. command_in head.0 (after_word (35 ∷ bs))) (words_some (35 ∷ bs) some ∙ ap (λ w. w ∷ words (after_word (35 ∷ bs))) mark)
+      ∙ command_in-mark _ _)
+  | inr f ↦ rw f refl
+]
+
+marked : (line : List ℕ) → (nat_lt 0 (length line) && slice_index line 0 == 35) ≡ true → command_of line ≡ Err Syntax
+marked [] h = absurd (cc)
+marked (b ∷ bs) h = let e : b ≡ 35 = grind (arith) in ap (λ b. command_of (b ∷ bs)) e ∙ comment bs
+
+-- a line that is passed over
+pub passed_over : (line : List ℕ) → is_passed_over line ≡ true → command_of line ≡ Err Syntax
+passed_over line h = elim (cases_Bool (list_all is_space line)) [
+  | inl e ↦ no_words line (words-spaces line e)
+  | inr e ↦ marked line (or-right (list_all is_space line) _ e h)
+]
+
+-- a reading of plain values that is a fault is that fault
+pub map_ok-fault : {A B : Type 0} (f : A → B) (r : Result A LineFault) (fault : LineFault) → map_ok f r ≡ Err fault → r ≡ Err fault
+map_ok-fault f (Ok a) fault h = absurd (cc)
+map_ok-fault f (Err other) fault h = ap Err (cc h)

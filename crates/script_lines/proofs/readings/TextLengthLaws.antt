@@ -1,0 +1,167 @@
+-- The text of a command is no longer than its line.
+use Rattle.std.proofs.Common.{ℕ, ◌≤◌, Bool, inl, inr, List, [], ◌∷◌, length, drop, arith, length-drop, length-take}
+use Rattle.std.specs.Prelude.{ℤ, pos, nat_lt, codes, if◌then◌else◌, IfOk, Ok, Err}
+use Rattle.std.specs.List.{prefix_len}
+use Rattle.std.specs.Str.{bytes_eq, is_utf8}
+use Rattle.std.proofs.lemmas.Bool.{cases_lt}
+use Rattle.script_lines.specs.reading.Changes.{act_of}
+use Rattle.script_lines.specs.reading.Commands.{add_of, bounds_of, class_of, command_by, command_in, command_of, digest_of, dpi_of, disallow_of, frame_of, inflate_of, into_of, keep_by, remove_of, set_of, set_text_of, touch_by}
+use Rattle.script_lines.specs.words.Dimensions.{extents_of}
+use Rattle.script_lines.specs.words.Escapes.{escaped_text_of, has_escapes, rest_of}
+use Rattle.script_lines.specs.words.FileNames.{file_name_in}
+use Rattle.script_lines.specs.reading.Hooks.{edits_of, hook_of}
+use Rattle.script_lines.specs.cutting.Lines.{is_space}
+use Rattle.script_lines.specs.words.Names.{id_in, name_in, parent_in}
+use Rattle.script_lines.specs.words.Numbers.{integer_in, natural_within, pair_of, within_of}
+use Rattle.script_lines.specs.commands.PlainCommands.{PlainCommand, PlainGiven, Window, Dpi, Inflate, Act, SetText, Hook, Down, Move, Up, Text, Color, given_text_length, text_length}
+use Rattle.script_lines.specs.words.Colors.{last_color}
+use Rattle.script_lines.specs.reading.Pixels.{is_small, part_of, pixels_of}
+use Rattle.script_lines.specs.reading.Resources.{dimen_given, given_by, given_of, res_of, resource_id, unit_of}
+use Rattle.script_lines.specs.reading.States.{is_state_text, restore_of, save_of, state_text_of}
+use Rattle.script_lines.specs.reading.Touches.{cancel_of, pointer_of, touch_of, up_of}
+use Rattle.script_lines.specs.words.Words.{after_spaces, after_word, end_of, first_word, in_word, on_of, text_of, word_in, words}
+use Rattle.script_lines.specs.declared.commands.Asked.{Asked}
+use Rattle.script_lines.specs.declared.commands.TheConstants.{MAX_DPI, MAX_POINT, MAX_WINDOW, MIN_DPI}
+use Rattle.script_lines.specs.declared.fault.LineFault.TheVariants.{Syntax}
+use Rattle.script_lines.specs.declared.reading.resources.TheConstants.{MAX_MANTISSA, MIN_MANTISSA}
+use Rattle.script_lines.specs.declared.reading.touches.Touch.{Touch}
+use Rattle.script_lines.proofs.readings.OkLaws.{if_either, if_map, if_map_with, if_ok_more, if_then, if_then_with}
+use Rattle.script_lines.proofs.texts.WordLaws.{words_none, words_some}
+
+after_word-short : (bytes : List ℕ) → length (after_word bytes) ≤ length bytes
+unfolding after_word
+after_word-short bytes =
+    omega (arith, length-drop (prefix_len is_space bytes) bytes, length-drop (prefix_len in_word (after_spaces bytes)) (after_spaces bytes))
+
+rest_of-short : (rest : List ℕ) → IfOk (rest_of rest) (λ text. length text ≤ length rest)
+unfolding rest_of escaped_text_of text_of
+rest_of-short rest =
+    let P = λ (text : List ℕ). length text ≤ length rest in
+    if_either P (nat_lt 0 (length rest)) _ _ (if_either P (has_escapes (drop 1 rest)) _ _ (if_either P (is_utf8 (drop 1 rest)) _ _ (omega (arith, length-drop 1 rest)) tt) tt) tt
+
+first_word-short : (bytes : List ℕ) → length (first_word bytes) ≤ length bytes
+unfolding first_word
+first_word-short bytes =
+    omega (arith, length-take (prefix_len in_word (after_spaces bytes)) (after_spaces bytes), length-drop (prefix_len is_space bytes) bytes)
+
+-- the first of the words has at most n bytes
+abbrev FirstShort : ℕ → List (List ℕ) → Type 0
+FirstShort n words = IfOk (word_in words) (λ first. length first.0 ≤ n)
+
+words-first_short : (bytes : List ℕ) → FirstShort (length bytes) (words bytes)
+words-first_short bytes = elim (cases_lt 0 (length (first_word bytes))) [
+  | inl some ↦ rw (words_some bytes some) (first_word-short bytes)
+  | inr none ↦ rw (words_none bytes (omega (arith, none))) tt
+]
+
+abbrev GivenShort : ℕ → PlainGiven → Type 0
+GivenShort n value = given_text_length value ≤ n
+
+none_short : (n : ℕ) → 0 ≤ n
+none_short n = omega arith
+
+given_by-short : (kind rest : List ℕ) → IfOk (given_by kind rest) (GivenShort (length rest))
+unfolding given_by last_color dimen_given
+given_by-short kind rest =
+    let P = GivenShort (length rest) in
+    if_either P (bytes_eq kind (codes "color")) _ _ (if_map P Color (last_color (words rest)) (λ _. none_short (length rest)))
+    (if_either P (bytes_eq kind (codes "dimen")) _ _
+    (if_then P (integer_in (words rest)) _ (λ n. if_then P (word_in n.1) _ (λ u. if_then P (unit_of u.0) _ (λ unit. if_then P (end_of u.1) _
+    (λ _. if_then P (within_of MIN_MANTISSA MAX_MANTISSA n.0) _ (λ _. none_short (length rest)))))))
+    (if_either P (bytes_eq kind (codes "text")) _ _ (if_map_with (λ text. length text ≤ length rest) P Text (rest_of rest) (rest_of-short rest) (λ text h. h)) tt))
+
+given_of-short : (rest : List ℕ) → IfOk (given_of rest) (GivenShort (length (after_word rest)))
+unfolding given_of
+given_of-short rest = if_then (GivenShort (length (after_word rest))) (word_in (words rest)) _ (λ kind. given_by-short kind.0 (after_word rest))
+
+abbrev Short : ℕ → PlainCommand → Type 0
+Short n command = text_length command ≤ n
+
+res_of-short : (rest : List ℕ) → IfOk (res_of rest) (Short (length rest))
+unfolding res_of
+res_of-short rest =
+    let P = Short (length rest) in
+    if_then P (id_in (words rest)) _ (λ id.
+    if_then_with (GivenShort (length (after_word (after_word rest)))) P (given_of (after_word rest)) _ (given_of-short (after_word rest)) (λ value h.
+    if_then P (resource_id id.0) _ (λ _. omega (arith, h, after_word-short rest, after_word-short (after_word rest)))))
+
+set_text_of-short : (rest : List ℕ) → IfOk (set_text_of rest) (Short (length rest))
+unfolding set_text_of
+set_text_of-short rest =
+    let P = Short (length rest) in
+    if_then P (name_in (words rest)) _ (λ view.
+    if_map_with (λ text. length text ≤ length (after_word rest)) P (SetText view.0) (rest_of (after_word rest)) (rest_of-short (after_word rest)) (λ text h. omega (arith, h, after_word-short rest)))
+
+bounds_of-short : (n : ℕ) (words : List (List ℕ)) → IfOk (bounds_of words) (Short n)
+unfolding bounds_of
+bounds_of-short n [] = none_short n
+bounds_of-short n (word ∷ words) = if_then (Short n) (name_in (word ∷ words)) _ (λ view. if_then (Short n) (end_of view.1) _ (λ _. none_short n))
+
+set_of-short : (n : ℕ) (head : List ℕ) (words : List (List ℕ)) → IfOk (set_of head words) (Short n)
+unfolding set_of
+set_of-short n head words = if_then (Short n) (name_in words) _ (λ view. if_map (Short n) (Act view.0) (act_of head view.1) (λ _. none_short n))
+
+pixels_of-short : (n : ℕ) (words : List (List ℕ)) → IfOk (pixels_of words) (Short n)
+unfolding pixels_of part_of
+pixels_of-short n words =
+    let P = Short n in
+    if_then P (integer_in words) _ (λ x. if_then P (integer_in x.1) _ (λ y. if_then P (integer_in y.1) _ (λ w. if_then P (integer_in w.1) _ (λ h. if_then P (end_of h.1) _ (λ _.
+    if_then P (within_of (pos 0) MAX_POINT x.0) _ (λ left. if_then P (within_of (pos 0) MAX_POINT y.0) _ (λ top.
+    if_then P (within_of (pos 1) MAX_WINDOW w.0) _ (λ width. if_then P (within_of (pos 1) MAX_WINDOW h.0) _ (λ height.
+    if_either P (is_small width height) _ _ (none_short n) tt)))))))))
+
+restore_of-short : (n : ℕ) (words : List (List ℕ)) → FirstShort n words → IfOk (restore_of words) (Short n)
+unfolding restore_of state_text_of
+restore_of-short n [] first = none_short n
+restore_of-short n (word ∷ words) first =
+    let Q = λ (text : List ℕ). length text ≤ n in
+    if_then_with Q (Short n) (if is_state_text word then Ok word else Err Syntax) _ (if_either Q (is_state_text word) _ _ first tt)
+    (λ text short. if_then (Short n) (end_of words) _ (λ _. short))
+
+keep_by-short : (n : ℕ) (head : List ℕ) (words : List (List ℕ)) → FirstShort n words → IfOk (keep_by head words) (Short n)
+unfolding hook_of save_of
+keep_by-short n head words first =
+    let P = Short n in
+    if_either P (bytes_eq head (codes "hook")) _ _ (if_then P (name_in words) _ (λ view. if_map P (λ (edits : List Asked × Bool). Hook view.0 edits.0 edits.1) (edits_of view.1) (λ _. none_short n)))
+    (if_either P (bytes_eq head (codes "save")) _ _ (if_then P (end_of words) _ (λ _. none_short n))
+    (if_either P (bytes_eq head (codes "restore")) _ _ (restore_of-short n words first) (set_of-short n head words)))
+
+touch_by-short : (n : ℕ) (head : List ℕ) (words : List (List ℕ)) → FirstShort n words → IfOk (touch_by head words) (Short n)
+unfolding up_of cancel_of disallow_of
+touch_by-short n head words first =
+    let P = Short n in
+    if_either P (bytes_eq head (codes "down")) _ _ (if_map P (λ (touch : Touch). Down touch.pointer touch.x touch.y) (touch_of words) (λ _. none_short n))
+    (if_either P (bytes_eq head (codes "move")) _ _ (if_map P (λ (touch : Touch). Move touch.pointer touch.x touch.y) (touch_of words) (λ _. none_short n))
+    (if_either P (bytes_eq head (codes "up")) _ _ (if_then P (integer_in words) _ (λ p. if_then P (end_of p.1) _ (λ _. if_map P Up (pointer_of p.0) (λ _. none_short n))))
+    (if_either P (bytes_eq head (codes "cancel")) _ _ (if_then P (end_of words) _ (λ _. none_short n))
+    (if_either P (bytes_eq head (codes "disallow")) _ _
+    (if_then P (name_in words) _ (λ view. if_then P (word_in view.1) _ (λ b. if_then P (on_of b.0) _ (λ on. if_then P (end_of b.1) _ (λ _. none_short n)))))
+    (keep_by-short n head words first)))))
+
+command_by-short : (n : ℕ) (head : List ℕ) (words : List (List ℕ)) → FirstShort n words → IfOk (command_by head words) (Short n)
+unfolding command_by dpi_of inflate_of add_of remove_of frame_of digest_of
+command_by-short n head words first =
+    let P = Short n in
+    if_either P (bytes_eq head (codes "window")) _ _ (if_map P (λ (pair : ℤ × ℤ). Window pair.0 pair.1) (pair_of (pos 1) MAX_WINDOW words) (λ _. none_short n))
+    (if_either P (bytes_eq head (codes "dpi")) _ _ (if_then P (integer_in words) _ (λ dpi. if_then P (end_of dpi.1) _ (λ _. if_map P Dpi (natural_within MIN_DPI MAX_DPI dpi.0) (λ _. none_short n))))
+    (if_either P (bytes_eq head (codes "inflate")) _ _ (if_then P (file_name_in words) _ (λ name. if_map P (Inflate name.0) (into_of name.1) (λ _. none_short n)))
+    (if_either P (bytes_eq head (codes "add")) _ _
+    (if_then P (parent_in words) _ (λ parent. if_then P (word_in parent.1) _ (λ c. if_then P (class_of c.0) _ (λ class. if_map P _ (extents_of c.1) (λ _. none_short n)))))
+    (if_either P (bytes_eq head (codes "remove")) _ _ (if_then P (name_in words) _ (λ view. if_then P (end_of view.1) _ (λ _. none_short n)))
+    (if_either P (bytes_eq head (codes "frame")) _ _ (if_then P (end_of words) _ (λ _. none_short n))
+    (if_either P (bytes_eq head (codes "bounds")) _ _ (bounds_of-short n words)
+    (if_either P (bytes_eq head (codes "pixels")) _ _ (pixels_of-short n words)
+    (if_either P (bytes_eq head (codes "digest")) _ _ (if_then P (end_of words) _ (λ _. none_short n)) (touch_by-short n head words first)))))))))
+
+pub command_of-short : (line : List ℕ) → IfOk (command_of line) (Short (length line))
+unfolding command_of command_in
+command_of-short line =
+    let P = Short (length line) in
+    let res : IfOk (res_of (after_word line)) P = if_ok_more (Short (length (after_word line))) P (res_of (after_word line)) (res_of-short (after_word line)) (λ c h. omega (arith, h, after_word-short line)) in
+    let text : IfOk (set_text_of (after_word line)) P = if_ok_more (Short (length (after_word line))) P (set_text_of (after_word line)) (set_text_of-short (after_word line)) (λ c h. omega (arith, h, after_word-short line)) in
+    let first : FirstShort (length line) (words (after_word line)) =
+    if_ok_more (λ (r : List ℕ × List (List ℕ)). length r.0 ≤ length (after_word line)) (λ r. length r.0 ≤ length line) (word_in (words (after_word line)))
+    (words-first_short (after_word line)) (λ r h. omega (arith, h, after_word-short line)) in
+    if_either P (is_utf8 line) _ _ (if_then P (word_in (words line)) _ (λ head.
+    if_either P (bytes_eq head.0 (codes "res")) _ _ res
+    (if_either P (bytes_eq head.0 (codes "text")) _ _ text (command_by-short (length line) head.0 (words (after_word line)) first)))) tt

@@ -1,0 +1,7 @@
+-- Laws of words and of the bytes in them.
+pub mod BarLaws
+pub mod EscapeLaws
+pub mod FileNameLaws
+pub mod PlaceLaws
+pub mod TextLaws
+pub mod WordLaws

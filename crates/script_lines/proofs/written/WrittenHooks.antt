@@ -1,0 +1,132 @@
+-- The words from which the edits of a hook are read.
+use Rattle.std.proofs.Common.{◌≡◌, ◌≢◌, ℕ, suc, zero, ◌-◌, ◌<◌, Bool, true, false, refl, ap, inl, inr, List, [], ◌∷◌, arith}
+use Rattle.std.specs.Prelude.{◌⊎◌, slice_get, IfOk, Option, Some, None, Result, Ok, Err}
+use Rattle.std.specs.List.{filter_map, list_any, slice_split}
+use Rattle.std.specs.Str.{bytes_eq}
+use Rattle.std.proofs.lemmas.Bool.{cases_Bool}
+use Rattle.std.proofs.lemmas.Slice.Eq.{bytes_eq-Decides}
+use Rattle.view_model.specs.declared.limits.TheConstants.{MAX_EDITS}
+use Rattle.script_lines.specs.reading.Changes.{change_of}
+use Rattle.script_lines.specs.reading.Hooks.{asked_in, asked_of, begins_edit, begins_line, edit_of, edit_words, edits_of, is_range, is_syntax, is_unmade, joined, line_words, parts_edits, readings_of, unmade_of}
+use Rattle.script_lines.specs.words.Names.{name_in}
+use Rattle.script_lines.specs.words.Words.{word_in}
+use Rattle.script_lines.specs.commands.Written.{AreEditWords, AreEdits, AreUnmadeWords, IsNameWord}
+use Rattle.script_lines.specs.declared.commands.Asked.{Asked}
+use Rattle.script_lines.specs.declared.fault.LineFault.{LineFault}
+use Rattle.script_lines.specs.declared.fault.LineFault.TheVariants.{Syntax, Range}
+use Rattle.script_lines.specs.declared.words.naming.Name.{Name}
+use Rattle.script_lines.proofs.readings.OkLaws.{if_map_with, if_ok_more, if_test, if_then_with}
+use Rattle.script_lines.proofs.written.WrittenActs.{AreChange, change_of-written}
+use Rattle.script_lines.proofs.written.WrittenWords.{FirstWord, name_in-written, word_in-written}
+
+-- a word is in a list, or it is not
+pub any_place : (names : List (List ℕ)) (word : List ℕ) → list_any (λ name. bytes_eq name word) names ≡ true → (k : ℕ) × (slice_get names k ≡ Some word)
+any_place [] word h = absurd (cc)
+any_place (name ∷ names) word h = elim (cases_Bool (bytes_eq name word)) [
+  | inl same ↦ (0, ap Some ((bytes_eq-Decides name word).0 same))
+  | inr other ↦ (let more : list_any (λ name. bytes_eq name word) names ≡ true = rw other at h in let rest = any_place names word more in (suc rest.0, rest.1))
+]
+
+no_place : (names : List (List ℕ)) (word : List ℕ) → list_any (λ name. bytes_eq name word) names ≡ false → (k : ℕ) → slice_get names k ≢ Some word
+no_place [] word h k = λ is. cc
+no_place (name ∷ names) word h zero = λ is.
+    let same : name ≡ word = cc in
+    let t : bytes_eq name word ≡ true = (bytes_eq-Decides name word).1 same in
+    let never : true ≡ false = rw t at h in cc
+no_place (name ∷ names) word h (suc k) = elim (cases_Bool (bytes_eq name word)) [
+  | inl same ↦ absurd (let never : true ≡ false = rw same at h in cc)
+  | inr other ↦ (let more : list_any (λ name. bytes_eq name word) names ≡ false = rw other at h in no_place names word more k)
+]
+
+-- an edit, with how many a hook may still have
+abbrev EditIs : ℕ → List (List ℕ) → Option Asked → Type 0
+EditIs left part None = AreUnmadeWords left part
+EditIs left part (Some asked) = (0 < left) × AreEditWords asked part
+
+unmade_of-written : (left : ℕ) (part : List (List ℕ)) → (left ≡ 0) ⊎ ((head : List ℕ) → (rest : List (List ℕ)) → part ≡ head ∷ rest → begins_edit head ≡ false) → IfOk (unmade_of part) (EditIs left part)
+unfolding unmade_of begins_line begins_edit
+unmade_of-written left part why =
+    let P = EditIs left part in
+    if_then_with (λ (r : List ℕ × List (List ℕ)). part ≡ r.0 ∷ r.1) P (word_in part) _ (word_in-written part) (λ head are.
+    if_test P (begins_line head.0) _ _ (λ is. let place = any_place line_words head.0 is in record {
+      place = place.0;
+      head = head.0;
+      rest = head.1;
+      are = are;
+      known = place.1;
+      unmade = elim why [ inl full ↦ inl full | inr others ↦ inr (no_place edit_words head.0 (others head.0 head.1 are)) ];
+    }) tt)
+
+asked_of-written : (head : List ℕ) (ws : List (List ℕ)) → IfOk (asked_of head ws) (λ asked. AreEditWords asked (head ∷ ws))
+unfolding asked_of
+asked_of-written head ws =
+    let P = λ (asked : Asked). AreEditWords asked (head ∷ ws) in
+    if_then_with (λ (r : Name × List (List ℕ)). FirstWord (IsNameWord r.0) ws r.1) P (name_in ws) _ (name_in-written ws) (λ view h.
+    if_map_with (AreChange head view.1) P _ (change_of head view.1) (change_of-written head view.1) (λ change c. record {
+      view = h.word;
+      rest = view.1;
+      are = rw (c.0, h.are) refl;
+      name = h.fits;
+      change = c.1;
+    }))
+
+edit_of-written : (left : ℕ) (part : List (List ℕ)) → 0 < left → IfOk (edit_of part) (EditIs left part)
+unfolding edit_of
+edit_of-written left part some =
+    let P = EditIs left part in
+    if_then_with (λ (r : List ℕ × List (List ℕ)). part ≡ r.0 ∷ r.1) P (word_in part) _ (word_in-written part) (λ head are.
+    elim (cases_Bool (begins_edit head.0)) [
+      | inl is ↦ rw is (if_map_with (λ (asked : Asked). AreEditWords asked (head.0 ∷ head.1)) P Some (asked_of head.0 head.1) (asked_of-written head.0 head.1) (λ asked h. (some, rw are h)))
+      | inr none ↦ rw none (unmade_of-written left part (inr (λ other rest same. let e : other ≡ head.0 = cc in rw e none)))
+    ])
+
+-- what is made of a reading and of those after it
+abbrev Joined : (Option Asked → Type 0) → (List Asked × Bool → Type 0) → List Asked × Bool → Type 0
+Joined One More r =
+    ((asked : Asked) × (more : List Asked) × (r.0 ≡ asked ∷ more) × One (Some asked) × More (more, r.1))
+    ⊎ ((others : Bool) × (r.1 ≡ true) × One None × More (r.0, others))
+
+joined_one : (One : Option Asked → Type 0) (More : List Asked × Bool → Type 0) (reading : Result (Option Asked) LineFault) (rest : List (Result (Option Asked) LineFault))
+    → IfOk reading One → IfOk (joined rest) More → IfOk (joined (reading ∷ rest)) (Joined One More)
+unfolding joined
+joined_one One More (Err Syntax) rest one more = tt
+joined_one One More (Err Range) rest one more = elim (cases_Bool (list_any is_syntax rest)) [ inl s ↦ rw s tt | inr s ↦ rw s tt ]
+joined_one One More (Ok None) rest one more = elim (cases_Bool (list_any is_syntax rest)) [
+  | inl s ↦ rw s tt
+  | inr s ↦ elim (cases_Bool (list_any is_range rest)) [
+    | inl r ↦ rw (s, r) tt
+    | inr r ↦ (let m : More (filter_map asked_in rest, list_any is_unmade rest) = rw (s, r) at more in rw (s, r) (inr (list_any is_unmade rest, refl, one, m)))
+  ]
+]
+joined_one One More (Ok (Some asked)) rest one more = elim (cases_Bool (list_any is_syntax rest)) [
+  | inl s ↦ rw s tt
+  | inr s ↦ elim (cases_Bool (list_any is_range rest)) [
+    | inl r ↦ rw (s, r) tt
+    | inr r ↦ (let m : More (filter_map asked_in rest, list_any is_unmade rest) = rw (s, r) at more in rw (s, r) (inl (asked, filter_map asked_in rest, refl, one, m)))
+  ]
+]
+
+abbrev EditsAre : ℕ → List (List (List ℕ)) → List Asked × Bool → Type 0
+EditsAre left parts r = AreEdits left r.0 r.1 parts
+
+joined_edits : (left next : ℕ) (part : List (List ℕ)) (parts : List (List (List ℕ))) (r : List Asked × Bool) → next ≡ left - 1
+    → Joined (EditIs left part) (EditsAre next parts) r → EditsAre left (part ∷ parts) r
+joined_edits left next part parts r e (inl (asked, more, are, one, rest)) = inl (asked, more, are, one.0, one.1, rw e at rest)
+joined_edits left next part parts r e (inr (others, bad, one, rest)) = inr (others, bad, one, rw e at rest)
+
+readings-written : (left : ℕ) (parts : List (List (List ℕ))) → IfOk (joined (readings_of left parts)) (EditsAre left parts)
+unfolding joined
+readings-written zero [] = (refl, refl)
+readings-written (suc left) [] = (refl, refl)
+readings-written zero (part ∷ parts) =
+    if_ok_more (Joined (EditIs 0 part) (EditsAre 0 parts)) (EditsAre 0 (part ∷ parts)) (joined (unmade_of part ∷ readings_of 0 parts))
+    (joined_one (EditIs 0 part) (EditsAre 0 parts) (unmade_of part) (readings_of 0 parts) (unmade_of-written 0 part (inl refl)) (readings-written zero parts))
+    (λ r h. joined_edits 0 0 part parts r refl h)
+readings-written (suc left) (part ∷ parts) =
+    if_ok_more (Joined (EditIs (suc left) part) (EditsAre left parts)) (EditsAre (suc left) (part ∷ parts)) (joined (edit_of part ∷ readings_of left parts))
+    (joined_one (EditIs (suc left) part) (EditsAre left parts) (edit_of part) (readings_of left parts) (edit_of-written (suc left) part (omega arith)) (readings-written left parts))
+    (λ r h. joined_edits (suc left) left part parts r (omega arith) h)
+
+pub edits_of-written : (ws : List (List ℕ)) → IfOk (edits_of ws) (EditsAre MAX_EDITS (slice_split parts_edits ws))
+unfolding edits_of
+edits_of-written ws = readings-written MAX_EDITS (slice_split parts_edits ws)

@@ -1,0 +1,187 @@
+-- The lines that give a command: what their words are, and that there are no others.
+use Rattle.std.specs.Prelude.{◌≡◌, ◌≢◌, ℕ, ◌-◌, ◌<◌, ◌≤◌, ◌^◌, ◌/◌, ◌%◌, if◌then◌else◌, Bool, true, false, ◌⊎◌, List, [], ◌∷◌, length, drop, fold, filter, map, codes, bit_or, slice_get, slice_index_or, Option, Some, None}
+use Rattle.std.specs.Char.{is_ascii_hexdigit}
+use Rattle.std.specs.Fmt.{decimal, signed_decimal}
+use Rattle.std.specs.List.{All, list_all, slice_split}
+use Rattle.std.specs.Str.{is_utf8}
+use Rattle.geom_core.specs.declared.color.Argb.{Argb}
+use Rattle.view_model.specs.Dimensions.{mantissa}
+use Rattle.view_model.specs.Facts.{no_gravity}
+use Rattle.view_model.specs.declared.changes.Act.{Act}
+use Rattle.view_model.specs.declared.changes.Act.TheVariants as act
+use Rattle.view_model.specs.declared.changes.Change.{Change}
+use Rattle.view_model.specs.declared.changes.Change.TheVariants as change
+use Rattle.view_model.specs.declared.limits.TheConstants.{MAX_EDITS}
+use Rattle.view_model.specs.declared.placing.Across.{Across}
+use Rattle.view_model.specs.declared.placing.Across.TheVariants as across
+use Rattle.view_model.specs.declared.placing.Down.{Down}
+use Rattle.view_model.specs.declared.placing.Down.TheVariants as down
+use Rattle.view_model.specs.declared.placing.Gravity.{Gravity}
+use Rattle.script_lines.specs.words.Gravities.{is_bar, is_set_across, is_set_down}
+use Rattle.script_lines.specs.reading.Hooks.{edit_words, line_words, parts_edits}
+use Rattle.script_lines.specs.words.Names.{hex_value}
+use Rattle.script_lines.specs.commands.PlainCommands.{PlainCommand, PlainGiven}
+use Rattle.script_lines.specs.commands.PlainCommands as plain
+use Rattle.script_lines.specs.reading.Rules.{names_sibling}
+use Rattle.script_lines.specs.commands.Spelled.{act_words, action_words, answer_text, change_head, change_words, class_text, command_words, extent_text, name_text, on_text, unit_text, verb_text, weight_words}
+use Rattle.script_lines.specs.words.Words.{after_word, first_word, words}
+use Rattle.script_lines.specs.declared.commands.Asked.{Asked}
+use Rattle.script_lines.specs.declared.words.naming.Name.{Name}
+use Rattle.script_lines.specs.declared.words.naming.Name.TheVariants.{Number, Id}
+
+-- a mark, and after it one to eight hexadecimal digits of either case, which write this number
+pub record IsHexWord (mark n : ℕ) (word : List ℕ) : Type 0 where
+  pub digits : List ℕ
+  pub marked : word ≡ mark ∷ digits
+  pub some : 0 < length digits
+  pub short : length digits ≤ 8
+  pub hex : list_all is_ascii_hexdigit digits ≡ true
+  pub value : hex_value digits ≡ n
+
+-- a view: `v` and its number, of at most ten decimal digits, or `@` and an id
+abbrev pub IsNameWord : Name → List ℕ → Type 0
+IsNameWord (Number n) word = (n < 10 ^ 10) × (word ≡ name_text (Number n))
+IsNameWord (Id id) word = IsHexWord 64 id word
+
+-- a view, or `root` for none
+abbrev pub IsParentWord : Option Name → List ℕ → Type 0
+IsParentWord None word = word ≡ codes "root"
+IsParentWord (Some view) word = IsNameWord view word
+
+-- `#` and eight digits
+abbrev pub IsColorWord : Argb → List ℕ → Type 0
+IsColorWord color word = IsHexWord 35 color.0 word × (length word ≡ 9)
+
+-- a word of a gravity, and its place on each axis
+pub record PlaceWord : Type 0 where
+  pub word : List ℕ
+  pub across : Across
+  pub down : Down
+
+abbrev pub place_word : List ℕ → Across → Down → PlaceWord
+place_word word across down = record { word = word; across = across; down = down }
+
+-- the words of gravities
+abbrev pub place_words : List PlaceWord
+place_words =
+    place_word (codes "left") across.Left down.Unset
+    ∷ place_word (codes "right") across.Right down.Unset
+    ∷ place_word (codes "start") across.Start down.Unset
+    ∷ place_word (codes "end") across.End down.Unset
+    ∷ place_word (codes "center_horizontal") across.Center down.Unset
+    ∷ place_word (codes "top") across.Unset down.Top
+    ∷ place_word (codes "bottom") across.Unset down.Bottom
+    ∷ place_word (codes "center_vertical") across.Unset down.Center
+    ∷ place_word (codes "center") across.Center down.Center
+    ∷ []
+
+abbrev pub IsPlaceWord : PlaceWord → Type 0
+IsPlaceWord place = (k : ℕ) × (slice_get place_words k ≡ Some place)
+
+-- words of gravities, of which one at most sets the place on each axis: that is the gravity's
+pub record ArePlaces (gravity : Gravity) (ws : List (List ℕ)) : Type 0 where
+  pub places : List PlaceWord
+  pub known : All IsPlaceWord places
+  pub are : ws ≡ map (λ (place : PlaceWord). place.word) places
+  pub across : filter is_set_across (map (λ (place : PlaceWord). place.across) places) ≡ filter is_set_across (gravity.across ∷ [])
+  pub down : filter is_set_down (map (λ (place : PlaceWord). place.down) places) ≡ filter is_set_down (gravity.down ∷ [])
+
+-- `none`, or words of gravities with bars between them
+abbrev pub IsGravityWord : Gravity → List ℕ → Type 0
+IsGravityWord gravity word =
+    ((word ≡ codes "none") × (gravity ≡ no_gravity)) ⊎ ((gravity.given ≡ true) × ArePlaces gravity (slice_split is_bar word))
+
+-- whole ones and 256ths; the latter may be left out if they are none
+abbrev pub AreWeightWords : ℕ → List (List ℕ) → Type 0
+AreWeightWords weight ws = (ws ≡ weight_words weight) ⊎ ((weight % 256 ≡ 0) × (ws ≡ decimal (weight / 256) ∷ []))
+
+-- words of actions, one or more, in any order: the bits are theirs
+pub record AreActions (actions : ℕ) (ws : List (List ℕ)) : Type 0 where
+  pub places : List ℕ
+  pub some : 0 < length places
+  pub known : All (λ place. place < 6) places
+  pub are : ws ≡ map (λ place. slice_index_or action_words place []) places
+  pub bits : actions ≡ fold (λ bits place. bit_or bits (2 ^ place)) 0 places
+
+-- `none`, or the words of one or more actions
+abbrev pub AreInterceptWords : ℕ → List (List ℕ) → Type 0
+AreInterceptWords actions ws = ((ws ≡ codes "none" ∷ []) × (actions ≡ 0)) ⊎ AreActions actions ws
+
+-- the id of a sibling, or whether a rule on the parent counts
+abbrev pub IsRuleWord : Bool → ℕ → List ℕ → Type 0
+IsRuleWord true value word = IsHexWord 64 value word
+IsRuleWord false value word = (word ≡ answer_text value) × (value < 2)
+
+-- the words after the view, of a line that makes a change
+abbrev pub AreChangeWords : Change → List (List ℕ) → Type 0
+AreChangeWords (change.Weight weight) ws = AreWeightWords weight ws
+AreChangeWords (change.Gravity kids gravity) ws =
+    (word : List ℕ) × (ws ≡ (if kids then codes "kids" else codes "self") ∷ word ∷ []) × IsGravityWord gravity word
+AreChangeWords (change.Background color) ws = (word : List ℕ) × (ws ≡ word ∷ []) × IsColorWord color word
+AreChangeWords change ws = ws ≡ change_words change
+
+-- the words after the view, of a line that sets something
+abbrev pub AreActWords : Act → List (List ℕ) → Type 0
+AreActWords (act.Change change) ws = AreChangeWords change ws
+AreActWords (act.WeightSum sum) ws = AreWeightWords sum ws
+AreActWords (act.Ink color) ws = (word : List ℕ) × (ws ≡ word ∷ []) × IsColorWord color word
+AreActWords (act.Id id) ws = (word : List ℕ) × (ws ≡ word ∷ []) × IsHexWord 64 id word
+AreActWords (act.Rule verb value) ws =
+    (word : List ℕ) × (ws ≡ verb_text verb ∷ word ∷ []) × IsRuleWord (names_sibling verb) value word
+AreActWords (act.Intercept actions) ws = AreInterceptWords actions ws
+AreActWords act ws = ws ≡ act_words act
+
+-- the words of an edit that a hook can make
+pub record AreEditWords (asked : Asked) (ws : List (List ℕ)) : Type 0 where
+  pub view : List ℕ
+  pub rest : List (List ℕ)
+  pub are : ws ≡ change_head asked.change ∷ view ∷ rest
+  pub name : IsNameWord asked.view view
+  pub change : AreChangeWords asked.change rest
+
+-- words that begin with that of a line, of which no hook makes an edit: with another word than that of an edit, or after
+-- the greatest number of edits
+pub record AreUnmadeWords (left : ℕ) (ws : List (List ℕ)) : Type 0 where
+  pub place : ℕ
+  pub head : List ℕ
+  pub rest : List (List ℕ)
+  pub are : ws ≡ head ∷ rest
+  pub known : slice_get line_words place ≡ Some head
+  pub unmade : (left ≡ 0) ⊎ ((k : ℕ) → slice_get edit_words k ≢ Some head)
+
+-- edits in a row, with how many a hook may still have: those that it makes, and whether there is one that it can't make
+abbrev pub AreEdits : ℕ → List Asked → Bool → List (List (List ℕ)) → Type 0
+AreEdits left edits bad [] = (edits ≡ []) × (bad ≡ false)
+AreEdits left edits bad (part ∷ parts) =
+    ((asked : Asked) × (more : List Asked) × (edits ≡ asked ∷ more) × (0 < left) × AreEditWords asked part × AreEdits (left - 1) more bad parts)
+    ⊎ ((others : Bool) × (bad ≡ true) × AreUnmadeWords left part × AreEdits (left - 1) edits others parts)
+
+-- the words after the first one, of a line in which no spaces count
+abbrev pub AreArguments : PlainCommand → List (List ℕ) → Type 0
+AreArguments (plain.Inflate name (Some view)) ws = (word : List ℕ) × (ws ≡ name ∷ codes "into" ∷ word ∷ []) × IsNameWord view word
+AreArguments (plain.Add parent class width height) ws =
+    (word : List ℕ) × (ws ≡ word ∷ class_text class ∷ extent_text width ∷ extent_text height ∷ []) × IsParentWord parent word
+AreArguments (plain.Remove view) ws = (word : List ℕ) × (ws ≡ word ∷ []) × IsNameWord view word
+AreArguments (plain.Act view act) ws =
+    (word : List ℕ) × (rest : List (List ℕ)) × (ws ≡ word ∷ rest) × IsNameWord view word × AreActWords act rest
+AreArguments (plain.Disallow view on) ws = (word : List ℕ) × (ws ≡ word ∷ on_text on ∷ []) × IsNameWord view word
+AreArguments (plain.Hook view edits bad) ws =
+    (word : List ℕ) × (rest : List (List ℕ)) × (ws ≡ word ∷ rest) × IsNameWord view word × AreEdits MAX_EDITS edits bad (slice_split parts_edits rest)
+AreArguments (plain.Bounds (Some view)) ws = (word : List ℕ) × (ws ≡ word ∷ []) × IsNameWord view word
+AreArguments command ws = ws ≡ drop 1 (command_words command)
+
+-- what comes after the id of a resource: the kind of its value, and the value; a text is all that comes after one space
+abbrev pub IsGivenBy : PlainGiven → List ℕ → Type 0
+IsGivenBy (plain.Color color) bytes = (word : List ℕ) × (words bytes ≡ codes "color" ∷ word ∷ []) × IsColorWord color word
+IsGivenBy (plain.Dimen word) bytes = words bytes ≡ codes "dimen" ∷ signed_decimal (mantissa word) ∷ unit_text (word % 256) ∷ []
+IsGivenBy (plain.Text text) bytes = (first_word bytes ≡ codes "text") × (after_word bytes ≡ 32 ∷ text) × (is_utf8 text ≡ true)
+
+-- a line that gives this command
+abbrev pub IsWritten : PlainCommand → List ℕ → Type 0
+IsWritten (plain.Res id value) line =
+    (first_word line ≡ codes "res") × IsHexWord 64 id (first_word (after_word line)) × IsGivenBy value (after_word (after_word line))
+IsWritten (plain.SetText view text) line =
+    (first_word line ≡ codes "text") × IsNameWord view (first_word (after_word line)) × (after_word (after_word line) ≡ 32 ∷ text)
+    × (is_utf8 text ≡ true)
+IsWritten command line =
+    (arguments : List (List ℕ)) × (words line ≡ slice_index_or (command_words command) 0 [] ∷ arguments) × AreArguments command arguments

@@ -1,0 +1,180 @@
+-- The grammar of a line, over its words. All words are read before a number's bounds are looked at.
+use Rattle.std.specs.Prelude.{ℕ, ◌<◌, ◌≤◌, IsTrue, if◌then◌else◌, pos, List, [], ◌∷◌, length, codes, Option, Some, None, Result, Ok, Err}
+use Rattle.std.specs.List.{All}
+use Rattle.std.specs.Str.{bytes_eq, is_utf8}
+use Rattle.view_model.specs.declared.kinds.Class.{Class}
+use Rattle.view_model.specs.declared.kinds.Class.TheVariants as class
+use Rattle.view_model.specs.declared.limits.TheConstants.{MAX_EDITS}
+use Rattle.script_lines.specs.reading.Changes.{IsActInBounds, IsChangeInBounds, act_of}
+use Rattle.script_lines.specs.words.Dimensions.{IsExtent, extents_of}
+use Rattle.script_lines.specs.words.Escapes.{has_escapes, rest_of}
+use Rattle.script_lines.specs.words.FileNames.{file_name_in, is_file_name}
+use Rattle.script_lines.specs.reading.Hooks.{hook_of}
+use Rattle.script_lines.specs.words.Names.{name_in, parent_in}
+use Rattle.script_lines.specs.declared.words.naming.Name.{Name}
+use Rattle.script_lines.specs.words.Numbers.{IsWithin, integer_in, natural_within, pair_of}
+use Rattle.script_lines.specs.reading.Pixels.{IsPart, pixels_of}
+use Rattle.script_lines.specs.commands.PlainCommands.{PlainCommand, Window, Dpi, Res, Inflate, Add, Remove, Act, SetText, Disallow, Hook, Down, Move, Up, Cancel, Frame, Bounds, Pixels, Digest, Save, Restore}
+use Rattle.script_lines.specs.reading.Resources.{IsGivenInBounds, res_of}
+use Rattle.script_lines.specs.reading.States.{is_state_text, restore_of, save_of}
+use Rattle.script_lines.specs.reading.Touches.{IsTouchInBounds, cancel_of, down_of, move_of, up_of}
+use Rattle.script_lines.specs.words.Words.{after_word, ◌>>=◌, map_ok, literal_in, on_of, word_in, end_of, words}
+use Rattle.script_lines.specs.declared.commands.TheConstants.{MAX_DPI, MAX_POINTER, MAX_WINDOW, MIN_DPI}
+use Rattle.script_lines.specs.declared.fault.LineFault.{LineFault}
+use Rattle.script_lines.specs.declared.fault.LineFault.TheVariants.{Syntax}
+
+-- `W H`, the sides of a window
+abbrev pub window_of : List (List ℕ) → Result PlainCommand LineFault
+window_of words = map_ok (λ pair. Window pair.0 pair.1) (pair_of (pos 1) MAX_WINDOW words)
+
+-- `N`, a density
+unfoldable pub dpi_of : List (List ℕ) → Result PlainCommand LineFault
+dpi_of words = do
+  n ← integer_in words
+  _ ← end_of n.1
+  map_ok Dpi (natural_within MIN_DPI MAX_DPI n.0)
+
+-- nothing, or `into V`
+unfoldable pub into_of : List (List ℕ) → Result (Option Name) LineFault
+into_of [] = Ok None
+into_of (word ∷ words) = do
+  words ← literal_in (codes "into") (word ∷ words)
+  view ← name_in words
+  _ ← end_of view.1
+  Ok (Some view.0)
+
+-- `NAME`, a file, and where its tree goes
+unfoldable pub inflate_of : List (List ℕ) → Result PlainCommand LineFault
+inflate_of words = do
+  name ← file_name_in words
+  map_ok (Inflate name.0) (into_of name.1)
+
+unfoldable pub class_of : List ℕ → Result Class LineFault
+class_of word =
+    if bytes_eq word (codes "View") then Ok class.View else (
+    if bytes_eq word (codes "TextView") then Ok class.TextView else (
+    if bytes_eq word (codes "FrameLayout") then Ok class.FrameLayout else (
+    if bytes_eq word (codes "LinearLayout") then Ok class.LinearLayout else (
+    if bytes_eq word (codes "RelativeLayout") then Ok class.RelativeLayout else (
+    if bytes_eq word (codes "ScrollView") then Ok class.ScrollView else
+    Err Syntax)))))
+
+-- `P C W H`, a parent, and the view that is added to it
+unfoldable pub add_of : List (List ℕ) → Result PlainCommand LineFault
+add_of words = do
+  parent ← parent_in words
+  c ← word_in parent.1
+  class ← class_of c.0
+  map_ok (λ extents. Add parent.0 class extents.0 extents.1) (extents_of c.1)
+
+-- `V`
+unfoldable pub remove_of : List (List ℕ) → Result PlainCommand LineFault
+remove_of words = do
+  view ← name_in words
+  _ ← end_of view.1
+  Ok (Remove view.0)
+
+-- nothing
+unfoldable pub frame_of : List (List ℕ) → Result PlainCommand LineFault
+frame_of words = end_of words >>= λ _. Ok Frame
+
+-- nothing
+unfoldable pub digest_of : List (List ℕ) → Result PlainCommand LineFault
+digest_of words = end_of words >>= λ _. Ok Digest
+
+-- nothing, or `V`
+unfoldable pub bounds_of : List (List ℕ) → Result PlainCommand LineFault
+bounds_of [] = Ok (Bounds None)
+bounds_of (word ∷ words) = do
+  view ← name_in (word ∷ words)
+  _ ← end_of view.1
+  Ok (Bounds (Some view.0))
+
+-- `V yes` or `V no`, a view, and whether it and all above it are prevented from taking pointers away from their
+-- children
+unfoldable pub disallow_of : List (List ℕ) → Result PlainCommand LineFault
+disallow_of words = do
+  view ← name_in words
+  b ← word_in view.1
+  on ← on_of b.0
+  _ ← end_of b.1
+  Ok (Disallow view.0 on)
+
+-- `V`, and what is set of that view
+unfoldable pub set_of : List ℕ → List (List ℕ) → Result PlainCommand LineFault
+set_of head words = do
+  view ← name_in words
+  map_ok (λ act. Act view.0 act) (act_of head view.1)
+
+-- `V T`, and the text of that view: all that comes after one space
+unfoldable pub set_text_of : List ℕ → Result PlainCommand LineFault
+set_text_of rest = do
+  view ← name_in (words rest)
+  map_ok (SetText view.0) (rest_of (after_word rest))
+
+-- a line that saves, restores, arms a hook or sets something of a view, by its first word and the words after it
+abbrev pub keep_by : List ℕ → List (List ℕ) → Result PlainCommand LineFault
+keep_by head words =
+    if bytes_eq head (codes "hook") then hook_of words else (
+    if bytes_eq head (codes "save") then save_of words else (
+    if bytes_eq head (codes "restore") then restore_of words else
+    set_of head words))
+
+-- the same or a line of touch, by its first word and the words after it
+abbrev pub touch_by : List ℕ → List (List ℕ) → Result PlainCommand LineFault
+touch_by head words =
+    if bytes_eq head (codes "down") then down_of words else (
+    if bytes_eq head (codes "move") then move_of words else (
+    if bytes_eq head (codes "up") then up_of words else (
+    if bytes_eq head (codes "cancel") then cancel_of words else (
+    if bytes_eq head (codes "disallow") then disallow_of words else
+    keep_by head words))))
+
+-- a command by the first word of its line and the words after it
+unfoldable pub command_by : List ℕ → List (List ℕ) → Result PlainCommand LineFault
+command_by head words =
+    if bytes_eq head (codes "window") then window_of words else (
+    if bytes_eq head (codes "dpi") then dpi_of words else (
+    if bytes_eq head (codes "inflate") then inflate_of words else (
+    if bytes_eq head (codes "add") then add_of words else (
+    if bytes_eq head (codes "remove") then remove_of words else (
+    if bytes_eq head (codes "frame") then frame_of words else (
+    if bytes_eq head (codes "bounds") then bounds_of words else (
+    if bytes_eq head (codes "pixels") then pixels_of words else (
+    if bytes_eq head (codes "digest") then digest_of words else
+    touch_by head words))))))))
+
+-- a command by the first word of its line and the bytes after it: the spaces in a text count
+unfoldable pub command_in : List ℕ → List ℕ → Result PlainCommand LineFault
+command_in head rest =
+    if bytes_eq head (codes "res") then res_of rest else (
+    if bytes_eq head (codes "text") then set_text_of rest else
+    command_by head (words rest))
+
+-- the command of a line; bytes that are not valid UTF-8 give none
+unfoldable pub command_of : List ℕ → Result PlainCommand LineFault
+command_of line = if is_utf8 line then (word_in (words line) >>= λ head. command_in head.0 (after_word line)) else Err Syntax
+
+-- the numbers of a command are within their bounds, and its texts are as a line may have them
+abbrev pub IsInBounds : PlainCommand → Type 0
+IsInBounds (Window w h) = IsWithin (pos 1) MAX_WINDOW w × IsWithin (pos 1) MAX_WINDOW h
+IsInBounds (Dpi dpi) = (MIN_DPI ≤ dpi) × (dpi ≤ MAX_DPI)
+IsInBounds (Res id value) = (0 < id) × IsGivenInBounds value
+IsInBounds (Inflate name into) = IsTrue (is_file_name name)
+IsInBounds (Add parent class width height) = IsExtent width × IsExtent height
+IsInBounds (Remove view) = Unit {0}
+IsInBounds (Act view act) = IsActInBounds act
+IsInBounds (SetText view text) = IsTrue (has_escapes text)
+IsInBounds (Disallow view on) = Unit {0}
+IsInBounds (Hook view edits bad) = (length edits ≤ MAX_EDITS) × All (λ asked. IsChangeInBounds asked.change) edits
+IsInBounds (Down p x y) = IsTouchInBounds p x y
+IsInBounds (Move p x y) = IsTouchInBounds p x y
+IsInBounds (Up p) = p ≤ MAX_POINTER
+IsInBounds Cancel = Unit {0}
+IsInBounds Frame = Unit {0}
+IsInBounds (Bounds view) = Unit {0}
+IsInBounds (Pixels x y w h) = IsPart x y w h
+IsInBounds Digest = Unit {0}
+IsInBounds Save = Unit {0}
+IsInBounds (Restore None) = Unit {0}
+IsInBounds (Restore (Some text)) = IsTrue (is_state_text text)

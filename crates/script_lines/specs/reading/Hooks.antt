@@ -1,0 +1,97 @@
+-- The hook of a view: edits that are made once the view has another size.
+use Rattle.std.specs.Prelude.{ℕ, Bool, true, false, if◌then◌else◌, List, [], ◌∷◌, ◌++◌, map, take, drop, codes, Option, Some, None, Result, Ok, Err}
+use Rattle.std.specs.List.{filter_map, list_any, slice_split}
+use Rattle.std.specs.Str.{bytes_eq}
+use Rattle.view_model.specs.declared.limits.TheConstants.{MAX_EDITS}
+use Rattle.script_lines.specs.reading.Changes.{change_of}
+use Rattle.script_lines.specs.words.Names.{name_in}
+use Rattle.script_lines.specs.commands.PlainCommands.{PlainCommand, Hook}
+use Rattle.script_lines.specs.words.Words.{◌>>=◌, map_ok, word_in}
+use Rattle.script_lines.specs.declared.commands.Asked.{Asked}
+use Rattle.script_lines.specs.declared.fault.LineFault.{LineFault}
+use Rattle.script_lines.specs.declared.fault.LineFault.TheVariants.{Syntax, Range}
+
+-- `;`, which separates two edits
+abbrev pub parts_edits : List ℕ → Bool
+parts_edits word = bytes_eq word (codes ";")
+
+-- the words with which lines of a script begin
+abbrev pub line_words : List (List ℕ)
+line_words =
+    codes "window" ∷ codes "dpi" ∷ codes "res" ∷ codes "inflate" ∷ codes "add" ∷ codes "remove"
+    ∷ codes "size" ∷ codes "min" ∷ codes "margins" ∷ codes "padding" ∷ codes "weight" ∷ codes "weightsum"
+    ∷ codes "gravity" ∷ codes "orient" ∷ codes "direction" ∷ codes "flag" ∷ codes "visible" ∷ codes "bg" ∷ codes "ink"
+    ∷ codes "text" ∷ codes "id" ∷ codes "rule" ∷ codes "answer" ∷ codes "intercept" ∷ codes "disallow"
+    ∷ codes "hook" ∷ codes "scroll" ∷ codes "down" ∷ codes "move" ∷ codes "up" ∷ codes "cancel"
+    ∷ codes "frame" ∷ codes "bounds" ∷ codes "pixels" ∷ codes "digest" ∷ codes "save" ∷ codes "restore" ∷ []
+
+-- the words with which edits begin that a hook can make
+abbrev pub edit_words : List (List ℕ)
+edit_words = codes "size" ∷ codes "min" ∷ codes "margins" ∷ codes "padding" ∷ codes "weight" ∷ codes "gravity" ∷ codes "bg" ∷ []
+
+-- whether a line of the script begins with this word
+unfoldable pub begins_line : List ℕ → Bool
+begins_line word = list_any (λ name. bytes_eq name word) line_words
+
+-- whether an edit that a hook can make begins with this word
+unfoldable pub begins_edit : List ℕ → Bool
+begins_edit word = list_any (λ name. bytes_eq name word) edit_words
+
+-- what an edit asks for, by its first word and the words after that: `V`, and what is changed of that view
+unfoldable pub asked_of : List ℕ → List (List ℕ) → Result Asked LineFault
+asked_of head words = do
+  view ← name_in words
+  map_ok (λ change. record { view = view.0; change = change }) (change_of head view.1)
+
+-- an edit of which only the first word is read, that of some line: no hook can make it, so it asks for nothing
+unfoldable pub unmade_of : List (List ℕ) → Result (Option Asked) LineFault
+unmade_of edit = do
+  head ← word_in edit
+  if begins_line head.0 then Ok None else Err Syntax
+
+-- an edit that is read to its end, if a hook can make it
+unfoldable pub edit_of : List (List ℕ) → Result (Option Asked) LineFault
+edit_of edit = do
+  head ← word_in edit
+  if begins_edit head.0 then map_ok Some (asked_of head.0 head.1) else unmade_of edit
+
+-- edits one by one: n of them are read to their ends, if a hook can make them
+abbrev pub readings_of : ℕ → List (List (List ℕ)) → List (Result (Option Asked) LineFault)
+readings_of most edits = map edit_of (take most edits) ++ map unmade_of (drop most edits)
+
+abbrev pub is_syntax : Result (Option Asked) LineFault → Bool
+is_syntax (Err Syntax) = true
+is_syntax (Err Range) = false
+is_syntax (Ok asked) = false
+
+abbrev pub is_range : Result (Option Asked) LineFault → Bool
+is_range (Err Syntax) = false
+is_range (Err Range) = true
+is_range (Ok asked) = false
+
+abbrev pub is_unmade : Result (Option Asked) LineFault → Bool
+is_unmade (Ok None) = true
+is_unmade (Ok (Some asked)) = false
+is_unmade (Err fault) = false
+
+abbrev pub asked_in : Result (Option Asked) LineFault → Option Asked
+asked_in (Ok asked) = asked
+asked_in (Err fault) = None
+
+-- what edits ask for, and whether there is one that no hook can make
+-- A fault of the grammar counts before a number outside its bounds, in whichever edits the two are.
+unfoldable pub joined : List (Result (Option Asked) LineFault) → Result (List Asked × Bool) LineFault
+joined readings =
+    if list_any is_syntax readings then Err Syntax else (
+    if list_any is_range readings then Err Range else
+    Ok (filter_map asked_in readings, list_any is_unmade readings))
+
+-- `E ; E ..`, one edit or more
+unfoldable pub edits_of : List (List ℕ) → Result (List Asked × Bool) LineFault
+edits_of words = joined (readings_of MAX_EDITS (slice_split parts_edits words))
+
+-- `V E ; E ..`
+unfoldable pub hook_of : List (List ℕ) → Result PlainCommand LineFault
+hook_of words = do
+  view ← name_in words
+  map_ok (λ edits. Hook view.0 edits.0 edits.1) (edits_of view.1)

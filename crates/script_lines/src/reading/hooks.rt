@@ -1,0 +1,228 @@
+//! The hook of a view: edits that are made once the view has another size.
+
+ghost use Rattle.std.specs.Prelude.{◌≡◌, ◌≤◌, ◌+◌, ◌∷◌, [], ℕ, List, false, IfOk, IfSome, None};
+ghost use Rattle.std.specs.List.{All, list_any};
+ghost use Rattle.std.specs.Str.{bytes_eq};
+ghost use Rattle.arrayvec.specs.ArrayVec.{array_vec_len};
+ghost use Rattle.script_lines.specs.reading.Changes.{IsChangeInBounds};
+ghost use Rattle.script_lines.specs.reading.Commands.{IsInBounds};
+ghost use Rattle.script_lines.specs.reading.Gathered.{behind, edits_after, edits_in, reading_of};
+ghost use Rattle.script_lines.specs.reading.Hooks.{asked_of, begins_edit, begins_line, edit_of, edits_of, hook_of, unmade_of};
+ghost use Rattle.script_lines.specs.commands.PlainCommands.{plain_command};
+ghost use Rattle.script_lines.specs.words.Words.{map_ok, words};
+ghost use Rattle.view_model.specs.declared.limits.TheConstants.{MAX_EDITS};
+
+use crate::commands::{Asked, Command};
+use crate::fault::LineFault;
+use crate::reading::changes::read_change;
+use crate::reading::parting::first_edit;
+use crate::words::naming::name_word;
+use crate::words::{is, word};
+use arrayvec::ArrayVec;
+use view_model::limits::MAX_EDITS;
+
+/// The words with which lines of the script begin.
+pub const LINE_WORDS: [&str; 37] = [
+    "window",
+    "dpi",
+    "res",
+    "inflate",
+    "add",
+    "remove",
+    "size",
+    "min",
+    "margins",
+    "padding",
+    "weight",
+    "weightsum",
+    "gravity",
+    "orient",
+    "direction",
+    "flag",
+    "visible",
+    "bg",
+    "ink",
+    "text",
+    "id",
+    "rule",
+    "answer",
+    "intercept",
+    "disallow",
+    "hook",
+    "scroll",
+    "down",
+    "move",
+    "up",
+    "cancel",
+    "frame",
+    "bounds",
+    "pixels",
+    "digest",
+    "save",
+    "restore",
+];
+
+/// Whether a word is among these.
+fn is_among(names: &[&str], word: &[u8]) -> bool
+    ensures { result ≡ list_any (λ name. bytes_eq name.now word.now) names.now }
+{
+    names.iter().any(|name| name.as_bytes() == word)
+}
+
+/// Whether a line of the script begins with this word.
+#[tactic(auto, unfolding(crate::specs::reading::Hooks::begins_line))]
+fn begins_line(word: &[u8]) -> bool
+    ensures { result ≡ begins_line word.now }
+{
+    is_among(&LINE_WORDS, word)
+}
+
+/// Whether an edit that a hook can make begins with this word.
+#[tactic(auto, unfolding(crate::specs::reading::Hooks::begins_edit))]
+#[inline]
+pub fn begins_edit(word: &[u8]) -> bool
+    ensures { result ≡ begins_edit word.now }
+{
+    is(b"size", word)
+        || is(b"min", word)
+        || is(b"margins", word)
+        || is(b"padding", word)
+        || is(b"weight", word)
+        || is(b"gravity", word)
+        || is(b"bg", word)
+}
+
+/// What an edit asks for, by its first word and what comes after that.
+#[tactic(auto, unfolding(crate::specs::reading::Hooks::asked_of))]
+pub fn read_asked(head: &[u8], bytes: &[u8]) -> Result<Asked, LineFault>
+    ensures value { result ≡ asked_of head.now (words bytes.now) }
+    ensures bounds { IfOk result (λ asked. IsChangeInBounds asked.change) }
+{
+    let (view, rest) = name_word(bytes)?;
+    let change = read_change(head, rest)?;
+    Ok(Asked { view, change })
+}
+
+/// An edit of which only the first word is read.
+#[tactic(auto, unfolding(crate::specs::reading::Hooks::unmade_of))]
+fn read_unmade(bytes: &[u8]) -> Result<Option<Asked>, LineFault>
+    ensures value { result ≡ unmade_of (words bytes.now) }
+    ensures none { IfOk result (λ asked. asked ≡ None) }
+{
+    let (head, _) = word(bytes)?;
+    if begins_line(head) {
+        return Ok(None);
+    }
+    Err(LineFault::Syntax)
+}
+
+/// An edit that is read to its end, if a hook can make it; `None` if no hook can.
+#[tactic(auto, unfolding(crate::specs::reading::Hooks::edit_of))]
+fn read_edit(bytes: &[u8]) -> Result<Option<Asked>, LineFault>
+    ensures value { result ≡ edit_of (words bytes.now) }
+    ensures bounds { IfOk result (λ asked. IfSome asked (λ asked. IsChangeInBounds asked.change)) }
+{
+    let (head, rest) = word(bytes)?;
+    if begins_edit(head) {
+        return Ok(Some(read_asked(head, rest)?));
+    }
+    read_unmade(bytes)
+}
+
+/// The next edit, if `count` more are read to their ends.
+#[tactic(auto, unfolding(crate::specs::reading::Gathered::reading_of))]
+fn read_next(left: usize, bytes: &[u8]) -> Result<Option<Asked>, LineFault>
+    ensures value { result ≡ reading_of left (words bytes.now) }
+    ensures bounds { IfOk result (λ asked. IfSome asked (λ asked. IsChangeInBounds asked.change)) }
+    ensures none { left ≡ 0 → IfOk result (λ asked. asked ≡ None) }
+{
+    if left > 0 {
+        return read_edit(bytes);
+    }
+    read_unmade(bytes)
+}
+
+/// The edits of a hook that are read so far.
+#[derive(Drop)]
+struct Gathered {
+    /// The edits among those that a hook can make, in order.
+    edits: ArrayVec<Asked, MAX_EDITS>,
+    /// How many more are read to their ends.
+    left: usize,
+    /// Whether no hook can make one of them.
+    bad: bool,
+    /// Whether a number in one of them is outside its bounds.
+    range: bool,
+}
+
+impl Gathered {
+    /// No edit is read.
+    fn new() -> Gathered
+        ensures edits { result.edits.items ≡ [] }
+        ensures left { result.left ≡ MAX_EDITS }
+        ensures bad { result.bad ≡ false }
+        ensures range { result.range ≡ false }
+    {
+        Gathered {
+            edits: ArrayVec::new(),
+            left: MAX_EDITS,
+            bad: false,
+            range: false,
+        }
+    }
+
+    /// Reads one edit more. A number outside its bounds is only recorded, since a fault of the grammar may follow.
+    fn add(&mut self, bytes: &[u8]) -> Result<(), LineFault>
+        requires room { array_vec_len self.old.edits + self.old.left ≤ MAX_EDITS }
+        ensures room { array_vec_len self.new.edits + self.new.left ≤ MAX_EDITS }
+        ensures bounds { All (λ asked. IsChangeInBounds asked.change) self.old.edits.items
+            → All (λ asked. IsChangeInBounds asked.change) self.new.edits.items }
+        ensures edits { (more : List (List (List ℕ)))
+            → edits_after self.old (words bytes.now ∷ more) ≡ behind result (edits_after self.new more) }
+    {
+        let reading = read_next(self.left, bytes);
+        self.left = self.left.saturating_sub(1);
+        match reading {
+            Ok(Some(asked)) => self.edits.push(asked),
+            Ok(None) => self.bad = true,
+            Err(LineFault::Range) => self.range = true,
+            Err(LineFault::Syntax) => return Err(LineFault::Syntax),
+        }
+        Ok(())
+    }
+}
+
+/// The edits that end a line.
+fn gather(bytes: &[u8]) -> Result<Gathered, LineFault>
+    ensures value { edits_in result ≡ edits_of (words bytes.now) }
+    ensures room { IfOk result (λ gathered. array_vec_len gathered.edits ≤ MAX_EDITS) }
+    ensures bounds { IfOk result (λ gathered. All (λ asked. IsChangeInBounds asked.change) gathered.edits.items) }
+{
+    let mut gathered = Gathered::new();
+    let mut at = 0;
+    while let Some((end, behind)) = first_edit(&bytes[at..]) {
+        gathered.add(&bytes[at..at + end])?;
+        at += behind;
+    }
+    gathered.add(&bytes[at..])?;
+    Ok(gathered)
+}
+
+/// Arms the hook of a view. Its edits take much room, so it is a call of its own in the reading of any line.
+#[inline(never)]
+#[tactic(auto, unfolding(crate::specs::reading::Hooks::hook_of), using(crate::proofs::readings::HookLaws::edits_end))]
+pub fn hook(bytes: &[u8]) -> Result<Command<'_>, LineFault>
+    ensures value { map_ok plain_command result ≡ hook_of (words bytes.now) }
+    ensures bounds { IfOk result (λ command. IsInBounds (plain_command command)) }
+{
+    let (view, rest) = name_word(bytes)?;
+    let gathered = gather(rest)?;
+    if gathered.range {
+        return Err(LineFault::Range);
+    }
+    Ok(Command::Hook {
+        view,
+        edits: gathered.edits,
+        bad: gathered.bad,
+    })
+}
