@@ -39,7 +39,16 @@ pub fn apply(alloc: Global, tree: &mut ViewTree, edit: Edit<'_>) -> Result<Optio
             class,
             width,
             height,
-        } => add(alloc, tree, parent, class, width, height),
+        } => add(
+            alloc,
+            tree,
+            Added {
+                parent,
+                class,
+                width,
+                height,
+            },
+        ),
         Edit::Remove(view) => {
             remove(tree, view);
             Ok(None)
@@ -49,28 +58,36 @@ pub fn apply(alloc: Global, tree: &mut ViewTree, edit: Edit<'_>) -> Result<Optio
     }
 }
 
-/// Makes a view, the last child of its parent or the root. Its facts are the default ones except for its dimensions.
-#[inline(never)]
-fn add(
-    alloc: Global,
-    tree: &mut ViewTree,
+/// A view that is to be made, the last child of its parent or the root. Its dimensions are those of `Edit::Add`.
+#[derive(Clone, Copy, Debug)]
+struct Added {
     parent: Option<Key>,
     class: Class,
     width: i32,
     height: i32,
-) -> Result<Option<u64>, EditFault>
-    requires addable { IsAddable tree.old parent }
+}
+
+/// Makes a view. Its facts are the default ones except for its dimensions.
+#[inline(never)]
+fn add(alloc: Global, tree: &mut ViewTree, added: Added) -> Result<Option<u64>, EditFault>
+    requires addable { IsAddable tree.old added.parent }
     ensures applied { AppliesEdit (outcome_of_edit (scene_of tree.old)
-        (Add (option_map (number_of tree.old) parent) class width height)) (scene_of tree.new) result }
-    ensures kept { OnOk result (KeepsViews tree.old tree.new (Edit.Add parent class width height)) }
+        (Add (option_map (number_of tree.old) added.parent) added.class added.width added.height))
+        (scene_of tree.new) result }
+    ensures kept { OnOk result (KeepsViews tree.old tree.new
+        (Edit.Add added.parent added.class added.width added.height)) }
     ensures unchanged { OnErr result (tree.new ≡ tree.old) }
     ensures consistent { IsConsistent tree.old → IsConsistent tree.new }
-    ensures asked { LeavesUnasked tree.old tree.new (Edit.Add parent class width height) }
+    ensures asked { LeavesUnasked tree.old tree.new (Edit.Add added.parent added.class added.width added.height) }
     ensures measures { tree.new.counts.measures ≡ tree.old.counts.measures }
 {
     note_tree(tree);
+    let parent = added.parent;
     let number = tree.next_number();
+    let width = added.width;
+    let height = added.height;
     let facts = Facts::new(width, height);
+    let class = added.class;
     tree.attach(parent, class, facts, Text::empty(alloc))?;
     request_at(tree, parent);
     Ok(Some(number))

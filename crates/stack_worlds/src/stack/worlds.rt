@@ -45,7 +45,6 @@ pub fn open_in(
 /// Carries out a command in the world of a place, if there is one.
 pub fn line_at<K: Sink, F: Shelf>(
     place: &mut Option<Box<World>>,
-    alloc: Global,
     command: Command<'_>,
     shelf: &mut F,
     sink: &mut K,
@@ -92,7 +91,10 @@ pub fn line_at<K: Sink, F: Shelf>(
 {
     match place {
         None => Ok(()),
-        Some(world) => world.line(alloc, command, shelf, sink, work),
+        Some(world) => {
+            let alloc = *Box::allocator(world);
+            world.line(alloc, command, shelf, sink, work)
+        }
     }
 }
 
@@ -100,7 +102,6 @@ impl Stack {
     /// Carries out a command in the world of an open window.
     pub(super) fn world_line<K: Sink, F: Shelf>(
         &mut self,
-        alloc: Global,
         given: Given<'_>,
         shelf: &mut F,
         sink: &mut K,
@@ -150,7 +151,6 @@ impl Stack {
     {
         line_at(
             &mut self.worlds[usize::from(given.k)],
-            alloc,
             given.command,
             shelf,
             sink,

@@ -1,5 +1,4 @@
-use Rattle.std.proofs.Common.{◌≡◌, Ok, Some, ap, sym, ◌∙◌}
-use Rattle.std.proofs.lemmas.Int.{to_z-of_z}
+use Rattle.std.proofs.Common.{rules, ◌≡◌, Ok, Some, ap, sym, ◌∙◌}
 use Rattle.view_model.specs.Facts.{new_facts}
 use Rattle.view_tree.specs.Attached.{Attached}
 use Rattle.view_tree.specs.Directions.{running_below}
@@ -18,36 +17,36 @@ use Rattle.tree_edits.proofs.applying.add.Goals.{After-request_at}
 
 pub returns-in_err-attach-clause-applied : goal.returns-in_err-attach-clause-applied
 returns-in_err-attach-clause-applied c =
-    not_attached c.args.tree.now (scene_of c.attach.new.self) c.args.parent c.args.class c.args.width c.args.height c.in_err-attach.field-0.0 c.from_residual.result
+    not_attached c.args.tree.now (scene_of c.attach.new.self) c.args.added.parent c.args.added.class c.args.added.width c.args.added.height c.in_err-attach.field-0.0 c.from_residual.result
     c.in_err-attach.ensures.refused c.from_residual.ensures.1
 
 attached : (c : After-request_at)
-    → Attached c.args.tree.now c.args.parent (running_below c.args.parent c.args.tree.now.tree (new_view c.args.tree.now.next c.args.class c.args.width c.args.height)) c.in_ok-attach.field-0 c.attach.new.self
+    → Attached c.args.tree.now c.args.added.parent (running_below c.args.added.parent c.args.tree.now.tree (new_view c.args.tree.now.next c.args.added.class c.args.added.width c.args.added.height)) c.in_ok-attach.field-0 c.attach.new.self
 attached c =
-    let facts : c.new-facts.result ≡ new_facts c.args.width c.args.height = simp (to_z-of_z, c.ranges.width, c.ranges.height) at c.new-facts.ensures in
-    attached_new c.args.tree.now c.attach.new.self c.args.parent c.args.class c.args.width c.args.height c.new-facts.result c.empty.result c.in_ok-attach.field-0
+    let facts : c.new-facts.result ≡ new_facts c.args.added.width c.args.added.height = search rules in
+    attached_new c.args.tree.now c.attach.new.self c.args.added.parent c.args.added.class c.args.added.width c.args.added.height c.new-facts.result c.empty.result c.in_ok-attach.field-0
     facts c.empty.ensures c.in_ok-attach.ensures.attached
 
 pub request_at-requires : goal.request_at-requires
-request_at-requires c = parent_after c.args.tree.now c.attach.new.self c.args.parent _ c.requires.addable c.in_ok-attach.ensures.attached.tree
+request_at-requires c = parent_after c.args.tree.now c.attach.new.self c.args.added.parent _ c.requires.addable c.in_ok-attach.ensures.attached.tree
 
 pub returns-clause-applied : goal.returns-clause-applied
 returns-clause-applied c =
-    attached_scene c.args.tree.now c.attach.new.self c.args.parent c.args.class c.args.width c.args.height c.in_ok-attach.field-0
+    attached_scene c.args.tree.now c.attach.new.self c.args.added.parent c.args.added.class c.args.added.width c.args.added.height c.in_ok-attach.field-0
     c.next_number-number.result c.note_tree.ensures c.requires.addable c.in_ok-attach.ensures.refused (attached c) c.next_number-number.ensures
     ∙ ap (λ (scene : EditScene). Ok (scene, Some c.next_number-number.result))
-    (sym (requested_scene c.attach.new.self c.request_at.new.tree (listed c.args.parent) c.request_at.ensures.same c.request_at.ensures.held))
+    (sym (requested_scene c.attach.new.self c.request_at.new.tree (listed c.args.added.parent) c.request_at.ensures.same c.request_at.ensures.held))
 
 pub returns-clause-kept : goal.returns-clause-kept
 returns-clause-kept c =
-    attached_keeps c.args.tree.now c.attach.new.self c.request_at.new.tree c.args.parent c.args.class c.args.width c.args.height c.in_ok-attach.field-0 c.requires.addable (attached c)
+    attached_keeps c.args.tree.now c.attach.new.self c.request_at.new.tree c.args.added.parent c.args.added.class c.args.added.width c.args.added.height c.in_ok-attach.field-0 c.requires.addable (attached c)
     c.request_at.ensures.same c.request_at.ensures.held
 
 pub returns-clause-consistent : goal.returns-clause-consistent
 returns-clause-consistent c =
-    attached_kept c.args.tree.now c.attach.new.self c.request_at.new.tree c.args.parent _ c.in_ok-attach.field-0 c.note_tree.ensures c.requires.addable (attached c)
+    attached_kept c.args.tree.now c.attach.new.self c.request_at.new.tree c.args.added.parent _ c.in_ok-attach.field-0 c.note_tree.ensures c.requires.addable (attached c)
     c.request_at.ensures.same c.request_at.ensures.held
 
 pub returns-clause-asked : goal.returns-clause-asked
 returns-clause-asked c =
-    leaves_unasked c.args.tree.now c.request_at.new.tree (edit.Add c.args.parent c.args.class c.args.width c.args.height) (returns-clause-kept c)
+    leaves_unasked c.args.tree.now c.request_at.new.tree (edit.Add c.args.added.parent c.args.added.class c.args.added.width c.args.added.height) (returns-clause-kept c)
