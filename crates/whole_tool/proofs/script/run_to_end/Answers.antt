@@ -58,7 +58,7 @@ returns-in_err-piece-clause-runs g c =
     let front : take c.min.result bytes ≡ take c.min.result buffer = take-take c.min.result c.in-Ok.n buffer (omega (arith, c.min.ensures)) in
     let short = piece_short t.bytes buffer c.loop-n.left c.min.result t.count (omega (arith, c.min.ensures)) in
     let lost = Consumes-Consumes _ _ _ t.bytes bytes t.consumed c.in-Ok.ensures.bytes.0 in
-    let stops = c.in_err-piece.ensures.stopped _ _ t.bytes short t.behind in
+    let stops = c.in_err-piece.ensures.stopped start first t.bytes short t.behind in
     rw e (record {
       runs = λ files script at_hand told. ends_stopped start files first last _ _ script t.bytes bytes c.loop-n.left c.min.result c.in_err-piece.field-0.0 told lost t.count (omega (arith, c.min.ensures))
           (subst (λ (l : List ℕ). StopsIn start files first last (cut_of (t.bytes ++ l)).lines c.in_err-piece.field-0.0) (sym front) (stops files (c.loop-n.invariant.files ∙ at_hand)));
@@ -83,7 +83,7 @@ returns-then-n-left-clause-runs g c =
     let short = piece_short t.bytes buffer c.loop-n.left c.min.result t.count (omega (arith, c.min.ensures)) in
     let many : length bytes ≡ c.loop-n.left + 1 = omega (arith, length-take c.in-Ok.n buffer, c.in-Ok.ensures.bound, c.if-n-left.true, c.read.auto.buf, length-take c.min-room.result c.loop-n.buffer, c.min-room.ensures) in
     let lost = Consumes-Consumes _ _ _ t.bytes bytes t.consumed c.in-Ok.ensures.bytes.0 in
-    let read = c.in_ok-piece.ensures.done _ _ t.bytes short t.behind in
+    let read = c.in_ok-piece.ensures.done start first t.bytes short t.behind in
     record {
       runs = λ files script at_hand told. ends_long start files first last _ _ script t.bytes bytes c.loop-n.left told lost t.count many
           (subst (λ (l : List ℕ). Works start files first last (cut_of (t.bytes ++ l)).lines) (sym front) (works_of start files first last _ _ (read.runner files (c.loop-n.invariant.files ∙ at_hand))));
@@ -98,10 +98,12 @@ returns-then-n-left-clause-runs g c =
 pub loop-n-preserved : goal.loop-n-preserved
 loop-n-preserved g c =
     let t = c.loop-n.invariant.taken in
+    let start = carried_of c.args.run.now.runner.carrier in
+    let first = trace (g.K.Sink.state c.args.sink.now) c.args.work.now (g.F.Shelf.fetches c.args.shelf.now) in
     let buffer = c.read.new.buf in
     let all : c.min.result ≡ c.in-Ok.n = omega (arith, c.min.ensures, c.if-n-left.false) in
     let short = piece_short t.bytes buffer c.loop-n.left c.min.result t.count (omega (arith, c.min.ensures)) in
-    let read = c.in_ok-piece.ensures.done _ _ t.bytes short t.behind in
+    let read = c.in_ok-piece.ensures.done start first t.bytes short t.behind in
     record {
       bound = omega (arith, c.loop-n.invariant.bound);
       numbers = omega (arith, c.loop-n.invariant.numbers, c.piece.ensures.numbers, length-take c.min.result buffer, all, c.if-n-left.false);
@@ -127,7 +129,7 @@ returns-in_err-finish-clause-runs g c =
     let buffer = c.read.new.buf in
     let all : c.min.result ≡ c.in-Ok.n = omega (arith, c.min.ensures, c.if-n-left.false) in
     let short = piece_short so_far.bytes buffer c.loop-n.left c.min.result so_far.count (omega (arith, c.min.ensures)) in
-    let read = c.in_ok-piece.ensures.done _ _ so_far.bytes short so_far.behind in
+    let read = c.in_ok-piece.ensures.done start first so_far.bytes short so_far.behind in
     let t = taken_on start (g.F.Shelf.files c.loop-n.shelf) (g.S.Source.left c.args.source.now) _ (g.S.Source.left c.read.new.self) first _ last _ c.piece.new.self c.loop-n.left c.in-Ok.n c.min.result buffer so_far c.in-Ok.ensures.bytes.0
     (omega (arith, c.in-Ok.ensures.bound)) (omega (arith, c.if-n-left.false)) all read in
     let ended = c.in-Ok.ensures.bytes.1 (omega (arith, c.if-n-eq0.true)) (omega (arith, c.read.auto.buf, length-take c.min-room.result c.loop-n.buffer, c.min-room.ensures, c.min-room.array_long)) in
@@ -150,7 +152,7 @@ returns-clause-runs g c =
     let buffer = c.read.new.buf in
     let all : c.min.result ≡ c.in-Ok.n = omega (arith, c.min.ensures, c.if-n-left.false) in
     let short = piece_short so_far.bytes buffer c.loop-n.left c.min.result so_far.count (omega (arith, c.min.ensures)) in
-    let read = c.in_ok-piece.ensures.done _ _ so_far.bytes short so_far.behind in
+    let read = c.in_ok-piece.ensures.done start first so_far.bytes short so_far.behind in
     let t = taken_on start (g.F.Shelf.files c.loop-n.shelf) (g.S.Source.left c.args.source.now) _ (g.S.Source.left c.read.new.self) first _ last _ c.piece.new.self c.loop-n.left c.in-Ok.n c.min.result buffer so_far c.in-Ok.ensures.bytes.0
     (omega (arith, c.in-Ok.ensures.bound)) (omega (arith, c.if-n-left.false)) all read in
     let ended = c.in-Ok.ensures.bytes.1 (omega (arith, c.if-n-eq0.true)) (omega (arith, c.read.auto.buf, length-take c.min-room.result c.loop-n.buffer, c.min-room.ensures, c.min-room.array_long)) in
@@ -173,7 +175,7 @@ returns-clause-world g c files script at_hand told =
     let buffer = c.read.new.buf in
     let all : c.min.result ≡ c.in-Ok.n = omega (arith, c.min.ensures, c.if-n-left.false) in
     let short = piece_short so_far.bytes buffer c.loop-n.left c.min.result so_far.count (omega (arith, c.min.ensures)) in
-    let read = c.in_ok-piece.ensures.done _ _ so_far.bytes short so_far.behind in
+    let read = c.in_ok-piece.ensures.done start first so_far.bytes short so_far.behind in
     let t = taken_on start (g.F.Shelf.files c.loop-n.shelf) (g.S.Source.left c.args.source.now) _ (g.S.Source.left c.read.new.self) first _ last _ c.piece.new.self c.loop-n.left c.in-Ok.n c.min.result buffer so_far c.in-Ok.ensures.bytes.0
     (omega (arith, c.in-Ok.ensures.bound)) (omega (arith, c.if-n-left.false)) all read in
     let ended = c.in-Ok.ensures.bytes.1 (omega (arith, c.if-n-eq0.true)) (omega (arith, c.read.auto.buf, length-take c.min-room.result c.loop-n.buffer, c.min-room.ensures, c.min-room.array_long)) in
