@@ -14,6 +14,6 @@ returns g c =
     let lies = ap (λ (state : State). state.bounds) c.state-bounds.ensures.value ∙ sym (rect_live views c.args.view c.state-bounds.ensures.is_tree c.requires) in
     let number = number_of views c.args.view in
     let offset = printed_offset (class_of views c.args.view) (offset_of views c.args.view) in
-    sends_as (ap (λ n. bounds_line n c.printed_offset.result c.state-bounds.result.bounds) c.number.ensures.value
-    ∙ ap (λ (offset : Option ℤ). bounds_line number offset c.state-bounds.result.bounds) c.printed_offset.ensures
+    sends_as (ap (λ n. bounds_line n c.printed_offset-offset.result c.state-bounds.result.bounds) c.number.ensures.value
+    ∙ ap (λ (offset : Option ℤ). bounds_line number offset c.state-bounds.result.bounds) c.printed_offset-offset.ensures
     ∙ ap (bounds_line number offset) lies) c.put_bounds.ensures
