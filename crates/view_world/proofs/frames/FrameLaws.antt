@@ -1,6 +1,6 @@
 -- A frame of a world, in terms of the plain world, and what a world keeps then.
 use Rattle.std.proofs.Common.{◌≡◌, ℕ, ◌+◌, ◌*◌, ◌<◌, mul-le-mul_left, Bool, true, false, List, [], ◌∷◌, refl, sym, ◌∙◌, ap, subst, arith, inl, inr}
-use Rattle.std.specs.Prelude.{Option, Some, None, ◌≤◌, ◌==◌, if◌then◌else◌, not, ℤ, pos, negsuc, ◌-ℤ◌, ◌≤ℤ◌}
+use Rattle.std.specs.Prelude.{Option, Some, None, ◌≤◌, ◌==◌, if◌then◌else◌, not}
 use Rattle.std.proofs.lemmas.Bool.{eq-eqb}
 use Rattle.std.proofs.lemmas.Int.{ints}
 use Rattle.kept_views.specs.Laying.{differ}
@@ -48,7 +48,7 @@ use Rattle.view_world.specs.frames.Counting.{RisesWithin, area_of, paint_bound}
 use Rattle.view_world.specs.screen.KeyedScreen.{KeyedScreen, geometry_in, picture_at, stage_of, window_in, window_of, world_of}
 use Rattle.view_model.specs.declared.work.Work.{Work}
 use Rattle.view_world.specs.replying.Replies.{framed_text}
-use Rattle.view_world.specs.frames.Resting.{FramePaints, IsFrameDone, IsShown, LaysOut, MovedIn}
+use Rattle.view_world.specs.frames.Resting.{FramePaints, IsFrameDone, IsShown, LaysOut}
 use Rattle.view_world.specs.screen.Sound.{IsSound}
 use Rattle.view_world.specs.world.Step.{Done, after_frame, frame_text, framed, picture_after, picture_in, stage_after, with_frame}
 use Rattle.view_world.specs.world.World as plain

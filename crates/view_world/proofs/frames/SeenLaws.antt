@@ -1,25 +1,23 @@
 -- Where views are seen on a screen, by their keys and by their numbers, and what is within a rectangle.
-use Rattle.std.proofs.Common.{◌≡◌, ℕ, ◌<◌, Bool, true, false, List, [], ◌∷◌, ◌++◌, map, Option, Some, None, refl, sym, ◌∙◌, ap, subst, arith, inl, inr}
-use Rattle.std.specs.Prelude.{◌==◌, ◌&&◌, ◌||◌}
+use Rattle.std.proofs.Common.{◌≡◌, ℕ, Bool, true, false, List, [], ◌∷◌, ◌++◌, map, Option, Some, None, refl, sym, ◌∙◌, ap, subst, inl, inr}
+use Rattle.std.specs.Prelude.{◌==◌, ◌||◌}
 use Rattle.std.specs.Option.{option_or, unwrap_or}
 use Rattle.std.specs.List.{list_any}
-use Rattle.std.proofs.lemmas.Bool.{cases_Bool, cases_eq, eq-eqb, eqb-true, ne_eqb}
+use Rattle.std.proofs.lemmas.Bool.{cases_Bool, cases_eq, eq-eqb, ne_eqb}
 use Rattle.damage_rect.specs.Within.{LiesIn}
-use Rattle.geom_core.specs.Rects.{is_empty}
 use Rattle.geom_core.specs.declared.geometry.Rect.{Rect}
 use Rattle.geom_core.specs.declared.geometry.Size.{Size}
 use Rattle.pixel_raster.specs.Raster.{size_of}
-use Rattle.saved_state.specs.Restored.{given_keys, set_by, wanted}
 use Rattle.seen_edits.specs.Scrolled.{ScrolledIn}
 use Rattle.seen_edits.specs.Shown.{seen_of}
 use Rattle.seen_parts.proofs.SeenLaws.{seen_visible}
 use Rattle.touch_dispatch.specs.Scrolled.{has_scrolled, is_scroll}
 use Rattle.touch_dispatch.specs.declared.log.Entry.{Entry}
-use Rattle.view_model.specs.Forest.{Forest, Nothing, Branch, or_else, rows}
+use Rattle.view_model.specs.Forest.{Forest, Nothing, Branch, or_else}
 use Rattle.view_model.specs.Geometry.{Laid}
 use Rattle.view_model.specs.PlainTree.{PlainView}
 use Rattle.view_model.specs.Visible.{visible_rect}
-use Rattle.view_tree.specs.Rows.{Row, changed_at_key, count_of_key, head_view, part_from}
+use Rattle.view_tree.specs.Rows.{Row, changed_at_key, head_view, part_from}
 use Rattle.view_tree.specs.Views.{IsLive, IsTree, Views, geometry_of, number_of, plain_of}
 use Rattle.view_world.specs.screen.KeyedScreen.{KeyedScreen}
 use Rattle.view_world.specs.frames.Resting.{AreSeenIn, seen_on}

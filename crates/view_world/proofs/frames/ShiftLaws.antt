@@ -1,5 +1,5 @@
 -- The views that a frame has moved, by their keys and by their numbers.
-use Rattle.std.proofs.Common.{◌≡◌, ◌≢◌, ℕ, ◌<◌, ℤ, Bool, true, false, List, [], ◌∷◌, ◌++◌, filter, map, Option, Some, None, refl, sym, ◌∙◌, ap, subst, eqb-true, arith, inl, inr}
+use Rattle.std.proofs.Common.{◌≡◌, ◌≢◌, ℕ, ◌<◌, ℤ, Bool, true, false, List, [], ◌∷◌, filter, Option, Some, None, refl, sym, ◌∙◌, ap, subst, eqb-true, arith, inl, inr}
 use Rattle.std.specs.Prelude.{◌==◌, ◌&&◌, ◌||◌, not}
 use Rattle.std.specs.Ordering.{int_eq}
 use Rattle.std.proofs.lemmas.Bool.{cases_Bool, cases_eq, eq-eqb, ne_eqb}
@@ -11,23 +11,22 @@ use Rattle.geom_core.specs.declared.geometry.Size.{Size}
 use Rattle.pixel_raster.specs.Raster.{size_of}
 use Rattle.seen_edits.specs.Shown.{seen_of}
 use Rattle.touch_dispatch.proofs.SceneLaws.{offset_live}
-use Rattle.touch_dispatch.specs.TreeEvents.{offsets_in as offsets_kept}
 use Rattle.traversal.proofs.ShapeLaws.{count_of_key-same, number_of-same}
 use Rattle.traversal.specs.Changing.{SameShape}
 use Rattle.traversal.specs.Covering.{HasShifted, IsShifted}
 use Rattle.view_model.specs.Forest.{Forest, Nothing, Branch, rows}
-use Rattle.view_model.specs.Geometry.{Laid, rect_in}
+use Rattle.view_model.specs.Geometry.{rect_in}
 use Rattle.view_model.specs.PlainTree.{PlainView, numbers_of}
 use Rattle.view_tree.proofs.forest.KeyLaws.{Agree, zero_or_more}
 use Rattle.view_tree.proofs.forest.PlainLaws.{agree_live}
 use Rattle.view_tree.proofs.values.GeometryLaws.{rect_live}
 use Rattle.view_tree.specs.Rows.{Row, count_of_key}
-use Rattle.view_tree.specs.Views.{Held, IsLive, IsTree, Views, geometry_of, held_of, number_of, offset_of, plain_of, plain_rows, state_of}
+use Rattle.view_tree.specs.Views.{Held, IsLive, IsTree, held_of, number_of, offset_of, plain_of, plain_rows, state_of}
 use Rattle.view_world.proofs.touches.SceneLaws.{offsets_plain}
 use Rattle.view_world.proofs.frames.SeenLaws.{among_first, among_later, among_left, among_right, seen_named}
 use Rattle.view_world.specs.screen.KeyedScreen.{KeyedScreen, geometry_in, world_of}
-use Rattle.view_world.specs.frames.Resting.{AreSeenIn, MovedIn, seen_on}
-use Rattle.view_world.specs.frames.Seen.{has_moved, moved_views, place_differs, same_rect}
+use Rattle.view_world.specs.frames.Resting.{MovedIn, seen_on}
+use Rattle.view_world.specs.frames.Seen.{has_moved, place_differs, same_rect}
 use Rattle.view_world.specs.touching.Touching.{is_among, offsets_in}
 use Rattle.view_world.specs.declared.screen.stage.Stage.{Stage}
 use Rattle.view_world.specs.declared.screen.stage.Stage.TheVariants.{Settled}

@@ -1,11 +1,10 @@
 -- What frames cost in short scripts, by computation.
-use Rattle.std.specs.Prelude.{◌≡◌, ℕ, pos, negsuc, refl, List, [], ◌∷◌, ◌++◌, fold, Some, None}
+use Rattle.std.specs.Prelude.{◌≡◌, pos, negsuc, refl, List, [], ◌∷◌, ◌++◌, fold, Some, None}
 use Rattle.std.specs.Fmt.{digits}
 use Rattle.geom_core.specs.Color.{alpha_of, blend_of, blue_of, green_of, mixed, opaque_of, red_of}
 use Rattle.geom_core.specs.Limits.{clamp_coordinate}
 use Rattle.geom_core.specs.Rects.{hull_of, larger_of, meet_of, smaller_of}
 use Rattle.geom_core.specs.Spec.{child_spec_of, default_size_of, remaining_of, resolve_of}
-use Rattle.geom_core.specs.declared.color.Argb.{Argb}
 use Rattle.geom_core.specs.declared.geometry.Insets.{Insets}
 use Rattle.pixel_raster.specs.Cuts.{from_zero}
 use Rattle.script_lines.specs.commands.PlainCommands.{PlainCommand, Window, Add, Act, Frame}

@@ -1,6 +1,6 @@
 -- A gesture in a tree whose views are given texts.
 use Rattle.std.proofs.Common.{◌≡◌, ℕ, ◌<◌, List, true, Ok, Err, Result, refl, sym, ◌∙◌, ap, subst}
-use Rattle.std.specs.Prelude.{◌==◌, if◌then◌else◌, OnErr, OnOk}
+use Rattle.std.specs.Prelude.{OnErr, OnOk}
 use Rattle.saved_state.proofs.RetoldLaws.{count-retold}
 use Rattle.saved_state.proofs.RetoldParts.{number-retold, same_number}
 use Rattle.saved_state.specs.Restored.{Retells, retold}

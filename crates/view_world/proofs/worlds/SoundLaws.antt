@@ -1,5 +1,5 @@
 -- What a world keeps, if its tree is another one.
-use Rattle.std.proofs.Common.{◌≡◌, ◌∙◌, ℕ, ◌*◌, ◌≤◌, arith, sym, subst}
+use Rattle.std.proofs.Common.{◌≡◌, ◌∙◌, ℕ, arith, sym, subst}
 use Rattle.std.specs.Prelude.{List, OnErr, OnOk, Option, Result, Ok, Err}
 use Rattle.damage_rect.specs.declared.bounding.Damage.{Damage}
 use Rattle.pixel_raster.specs.Raster.{size_of}
@@ -13,13 +13,10 @@ use Rattle.tree_edits.specs.Keeping.{KeepsViews}
 use Rattle.tree_edits.specs.declared.edits.Edit.{Edit}
 use Rattle.view_model.specs.declared.fault.Fault.{Fault}
 use Rattle.touch_dispatch.specs.Kept.{Kept}
-use Rattle.touch_dispatch.specs.TreeEvents.{IsGestureIn, room_of}
-use Rattle.view_model.specs.Forest.{Forest, count_of}
 use Rattle.kept_views.specs.Kept.{IsConsistent}
-use Rattle.view_tree.specs.Rows.{Row}
 use Rattle.view_tree.specs.Views.{Views, geometry_of, plain_of}
 use Rattle.view_world.specs.screen.Changed.{LeavesViews}
-use Rattle.view_world.specs.screen.Sound.{HasNoneElse, IsSound}
+use Rattle.view_world.specs.screen.Sound.{IsSound}
 use Rattle.view_world.specs.declared.screen.Screen.TheInside.{Inside}
 use Rattle.view_world.specs.declared.fault.StepFault.{StepFault}
 use Rattle.view_world.specs.declared.replying.response.Response.{Response}

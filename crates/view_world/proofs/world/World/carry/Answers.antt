@@ -1,6 +1,5 @@
 use Rattle.std.proofs.Common.{◌≡◌, true, ◌+◌, ◌≤◌, inl, inr, ap, sym, subst, ◌∙◌}
 use Rattle.script_lines.specs.commands.PlainCommands.{plain_command}
-use Rattle.geom_core.specs.declared.geometry.Rect.{Rect}
 use Rattle.script_lines.specs.commands.PlainCommands.{Frame, PlainCommand}
 use Rattle.view_world.proofs.frames.WorthLaws.{after_framed, box_kept, done_reply, shows_after, watched_line, worth_frame, worth_other}
 use Rattle.view_world.specs.frames.Counting.{FillsAlike}
