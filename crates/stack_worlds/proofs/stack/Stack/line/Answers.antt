@@ -1,4 +1,4 @@
-use Rattle.std.proofs.Common.{◌≡◌, ◌∙◌, ap, inl, inr, subst, sym}
+use Rattle.std.proofs.Common.{◌∙◌, ap, inl, inr, subst, sym}
 use Rattle.stack_worlds.proofs.CountLaws.{idle_failed, idle_line, measured_later, numbers_way, painted_later}
 use Rattle.stack_worlds.specs.KeptStack.{stack_of}
 use Rattle.stack_worlds.specs.PlainStack.{PlainStack, stack_step, way_of}
