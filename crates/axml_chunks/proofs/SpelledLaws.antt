@@ -47,29 +47,29 @@ byte_length_found chunk i r e =
     elim (cases_lt first 128) [
       | inl low ↦
           (let same : (first, i + 1) ≡ r = some_is (first, i + 1) r (rw (lt-ltb first 128 low) at a.1) in
-          subst (λ (p : ℕ × ℕ). IsByteLength chunk i p.0 p.1) same (inl (record { byte_is = byte_there chunk i lt; low = low; behind_is = refl })))
+          subst (λ (p : ℕ × ℕ). IsByteLength chunk i p.0 p.1) same (inl (record { byte_is = byte_there chunk i lt; low = low; after_is = refl })))
       | inr high ↦
           (let b = unless_some (not (ltb (i + 1) (length chunk))) (Some ((first - 128) * 256 + get_or chunk (i + 1) 0, i + 2)) r (rw (le-ltb first 128 high) at a.1) in
           let next : i + 1 < length chunk = ltb-true (i + 1) (length chunk) (no_not (ltb (i + 1) (length chunk)) b.0) in
           let split : first ≡ 128 + (first - 128) = omega (arith, high) in
           subst (λ (p : ℕ × ℕ). IsByteLength chunk i p.0 p.1) (some_is ((first - 128) * 256 + get_or chunk (i + 1) 0, i + 2) r b.1)
-          (inr (record { high = first - 128; low = get_or chunk (i + 1) 0; first_is = byte_there chunk i lt ∙ ap (λ (n : ℕ). one n) split; second_is = byte_there chunk (i + 1) next; n_is = refl; behind_is = refl })))
+          (inr (record { high = first - 128; low = get_or chunk (i + 1) 0; first_is = byte_there chunk i lt ∙ ap (λ (n : ℕ). one n) split; second_is = byte_there chunk (i + 1) next; n_is = refl; after_is = refl })))
     ]
 
-byte_length_again : (chunk : List ℕ) (i n behind : ℕ) → IsByteLength chunk i n behind → utf8_length chunk i ≡ Some (n, behind)
+byte_length_again : (chunk : List ℕ) (i n following : ℕ) → IsByteLength chunk i n following → utf8_length chunk i ≡ Some (n, following)
 unfolding utf8_length
-byte_length_again chunk i n behind (inl is) =
+byte_length_again chunk i n following (inl is) =
     let lt : i < length chunk = slice_get_within chunk i n is.byte_is in
     let byte : get_or chunk i 0 ≡ n = get_or_from_slice_get chunk i n 0 is.byte_is in
-    rw (lt-ltb i (length chunk) lt, byte, lt-ltb n 128 is.low, is.behind_is) refl
-byte_length_again chunk i n behind (inr is) =
+    rw (lt-ltb i (length chunk) lt, byte, lt-ltb n 128 is.low, is.after_is) refl
+byte_length_again chunk i n following (inr is) =
     let lt : i < length chunk = slice_get_within chunk i (128 + is.high) is.first_is in
     let next : i + 1 < length chunk = slice_get_within chunk (i + 1) is.low is.second_is in
     let first : get_or chunk i 0 ≡ 128 + is.high = get_or_from_slice_get chunk i (128 + is.high) 0 is.first_is in
     let second : get_or chunk (i + 1) 0 ≡ is.low = get_or_from_slice_get chunk (i + 1) is.low 0 is.second_is in
     let above : 128 ≤ 128 + is.high = omega arith in
     let back : 128 + is.high - 128 ≡ is.high = omega arith in
-    rw (lt-ltb i (length chunk) lt, first, le-ltb (128 + is.high) 128 above, lt-ltb (i + 1) (length chunk) next, second, back, is.n_is, is.behind_is) refl
+    rw (lt-ltb i (length chunk) lt, first, le-ltb (128 + is.high) 128 above, lt-ltb (i + 1) (length chunk) next, second, back, is.n_is, is.after_is) refl
 
 -- bytes that are a text
 
@@ -138,22 +138,22 @@ unit_length_found chunk i r e =
     elim (cases_lt first 32768) [
       | inl low ↦
           (let same : (first, i + 2) ≡ r = some_is (first, i + 2) r (rw (lt-ltb first 32768 low) at a.1) in
-          subst (λ (p : ℕ × ℕ). IsUnitLength chunk i p.0 p.1) same (inl (record { fits = fits; unit_is = refl; low = low; behind_is = refl })))
+          subst (λ (p : ℕ × ℕ). IsUnitLength chunk i p.0 p.1) same (inl (record { fits = fits; unit_is = refl; low = low; after_is = refl })))
       | inr high ↦
           (let b = unless_some (ltb (length chunk) (i + 4)) (Some last) r (rw (le-ltb first 32768 high) at a.1) in
           let split : first ≡ 32768 + (first - 32768) = omega (arith, high) in
           subst (λ (p : ℕ × ℕ). IsUnitLength chunk i p.0 p.1) (some_is last r b.1)
-          (inr (record { high = first - 32768; fits = ltb-false (length chunk) (i + 4) b.0; first_is = split; n_is = refl; behind_is = refl })))
+          (inr (record { high = first - 32768; fits = ltb-false (length chunk) (i + 4) b.0; first_is = split; n_is = refl; after_is = refl })))
     ]
 
-unit_length_again : (chunk : List ℕ) (i n behind : ℕ) → IsUnitLength chunk i n behind → utf16_length chunk i ≡ Some (n, behind)
+unit_length_again : (chunk : List ℕ) (i n following : ℕ) → IsUnitLength chunk i n following → utf16_length chunk i ≡ Some (n, following)
 unfolding utf16_length
-unit_length_again chunk i n behind (inl is) = rw (le-ltb (length chunk) (i + 2) is.fits, ← is.unit_is, lt-ltb n 32768 is.low, is.behind_is) refl
-unit_length_again chunk i n behind (inr is) =
+unit_length_again chunk i n following (inl is) = rw (le-ltb (length chunk) (i + 2) is.fits, ← is.unit_is, lt-ltb n 32768 is.low, is.after_is) refl
+unit_length_again chunk i n following (inr is) =
     let room : i + 2 ≤ length chunk = omega (arith, is.fits) in
     let above : 32768 ≤ 32768 + is.high = omega arith in
     let back : 32768 + is.high - 32768 ≡ is.high = omega arith in
-    rw (le-ltb (length chunk) (i + 2) room, is.first_is, le-ltb (32768 + is.high) 32768 above, le-ltb (length chunk) (i + 4) is.fits, back, is.n_is, is.behind_is) refl
+    rw (le-ltb (length chunk) (i + 2) room, is.first_is, le-ltb (32768 + is.high) 32768 above, le-ltb (length chunk) (i + 4) is.fits, back, is.n_is, is.after_is) refl
 
 -- strings in UTF-16
 

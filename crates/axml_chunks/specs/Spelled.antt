@@ -6,22 +6,22 @@ use Rattle.axml_chunks.specs.Numbers.{number16}
 use Rattle.axml_chunks.specs.Strings.{units_at}
 
 -- a length in one byte below 128
-pub record IsShortLength (chunk : List ℕ) (i n behind : ℕ) : Type 0 where
+pub record IsShortLength (chunk : List ℕ) (i n following : ℕ) : Type 0 where
   pub byte_is : slice_get chunk i ≡ Some n
   pub low : n < 128
-  pub behind_is : behind ≡ i + 1
+  pub after_is : following ≡ i + 1
 
 -- a length in two bytes, of which the first has its high bit set
-pub record IsLongLength (chunk : List ℕ) (i n behind : ℕ) : Type 0 where
+pub record IsLongLength (chunk : List ℕ) (i n following : ℕ) : Type 0 where
   pub high : ℕ
   pub low : ℕ
   pub first_is : slice_get chunk i ≡ Some (128 + high)
   pub second_is : slice_get chunk (i + 1) ≡ Some low
   pub n_is : n ≡ high * 256 + low
-  pub behind_is : behind ≡ i + 2
+  pub after_is : following ≡ i + 2
 
 abbrev pub IsByteLength : List ℕ → ℕ → ℕ → ℕ → Type 0
-IsByteLength chunk i n behind = IsShortLength chunk i n behind ⊎ IsLongLength chunk i n behind
+IsByteLength chunk i n following = IsShortLength chunk i n following ⊎ IsLongLength chunk i n following
 
 -- a string in UTF-8: two lengths, the first of which may be any, then the bytes of some characters and a zero
 pub record IsUtf8String (chunk : List ℕ) (i : ℕ) (text : List ℕ) : Type 0 where
@@ -35,22 +35,22 @@ pub record IsUtf8String (chunk : List ℕ) (i : ℕ) (text : List ℕ) : Type 0 
   pub is_text : IsUtf8 text
 
 -- a length in one unit below 32768
-pub record IsShortUnitLength (chunk : List ℕ) (i n behind : ℕ) : Type 0 where
+pub record IsShortUnitLength (chunk : List ℕ) (i n following : ℕ) : Type 0 where
   pub fits : i + 2 ≤ length chunk
   pub unit_is : n ≡ number16 chunk i
   pub low : n < 32768
-  pub behind_is : behind ≡ i + 2
+  pub after_is : following ≡ i + 2
 
 -- a length in two units, of which the first has its high bit set
-pub record IsLongUnitLength (chunk : List ℕ) (i n behind : ℕ) : Type 0 where
+pub record IsLongUnitLength (chunk : List ℕ) (i n following : ℕ) : Type 0 where
   pub high : ℕ
   pub fits : i + 4 ≤ length chunk
   pub first_is : number16 chunk i ≡ 32768 + high
   pub n_is : n ≡ high * 65536 + number16 chunk (i + 2)
-  pub behind_is : behind ≡ i + 4
+  pub after_is : following ≡ i + 4
 
 abbrev pub IsUnitLength : List ℕ → ℕ → ℕ → ℕ → Type 0
-IsUnitLength chunk i n behind = IsShortUnitLength chunk i n behind ⊎ IsLongUnitLength chunk i n behind
+IsUnitLength chunk i n following = IsShortUnitLength chunk i n following ⊎ IsLongUnitLength chunk i n following
 
 -- a string in UTF-16: a length, then the units of some characters, each of one unit or a pair, and a zero
 pub record IsUtf16String (chunk : List ℕ) (i : ℕ) (text : List ℕ) : Type 0 where

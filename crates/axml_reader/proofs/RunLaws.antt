@@ -11,7 +11,7 @@ use Rattle.axml_reader.specs.Document.{State}
 use Rattle.axml_reader.specs.Decoding.{one_chunk, chunks_from}
 use Rattle.axml_reader.specs.Nodes.{part_at, joined}
 use Rattle.axml_reader.specs.Parts.{Part, Strings, Ids, Item, Other, with_part}
-use Rattle.axml_reader.specs.Relation.{Place, Fills, AreParts, IsPart, pool_behind, attr_count}
+use Rattle.axml_reader.specs.Relation.{Place, Fills, AreParts, IsPart, pool_after, attr_count}
 use Rattle.axml_reader.proofs.Loop.{opened_up, ended_there}
 use Rattle.axml_reader.proofs.NodeLaws.{Follows, MayFollow}
 use Rattle.axml_reader.proofs.PartLaws.{part_follows, part_again}
@@ -29,7 +29,7 @@ Turns s (x ∷ xs) = MayFollow s x × Turns (with_part s x) xs
 -- one chunk that was read
 pub record Opened (bytes : List ℕ) (end place : ℕ) (s : State) (next : ℕ × State) : Type 0 where
   pub chunk : Chunk
-  pub stands : IsChunkAt bytes place end chunk
+  pub represents : IsChunkAt bytes place end chunk
   pub part : Part
   pub follows : Follows bytes place chunk s part
   pub place_is : place + chunk.size ≡ next.0
@@ -44,7 +44,7 @@ one_opened bytes end place s next e =
     let same = ok_is (place + a.0.size, b.0) next b.2 in
     record {
       chunk = a.0;
-      stands = chunk_found bytes place end a.0 a.1;
+      represents = chunk_found bytes place end a.0 a.1;
       part = d.0;
       follows = part_follows bytes place a.0 s d.0 d.1;
       place_is = ap (λ (p : ℕ × State). p.0) same;
@@ -54,9 +54,9 @@ one_opened bytes end place s next e =
 one_again : (bytes : List ℕ) (end place : ℕ) (s : State) (chunk : Chunk) (part : Part) → IsChunkAt bytes place end chunk → Follows bytes place chunk s part
     → one_chunk bytes end place s ≡ Ok (place + chunk.size, with_part s part)
 unfolding one_chunk
-one_again bytes end place s chunk part stands follows = rw (chunk_again bytes place end chunk stands, part_again bytes place chunk s part follows) refl
+one_again bytes end place s chunk part represents follows = rw (chunk_again bytes place end chunk represents, part_again bytes place chunk s part follows) refl
 
-pool_same : (s : State) (part : Part) → (with_part s part).pool ≡ pool_behind s.pool part
+pool_same : (s : State) (part : Part) → (with_part s part).pool ≡ pool_after s.pool part
 pool_same s (Strings pool) = refl
 pool_same s (Ids ids) = refl
 pool_same s (Item node attrs) = refl
@@ -83,13 +83,13 @@ none_read bytes end place s t at_end same = record { places = []; fills = at_end
 one_read : (bytes : List ℕ) (end place : ℕ) (s : State) (next : ℕ × State) (t : State) → Opened bytes end place s next → Read bytes end next.0 next.1 t → Read bytes end place s t
 one_read bytes end place s next t o rest =
     let each : AreParts bytes (with_part s o.part).pool (length (with_part s o.part).attrs) rest.places rest.parts = subst (λ (u : State). AreParts bytes u.pool (length u.attrs) rest.places rest.parts) (sym o.state_is) rest.each in
-    let piece : AreParts bytes (pool_behind s.pool o.part) (length (with_part s o.part).attrs) rest.places rest.parts =
+    let piece : AreParts bytes (pool_after s.pool o.part) (length (with_part s o.part).attrs) rest.places rest.parts =
     subst (λ (pool : Option StringPool). AreParts bytes pool (length (with_part s o.part).attrs) rest.places rest.parts) (pool_same s o.part) each in
     record {
       places = record { at = place; chunk = o.chunk } ∷ rest.places;
-      fills = (refl, o.stands, subst (λ (x : ℕ). Fills bytes end x rest.places) (sym o.place_is) rest.fills);
+      fills = (refl, o.represents, subst (λ (x : ℕ). Fills bytes end x rest.places) (sym o.place_is) rest.fills);
       parts = o.part ∷ rest.parts;
-      each = (o.follows.is, subst (λ (n : ℕ). AreParts bytes (pool_behind s.pool o.part) n rest.places rest.parts) (count_same s o.part) piece);
+      each = (o.follows.is, subst (λ (n : ℕ). AreParts bytes (pool_after s.pool o.part) n rest.places rest.parts) (count_same s o.part) piece);
       turns = (o.follows.may, subst (λ (u : State). Turns u rest.parts) (sym o.state_is) rest.turns);
       ends = ap (λ (u : State). with_parts u rest.parts) o.state_is ∙ rest.ends;
     }
@@ -102,9 +102,9 @@ chunks_found (suc n) bytes end place s t low enough e =
       | inl lt ↦
           (let a = bind_ok (one_chunk bytes end place s) (λ next. chunks_from n bytes end next.0 next.1) t (sym (opened_up n bytes end place s lt) ∙ e) in
           let o = one_opened bytes end place s a.0 a.1 in
-          let behind : a.0.0 ≤ end = omega (arith, o.place_is, o.stands.lies.fits) in
-          let nearer : end ≤ a.0.0 + n = omega (arith, enough, o.place_is, o.stands.lies.head, o.stands.lies.size) in
-          one_read bytes end place s a.0 t o (chunks_found n bytes end a.0.0 a.0.1 t behind nearer a.2))
+          let following : a.0.0 ≤ end = omega (arith, o.place_is, o.represents.lies.fits) in
+          let nearer : end ≤ a.0.0 + n = omega (arith, enough, o.place_is, o.represents.lies.head, o.represents.lies.size) in
+          one_read bytes end place s a.0 t o (chunks_found n bytes end a.0.0 a.0.1 t following nearer a.2))
       | inr le ↦ none_read bytes end place s t (omega (arith, low, le)) (ok_is s t (sym (ended_there (suc n) bytes end place s le) ∙ e))
     ]
 
@@ -119,7 +119,7 @@ chunks_again n bytes end place s (p ∷ ps) (x ∷ xs) enough fills each turns =
     let k : n ≡ suc (n - 1) = omega (arith, enough, lt) in
     let is : IsPart bytes s.pool (length s.attrs) place p.chunk x = subst (λ (j : ℕ). IsPart bytes s.pool (length s.attrs) j p.chunk x) fills.0 each.0 in
     let one : one_chunk bytes end place s ≡ Ok (place + p.chunk.size, with_part s x) = one_again bytes end place s p.chunk x fills.1 (record { is = is; may = turns.0 }) in
-    let piece : AreParts bytes (pool_behind s.pool x) (length (with_part s x).attrs) ps xs = subst (λ (m : ℕ). AreParts bytes (pool_behind s.pool x) m ps xs) (sym (count_same s x)) each.1 in
+    let piece : AreParts bytes (pool_after s.pool x) (length (with_part s x).attrs) ps xs = subst (λ (m : ℕ). AreParts bytes (pool_after s.pool x) m ps xs) (sym (count_same s x)) each.1 in
     let rest_each : AreParts bytes (with_part s x).pool (length (with_part s x).attrs) ps xs = subst (λ (pool : Option StringPool). AreParts bytes pool (length (with_part s x).attrs) ps xs) (sym (pool_same s x)) piece in
     ap (λ (m : ℕ). chunks_from m bytes end place s) k
     ∙ opened_up (n - 1) bytes end place s lt

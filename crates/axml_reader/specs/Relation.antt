@@ -120,11 +120,11 @@ Fills bytes end at [] = at ≡ end
 Fills bytes end at (p ∷ ps) = (p.at ≡ at) × IsChunkAt bytes at end p.chunk × Fills bytes end (at + p.chunk.size) ps
 
 -- the pool after a part, and how many attributes a part has
-abbrev pub pool_behind : Option StringPool → Part → Option StringPool
-pool_behind pool (Strings strings) = Some strings
-pool_behind pool (Ids ids) = pool
-pool_behind pool (Item node attrs) = pool
-pool_behind pool Other = pool
+abbrev pub pool_after : Option StringPool → Part → Option StringPool
+pool_after pool (Strings strings) = Some strings
+pool_after pool (Ids ids) = pool
+pool_after pool (Item node attrs) = pool
+pool_after pool Other = pool
 
 abbrev pub attr_count : Part → ℕ
 attr_count (Strings strings) = 0
@@ -137,7 +137,7 @@ abbrev pub AreParts : List ℕ → Option StringPool → ℕ → List Place → 
 AreParts bytes pool before [] [] = Unit {0}
 AreParts bytes pool before [] (x ∷ xs) = ⊥
 AreParts bytes pool before (p ∷ ps) [] = ⊥
-AreParts bytes pool before (p ∷ ps) (x ∷ xs) = IsPart bytes pool before p.at p.chunk x × AreParts bytes (pool_behind pool x) (before + attr_count x) ps xs
+AreParts bytes pool before (p ∷ ps) (x ∷ xs) = IsPart bytes pool before p.at p.chunk x × AreParts bytes (pool_after pool x) (before + attr_count x) ps xs
 
 -- the pools, the nodes and the attributes among parts
 abbrev pub pools_of : List Part → List StringPool

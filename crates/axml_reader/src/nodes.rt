@@ -219,7 +219,7 @@ impl Reading {
     }
 
     /// Adds an element that begins, with its attributes.
-    #[tactic(auto, unfolding(crate::specs::Nodes::start_part), using(crate::proofs::Attrs::attrs_behind))]
+    #[tactic(auto, unfolding(crate::specs::Nodes::start_part), using(crate::proofs::Attrs::attrs_after))]
     fn read_start(&mut self, bytes: &[u8], at: usize, chunk: Chunk) -> Result<(), ReadFault>
         requires { IsChunk at (length bytes.now) chunk }
         ensures { Does (reading self.new) result

@@ -191,11 +191,11 @@ module _ (n end : ℕ) (text : List ℕ) (some : 0 < n) (short : end ≤ n) (wit
 
   pub next-other : end < length text → get_or text end newline ≢ newline → (l place : ℕ) → cell_of n text (l + 1) place ≡ cell_of n (drop end text) l place
   next-other before isnt l place =
-      let behind = drop_more text end newline before in
+      let following = drop_more text end newline before in
       let full_line : length (take end text) ≡ n = by_size (cases_Bool (nat_lt end n)) in
-      ap (λ (t : List ℕ). cell_of n t (l + 1) place) (sym whole ∙ ap (λ (t : List ℕ). take end text ++ t) behind)
+      ap (λ (t : List ℕ). cell_of n t (l + 1) place) (sym whole ∙ ap (λ (t : List ℕ). take end text ++ t) following)
       ∙ rest-other n (take end text) some line_short line_plain (get_or text end newline) (drop (end + 1) text) isnt full_line l place
-      ∙ ap (λ (t : List ℕ). cell_of n t l place) (sym behind)
+      ∙ ap (λ (t : List ℕ). cell_of n t l place) (sym following)
     where
       by_size : ((nat_lt end n ≡ true) ⊎ (nat_lt end n ≡ false)) → length (take end text) ≡ n
       by_size (inl less) = let lt : end < n = grind (arith, nat_tests) in absurd (isnt (full lt before))

@@ -4,16 +4,16 @@ use Rattle.std.specs.Prelude.{◌==◌, nat_lt}
 use Rattle.std.proofs.lemmas.Bool.Decides.{nat_tests}
 use Rattle.std.proofs.lemmas.List.{drop_more, get_or-drop, length-drop, take_more}
 use Rattle.view_model.specs.CellText.{cell_below, lines_for, newline}
-use Rattle.cell_text.proofs.SegmentLaws.{segments_behind}
+use Rattle.cell_text.proofs.SegmentLaws.{segments_after}
 
 -- the cell of a text from `end` on, in a segment that began at `begin`
 abbrev pub cell_from : ℕ → List ℕ → ℕ → ℕ → ℕ → ℕ → Option ℕ
-cell_from n text begin end line place = cell_below n (segments_behind (take (end - begin) (drop begin text)) (drop end text)) line place
+cell_from n text begin end line place = cell_below n (segments_after (take (end - begin) (drop begin text)) (drop end text)) line place
 
-segments-newline : (begun : List ℕ) (c : ℕ) (text : List ℕ) → c ≡ newline → segments_behind begun (c ∷ text) ≡ begun ∷ segments_behind [] text
+segments-newline : (begun : List ℕ) (c : ℕ) (text : List ℕ) → c ≡ newline → segments_after begun (c ∷ text) ≡ begun ∷ segments_after [] text
 segments-newline begun c text is = let test : (c == newline) ≡ true = grind (arith, nat_tests) in rw test refl
 
-segments-other : (begun : List ℕ) (c : ℕ) (text : List ℕ) → c ≢ newline → segments_behind begun (c ∷ text) ≡ segments_behind (begun ++ c ∷ []) text
+segments-other : (begun : List ℕ) (c : ℕ) (text : List ℕ) → c ≢ newline → segments_after begun (c ∷ text) ≡ segments_after (begun ++ c ∷ []) text
 segments-other begun c text other = let test : (c == newline) ≡ false = grind (arith, nat_tests) in rw test refl
 
 cell_below-later : (n : ℕ) (segment : List ℕ) (more : List (List ℕ)) (line place : ℕ) → lines_for n (length segment) ≤ line
@@ -22,7 +22,7 @@ cell_below-later n segment more line place later = let test : nat_lt line (lines
 
 -- a newline at `end`: the segment is whole, and the next begins after it
 pub cell_from-newline : (n : ℕ) (text : List ℕ) (begin end line place c : ℕ) → end < length text → c ≡ get_or text end c → c ≡ newline
-    → cell_from n text begin end line place ≡ cell_below n (take (end - begin) (drop begin text) ∷ segments_behind [] (drop (end + 1) text)) line place
+    → cell_from n text begin end line place ≡ cell_below n (take (end - begin) (drop begin text) ∷ segments_after [] (drop (end + 1) text)) line place
 cell_from-newline n text begin end line place c within here is =
     rw (drop_more text end c within, sym here, segments-newline (take (end - begin) (drop begin text)) c (drop (end + 1) text) is) refl
 
@@ -31,10 +31,10 @@ pub cell_from-later : (n : ℕ) (text : List ℕ) (begin end line place c lines 
     → cell_from n text (end + 1) (end + 1) (line - lines) place ≡ cell_from n text begin end line place
 cell_from-later n text begin end line place c lines within here is many later =
     let none : end + 1 - (end + 1) ≡ 0 = omega arith in
-    let behind : lines_for n (length (take (end - begin) (drop begin text))) ≤ line = omega (arith, many, later) in
+    let following : lines_for n (length (take (end - begin) (drop begin text))) ≤ line = omega (arith, many, later) in
     rw (
       cell_from-newline n text begin end line place c within here is,
-      cell_below-later n (take (end - begin) (drop begin text)) (segments_behind [] (drop (end + 1) text)) line place behind,
+      cell_below-later n (take (end - begin) (drop begin text)) (segments_after [] (drop (end + 1) text)) line place following,
       none,
       many,
     ) refl

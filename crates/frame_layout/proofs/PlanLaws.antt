@@ -6,7 +6,7 @@ use Rattle.std.specs.Option.{option_map}
 use Rattle.std.proofs.lemmas.Grind.{common_steps, fold-append}
 use Rattle.frame_layout.specs.declared.axis.Axis.{Axis}
 use Rattle.frame_layout.specs.declared.plan.FramePlan.{FramePlan}
-use Rattle.frame_layout.specs.FramePlan.{IsAxis, HasMeasured, StandsFrame}
+use Rattle.frame_layout.specs.FramePlan.{IsAxis, HasMeasured, RepresentsFrame}
 use Rattle.geom_core.specs.declared.geometry.Size.{Size}
 use Rattle.geom_core.specs.declared.measuring.Spec.{Spec}
 use Rattle.view_model.specs.declared.facts.Facts.{Facts}
@@ -21,23 +21,23 @@ no_size is other = absurd (cc)
 pub ask-first : (plan : FramePlan) (own : Facts) (specs : Specs) (past : List (List Measured)) (taken : List Measured) (kid : Measured) (pair : Spec × Spec)
     → plan.own_size ≡ None
     → ((first : List Measured) → HasMeasured plan own specs first → pair ≡ pair_of (first_specs own specs kid.facts))
-    → StandsFrame plan own specs past taken
+    → RepresentsFrame plan own specs past taken
     → Some pair ≡ option_map pair_of ((frame_rule own specs).ask past taken kid)
-ask-first plan own specs [] taken kid pair none is stands = ap Some (is taken stands.measured)
-ask-first plan own specs (first ∷ []) taken kid pair none is stands = no_size none stands.own_size
-ask-first plan own specs (first ∷ second ∷ more) taken kid pair none is stands = absurd stands
+ask-first plan own specs [] taken kid pair none is represents = ap Some (is taken represents.measured)
+ask-first plan own specs (first ∷ []) taken kid pair none is represents = no_size none represents.own_size
+ask-first plan own specs (first ∷ second ∷ more) taken kid pair none is represents = absurd represents
 
 -- in the second it asks for those that match their parent
 pub ask-second : (plan : FramePlan) (own : Facts) (specs : Specs) (past : List (List Measured)) (taken : List Measured) (kid : Measured) (room : Size) (pair : Spec × Spec)
     → plan.own_size ≡ Some room → matches_parent kid.facts ≡ true
     → ((first : List Measured) → HasMeasured plan own specs first → pair ≡ pair_of (second_specs own specs room kid.facts))
-    → StandsFrame plan own specs past taken
+    → RepresentsFrame plan own specs past taken
     → Some pair ≡ option_map pair_of ((frame_rule own specs).ask past taken kid)
-ask-second plan own specs [] taken kid room pair some matches is stands = no_size stands.own_size some
-ask-second plan own specs (first ∷ []) taken kid room pair some matches is stands =
+ask-second plan own specs [] taken kid room pair some matches is represents = no_size represents.own_size some
+ask-second plan own specs (first ∷ []) taken kid room pair some matches is represents =
     let same : room ≡ frame_size own specs first = cc in
-    rw matches (ap Some (is first stands.measured) ∙ ap (λ size. Some (pair_of (second_specs own specs size kid.facts))) same)
-ask-second plan own specs (first ∷ second ∷ more) taken kid room pair some matches is stands = absurd stands
+    rw matches (ap Some (is first represents.measured) ∙ ap (λ size. Some (pair_of (second_specs own specs size kid.facts))) same)
+ask-second plan own specs (first ∷ second ∷ more) taken kid room pair some matches is represents = absurd represents
 
 greatest_by-push : (need : Measured → ℤ) (kids : List Measured) (kid : Measured) → greatest_by need (kids ++ kid ∷ []) ≡ int_max (greatest_by need kids) (need kid)
 greatest_by-push need kids kid = fold-append (λ most k. int_max most (need k)) (pos 0) kids (kid ∷ [])
@@ -70,17 +70,17 @@ pub take-first : (plan : FramePlan) (across down : Axis) (matching : ℕ) (own :
     → TakesAxis plan.across across (need_across (record { facts = facts; size = size }))
     → TakesAxis plan.down down (need_down (record { facts = facts; size = size }))
     → matching ≡ cond (matches_parent facts) (min 2 (plan.matching + 1)) plan.matching
-    → StandsFrame plan own specs past taken
-    → StandsFrame (record plan { across = across; down = down; matching = matching }) own specs past (taken ++ taken_as (frame_rule own specs) past taken facts size ∷ [])
-take-first plan across down matching own specs [] taken facts size none wide tall many stands =
+    → RepresentsFrame plan own specs past taken
+    → RepresentsFrame (record plan { across = across; down = down; matching = matching }) own specs past (taken ++ taken_as (frame_rule own specs) past taken facts size ∷ [])
+take-first plan across down matching own specs [] taken facts size none wide tall many represents =
     let kid : Measured = record { facts = facts; size = size } in
     record {
       measured = record {
-        across = IsAxis-take plan.across across _ _ _ need_across taken kid wide stands.measured.across;
-        down = IsAxis-take plan.down down _ _ _ need_down taken kid tall stands.measured.down;
+        across = IsAxis-take plan.across across _ _ _ need_across taken kid wide represents.measured.across;
+        down = IsAxis-take plan.down down _ _ _ need_down taken kid tall represents.measured.down;
       };
-      matching = capped-push (λ (k : Measured). matches_parent k.facts) taken kid plan.matching matching stands.matching many;
+      matching = capped-push (λ (k : Measured). matches_parent k.facts) taken kid plan.matching matching represents.matching many;
       own_size = none;
     }
-take-first plan across down matching own specs (first ∷ []) taken facts size none wide tall many stands = no_size none stands.own_size
-take-first plan across down matching own specs (first ∷ second ∷ more) taken facts size none wide tall many stands = absurd stands
+take-first plan across down matching own specs (first ∷ []) taken facts size none wide tall many represents = no_size none represents.own_size
+take-first plan across down matching own specs (first ∷ second ∷ more) taken facts size none wide tall many represents = absurd represents

@@ -32,13 +32,13 @@ pub record InSecondFramePhase (plan : FramePlan) (own : Facts) (specs : Specs) (
   pub own_size : plan.own_size ≡ Some (frame_size own specs first)
 
 -- it has completed these phases, and has taken these children in the one that it is in
-abbrev pub StandsFrame : FramePlan → Facts → Specs → List (List Measured) → List Measured → Type 0
-StandsFrame plan own specs [] taken = InFirst plan own specs taken
-StandsFrame plan own specs (first ∷ []) taken = InSecondFramePhase plan own specs first
-StandsFrame plan own specs (first ∷ second ∷ more) taken = ⊥
+abbrev pub RepresentsFrame : FramePlan → Facts → Specs → List (List Measured) → List Measured → Type 0
+RepresentsFrame plan own specs [] taken = InFirst plan own specs taken
+RepresentsFrame plan own specs (first ∷ []) taken = InSecondFramePhase plan own specs first
+RepresentsFrame plan own specs (first ∷ second ∷ more) taken = ⊥
 
 -- the plan at the end of a phase, once it has returned whether another follows
 pub record TurnsFrame (plan : FramePlan) (own : Facts) (specs : Specs) (past : List (List Measured)) (taken : List Measured) (answer : Bool) : Type 0 where
   pub answers : answer ≡ (frame_rule own specs).turns (past ++ taken ∷ [])
-  pub follows : answer ≡ true → StandsFrame plan own specs (past ++ taken ∷ []) []
-  pub ends : answer ≡ false → StandsFrame plan own specs past taken
+  pub follows : answer ≡ true → RepresentsFrame plan own specs (past ++ taken ∷ []) []
+  pub ends : answer ≡ false → RepresentsFrame plan own specs past taken

@@ -25,12 +25,12 @@ pub struct FramePlan {
 }
 
 impl FramePlan {
-    ghost use Rattle.frame_layout.specs.FramePlan.{HasMeasured, InFirst, StandsFrame, TurnsFrame};
+    ghost use Rattle.frame_layout.specs.FramePlan.{HasMeasured, InFirst, RepresentsFrame, TurnsFrame};
 
     /// The plan of a group with these facts under these specs, before its first child.
     #[inline(always)]
     pub fn start(own: &Facts, ws: Spec, hs: Spec) -> FramePlan
-        ensures { StandsFrame result (layout_facts own.now) (record { across = ws; down = hs }) [] [] }
+        ensures { RepresentsFrame result (layout_facts own.now) (record { across = ws; down = hs }) [] [] }
     {
         FramePlan {
             across: Axis::start(ws, own.min.w, own.padding_across()),
@@ -45,7 +45,7 @@ impl FramePlan {
     #[inline(always)]
     pub fn ask(&self, kid: &Facts, size: Size) -> Option<(Spec, Spec)>
         ensures { (own : FactsValue) (specs : Specs) (past : List (List Measured)) (taken : List Measured)
-            → StandsFrame self.now own specs past taken
+            → RepresentsFrame self.now own specs past taken
             → result ≡ option_map pair_of
             ((frame_rule own specs).ask past taken (record { facts = layout_facts kid.now; size = size })) }
     {
@@ -65,8 +65,8 @@ impl FramePlan {
     #[inline(always)]
     pub fn take(&mut self, kid: &Facts, size: Size)
         ensures { (own : FactsValue) (specs : Specs) (past : List (List Measured)) (taken : List Measured)
-            → StandsFrame self.old own specs past taken
-            → StandsFrame self.new own specs past
+            → RepresentsFrame self.old own specs past taken
+            → RepresentsFrame self.new own specs past
             (taken ++ taken_as (frame_rule own specs) past taken (layout_facts kid.now) size ∷ []) }
     {
         if self.own_size.is_some() {
@@ -80,7 +80,7 @@ impl FramePlan {
     /// Ends a phase: true if another follows.
     pub fn turn(&mut self) -> bool
         ensures { (own : FactsValue) (specs : Specs) (past : List (List Measured)) (taken : List Measured)
-            → StandsFrame self.old own specs past taken
+            → RepresentsFrame self.old own specs past taken
             → TurnsFrame self.new own specs past taken result }
     {
         if self.own_size.is_some() || !self.measures_again() {
@@ -93,7 +93,7 @@ impl FramePlan {
     /// The own size, once every child of the last phase is taken.
     pub fn finish(&self) -> Size
         ensures value { (own : FactsValue) (specs : Specs) (past : List (List Measured)) (taken : List Measured)
-            → StandsFrame self.now own specs past taken
+            → RepresentsFrame self.now own specs past taken
             → result ≡ (frame_rule own specs).size (past ++ taken ∷ []) }
         ensures width { IsSide result.w }
         ensures height { IsSide result.h }

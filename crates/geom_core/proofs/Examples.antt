@@ -64,9 +64,9 @@ takes_what_it_wants : default_size_of (pos 7) (spec Unspecified (pos 40)) ≡ po
 unfolding default_size_of spec
 takes_what_it_wants = refl
 
-is_told : resolve_of (pos 50) (spec Exactly (pos 40)) ≡ pos 40
+is_reported : resolve_of (pos 50) (spec Exactly (pos 40)) ≡ pos 40
 unfolding resolve_of spec
-is_told = refl
+is_reported = refl
 
 is_limited : resolve_of (pos 50) (spec AtMost (pos 40)) ≡ pos 40
 unfolding resolve_of spec

@@ -11,10 +11,10 @@ use Rattle.view_model.specs.Forest.{Forest, Nothing, Branch}
 use Rattle.inflater.specs.Elements.{begun, elements, in_a_row, nested}
 
 -- after the ends of n open elements there is no element
-abbrev IsLastBehind : ℕ → List (Forest Node) → Type 0
-IsLastBehind zero lists = lists ≡ Nothing ∷ []
-IsLastBehind (suc n) [] = ⊥
-IsLastBehind (suc n) (trees ∷ more) = IsLastBehind n more
+abbrev IsLastAfter : ℕ → List (Forest Node) → Type 0
+IsLastAfter zero lists = lists ≡ Nothing ∷ []
+IsLastAfter (suc n) [] = ⊥
+IsLastAfter (suc n) (trees ∷ more) = IsLastAfter n more
 
 -- one element, with all that it has
 record IsOneElement (lists : List (Forest Node)) : Type 0 where
@@ -22,12 +22,12 @@ record IsOneElement (lists : List (Forest Node)) : Type 0 where
   below : Forest Node
   is : lists ≡ Branch node below Nothing ∷ []
 
-last_behind-begun : (n : ℕ) (node : Node) (lists : List (Forest Node)) → IsLastBehind (suc (suc n)) lists → IsLastBehind (suc n) (begun node lists)
-last_behind-begun n node [] is = absurd is
-last_behind-begun n node (below ∷ []) is = absurd is
-last_behind-begun n node (below ∷ after ∷ outer) is = is
+last_after-begun : (n : ℕ) (node : Node) (lists : List (Forest Node)) → IsLastAfter (suc (suc n)) lists → IsLastAfter (suc n) (begun node lists)
+last_after-begun n node [] is = absurd is
+last_after-begun n node (below ∷ []) is = absurd is
+last_after-begun n node (below ∷ after ∷ outer) is = is
 
-one-begun : (node : Node) (lists : List (Forest Node)) → IsLastBehind 1 lists → IsOneElement (begun node lists)
+one-begun : (node : Node) (lists : List (Forest Node)) → IsLastAfter 1 lists → IsOneElement (begun node lists)
 one-begun node [] is = absurd is
 one-begun node (below ∷ []) is = absurd (cc)
 one-begun node (below ∷ after ∷ outer) is =
@@ -70,7 +70,7 @@ all_ended stack is =
 
 -- inside n open elements, and after the outermost one
 inside : (same : ℕ → ℕ → Bool) (n : ℕ) (stack : Stack) (nodes : List Node) → length stack.opened ≡ n → (n ≡ 0 → stack.closed ≡ true) → (0 < n → stack.closed ≡ false)
-    → is_ended (brackets same stack (map token nodes)) ≡ true → IsLastBehind n (nested nodes)
+    → is_ended (brackets same stack (map token nodes)) ≡ true → IsLastAfter n (nested nodes)
 inside same n stack [] long shut still is =
     let e = all_ended stack is in let z : n ≡ 0 = sym long ∙ e.0 in rw z refl
 inside same n stack (NsStart prefix uri ∷ more) long shut still is = inside same n stack more long shut still is
@@ -81,7 +81,7 @@ inside same zero stack (Start line ns name first count ∷ more) long shut still
     let c = shut refl in let f : not stack.closed ≡ true = a.0 in let g = rw c at f in absurd (cc)
 inside same (suc n) stack (Start line ns name first count ∷ more) long shut still is =
     let a = first_allowed same stack (Opens name) (map token more) is in
-    last_behind-begun n (Start line ns name first count) (nested more)
+    last_after-begun n (Start line ns name first count) (nested more)
     (inside same (suc (suc n)) (pushed stack name) more (length-pushed stack.opened name (suc n) long) (λ e. absurd (cc)) (λ _. still (omega arith)) a.1)
 inside same zero stack (End line ns name ∷ more) long shut still is =
     let a = first_allowed same stack (Closes name) (map token more) is in

@@ -92,7 +92,7 @@ fn a_view_has_a_class_a_size_and_an_attribute_that_is_not_known(
 }
 
 #[test]
-fn elements_are_as_deep_as_they_stand(rt: HostRuntime) -> Result<(), Fail> {
+fn elements_are_as_deep_as_they_are_written(rt: HostRuntime) -> Result<(), Fail> {
     let alloc = rt.alloc();
     let begin = begin(alloc, VIEW, DIMENSION)?;
     let end = end(alloc, VIEW)?;
@@ -111,7 +111,7 @@ fn elements_are_as_deep_as_they_stand(rt: HostRuntime) -> Result<(), Fail> {
 }
 
 #[test]
-fn the_first_refusal_tells_its_element(rt: HostRuntime) -> Result<(), Fail> {
+fn the_first_refusal_reports_its_element(rt: HostRuntime) -> Result<(), Fail> {
     let alloc = rt.alloc();
     let view = begin(alloc, VIEW, DIMENSION)?;
     let view_end = end(alloc, VIEW)?;

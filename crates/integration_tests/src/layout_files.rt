@@ -19,7 +19,7 @@ const HEIGHT: &str = "attr s3 s1 - 05 00001001\n";
 const REFERENCE: &str = "attr s3 s1 - 01 7f050001\n";
 
 /// What the file holds after the height.
-const BEHIND_HEIGHT: &str = "attr - s5 - 01 7f030000\nend 2 - s4\nendns s2 s3\n";
+const AFTER_HEIGHT: &str = "attr - s5 - 01 7f030000\nend 2 - s4\nendns s2 s3\n";
 
 fn fault_of(answer: Result<Doc, ReadFault>) -> Option<Fault> {
     match answer {
@@ -42,7 +42,7 @@ fn is_printed(
     let mut sink = MemorySink::new(alloc, most, Vec::new(alloc));
     let ended = print(&doc, &mut sink).is_ok();
     let mut wanted = Vec::new(alloc);
-    for part in [pool_line, BEFORE_HEIGHT, height, BEHIND_HEIGHT] {
+    for part in [pool_line, BEFORE_HEIGHT, height, AFTER_HEIGHT] {
         wanted.extend_from_slice(part.as_bytes())?;
     }
     Ok(ended && sink.gone() == wanted.as_slice())
@@ -132,7 +132,7 @@ fn a_document_that_is_cut_short_has_its_fault(rt: HostRuntime) -> Result<(), Fai
 }
 
 #[test]
-fn nothing_is_printed_behind_a_failed_write(rt: HostRuntime) -> Result<(), Fail> {
+fn nothing_is_printed_after_a_failed_write(rt: HostRuntime) -> Result<(), Fail> {
     let alloc = rt.alloc();
     let doc = read(alloc, &NARROW)?;
     let mut sink = MemorySink::new(alloc, 5, Vec::from_slice(alloc, &[3])?);

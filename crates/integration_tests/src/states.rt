@@ -36,7 +36,7 @@ fn wrong_place(alloc: Global, bytes: &[u8]) -> Option<usize> {
 }
 
 /// What is saved of a view with the id 1 and the text `hi`.
-const TOLD: [u8; 14] = [0x56, 0x53, 2, 1, 0, 1, 0, 0, 0, 2, 2, 0, b'h', b'i'];
+const REPORTED: [u8; 14] = [0x56, 0x53, 2, 1, 0, 1, 0, 0, 0, 2, 2, 0, b'h', b'i'];
 
 /// The offset of the root after these bytes were restored, unless they were refused.
 fn restored(alloc: Global, tree: &mut ViewTree, bytes: &[u8]) -> Option<i32> {
@@ -72,7 +72,7 @@ fn characters(alloc: Global, tree: &mut ViewTree, bytes: &[u8]) -> Option<usize>
 #[test]
 fn a_text_is_restored(rt: HostRuntime) -> Result<(), Fail> {
     let count = match one_view(rt.alloc(), Class::TextView, 1, 0) {
-        Some(mut tree) => characters(rt.alloc(), &mut tree, &TOLD),
+        Some(mut tree) => characters(rt.alloc(), &mut tree, &REPORTED),
         None => None,
     };
     assert_eq!(rt; count, Some(2));
@@ -90,7 +90,7 @@ fn a_view_of_another_class_is_refused(rt: HostRuntime) -> Result<(), Fail> {
 }
 
 #[test]
-fn a_broken_state_tells_its_first_wrong_place(rt: HostRuntime) -> Result<(), Fail> {
+fn a_broken_state_reports_its_first_wrong_place(rt: HostRuntime) -> Result<(), Fail> {
     assert_eq!(rt; wrong_place(rt.alloc(), &[0x56, 0x53, 3, 1, 0]), Some(2));
     assert_eq!(rt; wrong_place(rt.alloc(), &[0x56, 0x53, 2, 1, 0]), Some(5));
     assert_eq!(rt; wrong_place(rt.alloc(), &[0x56, 0x53, 1, 1, 0]), Some(5));

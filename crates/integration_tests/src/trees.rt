@@ -97,14 +97,14 @@ fn members(fault: AttachFault, alloc: Global) -> Vec<Member> {
 }
 
 #[test]
-fn a_cycle_in_a_sapling_is_told_by_its_elements(rt: HostRuntime) -> Result<(), Fail> {
+fn a_cycle_in_a_sapling_is_reported_by_its_elements(rt: HostRuntime) -> Result<(), Fail> {
     let alloc = rt.alloc();
     let mut tree = ViewTree::new(alloc);
-    let told = match tree.graft(None, sapling(alloc, 2, 1)?) {
+    let reported = match tree.graft(None, sapling(alloc, 2, 1)?) {
         Ok(_) => Vec::new(alloc),
         Err(fault) => members(fault, alloc),
     };
-    assert!(rt; told.len() == 2 && told[0] == Member::Element(2) && told[1] == Member::Element(4));
+    assert!(rt; reported.len() == 2 && reported[0] == Member::Element(2) && reported[1] == Member::Element(4));
     assert_eq!(rt; (tree.len(), tree.next_number()), (0, 1));
     Ok(())
 }

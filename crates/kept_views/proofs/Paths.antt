@@ -104,8 +104,8 @@ reach_shown view row kids siblings ne z h =
     pick true a b z h = (refl, omega arith)
     pick false a b z h = absurd (omega arith)
 
-pub reach_behind : (view : ℕ) (row : Row) (kids siblings : Forest Row) → (row.key ≡ view → ⊥) → count_of_key view kids ≡ 0 → 0 < reach view (Branch row kids siblings) → 0 < reach view siblings
-reach_behind view row kids siblings ne z h =
+pub reach_after : (view : ℕ) (row : Row) (kids siblings : Forest Row) → (row.key ≡ view → ⊥) → count_of_key view kids ≡ 0 → 0 < reach view (Branch row kids siblings) → 0 < reach view siblings
+reach_after view row kids siblings ne z h =
     let few = reach_few view kids in
     let h' : 0 < (if row.key == view then 1 else 0) + ((if is_shown row.view.facts then reach view kids else 0) + reach view siblings) = h in
     let g : 0 < (if is_shown row.view.facts then reach view kids else 0) + reach view siblings = let k = rw (ne_eqb row.key view ne) at h' in omega arith in
@@ -158,7 +158,7 @@ way_out view held up acc (Branch row kids siblings) once live forces = elim (cas
           | inl i ↦ inl (record { inner = i.inner; is = ap (unforced held) path ∙ i.is; within = λ key y. i.within key (omega arith); seen = let s = i.seen in omega arith })
           | inr j ↦ inr (record {
             within = λ key y. subst (λ keys. among key (unforced held keys) ≡ false) (sym path) (j.within key (omega arith));
-            above = λ flags s hid. j.above flags.2 (reach_behind view row kids siblings ne z s) hid;
+            above = λ flags s hid. j.above flags.2 (reach_after view row kids siblings ne z s) hid;
           })
         ]
     | inr nz ↦

@@ -161,28 +161,28 @@ rects_back_from spot kids = map (λ (kid : Placed). kid.rect) (placed_back spot 
 abbrev kid_laid : Spot → List Measured → Row → Forest Row → Specs → Option Rect → List Laid
 kid_laid spot before row kids specs edges = laid_views row.view (views_of kids) specs (rect_at_place spot before row kids specs edges)
 
-one_more_back : (spot : Spot) (behind sizes : List Measured) (kid : Final) (row : Row) (kids : Forest Row) (specs : Specs) (edges : Option Rect) (rest : List Laid)
-    → kid.child ≡ child_of row kids → (kid.specs ≡ specs) → behind ≡ sizes
+one_more_back : (spot : Spot) (following sizes : List Measured) (kid : Final) (row : Row) (kids : Forest Row) (specs : Specs) (edges : Option Rect) (rest : List Laid)
+    → kid.child ≡ child_of row kids → (kid.specs ≡ specs) → following ≡ sizes
     → place_in spot sizes (kid_under specs row kids) kid.edges ≡ place_in spot sizes (kid_under specs row kids) edges
-    → kid.child.lay kid.specs (place_in spot behind (final_size kid) kid.edges) ++ rest ≡ kid_laid spot sizes row kids specs edges ++ rest
-one_more_back spot behind sizes kid row kids specs edges rest e f b n =
-    ap (λ (child : Child). child.lay kid.specs (place_in spot behind (final_size (record { child = child; specs = kid.specs; edges = kid.edges })) kid.edges) ++ rest) e
-    ∙ ap (λ (s : Specs). laid_views row.view (views_of kids) s (place_in spot behind (kid_under s row kids) kid.edges) ++ rest) f
+    → kid.child.lay kid.specs (place_in spot following (final_size kid) kid.edges) ++ rest ≡ kid_laid spot sizes row kids specs edges ++ rest
+one_more_back spot following sizes kid row kids specs edges rest e f b n =
+    ap (λ (child : Child). child.lay kid.specs (place_in spot following (final_size (record { child = child; specs = kid.specs; edges = kid.edges })) kid.edges) ++ rest) e
+    ∙ ap (λ (s : Specs). laid_views row.view (views_of kids) s (place_in spot following (kid_under s row kids) kid.edges) ++ rest) f
     ∙ ap (λ (list : List Measured). laid_views row.view (views_of kids) specs (place_in spot list (kid_under specs row kids) kid.edges) ++ rest) b
     ∙ ap (λ (rect : Rect). laid_views row.view (views_of kids) specs rect ++ rest) n
 
-one_rect_back : (spot : Spot) (behind sizes : List Measured) (kid : Final) (row : Row) (kids : Forest Row) (specs : Specs) (edges : Option Rect) (rest : List Rect)
-    → kid.child ≡ child_of row kids → kid.specs ≡ specs → behind ≡ sizes
+one_rect_back : (spot : Spot) (following sizes : List Measured) (kid : Final) (row : Row) (kids : Forest Row) (specs : Specs) (edges : Option Rect) (rest : List Rect)
+    → kid.child ≡ child_of row kids → kid.specs ≡ specs → following ≡ sizes
     → rect_at_place spot sizes row kids specs kid.edges ≡ rect_at_place spot sizes row kids specs edges
-    → place_in spot behind (final_size kid) kid.edges ∷ rest ≡ rect_at_place spot sizes row kids specs edges ∷ rest
-one_rect_back spot behind sizes kid row kids specs edges rest e f b n =
-    ap (λ (child : Child). place_in spot behind (final_size (record { child = child; specs = kid.specs; edges = kid.edges })) kid.edges ∷ rest) e
-    ∙ ap (λ (s : Specs). place_in spot behind (kid_under s row kids) kid.edges ∷ rest) f
+    → place_in spot following (final_size kid) kid.edges ∷ rest ≡ rect_at_place spot sizes row kids specs edges ∷ rest
+one_rect_back spot following sizes kid row kids specs edges rest e f b n =
+    ap (λ (child : Child). place_in spot following (final_size (record { child = child; specs = kid.specs; edges = kid.edges })) kid.edges ∷ rest) e
+    ∙ ap (λ (s : Specs). place_in spot following (kid_under s row kids) kid.edges ∷ rest) f
     ∙ ap (λ (list : List Measured). place_in spot list (kid_under specs row kids) kid.edges ∷ rest) b
     ∙ ap (λ (rect : Rect). rect ∷ rest) n
 
-abbrev behind_of : Specs → List Requested → List Measured
-behind_of specs kids = reverse (map final_size (finals_in specs kids))
+abbrev following_of : Specs → List Requested → List Measured
+following_of specs kids = reverse (map final_size (finals_in specs kids))
 
 reverse_first : (x : Measured) (xs : List Measured) → reverse (x ∷ xs) ≡ reverse xs ++ x ∷ []
 reverse_first x xs = reverse-append (x ∷ []) xs
@@ -191,14 +191,14 @@ reverse_first x xs = reverse-append (x ∷ []) xs
 record LaidBack (spot : Spot) (specs : Specs) (held : ℕ → Held) (list : Forest Row) (kids : List Requested) : Type 0 where
   pub lies : laid_back_from spot (finals_in specs kids) ≡ group_kids_back spot held list
   pub places : rects_back_from spot (finals_in specs kids) ≡ places_back spot held list
-  pub behind : behind_of specs kids ≡ sizes_back held list
+  pub following : following_of specs kids ≡ sizes_back held list
 
 placed_kids_back : (spot : Spot) (specs : Specs) (held : ℕ → Held) (list : Forest Row) (kids : List Requested)
     → children_in kids ≡ children_of (views_of list)
     → map (λ (kid : Final). kid.specs) (finals_in specs kids) ≡ last_specs held list
     → (spot.view.class ≡ RelativeLayout → last_edges held list ≡ edges_in specs kids)
     → LaidBack spot specs held list kids
-placed_kids_back spot specs held Nothing [] same finals edges = record { lies = refl; places = refl; behind = refl }
+placed_kids_back spot specs held Nothing [] same finals edges = record { lies = refl; places = refl; following = refl }
 placed_kids_back spot specs held Nothing (kid ∷ kids) same finals edges = absurd (cc)
 placed_kids_back spot specs held (Branch row below siblings) [] same finals edges = absurd (cc)
 placed_kids_back spot specs held (Branch row below siblings) (kid ∷ kids) same finals edges =
@@ -224,17 +224,17 @@ placed_kids_back spot specs held (Branch row below siblings) (kid ∷ kids) same
           let spots : places_back spot held (Branch row below siblings) ≡ rect_at_place spot (sizes_back held siblings) row below now sides ∷ places_back spot held siblings = rw here refl in
           record {
             lies = ap (laid_back_from spot) whole
-                ∙ one_more_back spot (behind_of specs kids) (sizes_back held siblings) own row below now sides (laid_back_from spot (finals_in specs kids)) child (cons_head both) more.behind
+                ∙ one_more_back spot (following_of specs kids) (sizes_back held siblings) own row below now sides (laid_back_from spot (finals_in specs kids)) child (cons_head both) more.following
                 (place_same spot.view.class spot (sizes_back held siblings) (kid_under now row below) kid.edges sides (λ class. sym (cons_head (all class))))
                 ∙ ap (λ (list : List Laid). kid_laid spot (sizes_back held siblings) row below now sides ++ list) more.lies;
             places = ap (rects_back_from spot) whole
-                ∙ one_rect_back spot (behind_of specs kids) (sizes_back held siblings) own row below now sides (rects_back_from spot (finals_in specs kids)) child (cons_head both) more.behind
+                ∙ one_rect_back spot (following_of specs kids) (sizes_back held siblings) own row below now sides (rects_back_from spot (finals_in specs kids)) child (cons_head both) more.following
                 (place_same spot.view.class spot (sizes_back held siblings) (kid_under now row below) kid.edges sides (λ class. sym (cons_head (all class))))
                 ∙ ap (λ (list : List Rect). rect_at_place spot (sizes_back held siblings) row below now sides ∷ list) more.places
                 ∙ sym spots;
-            behind = ap (λ (list : List Final). reverse (map final_size list)) whole
+            following = ap (λ (list : List Final). reverse (map final_size list)) whole
                 ∙ reverse_first (final_size own) (map final_size (finals_in specs kids))
-                ∙ ap (λ (list : List Measured). list ++ final_size own ∷ []) more.behind
+                ∙ ap (λ (list : List Measured). list ++ final_size own ∷ []) more.following
                 ∙ ap (λ (size : Measured). sizes_back held siblings ++ size ∷ []) size
                 ∙ ap (λ (list : List Measured). sizes_back held siblings ++ list) (sym sizes);
           }
@@ -251,7 +251,7 @@ placed_kids_back spot specs held (Branch row below siblings) (kid ∷ kids) same
             lies = ap (laid_back_from spot) whole ∙ more.lies
                 ∙ ap (λ own. own ++ group_kids_back spot held siblings) (sym (laid_gone row below now _ gone));
             places = ap (rects_back_from spot) whole ∙ more.places ∙ sym spots;
-            behind = ap (λ (list : List Final). reverse (map final_size list)) whole ∙ more.behind
+            following = ap (λ (list : List Final). reverse (map final_size list)) whole ∙ more.following
                 ∙ sym (append-nil (sizes_back held siblings)) ∙ ap (λ (list : List Measured). sizes_back held siblings ++ list) (sym sizes);
           }
     ]

@@ -18,8 +18,8 @@ size_of_rect-rect_at left top size =
     let h : top +ℤ size.h -ℤ top ≡ size.h = omega (arith, ints) in
     rw (w, h) refl
 
-behind : (begin sum size margins : ℤ) → begin +ℤ sum +ℤ (size +ℤ margins) ≡ begin +ℤ (sum +ℤ size +ℤ margins)
-behind begin sum size margins = omega (arith, ints)
+following : (begin sum size margins : ℤ) → begin +ℤ sum +ℤ (size +ℤ margins) ≡ begin +ℤ (sum +ℤ size +ℤ margins)
+following begin sum size margins = omega (arith, ints)
 
 passed-push : (vertical : Bool) (kids : List Measured) (kid : Measured)
     → passed vertical (kids ++ kid ∷ []) ≡ passed vertical kids +ℤ size_on vertical kid.size +ℤ margins_on vertical kid.facts
@@ -43,6 +43,6 @@ PlacesLinear-push cursor mark own room total before kid one more s =
       breadth = s.breadth;
       count = omega arith;
       at = more ∙ ap (λ at. at +ℤ (size_on own.vertical kid.size +ℤ margins_on own.vertical kid.facts)) s.at
-          ∙ behind begin (passed own.vertical before) (size_on own.vertical kid.size) (margins_on own.vertical kid.facts)
+          ∙ following begin (passed own.vertical before) (size_on own.vertical kid.size) (margins_on own.vertical kid.facts)
           ∙ ap (λ sum. begin +ℤ sum) (sym (passed-push own.vertical before kid));
     }

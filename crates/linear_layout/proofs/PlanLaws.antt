@@ -11,7 +11,7 @@ use Rattle.linear_layout.specs.declared.plan.Phase.TheVariants.{First, Weight, U
 use Rattle.linear_layout.specs.declared.first_pass.FirstPass.{FirstPass}
 use Rattle.linear_layout.specs.declared.weight_pass.WeightPass.{WeightPass}
 use Rattle.linear_layout.specs.Line.{own_in, specs_in}
-use Rattle.linear_layout.specs.LinearPlan.{InSecond, IsPlanOf, StandsLine, weighed_by}
+use Rattle.linear_layout.specs.LinearPlan.{InSecond, IsPlanOf, RepresentsLine, weighed_by}
 use Rattle.linear_layout.specs.Passes.{IsFirstPass, IsWeightPass}
 use Rattle.view_model.specs.declared.facts.Facts.{Facts}
 use Rattle.view_model.specs.LinearLayout.{breadth_for, breadth_once, breadth_twice, first_pass, full_length, has_weight_pass, is_exact_beside, linear_rule, own_breadth, own_length, size_by, skips, uniform_pass, weight_pass}
@@ -20,10 +20,10 @@ use Rattle.view_model.specs.Measuring.{Measured, Specs, counted_as, pair_of, tak
 -- a plan at the end of a phase, as TurnsLinear has it, of the group that its line represents
 pub record TurnsLine (plan : LinearPlan) (own : Facts) (specs : Specs) (past : List (List Measured)) (taken : List Measured) (answer : Bool) : Type 0 where
   pub answers : answer ≡ (linear_rule own specs).turns (past ++ taken ∷ [])
-  pub follows : answer ≡ true → StandsLine plan own specs (past ++ taken ∷ []) []
-  pub ends : answer ≡ false → StandsLine plan own specs past taken
+  pub follows : answer ≡ true → RepresentsLine plan own specs (past ++ taken ∷ []) []
+  pub ends : answer ≡ false → RepresentsLine plan own specs past taken
 
-pub plan_of : (plan : LinearPlan) (own : Facts) (specs : Specs) (past : List (List Measured)) (taken : List Measured) → StandsLine plan own specs past taken → IsPlanOf plan own specs
+pub plan_of : (plan : LinearPlan) (own : Facts) (specs : Specs) (past : List (List Measured)) (taken : List Measured) → RepresentsLine plan own specs past taken → IsPlanOf plan own specs
 plan_of plan own specs [] taken s = s.0
 plan_of plan own specs (first ∷ []) taken s = s.0
 plan_of plan own specs (first ∷ second ∷ []) taken s = s.0
@@ -59,7 +59,7 @@ only_first plan own specs first taken is s = elim (cases_Bool (has_weight_pass o
 pub ask-first : (plan : LinearPlan) (own : Facts) (specs : Specs) (past : List (List Measured)) (taken : List Measured) (kid : Measured) (answer : Option (Spec × Spec))
     → plan.phase ≡ First
     → ((kids : List Measured) → IsFirstPass plan.first own specs kids → answer ≡ option_map pair_of (first_pass own specs kids kid))
-    → StandsLine plan own specs past taken
+    → RepresentsLine plan own specs past taken
     → answer ≡ option_map pair_of ((linear_rule own specs).ask past taken kid)
 ask-first plan own specs [] taken kid answer is asks s = asks taken s.2
 ask-first plan own specs (first ∷ []) taken kid answer is asks s = only_first plan own specs first taken is s.2
@@ -75,8 +75,8 @@ pub take-first : (plan : LinearPlan) (own : Facts) (specs : Specs) (past : List 
     → plan.phase ≡ First
     → counted ≡ (if skips own specs facts then (record { w = pos 0; h = pos 0 }) else size)
     → (IsFirstPass plan.first own specs taken → IsFirstPass next own specs (taken ++ record { facts = facts; size = counted } ∷ []))
-    → StandsLine plan own specs past taken
-    → StandsLine (record plan { first = next }) own specs past (taken ++ taken_as (linear_rule own specs) past taken facts size ∷ [])
+    → RepresentsLine plan own specs past taken
+    → RepresentsLine (record plan { first = next }) own specs past (taken ++ taken_as (linear_rule own specs) past taken facts size ∷ [])
 take-first plan own specs [] taken facts size counted next is counts takes s =
     let same : counted ≡ counted_as [] (first_pass own specs taken (record { facts = facts; size = size })) size = counts ∙ counted_first (skips own specs facts) _ size in
     (record { own_facts = s.0.own_facts; own_specs = s.0.own_specs }, s.1, subst (λ (size : Size). IsFirstPass next own specs (taken ++ record { facts = facts; size = size } ∷ [])) same (takes s.2))
@@ -86,7 +86,7 @@ take-first plan own specs (first ∷ second ∷ third ∷ more) taken facts size
 
 -- in the uniform pass it ignores a child
 pub take-uniform : (plan : LinearPlan) (own : Facts) (specs : Specs) (past : List (List Measured)) (taken more : List Measured) (weighed : Option WeightPass)
-    → plan.phase ≡ Uniform weighed → StandsLine plan own specs past taken → StandsLine plan own specs past more
+    → plan.phase ≡ Uniform weighed → RepresentsLine plan own specs past taken → RepresentsLine plan own specs past more
 take-uniform plan own specs [] taken more weighed is s = first_uniform s.1 is
 take-uniform plan own specs (first ∷ []) taken more weighed is s = elim (cases_Bool (has_weight_pass own specs first)) [
   | inl runs ↦ weight_uniform (s.2.weight runs).phase is
@@ -99,7 +99,7 @@ take-uniform plan own specs (first ∷ second ∷ third ∷ rest) taken more wei
 pub ask-weight : (plan : LinearPlan) (own : Facts) (specs : Specs) (past : List (List Measured)) (taken : List Measured) (kid : Measured) (pass : WeightPass) (answer : Option (Spec × Spec))
     → plan.phase ≡ Weight pass
     → ((first : List Measured) → IsWeightPass pass own specs first taken → answer ≡ option_map pair_of (weight_pass own specs first taken kid))
-    → StandsLine plan own specs past taken
+    → RepresentsLine plan own specs past taken
     → answer ≡ option_map pair_of ((linear_rule own specs).ask past taken kid)
 ask-weight plan own specs [] taken kid pass answer is asks s = first_weight s.1 is
 ask-weight plan own specs (first ∷ []) taken kid pass answer is asks s =
@@ -119,7 +119,7 @@ pub ask-uniform : (plan : LinearPlan) (own : Facts) (specs : Specs) (past : List
     → ((first : List Measured) → weighed_by plan.phase ≡ None → IsFirstPass plan.first own specs first → breadth ≡ breadth_for own specs (breadth_once own specs first))
     → ((pass : WeightPass) (first second : List Measured) → weighed_by plan.phase ≡ Some pass → IsFirstPass plan.first own specs first → IsWeightPass pass own specs first second
     → breadth ≡ breadth_for own specs (breadth_twice own specs first second))
-    → StandsLine plan own specs past taken
+    → RepresentsLine plan own specs past taken
     → option_map pair_of (uniform_pass own breadth kid) ≡ option_map pair_of ((linear_rule own specs).ask past taken kid)
 ask-uniform plan own specs [] taken kid weighed breadth is once twice s = first_uniform s.1 is
 ask-uniform plan own specs (first ∷ []) taken kid weighed breadth is once twice s =
@@ -137,8 +137,8 @@ ask-uniform plan own specs (first ∷ second ∷ third ∷ more) taken kid weigh
 pub take-weight : (plan : LinearPlan) (own : Facts) (specs : Specs) (past : List (List Measured)) (taken : List Measured) (facts : Facts) (size : Size) (pass next : WeightPass)
     → plan.phase ≡ Weight pass
     → ((first : List Measured) → IsWeightPass pass own specs first taken → IsWeightPass next own specs first (taken ++ record { facts = facts; size = size } ∷ []))
-    → StandsLine plan own specs past taken
-    → StandsLine (record plan { phase = Weight next }) own specs past (taken ++ taken_as (linear_rule own specs) past taken facts size ∷ [])
+    → RepresentsLine plan own specs past taken
+    → RepresentsLine (record plan { phase = Weight next }) own specs past (taken ++ taken_as (linear_rule own specs) past taken facts size ∷ [])
 take-weight plan own specs [] taken facts size pass next is takes s = first_weight s.1 is
 take-weight plan own specs (first ∷ []) taken facts size pass next is takes s = (
   record { own_facts = s.0.own_facts; own_specs = s.0.own_specs },
@@ -161,7 +161,7 @@ pub finish-size : (plan : LinearPlan) (own : Facts) (specs : Specs) (past : List
     → ((first : List Measured) → weighed_by plan.phase ≡ None → IsFirstPass plan.first own specs first → beside ≡ breadth_for own specs (breadth_once own specs first))
     → ((pass : WeightPass) (first second : List Measured) → weighed_by plan.phase ≡ Some pass → IsFirstPass plan.first own specs first → IsWeightPass pass own specs first second
     → beside ≡ breadth_for own specs (breadth_twice own specs first second))
-    → StandsLine plan own specs past taken
+    → RepresentsLine plan own specs past taken
     → size_by own.vertical along beside ≡ (linear_rule own specs).size (past ++ taken ∷ [])
 finish-size plan own specs [] taken along beside long once twice s =
     ap (λ along. size_by own.vertical along beside) (long taken s.2) ∙ ap (size_by own.vertical (own_length own specs taken)) (once taken (ap weighed_by s.1) s.2)
@@ -182,7 +182,7 @@ finish-size plan own specs (first ∷ second ∷ third ∷ more) taken along bes
 pub total-is : (plan : LinearPlan) (own : Facts) (specs : Specs) (past : List (List Measured)) (taken : List Measured) (total : ℤ)
     → ((first : List Measured) → weighed_by plan.phase ≡ None → IsFirstPass plan.first own specs first → total ≡ full_length own first)
     → ((pass : WeightPass) (first second : List Measured) → weighed_by plan.phase ≡ Some pass → IsWeightPass pass own specs first second → total ≡ full_length own second)
-    → StandsLine plan own specs past taken
+    → RepresentsLine plan own specs past taken
     → total ≡ (linear_rule own specs).total (past ++ taken ∷ [])
 total-is plan own specs [] taken total once twice s = once taken (ap weighed_by s.1) s.2
 total-is plan own specs (first ∷ []) taken total once twice s =
@@ -201,7 +201,7 @@ pub turn-weight : (plan : LinearPlan) (own : Facts) (specs : Specs) (past : List
     → plan.phase ≡ First
     → ((first : List Measured) → IsFirstPass plan.first own specs first → has_weight_pass own specs first ≡ true)
     → ((first : List Measured) → IsFirstPass plan.first own specs first → IsWeightPass pass own specs first [])
-    → StandsLine plan own specs past taken
+    → RepresentsLine plan own specs past taken
     → TurnsLine (record plan { phase = Weight pass }) own specs past taken true
 turn-weight plan own specs [] taken pass is runs starts s = record {
   answers = ap (λ v. v || not (is_exact_beside own specs)) (sym (runs taken s.2));
@@ -227,7 +227,7 @@ pub turn-uniform : (plan new : LinearPlan) (own : Facts) (specs : Specs) (past :
     → plan.phase ≡ Weight pass
     → (is_exact_beside own specs ≡ true → (answer ≡ false) × (new ≡ plan))
     → (is_exact_beside own specs ≡ false → (answer ≡ true) × (new ≡ record plan { phase = Uniform (Some pass) }))
-    → StandsLine plan own specs past taken
+    → RepresentsLine plan own specs past taken
     → TurnsLine new own specs past taken answer
 turn-uniform plan new own specs [] taken pass answer is stops goes s = first_weight s.1 is
 turn-uniform plan new own specs (first ∷ []) taken pass answer is stops goes s = elim (cases_Bool (has_weight_pass own specs first)) [
@@ -237,19 +237,19 @@ turn-uniform plan new own specs (first ∷ []) taken pass answer is stops goes s
       let turns = λ (v b : Bool). v && not b in
       let is_pass : IsWeightPass pass own specs first taken = subst (λ pass. IsWeightPass pass own specs first taken) (weight_same w.phase is) w.is_pass in
       elim (cases_Bool (is_exact_beside own specs)) [
-        | inl told ↦ record {
-          answers = (stops told).0 ∙ ap (turns true) (sym told) ∙ ap (λ v. turns v (is_exact_beside own specs)) (sym ran);
-          follows = λ yes. no_true (stops told).0 yes;
-          ends = λ no. subst (λ plan. StandsLine plan own specs (first ∷ []) taken) (sym (stops told).1) s;
+        | inl reported ↦ record {
+          answers = (stops reported).0 ∙ ap (turns true) (sym reported) ∙ ap (λ v. turns v (is_exact_beside own specs)) (sym ran);
+          follows = λ yes. no_true (stops reported).0 yes;
+          ends = λ no. subst (λ plan. RepresentsLine plan own specs (first ∷ []) taken) (sym (stops reported).1) s;
         }
-        | inr not_told ↦ record {
-          answers = (goes not_told).0 ∙ ap (turns true) (sym not_told) ∙ ap (λ v. turns v (is_exact_beside own specs)) (sym ran);
-          follows = λ yes. subst (λ plan. StandsLine plan own specs (first ∷ taken ∷ []) []) (sym (goes not_told).1) (
+        | inr not_reported ↦ record {
+          answers = (goes not_reported).0 ∙ ap (turns true) (sym not_reported) ∙ ap (λ v. turns v (is_exact_beside own specs)) (sym ran);
+          follows = λ yes. subst (λ plan. RepresentsLine plan own specs (first ∷ taken ∷ []) []) (sym (goes not_reported).1) (
             record { own_facts = s.0.own_facts; own_specs = s.0.own_specs },
             s.1,
             record { pass = pass; weighed = ran; phase = refl; is_pass = is_pass },
           );
-          ends = λ no. no_true no (goes not_told).0;
+          ends = λ no. no_true no (goes not_reported).0;
         }
       ]
 ]
@@ -262,25 +262,25 @@ pub turn-first : (plan new : LinearPlan) (own : Facts) (specs : Specs) (past : L
     → ((kids : List Measured) → IsFirstPass plan.first own specs kids → has_weight_pass own specs kids ≡ false)
     → (is_exact_beside own specs ≡ true → (answer ≡ false) × (new ≡ plan))
     → (is_exact_beside own specs ≡ false → (answer ≡ true) × (new ≡ record plan { phase = Uniform None }))
-    → StandsLine plan own specs past taken
+    → RepresentsLine plan own specs past taken
     → TurnsLine new own specs past taken answer
 turn-first plan new own specs [] taken answer is over stops goes s =
     let turns = λ (v b : Bool). v || not b in
     let not_weighed = over taken s.2 in
     elim (cases_Bool (is_exact_beside own specs)) [
-      | inl told ↦ record {
-        answers = (stops told).0 ∙ ap (turns false) (sym told) ∙ ap (λ v. turns v (is_exact_beside own specs)) (sym not_weighed);
-        follows = λ yes. no_true (stops told).0 yes;
-        ends = λ no. subst (λ plan. StandsLine plan own specs [] taken) (sym (stops told).1) s;
+      | inl reported ↦ record {
+        answers = (stops reported).0 ∙ ap (turns false) (sym reported) ∙ ap (λ v. turns v (is_exact_beside own specs)) (sym not_weighed);
+        follows = λ yes. no_true (stops reported).0 yes;
+        ends = λ no. subst (λ plan. RepresentsLine plan own specs [] taken) (sym (stops reported).1) s;
       }
-      | inr not_told ↦ record {
-        answers = (goes not_told).0 ∙ ap (turns false) (sym not_told) ∙ ap (λ v. turns v (is_exact_beside own specs)) (sym not_weighed);
-        follows = λ yes. subst (λ plan. StandsLine plan own specs (taken ∷ []) []) (sym (goes not_told).1) (
+      | inr not_reported ↦ record {
+        answers = (goes not_reported).0 ∙ ap (turns false) (sym not_reported) ∙ ap (λ v. turns v (is_exact_beside own specs)) (sym not_weighed);
+        follows = λ yes. subst (λ plan. RepresentsLine plan own specs (taken ∷ []) []) (sym (goes not_reported).1) (
           record { own_facts = s.0.own_facts; own_specs = s.0.own_specs },
           s.2,
           record { weight = λ runs. no_true not_weighed runs; uniform = λ none. refl },
         );
-        ends = λ no. no_true no (goes not_told).0;
+        ends = λ no. no_true no (goes not_reported).0;
       }
     ]
 turn-first plan new own specs (first ∷ []) taken answer is over stops goes s = only_first plan own specs first taken is s.2
@@ -289,7 +289,7 @@ turn-first plan new own specs (first ∷ second ∷ third ∷ more) taken answer
 
 -- after the uniform pass nothing follows
 pub turn-over : (plan : LinearPlan) (own : Facts) (specs : Specs) (past : List (List Measured)) (taken : List Measured) (weighed : Option WeightPass)
-    → plan.phase ≡ Uniform weighed → StandsLine plan own specs past taken → TurnsLine plan own specs past taken false
+    → plan.phase ≡ Uniform weighed → RepresentsLine plan own specs past taken → TurnsLine plan own specs past taken false
 turn-over plan own specs [] taken weighed is s = first_uniform s.1 is
 turn-over plan own specs (first ∷ []) taken weighed is s = elim (cases_Bool (has_weight_pass own specs first)) [
   | inl runs ↦ weight_uniform (s.2.weight runs).phase is

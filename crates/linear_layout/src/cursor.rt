@@ -124,9 +124,9 @@ fn line_begin(alignment: Alignment, padding: i32, room: i32, total: i64) -> i128
 {
     let spare = spare_of(room, total);
     match alignment {
-        Alignment::Low => behind(padding, 0),
-        Alignment::Middle => behind(padding, spare / 2),
-        Alignment::High => behind(padding, spare),
+        Alignment::Low => following(padding, 0),
+        Alignment::Middle => following(padding, spare / 2),
+        Alignment::High => following(padding, spare),
     }
 }
 
@@ -138,7 +138,7 @@ fn spare_of(room: i32, total: i64) -> i128
     i128::from(room) - i128::from(total)
 }
 
-fn behind(padding: i32, spare: i128) -> i128
+fn following(padding: i32, spare: i128) -> i128
     requires { unsigned_abs spare ≤ 2 ^ 65 }
     ensures value { result ≡ padding +ℤ spare }
     ensures near { unsigned_abs result ≤ 2 ^ 66 }

@@ -95,7 +95,7 @@ impl FirstPass {
             → result ≡ first_along (own_in line.now) (specs_in line.now) kids (layout_facts kid.now) }
     {
         let along = line.vertical();
-        spec_behind(
+        spec_after(
             line.spec_along(),
             line.padding_on(along),
             margins_on(along, kid),
@@ -173,7 +173,7 @@ impl FirstPass {
 }
 
 /// The spec of a child of this dimension after others that count as `used`.
-fn spec_behind(spec: Spec, padding: i64, margins: i64, used: i64, dim: i32) -> Spec
+fn spec_after(spec: Spec, padding: i64, margins: i64, used: i64, dim: i32) -> Spec
     requires padding_low { negsuc 4294967295 ≤ℤ padding }
     requires padding_high { padding ≤ℤ pos 4294967294 }
     requires margins_low { negsuc 4294967295 ≤ℤ margins }

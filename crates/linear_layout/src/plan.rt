@@ -37,14 +37,14 @@ pub struct LinearPlan {
 
 impl LinearPlan {
     ghost use Rattle.linear_layout.specs.Line.{own_in, specs_in};
-    ghost use Rattle.linear_layout.specs.LinearPlan.{StandsLinear, TurnsLinear, weighed_by};
+    ghost use Rattle.linear_layout.specs.LinearPlan.{RepresentsLinear, TurnsLinear, weighed_by};
     ghost use Rattle.linear_layout.specs.declared.plan.Phase.TheVariants.{Uniform};
     ghost use Rattle.linear_layout.specs.Passes.{IsFirstPass, IsWeightPass};
 
     /// The plan of a group with these facts under these specs, before its first child.
     #[inline(always)]
     pub fn start(own: &Facts, ws: Spec, hs: Spec) -> LinearPlan
-        ensures { StandsLinear result (layout_facts own.now) (record { across = ws; down = hs }) [] [] }
+        ensures { RepresentsLinear result (layout_facts own.now) (record { across = ws; down = hs }) [] [] }
     {
         LinearPlan {
             line: Line::of(own, ws, hs),
@@ -58,7 +58,7 @@ impl LinearPlan {
     #[inline(never)]
     pub fn ask(&self, kid: &Facts, size: Size) -> Option<(Spec, Spec)>
         ensures { (own : FactsValue) (specs : Specs) (past : List (List Measured)) (taken : List Measured)
-            → StandsLinear self.now own specs past taken
+            → RepresentsLinear self.now own specs past taken
             → result ≡ option_map pair_of
             ((linear_rule own specs).ask past taken (record { facts = layout_facts kid.now; size = size })) }
     {
@@ -73,9 +73,9 @@ impl LinearPlan {
     #[inline(never)]
     pub fn take(&mut self, kid: &Facts, size: Size)
         ensures { (own : FactsValue) (specs : Specs) (past : List (List Measured)) (taken : List Measured)
-            → StandsLinear self.old own specs past taken
+            → RepresentsLinear self.old own specs past taken
             → length taken < MAX_VIEWS
-            → StandsLinear self.new own specs past
+            → RepresentsLinear self.new own specs past
             (taken ++ taken_as (linear_rule own specs) past taken (layout_facts kid.now) size ∷ []) }
     {
         match self.phase {
@@ -92,7 +92,7 @@ impl LinearPlan {
     #[inline(never)]
     pub fn turn(&mut self) -> bool
         ensures { (own : FactsValue) (specs : Specs) (past : List (List Measured)) (taken : List Measured)
-            → StandsLinear self.old own specs past taken
+            → RepresentsLinear self.old own specs past taken
             → TurnsLinear self.new own specs past taken result }
     {
         match self.phase {
@@ -110,9 +110,9 @@ impl LinearPlan {
 
     /// Goes on to the uniform pass, if that follows.
     fn turn_uniform(&mut self, weighed: Option<WeightPass>) -> bool
-        ensures told { is_exact_beside (own_in self.old.line) (specs_in self.old.line) ≡ true
+        ensures reported { is_exact_beside (own_in self.old.line) (specs_in self.old.line) ≡ true
             → (result ≡ false) × (self.new ≡ self.old) }
-        ensures untold { is_exact_beside (own_in self.old.line) (specs_in self.old.line) ≡ false
+        ensures unreported { is_exact_beside (own_in self.old.line) (specs_in self.old.line) ≡ false
             → (result ≡ true) × (self.new ≡ record self.old { phase = Uniform weighed }) }
     {
         if self.line.is_exact_beside() {
@@ -125,7 +125,7 @@ impl LinearPlan {
     /// The own size, once every child of the last phase is taken.
     pub fn finish(&self) -> Size
         ensures value { (own : FactsValue) (specs : Specs) (past : List (List Measured)) (taken : List Measured)
-            → StandsLinear self.now own specs past taken
+            → RepresentsLinear self.now own specs past taken
             → result ≡ (linear_rule own specs).size (past ++ taken ∷ []) }
         ensures width { IsSide result.w }
         ensures height { IsSide result.h }
@@ -140,7 +140,7 @@ impl LinearPlan {
     /// What the children and the padding of the group take of its length, once every child of the last phase is taken.
     pub fn total(&self) -> i64
         ensures { (own : FactsValue) (specs : Specs) (past : List (List Measured)) (taken : List Measured)
-            → StandsLinear self.now own specs past taken
+            → RepresentsLinear self.now own specs past taken
             → result ≡ (linear_rule own specs).total (past ++ taken ∷ []) }
     {
         match self.weighed() {

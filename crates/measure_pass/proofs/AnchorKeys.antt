@@ -20,7 +20,7 @@ use Rattle.view_model.specs.Facts.{is_shown, layout_facts}
 use Rattle.view_model.specs.Forest.{Forest, Nothing, Branch, count_of}
 use Rattle.view_model.specs.RelativeCourse.{anchor_by, anchor_with, child_at, link_of, links_of}
 use Rattle.view_model.specs.RelativeLayout.{span_or_none, near_margin, far_margin}
-use Rattle.view_model.specs.SiblingRules.{anchor_id, anchor_of, anchor_within, last_with_id, named_sibling, nobody, other_than, shown_or}
+use Rattle.view_model.specs.SiblingRules.{anchor_id, anchor_of, anchor_within, last_with_id, named_sibling, no_link, other_than, shown_or}
 use Rattle.view_model.specs.Cycles.{links_in}
 use Rattle.view_tree.specs.Rows.{Row, children_of_first, count_of_key, first_key, head_view, part_from, siblings_from, views_of}
 use Rattle.view_tree.specs.Views.{Held}
@@ -133,17 +133,17 @@ same_key tree list key other place live alive first second = some_is (sym (key_o
 
 -- the rules of a child
 abbrev first_link : Forest Row → Link
-first_link Nothing = nobody
+first_link Nothing = no_link
 first_link (Branch row kids siblings) = link_of row.view.facts
 
-link_at : (list : Forest Row) (place : ℕ) → slice_index_or (links_of (kids_in list)) place nobody ≡ first_link (siblings_from place list)
+link_at : (list : Forest Row) (place : ℕ) → slice_index_or (links_of (kids_in list)) place no_link ≡ first_link (siblings_from place list)
 link_at Nothing zero = refl
 link_at Nothing (suc place) = link_at Nothing place
 link_at (Branch row kids siblings) zero = refl
 link_at (Branch row kids siblings) (suc place) = link_at siblings place
 
 pub rules_at : (tree list : Forest Row) (key place : ℕ) → 0 < count_of_key key tree → part_from key tree ≡ siblings_from place list
-    → (slice_index_or (links_of (kids_in list)) place nobody).rules ≡ (head_view (part_from key tree)).facts.rules
+    → (slice_index_or (links_of (kids_in list)) place no_link).rules ≡ (head_view (part_from key tree)).facts.rules
 rules_at tree list key place live part =
     let x = located key tree live in
     ap (λ (link : Link). link.rules) (link_at list place ∙ ap first_link (sym part)) ∙ rw x.is refl
@@ -195,7 +195,7 @@ pub named_by : (tree : Forest Row) (view kid place : ℕ) (rtl : Bool) (axis : A
     part_from kid tree ≡ siblings_from place list
     → id ≡ anchor_id rtl axis tie (head_view (part_from kid tree)).facts.rules
     → found ≡ option_and_then (λ place. first_key (siblings_from place list)) (last_with_id (links_in (views_of list)) id)
-    → IsKidAt tree list (last_with_id (links_of (kids_in list)) (anchor_id rtl axis tie (slice_index_or (links_of (kids_in list)) place nobody).rules)) found)
+    → IsKidAt tree list (last_with_id (links_of (kids_in list)) (anchor_id rtl axis tie (slice_index_or (links_of (kids_in list)) place no_link).rules)) found)
 named_by tree view kid place rtl axis tie id found live alive once part id_is is =
     let list = children_of_first (part_from view tree) in
     subst (λ id. IsKidAt tree list (last_with_id (links_of (kids_in list)) id) found) (id_is ∙ ap (anchor_id rtl axis tie) (sym (rules_at tree list kid place alive part)))

@@ -6,7 +6,7 @@ use Rattle.measure_pass.specs.Courses.{AfterAll, AfterPhase, CanTurn, InCourse, 
 use Rattle.measure_pass.specs.Caches.{Grown}
 use Rattle.kept_views.specs.Kept.{Sized}
 use Rattle.measure_pass.specs.Measured.{Costs, calls_under, size_under}
-use Rattle.measure_pass.specs.Plans.{Group, IsLeaf, IsPlanOf, GroupPlan, Stands, group_by, rule_in}
+use Rattle.measure_pass.specs.Plans.{Group, IsLeaf, IsPlanOf, GroupPlan, Represents, group_by, rule_in}
 use Rattle.measure_pass.proofs.Counts.{costs_nothing}
 use Rattle.measure_pass.proofs.Laws.{lawful_of}
 use Rattle.measure_pass.proofs.Parts.{facts_in}
@@ -26,38 +26,38 @@ use Rattle.view_tree.proofs.values.KeptLaws.{no_children_of}
 use Rattle.view_tree.proofs.forest.KeyLaws.{located}
 
 pub gone_kid : (plan : GroupPlan) (group : Group) (past : List (List Measured)) (taken : List Measured) (tree : Forest Row) (kid : ℕ) (asked : List Requested) (held : ℕ → Held)
-    (count : ℕ) → 0 < count_of_key kid tree → is_shown (facts_in (part_from kid tree)) ≡ false → Stands plan group past taken → InCourse held (first_tree (part_from kid tree)) asked
+    (count : ℕ) → 0 < count_of_key kid tree → is_shown (facts_in (part_from kid tree)) ≡ false → Represents plan group past taken → InCourse held (first_tree (part_from kid tree)) asked
     → AfterPhase plan group past taken asked held held (first_tree (part_from kid tree)) count count
-gone_kid plan group past taken tree kid asked held count live gone stands course =
+gone_kid plan group past taken tree kid asked held count live gone represents course =
     let x = located kid tree live in
     let course : InCourse held (Branch x.row x.kids Nothing) asked = rw x.is at course in
     let gone : is_shown x.row.view.facts ≡ false = rw x.is at gone in
-    rw x.is (gone_row plan group past taken x.row x.kids asked held count gone stands course)
+    rw x.is (gone_row plan group past taken x.row x.kids asked held count gone represents course)
 
 pub skipped_kid : (plan : GroupPlan) (group : Group) (past : List (List Measured)) (taken : List Measured) (tree : Forest Row) (kid : ℕ) (asked : List Requested) (held : ℕ → Held)
     (present : Size) (count : ℕ) → 0 < count_of_key kid tree → is_shown (facts_in (part_from kid tree)) ≡ true → present ≡ (held kid).state.measured
     → None ≡ option_map pair_of ((rule_in group).ask past taken (record { facts = facts_in (part_from kid tree); size = present }))
-    → Stands plan group past (taken ++ taken_as (rule_in group) past taken (facts_in (part_from kid tree)) present ∷ []) → InCourse held (first_tree (part_from kid tree)) asked
+    → Represents plan group past (taken ++ taken_as (rule_in group) past taken (facts_in (part_from kid tree)) present ∷ []) → InCourse held (first_tree (part_from kid tree)) asked
     → CanTurn (rule_in group) past asked
     → AfterPhase plan group past taken asked held held (first_tree (part_from kid tree)) count count
-skipped_kid plan group past taken tree kid asked held present count live here present_is answer stands course can =
+skipped_kid plan group past taken tree kid asked held present count live here present_is answer represents course can =
     let x = located kid tree live in
     let course : InCourse held (Branch x.row x.kids Nothing) asked = rw x.is at course in
     let here : is_shown x.row.view.facts ≡ true = rw x.is at here in
     let present_is : present ≡ (held x.row.key).state.measured = subst (λ key. present ≡ (held key).state.measured) (sym x.key_is) present_is in
-    rw x.is (left_row plan group past taken x.row x.kids asked held present count here present_is (rw x.is at answer) (rw x.is at stands) course can)
+    rw x.is (left_row plan group past taken x.row x.kids asked held present count here present_is (rw x.is at answer) (rw x.is at represents) course can)
 
 pub measured_kid : (plan : GroupPlan) (group : Group) (past : List (List Measured)) (taken : List Measured) (tree : Forest Row) (kid : ℕ) (asked : List Requested) (before held : ℕ → Held)
     (present size : Size) (specs : Specs) (old new : ℕ) → 0 < count_of_key kid tree → is_shown (facts_in (part_from kid tree)) ≡ true
     → present ≡ (before kid).state.measured
     → Some (pair_of specs) ≡ option_map pair_of ((rule_in group).ask past taken (record { facts = facts_in (part_from kid tree); size = present }))
     → size ≡ size_under (part_from kid tree) specs → Sized held (first_tree (part_from kid tree)) → specs_of (held kid).state ≡ specs
-    → Stands plan group past (taken ++ taken_as (rule_in group) past taken (facts_in (part_from kid tree)) size ∷ []) → Costs (first_tree (part_from kid tree)) before held old (calls_under (part_from kid tree) specs) new
+    → Represents plan group past (taken ++ taken_as (rule_in group) past taken (facts_in (part_from kid tree)) size ∷ []) → Costs (first_tree (part_from kid tree)) before held old (calls_under (part_from kid tree) specs) new
     → Grown (λ place other. other ≡ specs) before held (first_tree (part_from kid tree))
     → InCourse before (first_tree (part_from kid tree)) asked
     → CanTurn (rule_in group) past asked
     → AfterPhase plan group past taken asked before held (first_tree (part_from kid tree)) old new
-measured_kid plan group past taken tree kid asked before held present size specs old new live here present_is answer measured sized last stands costs caches course can =
+measured_kid plan group past taken tree kid asked before held present size specs old new live here present_is answer measured sized last represents costs caches course can =
     let x = located kid tree live in
     let course : InCourse before (Branch x.row x.kids Nothing) asked = rw x.is at course in
     let here : is_shown x.row.view.facts ≡ true = rw x.is at here in
@@ -67,7 +67,7 @@ measured_kid plan group past taken tree kid asked before held present size specs
     let last : specs_of (held x.row.key).state ≡ specs = subst (λ key. specs_of (held key).state ≡ specs) (sym x.key_is) last in
     let costs : Costs (Branch x.row x.kids Nothing) before held old (calls_under (Branch x.row x.kids x.siblings) specs) new = rw x.is at costs in
     let caches : Grown (λ place other. other ≡ specs) before held (Branch x.row x.kids Nothing) = rw x.is at caches in
-    rw x.is (asked_row plan group past taken x.row x.kids x.siblings asked before held present size specs old new here present_is (rw x.is at answer) measured sized last (rw x.is at stands)
+    rw x.is (asked_row plan group past taken x.row x.kids x.siblings asked before held present size specs old new here present_is (rw x.is at answer) measured sized last (rw x.is at represents)
     costs caches course can)
 
 -- a view whose whole measuring by a rule is over
@@ -89,17 +89,17 @@ measured_whole views view specs rule before held answer total old new is_tree li
 pub record Planned (manner : Manner) (plan : GroupPlan) (view : PlainView) (specs : Specs) : Type 0 where
   pub rule : Rule
   pub is : manner ≡ ByRule rule
-  pub stands : Stands plan (group_by rule view specs) [] []
+  pub represents : Represents plan (group_by rule view specs) [] []
 
 pub planned : (manner : Manner) (plan : GroupPlan) (view : PlainView) (specs : Specs) → IsPlanOf manner plan view specs → Planned manner plan view specs
-planned (ByRule rule) plan view specs h = record { rule = rule; is = refl; stands = h }
+planned (ByRule rule) plan view specs h = record { rule = rule; is = refl; represents = h }
 planned BySiblings plan view specs h = absurd h
 
 -- a view without children
 leaf_after : (group : Group) (size : Size) (held : ℕ → Held) (list : Forest Row) (count : ℕ) → rule_in group ≡ leaf_rule size → list ≡ Nothing
     → AfterAll group 2 (begun (children_of (views_of list))) held held list size (pos 0) count count
 leaf_after group size held list count is none =
-    rw (is, none) (record { size = refl; length = refl; stands = tt; more = 0; calls = refl; costs = costs_nothing Nothing held count; caches = tt })
+    rw (is, none) (record { size = refl; length = refl; represents = tt; more = 0; calls = refl; costs = costs_nothing Nothing held count; caches = tt })
 
 pub measured_leaf : (views : Views) (view : ℕ) (specs : Specs) (size : Size) (held : ℕ → Held) (count : ℕ) → IsTree views → IsLive views view
     → IsLeaf (for_layout (head_view (part_from view views.tree))) specs size
@@ -112,7 +112,7 @@ measured_leaf views view specs size held count is_tree live leaf =
 -- a view that was measured whole by its plan
 pub measured_planned : (views : Views) (view : ℕ) (specs : Specs) (plan : GroupPlan) (before held : ℕ → Held) (answer : Size) (total : ℤ) (old new : ℕ) → IsTree views → IsLive views view
     → IsPlanOf (manner_of (for_layout (head_view (part_from view views.tree))) specs) plan (for_layout (head_view (part_from view views.tree))) specs
-    → ((group : Group) (past : List (List Measured)) (kids : List Requested) → Stands plan group past [] → InCourse before (children_of_first (part_from view views.tree)) kids
+    → ((group : Group) (past : List (List Measured)) (kids : List Requested) → Represents plan group past [] → InCourse before (children_of_first (part_from view views.tree)) kids
     → StaysReady (rule_in group) 2 (record { past = past; kids = kids })
     → AfterAll group 2 (record { past = past; kids = kids }) before held (children_of_first (part_from view views.tree)) answer total old new)
     → IsMeasuredBelow (part_from view views.tree) specs before held answer total old new
@@ -122,4 +122,4 @@ measured_planned views view specs plan before held answer total old new is_tree 
     let kids = children_of (views_of (children_of_first part)) in
     let p = planned (manner_of own specs) plan own specs is in
     measured_whole views view specs p.rule before held answer total old new is_tree live p.is
-    (all (group_by p.rule own specs) [] (begun kids).kids p.stands (begun_course before (children_of_first part)) ((lawful_of own specs p.rule p.is).ready kids))
+    (all (group_by p.rule own specs) [] (begun kids).kids p.represents (begun_course before (children_of_first part)) ((lawful_of own specs p.rule p.is).ready kids))

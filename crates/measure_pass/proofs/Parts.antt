@@ -72,17 +72,17 @@ pub record Split (rule : Rule) (past : List (List Measured)) (held : ℕ → Hel
   pub rest : List Requested
   pub whole : kids ≡ first ++ rest
   pub alone : InCourse held (first_tree list) first
-  pub behind : InCourse held (later_siblings list) rest
+  pub following : InCourse held (later_siblings list) rest
   pub turn : CanTurn rule past first
   pub turns : CanTurn rule past rest
 
 pub split : (rule : Rule) (past : List (List Measured)) (held : ℕ → Held) (list : Forest Row) (kids : List Requested) → InCourse held list kids → CanTurn rule past kids
     → Split rule past held list kids
-split rule past held Nothing [] h can = record { first = []; rest = []; whole = refl; alone = tt; behind = tt; turn = tt; turns = tt }
+split rule past held Nothing [] h can = record { first = []; rest = []; whole = refl; alone = tt; following = tt; turn = tt; turns = tt }
 split rule past held Nothing (kid ∷ more) h can = absurd h
 split rule past held (Branch row children_of_first siblings) [] h can = absurd h
 split rule past held (Branch row children_of_first siblings) (kid ∷ more) h can =
-    record { first = kid ∷ []; rest = more; whole = refl; alone = (h.0, h.1, tt); behind = h.2; turn = (can.0, tt); turns = can.1 }
+    record { first = kid ∷ []; rest = more; whole = refl; alone = (h.0, h.1, tt); following = h.2; turn = (can.0, tt); turns = can.1 }
 
 pub InCourse-join : (held : ℕ → Held) (list : Forest Row) (first rest : List Requested) → InCourse held (first_tree list) first → InCourse held (later_siblings list) rest
     → InCourse held list (first ++ rest)

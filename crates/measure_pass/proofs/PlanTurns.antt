@@ -20,17 +20,17 @@ use Rattle.view_tree.proofs.forest.Walks.{count_one}
 
 pub next_gone : (plan : GroupPlan) (views : Views) (kid : ℕ) (work : Work) → IsLive views kid → is_shown (facts_in (part_from kid views.tree)) ≡ false
     → MeasuresNext plan plan views views (tree_from kid views.tree) work work
-next_gone plan views kid work live gone = λ group past taken kids stands few course can.
-    gone_kid plan group past taken views.tree kid kids (held_of views) work.measured live gone stands course
+next_gone plan views kid work live gone = λ group past taken kids represents few course can.
+    gone_kid plan group past taken views.tree kid kids (held_of views) work.measured live gone represents course
 
 pub next_left : (plan new : GroupPlan) (views : Views) (kid : ℕ) (facts : Facts) (present : Size) (answer : Option (Spec × Spec)) (work : Work) → IsLive views kid
     → is_shown (facts_in (part_from kid views.tree)) ≡ true → facts ≡ facts_in (part_from kid views.tree) → present ≡ (state_of views kid).measured → answer ≡ None
     → Asks plan facts present answer → Takes plan new facts present
     → MeasuresNext plan new views views (tree_from kid views.tree) work work
-next_left plan new views kid facts present answer work live shown own here none asks takes = λ group past taken kids stands few course can.
+next_left plan new views kid facts present answer work live shown own here none asks takes = λ group past taken kids represents few course can.
     let one = count_one views.tree kid live in
     skipped_kid new group past taken views.tree kid kids (held_of views) present work.measured live shown here
-    (rw own at (sym none ∙ asks group past taken stands)) (rw own at (takes group past taken stands (omega arith))) course can
+    (rw own at (sym none ∙ asks group past taken represents)) (rw own at (takes group past taken represents (omega arith))) course can
 
 pub next_measured : (plan new : GroupPlan) (before after : Views) (kid : ℕ) (facts still : Facts) (present size : Size) (specs : Specs) (answer : Option (Spec × Spec)) (start last : Work)
     → IsLive before kid → is_shown (facts_in (part_from kid before.tree)) ≡ true → facts ≡ facts_in (part_from kid before.tree) → still ≡ facts_in (part_from kid after.tree)
@@ -39,9 +39,9 @@ pub next_measured : (plan new : GroupPlan) (before after : Views) (kid : ℕ) (f
     → Costs (tree_from kid before.tree) (held_of before) (held_of after) start.measured (calls_under (part_from kid before.tree) specs) last.measured
     → Grown (λ place other. other ≡ specs) (held_of before) (held_of after) (tree_from kid before.tree)
     → MeasuresNext plan new before after (tree_from kid before.tree) start last
-next_measured plan new before after kid facts still present size specs answer start last live shown own own_then here asked asks takes same got measured costs caches = λ group past taken kids stands few course can.
+next_measured plan new before after kid facts still present size specs answer start last live shown own own_then here asked asks takes same got measured costs caches = λ group past taken kids represents few course can.
     let one = count_one before.tree kid live in
     let sized : Sized (held_of after) (tree_from kid before.tree) = subst (λ (tree : Forest Row). Sized (held_of after) (tree_from kid tree)) same.tree measured.sized in
     measured_kid new group past taken before.tree kid kids (held_of before) (held_of after) present size specs start.measured last.measured live shown here
-    (rw own at (sym asked ∙ asks group past taken stands)) got sized measured.last
-    (rw (own_then, same.tree) at (takes group past taken stands (omega arith))) costs caches course can
+    (rw own at (sym asked ∙ asks group past taken represents)) got sized measured.last
+    (rw (own_then, same.tree) at (takes group past taken represents (omega arith))) costs caches course can

@@ -5,7 +5,7 @@ use Rattle.kept_views.specs.Kept.{Ready}
 use Rattle.measure_pass.specs.Courses.{AfterPhase, CanTurn, InCourse}
 use Rattle.measure_pass.specs.Measured.{Counted, Keeps, KeepsRest, kids_from, tree_from}
 use Rattle.measure_pass.specs.Phases.{MeasuresNext, MeasuresPhase}
-use Rattle.measure_pass.specs.Plans.{Group, GroupPlan, Stands, rule_in}
+use Rattle.measure_pass.specs.Plans.{Group, GroupPlan, Represents, rule_in}
 use Rattle.measure_pass.proofs.Counts.{counted_self, counted_then}
 use Rattle.measure_pass.proofs.Frames.{Ready-alone}
 use Rattle.measure_pass.proofs.Own.{keeps_self, keeps_trans}
@@ -25,7 +25,7 @@ use Rattle.view_tree.proofs.forest.Walks.{KeepingWalk, count_few, fewer_below, k
 pub record PlanWalk (first plan : GroupPlan) (begin now : Views) (kids : Forest Row) (next : Option ℕ) (start count : Work) : Type 0 where
   pub same : SameTree begin now
   pub walked : KeepingWalk begin.tree kids (held_of begin) next (held_of now)
-  pub phase : (group : Group) (past : List (List Measured)) (asked : List Requested) → Stands first group past [] → InCourse (held_of begin) kids asked → CanTurn (rule_in group) past asked
+  pub phase : (group : Group) (past : List (List Measured)) (asked : List Requested) → Represents first group past [] → InCourse (held_of begin) kids asked → CanTurn (rule_in group) past asked
       → Phasing plan group past asked kids (rest_from next begin.tree) (held_of begin) (held_of now) start.measured count.measured
   pub ready : ReadyWalk kids (rest_from next begin.tree) (held_of now)
   pub keeps : Keeps (held_of begin) (held_of now)
@@ -40,7 +40,7 @@ plan_start plan views view next work live is_tree ready part here =
     record {
       same = record { tree = refl; orders = refl; next = refl };
       walked = keeping_start views.tree kids (held_of views) next is_tree.keys part here;
-      phase = λ group past asked stands course can. rw part (phase_start plan group past asked kids (held_of views) work.measured stands few course can);
+      phase = λ group past asked represents course can. rw part (phase_start plan group past asked kids (held_of views) work.measured represents few course can);
       ready = rw part (ready_start kids (held_of views) ready);
       keeps = keeps_self (held_of views);
       counted = counted_self views work;
@@ -87,7 +87,7 @@ plan_on first before plan begin old new kids kid at next start count last is wal
       same = same_then begin old new walk.same rest.same;
       walked = keeping_on tree kids (held_of begin) kid (held_of old) (held_of new) next walk.walked others part live;
       phase = λ group past asked started course can.
-          let turn : (taken : List Measured) (first : List Requested) → Stands before group past taken → length taken + count_of (tree_from kid tree) ≤ MAX_VIEWS
+          let turn : (taken : List Measured) (first : List Requested) → Represents before group past taken → length taken + count_of (tree_from kid tree) ≤ MAX_VIEWS
           → InCourse (held_of old) (tree_from kid tree) first → CanTurn (rule_in group) past first
           → AfterPhase plan group past taken first (held_of old) (held_of new) (tree_from kid tree) count.measured last.measured =
           rw same at (measures group past) in

@@ -225,7 +225,7 @@ settled_row row kids siblings specs orders before held answer total old new clas
     let from : (i : ℕ) → i + 0 ≡ i = λ i. omega arith in
     let on : SettledFrom own specs all held 0 kids = λ i small.
     subst (λ at. FirstHasEdges held ((phase_of Vertical own specs all).asks at) (edges_of (edges_at own specs all (arranged own specs all) at)) (siblings_from i kids)) (sym (from i)) (settled i small) in
-    let stands = settled_course own specs all held 0 kids on in
+    let represents = settled_course own specs all held 0 kids on in
     let asked = all_asked_at own specs all (arranged own specs all) 0 all in
     let shown = shown_calls course.kids (gone_left_at own specs all (arranged own specs all) 0 all) in
     let wide = sum_in_turns across _ _ orders.across (orders_as Horizontal kids orders are) in
@@ -242,8 +242,8 @@ settled_row row kids siblings specs orders before held answer total old new clas
       length = summed ∙ ap (λ (course : Course). course.total) (sym same);
       width = width;
       height = height;
-      sized = course_sized held kids course.kids stands asked;
-      finals = course_lasts held kids specs course.kids stands asked ∙ ap (λ (course : Course). lasts_of specs course.kids) (sym same);
+      sized = course_sized held kids course.kids represents asked;
+      finals = course_lasts held kids specs course.kids represents asked ∙ ap (λ (course : Course). lasts_of specs course.kids) (sym same);
       edges = λ class. settled_edges own specs all held 0 kids on ∙ ap (λ (course : Course). course_edges specs course.kids) (sym same);
       costs = costs_same kids before held old (1 + (sum_by across orders.across + sum_by down orders.down)) (calls_under (Branch row kids siblings) specs) (new + 1) calls
           (costs_own kids before held old (sum_by across orders.across + sum_by down orders.down) new costs);

@@ -24,7 +24,7 @@ use Rattle.kept_views.specs.Laying.{Wrote}
 use Rattle.measure_pass.proofs.Parts.{Sized-along}
 use Rattle.measure_pass.proofs.Places.{FirstHasEdges-along, kid_at, past_kids, still_there}
 use Rattle.relative_layout.proofs.CourseLaws.{IsKidOrder, anchors_same, spans_across-fixed, spans_down-fixed}
-use Rattle.relative_layout.specs.RelativePlan.{StandsRelative, edges_as, spanned_as, spanned_at, spanned_in}
+use Rattle.relative_layout.specs.RelativePlan.{RepresentsRelative, edges_as, spanned_as, spanned_at, spanned_in}
 use Rattle.relative_layout.specs.declared.plan.RelativePlan.{RelativePlan}
 use Rattle.view_model.specs.declared.facts.Facts.{Facts}
 use Rattle.view_model.specs.declared.kinds.Class.{Class}
@@ -153,7 +153,7 @@ edges_kept mid held row kids specs edges once here sized last w =
 -- a walk over the children of a relative layout in the turns of an order, of which n are over
 pub record Turning (plan : RelativePlan) (axis : Axis) (own : Facts) (specs : Specs) (past : List (List Spanned)) (order : List ℕ) (turn : ℕ) (start now : ℕ → Held) (list : Forest Row)
     (old count : ℕ) : Type 0 where
-  pub plan_stands : StandsRelative plan own specs past (spanned_in (kids_in list) (phase_of axis own specs (kids_in list)).spans (take turn order))
+  pub plan_represents : RepresentsRelative plan own specs past (spanned_in (kids_in list) (phase_of axis own specs (kids_in list)).spans (take turn order))
   pub over : (q : ℕ) → q < turn → TurnIsOver (phase_of axis own specs (kids_in list)) now list (get_or order q 0)
   pub ahead : (q : ℕ) → turn ≤ q → q < length order
       → FirstIsKnown axis now ((phase_of axis own specs (kids_in list)).before (get_or order q 0)) (siblings_from (get_or order q 0) list)
@@ -161,11 +161,11 @@ pub record Turning (plan : RelativePlan) (axis : Axis) (own : Facts) (specs : Sp
   pub caches : Grown (asked_in (phase_of axis own specs (kids_in list)) (kids_in list)) start now list
 
 pub turning_start : (plan : RelativePlan) (axis : Axis) (own : Facts) (specs : Specs) (past : List (List Spanned)) (order : List ℕ) (now : ℕ → Held) (list : Forest Row) (count : ℕ)
-    → StandsRelative plan own specs past []
+    → RepresentsRelative plan own specs past []
     → ((place : ℕ) → FirstIsKnown axis now ((phase_of axis own specs (kids_in list)).before place) (siblings_from place list))
     → Turning plan axis own specs past order 0 now now list count count
-turning_start plan axis own specs past order now list count stands known = record {
-  plan_stands = stands;
+turning_start plan axis own specs past order now list count represents known = record {
+  plan_represents = represents;
   over = λ q before. absurd (omega arith);
   ahead = λ q after inside. known (get_or order q 0);
   costs = costs_nothing list now count;
@@ -205,7 +205,7 @@ turning_on before plan axis own specs past order turn start old new list first c
     let stays : (q : ℕ) → q < length order → q ≢ turn → KeepsInside old new (first_tree (siblings_from (get_or order q 0) list)) = λ q there ne.
     still_there old new list (get_or order q 0) place once (λ same. ne (distinct q turn there inside same)) others in
     record {
-      plan_stands = subst (StandsRelative plan own specs past) (sym (spanned_more (kids_in list) phase.spans order turn inside)) a.plan_stands;
+      plan_represents = subst (RepresentsRelative plan own specs past) (sym (spanned_more (kids_in list) phase.spans order turn inside)) a.plan_represents;
       over = λ q small. elim (cases_lt q turn) [
         | inl lt ↦ FirstHasEdges-along old new (phase.asks (get_or order q 0)) (edges_with phase.axis (phase.spans (get_or order q 0)) (phase.before (get_or order q 0)))
             (siblings_from (get_or order q 0) list) (stays q (omega arith) (λ same. omega arith)) (t.over q lt)
@@ -227,7 +227,7 @@ turning_end plan axis own specs past order turn start now list old count most le
     let all : take turn order ≡ order = ap (λ n. take n order) (let e : turn ≡ length order = omega arith in e) ∙ take-length order in
     let phase = phase_of axis own specs (kids_in list) in
     record {
-      plan_stands = subst (λ order. StandsRelative plan own specs past (spanned_in (kids_in list) phase.spans order)) all t.plan_stands;
+      plan_represents = subst (λ order. RepresentsRelative plan own specs past (spanned_in (kids_in list) phase.spans order)) all t.plan_represents;
       over = λ place small. let q = each place small in subst (TurnIsOver phase now list) q.2 (t.over q.0 (omega (arith, q.1)));
       costs = costs_same list start now old (sum_by (calls_in_turn phase (kids_in list)) (take turn order)) (sum_by (calls_in_turn phase (kids_in list)) order) count
           (ap (sum_by (calls_in_turn phase (kids_in list))) (sym all)) t.costs;
@@ -259,10 +259,10 @@ module _ (axis : Axis) (own : Facts) (specs : Specs) (past : List (List Spanned)
       ∙ ap (λ v. if v then measure_calls row.view (views_of below) ((phase_of axis own specs (kids_in list)).asks place) else 0) is
 
   -- a child that is gone has no turn
-  pub turn_gone : (plan : RelativePlan) (held : ℕ → Held) (count : ℕ) → is_shown row.view.facts ≡ false → StandsRelative plan own specs past taken
+  pub turn_gone : (plan : RelativePlan) (held : ℕ → Held) (count : ℕ) → is_shown row.view.facts ≡ false → RepresentsRelative plan own specs past taken
       → AfterTurn plan own specs past taken (phase_of axis own specs (kids_in list)) (kids_in list) place held held (Branch row below siblings) count count
-  turn_gone plan held count gone stands = record {
-    plan_stands = subst (StandsRelative plan own specs past) (sym (ap (λ more. taken ++ more) (one_taken false gone) ∙ append-nil taken)) stands;
+  turn_gone plan held count gone represents = record {
+    plan_represents = subst (RepresentsRelative plan own specs past) (sym (ap (λ more. taken ++ more) (one_taken false gone) ∙ append-nil taken)) represents;
     over = λ here. absurd (let e : true ≡ false = sym here ∙ gone in cc);
     costs = costs_same (Branch row below Nothing) held held count 0 (calls_in_turn (phase_of axis own specs (kids_in list)) (kids_in list) place) count (calls_here false gone)
         (costs_nothing (Branch row below Nothing) held count);
@@ -279,13 +279,13 @@ module _ (axis : Axis) (own : Facts) (specs : Specs) (past : List (List Spanned)
       → size ≡ measured_size row.view (views_of below) asked
       → Sized mid (Branch row below Nothing) → specs_of (mid row.key).state ≡ asked
       → sides ≡ edges_as own specs past facts edges anchors size
-      → StandsRelative plan own specs past (taken ++ spanned_as own specs past facts anchors size ∷ [])
+      → RepresentsRelative plan own specs past (taken ++ spanned_as own specs past facts anchors size ∷ [])
       → Wrote mid held row.key (record (mid row.key) { state = record (mid row.key).state { edges = sides } })
       → count_of_key row.key (Branch row below Nothing) ≤ 1
       → Costs (Branch row below Nothing) before mid count (measure_calls row.view (views_of below) asked) next
       → Grown (λ place other. other ≡ asked) before mid (Branch row below Nothing)
       → AfterTurn plan own specs past taken (phase_of axis own specs (kids_in list)) (kids_in list) place before held (Branch row below siblings) count next
-  turn_taken plan before mid held facts edges sides anchors asked size count next is fixed here facts_are known anchored asks measured sized last sides_are stands wrote once costs caches =
+  turn_taken plan before mid held facts edges sides anchors asked size count next is fixed here facts_are known anchored asks measured sized last sides_are represents wrote once costs caches =
       let kids = kids_in list in
       let phase = phase_of axis own specs kids in
       let same : facts ≡ (child_at kids place).facts = facts_are ∙ ap (λ (kid : Child). kid.facts) (sym kid_here) in
@@ -301,7 +301,7 @@ module _ (axis : Axis) (own : Facts) (specs : Specs) (past : List (List Spanned)
       ap (λ span. let kid : Spanned = record { facts = facts; span = span } in kid) span
       ∙ ap (λ (facts : Facts). let kid : Spanned = record { facts = facts; span = phase.spans place } in kid) same in
       record {
-        plan_stands = subst (λ more. StandsRelative plan own specs past (taken ++ more)) (ap (λ kid. kid ∷ []) spanned ∙ sym (one_taken true here)) stands;
+        plan_represents = subst (λ more. RepresentsRelative plan own specs past (taken ++ more)) (ap (λ kid. kid ∷ []) spanned ∙ sym (one_taken true here)) represents;
         over = λ here. subst (λ edges. HasEdges held (phase.asks place) edges row below) sides_same
             (edges_kept mid held row below (phase.asks place) sides once here sized (last ∙ asked_same) wrote);
         costs = costs-edged (Branch row below Nothing) before mid held count (calls_in_turn phase kids place) next (edged-write mid held row.key sides wrote)

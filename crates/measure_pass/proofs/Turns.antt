@@ -9,7 +9,7 @@ use Rattle.measure_pass.specs.Courses.{AfterPhase, CanTurn, InCourse, MeasuredFo
 use Rattle.measure_pass.specs.Caches.{Among, AskedAt, Grown}
 use Rattle.kept_views.specs.Kept.{IsSized, Sized}
 use Rattle.measure_pass.specs.Measured.{Costs, calls_under, size_under}
-use Rattle.measure_pass.specs.Plans.{Group, GroupPlan, Stands, rule_in}
+use Rattle.measure_pass.specs.Plans.{Group, GroupPlan, Represents, rule_in}
 use Rattle.measure_pass.proofs.Counts.{costs_nothing, costs_same}
 use Rattle.measure_pass.proofs.Grows.{Among-last, Grown-first, Grown-refl}
 use Rattle.view_model.specs.declared.facts.Facts.{Facts}
@@ -43,31 +43,31 @@ present_size held row kids child (first ∷ more) is m has =
 
 -- a turn that leaves this of a child
 turned_to : (plan : GroupPlan) (group : Group) (past : List (List Measured)) (taken : List Measured) (kid next : Requested) (before held : ℕ → Held) (list : Forest Row) (old new : ℕ)
-    → after_turn ((rule_in group).ask past) taken kid ≡ next → Stands plan group past (taken ++ size_in next) → InCourse held list (next ∷ [])
+    → after_turn ((rule_in group).ask past) taken kid ≡ next → Represents plan group past (taken ++ size_in next) → InCourse held list (next ∷ [])
     → Costs list before held old (turn_calls ((rule_in group).ask past) taken kid) new → Grown (AskedAt (next ∷ [])) before held list
     → AfterPhase plan group past taken (kid ∷ []) before held list old new
-turned_to plan group past taken kid next before held list old new is stands course costs caches =
+turned_to plan group past taken kid next before held list old new is represents course costs caches =
     let calls = turn_calls ((rule_in group).ask past) taken kid in
-    let P : Requested → Type 0 = λ next. Stands plan group past (taken ++ sizes_of (next ∷ [])) in
+    let P : Requested → Type 0 = λ next. Represents plan group past (taken ++ sizes_of (next ∷ [])) in
     record {
-      plan_stands = subst P (sym is) (subst (λ sizes. Stands plan group past (taken ++ sizes)) (sym (append-nil (size_in next))) stands);
+      plan_represents = subst P (sym is) (subst (λ sizes. Represents plan group past (taken ++ sizes)) (sym (append-nil (size_in next))) represents);
       course = subst (λ next. InCourse held list (next ∷ [])) (sym is) course;
       costs = costs_same list before held old calls (calls + 0) new (omega arith) costs;
       caches = subst (λ next. Grown (AskedAt (next ∷ [])) before held list) (sym is) caches;
     }
 
 pub gone_row : (plan : GroupPlan) (group : Group) (past : List (List Measured)) (taken : List Measured) (row : Row) (kids : Forest Row) (asked : List Requested) (held : ℕ → Held)
-    (count : ℕ) → is_shown row.view.facts ≡ false → Stands plan group past taken → InCourse held (Branch row kids Nothing) asked
+    (count : ℕ) → is_shown row.view.facts ≡ false → Represents plan group past taken → InCourse held (Branch row kids Nothing) asked
     → AfterPhase plan group past taken asked held held (Branch row kids Nothing) count count
-gone_row plan group past taken row kids [] held count gone stands course = absurd course
-gone_row plan group past taken row kids (kid ∷ other ∷ more) held count gone stands course = absurd course.2
-gone_row plan group past taken row kids (kid ∷ []) held count gone stands course =
+gone_row plan group past taken row kids [] held count gone represents course = absurd course
+gone_row plan group past taken row kids (kid ∷ other ∷ more) held count gone represents course = absurd course.2
+gone_row plan group past taken row kids (kid ∷ []) held count gone represents course =
     let ask = (rule_in group).ask past in
     let gone' : is_shown kid.child.facts ≡ false = ap (λ (child : Child). is_shown child.facts) course.0 ∙ gone in
     turned_to plan group past taken kid kid held held (Branch row kids Nothing) count count
     (ap (λ b. if b then asked_for (ask taken (measured_of kid)) kid else kid) gone')
-    (subst (λ sizes. Stands plan group past (taken ++ sizes)) (sym (ap (λ b. if b then measured_of kid ∷ [] else []) gone'))
-    (subst (λ all. Stands plan group past all) (sym (append-nil taken)) stands))
+    (subst (λ sizes. Represents plan group past (taken ++ sizes)) (sym (ap (λ b. if b then measured_of kid ∷ [] else []) gone'))
+    (subst (λ all. Represents plan group past all) (sym (append-nil taken)) represents))
     course
     (costs_same (Branch row kids Nothing) held held count 0 (turn_calls ask taken kid) count
     (ap (λ b. if b then calls_for (ask taken (measured_of kid)) kid.child else 0) gone') (costs_nothing (Branch row kids Nothing) held count))
@@ -87,12 +87,12 @@ some_of a (Some b) e =
 pub left_row : (plan : GroupPlan) (group : Group) (past : List (List Measured)) (taken : List Measured) (row : Row) (kids : Forest Row) (asked : List Requested) (held : ℕ → Held)
     (present : Size) (count : ℕ) → is_shown row.view.facts ≡ true → present ≡ (held row.key).state.measured
     → None ≡ option_map pair_of ((rule_in group).ask past taken (record { facts = (child_of row kids).facts; size = present }))
-    → Stands plan group past (taken ++ taken_as (rule_in group) past taken (child_of row kids).facts present ∷ []) → InCourse held (Branch row kids Nothing) asked
+    → Represents plan group past (taken ++ taken_as (rule_in group) past taken (child_of row kids).facts present ∷ []) → InCourse held (Branch row kids Nothing) asked
     → CanTurn (rule_in group) past asked
     → AfterPhase plan group past taken asked held held (Branch row kids Nothing) count count
-left_row plan group past taken row kids [] held present count here present_is answer stands course can = absurd course
-left_row plan group past taken row kids (kid ∷ other ∷ more) held present count here present_is answer stands course can = absurd course.2
-left_row plan group past taken row kids (kid ∷ []) held present count here present_is answer stands course can =
+left_row plan group past taken row kids [] held present count here present_is answer represents course can = absurd course
+left_row plan group past taken row kids (kid ∷ other ∷ more) held present count here present_is answer represents course can = absurd course.2
+left_row plan group past taken row kids (kid ∷ []) held present count here present_is answer represents course can =
     let rule = rule_in group in
     let ask = rule.ask past in
     let here' : is_shown kid.child.facts ≡ true = ap (λ (child : Child). is_shown child.facts) course.0 ∙ here in
@@ -106,11 +106,11 @@ left_row plan group past taken row kids (kid ∷ []) held present count here pre
     let same : taken_as rule past taken kid.child.facts present ≡ measured_of kid =
     ap (λ (size : Size). let m : Measured = record { facts = kid.child.facts; size = size } in m)
     (ap (λ answer. counted_as past answer present) unasked' ∙ known.left taken present right none) in
-    let P : Facts → Type 0 = λ facts. Stands plan group past (taken ++ taken_as rule past taken facts present ∷ []) in
+    let P : Facts → Type 0 = λ facts. Represents plan group past (taken ++ taken_as rule past taken facts present ∷ []) in
     turned_to plan group past taken kid kid held held (Branch row kids Nothing) count count
     (ap (λ b. if b then asked_for (ask taken (measured_of kid)) kid else kid) here' ∙ ap (λ answer. asked_for answer kid) none)
-    (subst (λ sizes. Stands plan group past (taken ++ sizes)) (ap (λ m. m ∷ []) same ∙ sym (ap (λ b. if b then measured_of kid ∷ [] else []) here'))
-    (subst P facts_same stands))
+    (subst (λ sizes. Represents plan group past (taken ++ sizes)) (ap (λ m. m ∷ []) same ∙ sym (ap (λ b. if b then measured_of kid ∷ [] else []) here'))
+    (subst P facts_same represents))
     course
     (costs_same (Branch row kids Nothing) held held count 0 (turn_calls ask taken kid) count
     (ap (λ b. if b then calls_for (ask taken (measured_of kid)) kid.child else 0) here' ∙ ap (λ answer. calls_for answer kid.child) none)
@@ -123,16 +123,16 @@ pub asked_row : (plan : GroupPlan) (group : Group) (past : List (List Measured))
     → is_shown row.view.facts ≡ true → present ≡ (before row.key).state.measured
     → Some (pair_of specs) ≡ option_map pair_of ((rule_in group).ask past taken (record { facts = (child_of row kids).facts; size = present }))
     → size ≡ size_under (Branch row kids siblings) specs → Sized held (Branch row kids Nothing) → specs_of (held row.key).state ≡ specs
-    → Stands plan group past (taken ++ taken_as (rule_in group) past taken (child_of row kids).facts size ∷ []) → Costs (Branch row kids Nothing) before held old (calls_under (Branch row kids siblings) specs) new
+    → Represents plan group past (taken ++ taken_as (rule_in group) past taken (child_of row kids).facts size ∷ []) → Costs (Branch row kids Nothing) before held old (calls_under (Branch row kids siblings) specs) new
     → Grown (λ place other. other ≡ specs) before held (Branch row kids Nothing)
     → InCourse before (Branch row kids Nothing) asked
     → CanTurn (rule_in group) past asked
     → AfterPhase plan group past taken asked before held (Branch row kids Nothing) old new
-asked_row plan group past taken row kids siblings [] before held present size specs old new here present_is answer measured sized last stands costs caches course can =
+asked_row plan group past taken row kids siblings [] before held present size specs old new here present_is answer measured sized last represents costs caches course can =
     absurd course
-asked_row plan group past taken row kids siblings (kid ∷ other ∷ more) before held present size specs old new here present_is answer measured sized last stands
+asked_row plan group past taken row kids siblings (kid ∷ other ∷ more) before held present size specs old new here present_is answer measured sized last represents
     costs caches course can = absurd course.2
-asked_row plan group past taken row kids siblings (kid ∷ []) before held present size specs old new here present_is answer measured sized last stands costs
+asked_row plan group past taken row kids siblings (kid ∷ []) before held present size specs old new here present_is answer measured sized last represents costs
     caches course can =
     let rule = rule_in group in
     let ask = rule.ask past in
@@ -149,11 +149,11 @@ asked_row plan group past taken row kids siblings (kid ∷ []) before held prese
     measured ∙ ap (λ (child : Child). child.measure specs) (sym course.0) ∙ sym (size_after-push kid.child kid.requests specs) in
     let same : taken_as rule past taken kid.child.facts size ≡ measured_of next =
     ap (λ (size : Size). let m : Measured = record { facts = kid.child.facts; size = size } in m) (known.got taken specs size got ∙ size_is) in
-    let P : Facts → Type 0 = λ facts. Stands plan group past (taken ++ taken_as rule past taken facts size ∷ []) in
+    let P : Facts → Type 0 = λ facts. Represents plan group past (taken ++ taken_as rule past taken facts size ∷ []) in
     turned_to plan group past taken kid next before held (Branch row kids Nothing) old new
     (ap (λ b. if b then asked_for (ask taken (measured_of kid)) kid else kid) here' ∙ ap (λ answer. asked_for answer kid) got)
-    (subst (λ sizes. Stands plan group past (taken ++ sizes)) (ap (λ m. m ∷ []) same ∙ sym (ap (λ b. if b then measured_of next ∷ [] else []) here'))
-    (subst P facts_same stands))
+    (subst (λ sizes. Represents plan group past (taken ++ sizes)) (ap (λ m. m ∷ []) same ∙ sym (ap (λ b. if b then measured_of next ∷ [] else []) here'))
+    (subst P facts_same represents))
     (course.0, MeasuredFor-push held row kids kid.requests specs last (sized.0 here).0 (sized.0 here).1, tt)
     (costs_same (Branch row kids Nothing) before held old (calls_under (Branch row kids siblings) specs) (turn_calls ask taken kid) new
     (ap (λ b. if b then calls_for (ask taken (measured_of kid)) kid.child else 0) here' ∙ ap (λ answer. calls_for answer kid.child) got

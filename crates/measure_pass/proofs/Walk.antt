@@ -6,7 +6,7 @@ use Rattle.measure_pass.specs.Courses.{AfterPhase, CanTurn, InCourse, phase_call
 use Rattle.measure_pass.specs.Caches.{AskedAt, Grown}
 use Rattle.kept_views.specs.Kept.{Ready}
 use Rattle.measure_pass.specs.Measured.{Costs}
-use Rattle.measure_pass.specs.Plans.{Group, GroupPlan, Stands, rule_in}
+use Rattle.measure_pass.specs.Plans.{Group, GroupPlan, Represents, rule_in}
 use Rattle.measure_pass.proofs.Counts.{costs_nothing, costs_parts, costs_same}
 use Rattle.measure_pass.proofs.Frames.{Ready-after, Ready-along, Ready-join}
 use Rattle.measure_pass.proofs.Grows.{Grown-along, Grown-join}
@@ -47,7 +47,7 @@ first_still begin old part still = λ key here. sym (still key (let parts = coun
 pub record Phasing (plan : GroupPlan) (group : Group) (past : List (List Measured)) (asked : List Requested) (kids rest : Forest Row) (begin now : ℕ → Held) (start count : ℕ) : Type 0 where
   pub taken : List Measured
   pub ahead : List Requested
-  pub plan_stands : Stands plan group past taken
+  pub plan_represents : Represents plan group past taken
   pub few : length taken + count_of rest ≤ MAX_VIEWS
   pub before : InCourse now rest ahead
   pub can : CanTurn (rule_in group) past ahead
@@ -60,10 +60,10 @@ pub record Phasing (plan : GroupPlan) (group : Group) (past : List (List Measure
       → Grown (AskedAt (after_phase ((rule_in group).ask past) [] asked)) begin end kids
 
 pub phase_start : (plan : GroupPlan) (group : Group) (past : List (List Measured)) (asked : List Requested) (kids : Forest Row) (now : ℕ → Held) (count : ℕ)
-    → Stands plan group past [] → count_of kids ≤ MAX_VIEWS → InCourse now kids asked → CanTurn (rule_in group) past asked
+    → Represents plan group past [] → count_of kids ≤ MAX_VIEWS → InCourse now kids asked → CanTurn (rule_in group) past asked
     → Phasing plan group past asked kids kids now now count count
-phase_start plan group past asked kids now count stands few course can =
-    record { taken = []; ahead = asked; plan_stands = stands; few = omega arith; before = course; can = can; sizes = refl; done = λ end agree h. h; costs = λ end last agree h. h; caches = λ end agree h. h }
+phase_start plan group past asked kids now count represents few course can =
+    record { taken = []; ahead = asked; plan_represents = represents; few = omega arith; before = course; can = can; sizes = refl; done = λ end agree h. h; costs = λ end last agree h. h; caches = λ end agree h. h }
 
 -- no more sizes than views
 pub few_if : (v : Bool) (m : Measured) → length (if v then m ∷ [] else []) ≤ 1
@@ -83,7 +83,7 @@ sizes_few now (Branch row below siblings) (kid ∷ more) h =
 pub phase_on : (before plan : GroupPlan) (group : Group) (past : List (List Measured)) (asked : List Requested) (kids part : Forest Row) (begin old mid : ℕ → Held) (start count new : ℕ)
     → ((key : ℕ) → count_of_key key part ≤ 1)
     → Phasing before group past asked kids part begin old start count → KeepsOutside old mid (first_tree part) → KeepsInside begin old part
-    → ((taken : List Measured) (first : List Requested) → Stands before group past taken → length taken + count_of (first_tree part) ≤ MAX_VIEWS → InCourse old (first_tree part) first
+    → ((taken : List Measured) (first : List Requested) → Represents before group past taken → length taken + count_of (first_tree part) ≤ MAX_VIEWS → InCourse old (first_tree part) first
     → CanTurn (rule_in group) past first → AfterPhase plan group past taken first old mid (first_tree part) count new)
     → Phasing plan group past asked kids (later_siblings part) begin mid start new
 phase_on before plan group past asked kids part begin old mid start count new once f others still turn =
@@ -91,7 +91,7 @@ phase_on before plan group past asked kids part begin old mid start count new on
     let s = split (rule_in group) past old part f.ahead f.before f.can in
     let parts = count_of-parts part in
     let few = f.few in
-    let phase = turn f.taken s.first f.plan_stands (omega arith) s.alone s.turn in
+    let phase = turn f.taken s.first f.plan_represents (omega arith) s.alone s.turn in
     let first = after_phase ask f.taken s.first in
     let taken = f.taken ++ sizes_of first in
     let rest = after_phase ask taken s.rest in
@@ -103,9 +103,9 @@ phase_on before plan group past asked kids part begin old mid start count new on
     record {
       taken = taken;
       ahead = s.rest;
-      plan_stands = phase.plan_stands;
+      plan_represents = phase.plan_represents;
       few = omega arith;
-      before = InCourse-along old mid (later_siblings part) s.rest (KeepsInside-rest old mid part once others) s.behind;
+      before = InCourse-along old mid (later_siblings part) s.rest (KeepsInside-rest old mid part once others) s.following;
       can = s.turns;
       sizes = append_assoc f.taken (sizes_of first) (sizes_of rest) ∙ ap (λ more. f.taken ++ more) (sym (sizes_of-append first rest) ∙ ap sizes_of (sym apart)) ∙ f.sizes;
       done = λ end agree h. f.done end (KeepsOutside-parts old mid end part others agree)
@@ -136,7 +136,7 @@ phase_end plan group past asked kids begin now start count f = ended f.ahead f.b
         → AfterPhase plan group past [] asked begin now kids start count
     ended (kid ∷ more) none sizes done costs caches = absurd none
     ended [] none sizes done costs caches = record {
-      plan_stands = subst (λ all. Stands plan group past all) (sym (append-nil f.taken) ∙ sizes) f.plan_stands;
+      plan_represents = subst (λ all. Represents plan group past all) (sym (append-nil f.taken) ∙ sizes) f.plan_represents;
       course = done now (λ key absent. refl) tt;
       costs = costs (costs_nothing Nothing now count);
       caches = caches tt;

@@ -85,7 +85,7 @@ pub phases_end : (plan : GroupPlan) (group : Group) (left : ℕ) (past : List (L
 phases_end plan group left past kids before held list answer total old new ends phase finished summed = record {
   length = summed ∙ ap (λ (progress : MeasuringProgress). (rule_in group).total progress.past) (sym ends);
   size = finished ∙ ap (λ (progress : MeasuringProgress). (rule_in group).size progress.past) (sym ends);
-  stands = subst (λ (progress : MeasuringProgress). InCourse held list progress.kids) (sym ends) phase.course;
+  represents = subst (λ (progress : MeasuringProgress). InCourse held list progress.kids) (sym ends) phase.course;
   more = phase_calls ((rule_in group).ask past) [] kids;
   calls = ap (λ (progress : MeasuringProgress). calls_of progress.kids) ends ∙ calls_after ((rule_in group).ask past) [] kids;
   costs = phase.costs;
@@ -116,7 +116,7 @@ phases_more plan group left past kids before mid held list answer total old betw
     record {
       size = rest.size ∙ ap (λ (progress : MeasuringProgress). rule.size progress.past) (sym is);
       length = rest.length ∙ ap (λ (progress : MeasuringProgress). rule.total progress.past) (sym is);
-      stands = subst (λ (progress : MeasuringProgress). InCourse held list progress.kids) (sym is) rest.stands;
+      represents = subst (λ (progress : MeasuringProgress). InCourse held list progress.kids) (sym is) rest.represents;
       more = phase_calls (rule.ask past) [] kids + rest.more;
       calls = ap (λ (progress : MeasuringProgress). calls_of progress.kids) is ∙ all;
       costs = costs_twice list before mid held old between new (phase_calls (rule.ask past) [] kids) rest.more phase.costs rest.costs;
@@ -274,8 +274,8 @@ whole_row row kids siblings specs rule before held answer total old new is asked
       length = after.length ∙ ap (λ (course : Course). course.total) (sym same);
       width = width;
       height = height;
-      sized = course_sized held kids course.kids after.stands asked;
-      finals = course_lasts held kids specs course.kids after.stands asked ∙ ap (λ (course : Course). lasts_of specs course.kids) (sym same);
+      sized = course_sized held kids course.kids after.represents asked;
+      finals = course_lasts held kids specs course.kids after.represents asked ∙ ap (λ (course : Course). lasts_of specs course.kids) (sym same);
       edges = λ class. absurd (by_rule (ap (λ class. manner_by class (for_layout row.view) specs) (sym class) ∙ is));
       costs = costs_same kids before held old (1 + after.more) (calls_under (Branch row kids siblings) specs) (new + 1) calls
           (costs_own kids before held old after.more new after.costs);

@@ -5,7 +5,7 @@ use Rattle.geom_core.specs.declared.geometry.Size.{Size}
 use Rattle.measure_pass.specs.Caches.{AskedAt, Grown, asked_under}
 use Rattle.kept_views.specs.Kept.{IsSized, Sized, last_edges, last_specs}
 use Rattle.measure_pass.specs.Measured.{Costs, calls_under, edges_under, finals_under, size_under, total_under}
-use Rattle.measure_pass.specs.Plans.{Group, GroupPlan, Stands, rule_in}
+use Rattle.measure_pass.specs.Plans.{Group, GroupPlan, Represents, rule_in}
 use Rattle.view_model.specs.declared.kinds.Class.TheVariants.{RelativeLayout}
 use Rattle.view_model.specs.Course.{Child, MeasuringProgress, Requested, after_phase, after_turn, last_of, measured_of, one_phase, phases_on, size_after, size_in, sizes_of}
 use Rattle.view_model.specs.Facts.{is_shown}
@@ -93,7 +93,7 @@ pub record IsMeasuredBelow (part : Forest Row) (specs : Specs) (before held : �
 -- a plan has taken the views of a list, which are these children, after others of the same phase
 pub record AfterPhase (plan : GroupPlan) (group : Group) (past : List (List Measured)) (taken : List Measured) (kids : List Requested)
     (before held : ℕ → Held) (list : Forest Row) (old new : ℕ) : Type 0 where
-  pub plan_stands : Stands plan group past (taken ++ sizes_of (after_phase ((rule_in group).ask past) taken kids))
+  pub plan_represents : Represents plan group past (taken ++ sizes_of (after_phase ((rule_in group).ask past) taken kids))
   pub course : InCourse held list (after_phase ((rule_in group).ask past) taken kids)
   pub costs : Costs list before held old (phase_calls ((rule_in group).ask past) taken kids) new
   pub caches : Grown (AskedAt (after_phase ((rule_in group).ask past) taken kids)) before held list
@@ -107,7 +107,7 @@ pub record AfterAll (group : Group) (left : ℕ) (progress : MeasuringProgress) 
     (old new : ℕ) : Type 0 where
   pub size : answer ≡ (rule_in group).size (from_here group left progress).past
   pub length : total ≡ (rule_in group).total (from_here group left progress).past
-  pub stands : InCourse held list (from_here group left progress).kids
+  pub represents : InCourse held list (from_here group left progress).kids
   pub more : ℕ
   pub calls : calls_of (from_here group left progress).kids ≡ calls_of progress.kids + more
   pub costs : Costs list before held old more new

@@ -1,13 +1,13 @@
 -- What a plan of any group has taken so far, and what a view without children measures.
 use Rattle.std.specs.Prelude.{◌≡◌, ◌<◌, ℤ, true, false, Bool, Option, List, [], ◌∷◌, ◌++◌, length}
 use Rattle.std.specs.Option.{option_map}
-use Rattle.frame_layout.specs.FramePlan.{StandsFrame}
+use Rattle.frame_layout.specs.FramePlan.{RepresentsFrame}
 use Rattle.frame_layout.specs.declared.plan.FramePlan.{FramePlan}
 use Rattle.geom_core.specs.declared.geometry.Size.{Size}
 use Rattle.geom_core.specs.declared.measuring.Spec.{Spec}
-use Rattle.linear_layout.specs.LinearPlan.{StandsLinear}
+use Rattle.linear_layout.specs.LinearPlan.{RepresentsLinear}
 use Rattle.linear_layout.specs.declared.plan.LinearPlan.{LinearPlan}
-use Rattle.scroll_view.specs.ScrollPlan.{StandsScroll}
+use Rattle.scroll_view.specs.ScrollPlan.{RepresentsScroll}
 use Rattle.scroll_view.specs.declared.plan.ScrollPlan.{ScrollPlan}
 use Rattle.view_model.specs.declared.facts.Facts.{Facts}
 use Rattle.view_model.specs.declared.limits.TheConstants.{MAX_VIEWS}
@@ -40,14 +40,14 @@ pub data GroupPlan : Type 0 where
   Scroll : ScrollPlan → GroupPlan
 
 -- the plan of a view, once these phases are over and it has taken these children in the next
-abbrev pub Stands : GroupPlan → Group → List (List Measured) → List Measured → Type 0
-Stands (Frame plan) group past taken = (rule_in group ≡ frame_rule group.own group.specs) × StandsFrame plan group.own group.specs past taken
-Stands (Linear plan) group past taken = (rule_in group ≡ linear_rule group.own group.specs) × StandsLinear plan group.own group.specs past taken
-Stands (Scroll plan) group past taken = (rule_in group ≡ scroll_rule group.own group.specs) × StandsScroll plan group.own group.specs past taken
+abbrev pub Represents : GroupPlan → Group → List (List Measured) → List Measured → Type 0
+Represents (Frame plan) group past taken = (rule_in group ≡ frame_rule group.own group.specs) × RepresentsFrame plan group.own group.specs past taken
+Represents (Linear plan) group past taken = (rule_in group ≡ linear_rule group.own group.specs) × RepresentsLinear plan group.own group.specs past taken
+Represents (Scroll plan) group past taken = (rule_in group ≡ scroll_rule group.own group.specs) × RepresentsScroll plan group.own group.specs past taken
 
 -- the plan of a view that measures so, before its first child
 abbrev pub IsPlanOf : Manner → GroupPlan → PlainView → Specs → Type 0
-IsPlanOf (ByRule rule) plan view specs = Stands plan (group_by rule view specs) [] []
+IsPlanOf (ByRule rule) plan view specs = Represents plan (group_by rule view specs) [] []
 IsPlanOf BySiblings plan view specs = ⊥
 
 -- a view of a class without children, and its size under these specs
@@ -58,29 +58,29 @@ pub record IsLeaf (view : PlainView) (specs : Specs) (size : Size) : Type 0 wher
 -- a plan at the end of a phase: whether another follows, and then the plan is at its start
 pub record Turned (plan : GroupPlan) (group : Group) (past : List (List Measured)) (taken : List Measured) (answer : Bool) : Type 0 where
   pub answers : answer ≡ (rule_in group).turns (past ++ taken ∷ [])
-  pub follows : answer ≡ true → Stands plan group (past ++ taken ∷ []) []
-  pub ends : answer ≡ false → Stands plan group past taken
+  pub follows : answer ≡ true → Represents plan group (past ++ taken ∷ []) []
+  pub ends : answer ≡ false → Represents plan group past taken
 
 -- the specs that a plan asks for a child of these facts and this size, if it does
 abbrev pub Asks : GroupPlan → Facts → Size → Option (Spec × Spec) → Type 0
 Asks plan kid size answer =
-    (group : Group) (past : List (List Measured)) (taken : List Measured) → Stands plan group past taken
+    (group : Group) (past : List (List Measured)) (taken : List Measured) → Represents plan group past taken
     → answer ≡ option_map pair_of ((rule_in group).ask past taken (record { facts = kid; size = size }))
 
 -- a plan takes such a child
 abbrev pub Takes : GroupPlan → GroupPlan → Facts → Size → Type 0
 Takes old new kid size =
-    (group : Group) (past : List (List Measured)) (taken : List Measured) → Stands old group past taken → length taken < MAX_VIEWS
-    → Stands new group past (taken ++ taken_as (rule_in group) past taken kid size ∷ [])
+    (group : Group) (past : List (List Measured)) (taken : List Measured) → Represents old group past taken → length taken < MAX_VIEWS
+    → Represents new group past (taken ++ taken_as (rule_in group) past taken kid size ∷ [])
 
 -- a plan ends a phase, and answers whether another follows
 abbrev pub Turns : GroupPlan → GroupPlan → Bool → Type 0
 Turns old new answer =
-    (group : Group) (past : List (List Measured)) (taken : List Measured) → Stands old group past taken → Turned new group past taken answer
+    (group : Group) (past : List (List Measured)) (taken : List Measured) → Represents old group past taken → Turned new group past taken answer
 
 -- the size of a group by its plan after the last phase, and what its children took along its axis
 pub record Ends (plan : GroupPlan) (own : Size) (along : ℤ) : Type 0 where
-  pub size : (group : Group) (past : List (List Measured)) (taken : List Measured) → Stands plan group past taken
+  pub size : (group : Group) (past : List (List Measured)) (taken : List Measured) → Represents plan group past taken
       → own ≡ (rule_in group).size (past ++ taken ∷ [])
-  pub total : (group : Group) (past : List (List Measured)) (taken : List Measured) → Stands plan group past taken
+  pub total : (group : Group) (past : List (List Measured)) (taken : List Measured) → Represents plan group past taken
       → along ≡ (rule_in group).total (past ++ taken ∷ [])

@@ -6,7 +6,7 @@ use Rattle.geom_core.specs.declared.geometry.Rect.{Rect}
 use Rattle.measure_pass.specs.Caches.{Grown}
 use Rattle.kept_views.specs.Kept.{IsSized, Sized}
 use Rattle.measure_pass.specs.Measured.{Costs}
-use Rattle.relative_layout.specs.RelativePlan.{StandsRelative, spanned_in}
+use Rattle.relative_layout.specs.RelativePlan.{RepresentsRelative, spanned_in}
 use Rattle.relative_layout.specs.declared.plan.RelativePlan.{RelativePlan}
 use Rattle.view_model.specs.declared.facts.Facts.{Facts}
 use Rattle.view_model.specs.declared.relative.Axis.{Axis}
@@ -142,7 +142,7 @@ first_child (Branch row kids siblings) = child_under row.view (views_of kids)
 -- the child of a place after its turn in a phase, and the plan
 pub record AfterTurn (plan : RelativePlan) (own : Facts) (specs : Specs) (past : List (List Spanned)) (taken : List Spanned) (phase : Phase) (kids : List Child)
     (place : ℕ) (before held : ℕ → Held) (part : Forest Row) (old new : ℕ) : Type 0 where
-  pub plan_stands : StandsRelative plan own specs past (taken ++ spanned_in kids phase.spans (place ∷ []))
+  pub plan_represents : RepresentsRelative plan own specs past (taken ++ spanned_in kids phase.spans (place ∷ []))
   pub over : FirstHasEdges held (phase.asks place) (edges_with phase.axis (phase.spans place) (phase.before place)) part
   pub costs : Costs (first_tree part) before held old (calls_in_turn phase kids place) new
   pub caches : Grown (λ i. asked_in phase kids place) before held (first_tree part)
@@ -150,7 +150,7 @@ pub record AfterTurn (plan : RelativePlan) (own : Facts) (specs : Specs) (past :
 -- the children of a list after a phase in which these were the turns, and the plan
 pub record AfterTurns (plan : RelativePlan) (own : Facts) (specs : Specs) (past : List (List Spanned)) (phase : Phase) (order : List ℕ)
     (before held : ℕ → Held) (list : Forest Row) (old new : ℕ) : Type 0 where
-  pub plan_stands : StandsRelative plan own specs past (spanned_in (kids_in list) phase.spans order)
+  pub plan_represents : RepresentsRelative plan own specs past (spanned_in (kids_in list) phase.spans order)
   pub over : (place : ℕ) → place < length (kids_in list) → TurnIsOver phase held list place
   pub costs : Costs list before held old (sum_by (calls_in_turn phase (kids_in list)) order) new
   pub caches : Grown (asked_in phase (kids_in list)) before held list

@@ -3,7 +3,7 @@ ghost use Rattle.std.specs.Prelude.{◌≡◌, ◌<◌, ℕ, [], ◌∷◌, List
 ghost use Rattle.kept_views.specs.Kept.{Ready};
 ghost use Rattle.measure_pass.specs.Measured.{Keeps, KeepsAllButEdges, kids_from, tree_from};
 ghost use Rattle.measure_pass.specs.Siblings.{FirstHasEdges, FirstHasSize, HaveSizes, IsSettled, TurnIsOver, edges_of, first_child, kids_in, no_edges, order_on, phase_of};
-ghost use Rattle.relative_layout.specs.RelativePlan.{StandsRelative};
+ghost use Rattle.relative_layout.specs.RelativePlan.{RepresentsRelative};
 ghost use Rattle.view_model.specs.declared.facts.Facts.{Facts as FactsValue};
 ghost use Rattle.view_model.specs.declared.relative.Edges.{Edges as EdgesValue};
 ghost use Rattle.view_model.specs.declared.kinds.Class.TheVariants.{RelativeLayout};
@@ -101,7 +101,7 @@ pub fn settle(tree: &mut ViewTree, view: Key, plan: &RelativePlan)
     requires siblings { class_of tree.old view ≡ RelativeLayout }
     requires sizes { HaveSizes (held_of tree.old) (kids_from view tree.old.tree) }
     ensures settled { (own : FactsValue) (specs : Specs) (first second : List Spanned)
-        → StandsRelative plan.now own specs (first ∷ []) second
+        → RepresentsRelative plan.now own specs (first ∷ []) second
         → relative_size own specs first second
         ≡ (arranged own specs (kids_in (kids_from view tree.old.tree))).size
         → ((place : ℕ) → place < length (kids_in (kids_from view tree.old.tree))
@@ -128,7 +128,7 @@ fn settle_kid(tree: &mut ViewTree, kid: Key, plan: &RelativePlan)
     requires live { IsLive tree.old kid }
     requires size { FirstHasSize (held_of tree.old) (part_from kid tree.old.tree) }
     ensures settled { (own : FactsValue) (specs asked : Specs) (first second : List Spanned) (edges : EdgesValue)
-        → StandsRelative plan.now own specs (first ∷ []) second
+        → RepresentsRelative plan.now own specs (first ∷ []) second
         → FirstHasEdges (held_of tree.old) asked edges (part_from kid tree.old.tree)
         → FirstHasEdges (held_of tree.new) asked (edges_of (final_rect own specs (relative_size own specs first second)
         (first_child (part_from kid tree.old.tree)).facts edges

@@ -32,8 +32,8 @@ module _ {X : Type 0} (f : X → X) (items : List X) (low high place : ℕ) (def
       ∙ ap f (get_or-take (high - low) (drop low items) (place - low) default (omega arith)
       ∙ get_or-drop low items (place - low) default ∙ ap (λ (n : ℕ). get_or items n default) (omega arith))
 
-  behind : high ≤ place → get_or (put_mid low (high - low) items run) place default ≡ get_or items place default
-  behind le =
+  following : high ≤ place → get_or (put_mid low (high - low) items run) place default ≡ get_or items place default
+  following le =
       get_or-append_right (take low items) _ low place default (length-take-le low items (omega arith)) (omega arith)
       ∙ get_or-append_right run _ (high - low) (place - low) default length-run (omega arith)
       ∙ get_or-drop (high - low) (drop low items) (place - low - (high - low)) default
@@ -48,5 +48,5 @@ get_or-mapped_run f items low high place default ordered inside =
     (λ is. let at = between_from low high place is in within f items low high place default ordered inside at.0 at.1)
     (λ is. elim (beside low high place is) [
       | inl lt ↦ before f items low high place default ordered inside lt
-      | inr le ↦ behind f items low high place default ordered inside le
+      | inr le ↦ following f items low high place default ordered inside le
     ])

@@ -83,14 +83,14 @@ within_reaches rtl axis tie kids shown (suc left) place anchor h =
     by_test : (sibling : ℕ) → leads axis kids place sibling ≡ true → (v : Bool)
         → (anchor_within left shown (named_sibling rtl axis tie kids) sibling ≡ Some anchor → Reaches (leads axis kids) sibling anchor)
         → (if v then Some sibling else anchor_within left shown (named_sibling rtl axis tie kids) sibling) ≡ Some anchor → Reaches (leads axis kids) place anchor
-    by_test sibling led true behind h = let same : sibling ≡ anchor = cc in AtOnce (rw (sym same) led)
-    by_test sibling led false behind h = Through led (behind h)
+    by_test sibling led true following h = let same : sibling ≡ anchor = cc in AtOnce (rw (sym same) led)
+    by_test sibling led false following h = Through led (following h)
 
     by_name : (name : Option ℕ) → named_sibling rtl axis tie kids place ≡ name
         → ((sibling : ℕ) → anchor_within left shown (named_sibling rtl axis tie kids) sibling ≡ Some anchor → Reaches (leads axis kids) sibling anchor)
         → shown_or shown (anchor_within left shown (named_sibling rtl axis tie kids)) name ≡ Some anchor → Reaches (leads axis kids) place anchor
-    by_name None is behind h = absurd (let none : None ≡ Some anchor = h in cc)
-    by_name (Some sibling) is behind h = by_test sibling (named_leads rtl axis tie kids place sibling is) (shown sibling) (behind sibling) h
+    by_name None is following h = absurd (let none : None ≡ Some anchor = h in cc)
+    by_name (Some sibling) is following h = by_test sibling (named_leads rtl axis tie kids place sibling is) (shown sibling) (following sibling) h
 
 pub anchor_reached : (rtl : Bool) (axis : Axis) (tie : Tie) (kids : List Link) (shown : ℕ → Bool) (place anchor : ℕ) → anchor_of rtl axis tie kids shown place ≡ Some anchor
     → Reaches (leads axis kids) place anchor

@@ -14,7 +14,7 @@ use Rattle.view_model.specs.declared.facts.Rules.{Rules}
 use Rattle.view_model.specs.declared.relative.Axis.{Axis}
 use Rattle.view_model.specs.declared.relative.Axis.TheVariants.{Horizontal, Vertical}
 use Rattle.view_model.specs.declared.relative.Link.{Link}
-use Rattle.view_model.specs.SiblingRules.{last_below, last_with_id, leads, names, nobody}
+use Rattle.view_model.specs.SiblingRules.{last_below, last_with_id, leads, names, no_link}
 
 -- the last of the children below a number with an id
 abbrev pub last_among : List Link → ℕ → ℕ → Option ℕ
@@ -233,13 +233,13 @@ pub leads_inside : (axis : Axis) (kids : List Link) (a b : ℕ) → leads axis k
 leads_inside axis kids a b h = elim (cases_lt b (length kids)) [
   | inl lt ↦ lt
   | inr le ↦
-      let past : link_at kids b ≡ nobody = get_or_past kids b nobody le in
+      let past : link_at kids b ≡ no_link = get_or_past kids b no_link le in
       let named = (leads_parts axis kids a b h).1 in
       absurd (named_some axis (link_at kids a).rules (id_at kids b) named (ap (λ (kid : Link). kid.id) past))
 ]
 
 -- a child that leads to another is there: no child has the id 0
-leads_from_case : (axis : Axis) (b : ℕ) → names axis nobody.rules b ≡ false
+leads_from_case : (axis : Axis) (b : ℕ) → names axis no_link.rules b ≡ false
 unfolding names
 leads_from_case Horizontal b = grind (arith, nat_tests)
 leads_from_case Vertical b = grind (arith, nat_tests)
@@ -248,7 +248,7 @@ pub leads_from : (axis : Axis) (kids : List Link) (a b : ℕ) → leads axis kid
 leads_from axis kids a b h = elim (cases_lt a (length kids)) [
   | inl lt ↦ lt
   | inr le ↦
-      let past : link_at kids a ≡ nobody = get_or_past kids a nobody le in
+      let past : link_at kids a ≡ no_link = get_or_past kids a no_link le in
       let named = (leads_parts axis kids a b h).1 in
       let none : names axis (link_at kids a).rules (id_at kids b) ≡ false = ap (λ (kid : Link). names axis kid.rules (id_at kids b)) past ∙ leads_from_case axis (id_at kids b) in
       absurd (cc)

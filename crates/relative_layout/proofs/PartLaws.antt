@@ -7,16 +7,16 @@ use Rattle.relative_layout.proofs.NamingLaws.{pushed}
 use Rattle.relative_layout.proofs.PointLaws.{goes_both, goes_on}
 use Rattle.relative_layout.proofs.TakingLaws.{append_at}
 use Rattle.relative_layout.specs.declared.parts.Part.{Part}
-use Rattle.relative_layout.specs.declared.parts.Standing.{Standing}
-use Rattle.relative_layout.specs.declared.parts.Standing.TheVariants.{Done, Fresh, OnPath}
+use Rattle.relative_layout.specs.declared.parts.Status.{Status}
+use Rattle.relative_layout.specs.declared.parts.Status.TheVariants.{Done, Fresh, OnPath}
 use Rattle.relative_layout.specs.Naming.{Has}
-use Rattle.relative_layout.specs.Parts.{HasFrom, HasTwo, IsLastPart, IsPending, IsSearch, IsTold, Joins, Known, LedTo, OnFrom, Settles, no_part, standing_of, start_of, todo_of}
+use Rattle.relative_layout.specs.Parts.{HasFrom, HasTwo, IsLastPart, IsPending, IsSearch, IsReported, Joins, Known, LedTo, OnFrom, Settles, no_part, status_of, start_of, todo_of}
 use Rattle.relative_layout.specs.Points.{Circles, Goes, Stays, Steps}
 
 -- before any point is entered
-pub IsSearch-none : (heads : ℕ → List ℕ) (standing : List Standing) (path todo : List ℕ) (parts : List Part) (held : Option ℕ) → ((point : ℕ) → standing_of standing point ≡ Fresh)
-    → path ≡ [] → todo ≡ [] → parts ≡ [] → IsSearch heads standing path todo parts held
-IsSearch-none heads standing path todo parts held fresh no_path no_todo no_parts = rw (no_path, no_todo, no_parts) (record {
+pub IsSearch-none : (heads : ℕ → List ℕ) (status : List Status) (path todo : List ℕ) (parts : List Part) (held : Option ℕ) → ((point : ℕ) → status_of status point ≡ Fresh)
+    → path ≡ [] → todo ≡ [] → parts ≡ [] → IsSearch heads status path todo parts held
+IsSearch-none heads status path todo parts held fresh no_path no_todo no_parts = rw (no_path, no_todo, no_parts) (record {
   there = λ p h. absurd (omega arith);
   back = λ a p e. absurd (let bad : Fresh ≡ OnPath p = sym (fresh a) ∙ e in cc);
   closed = λ a b e has. absurd (let bad : Fresh ≡ Done = sym (fresh a) ∙ e in cc);
@@ -30,41 +30,41 @@ IsSearch-none heads standing path todo parts held fresh no_path no_todo no_parts
 })
 
 -- what is known of a point stays known for another list of edges, if that has what this one had
-known_with : (standing : List Standing) (old new : List ℕ) (was held : Option ℕ) (start todo_start a : ℕ)
-    → (HasFrom old todo_start a → Known standing new held start todo_start a) → (was ≡ Some a → Known standing new held start todo_start a)
-    → Known standing old was start todo_start a → Known standing new held start todo_start a
-known_with standing old new was held start todo_start a todo hand known = elim known [
+known_with : (status : List Status) (old new : List ℕ) (was held : Option ℕ) (start todo_start a : ℕ)
+    → (HasFrom old todo_start a → Known status new held start todo_start a) → (was ≡ Some a → Known status new held start todo_start a)
+    → Known status old was start todo_start a → Known status new held start todo_start a
+known_with status old new was held start todo_start a todo hand known = elim known [
   | inl done ↦ inl done
   | inr more ↦ elim more [ inl on ↦ inr (inl on) | inr rest ↦ elim rest [ inl has ↦ todo has | inr is ↦ hand is ] ]
 ]
 
 -- one point more is current
-pub IsSearch-hold : (heads : ℕ → List ℕ) (standing : List Standing) (path todo : List ℕ) (parts : List Part) (held : Option ℕ) → IsSearch heads standing path todo parts None → IsSearch heads standing path todo parts held
-IsSearch-hold heads standing path todo parts held is = record {
+pub IsSearch-hold : (heads : ℕ → List ℕ) (status : List Status) (path todo : List ℕ) (parts : List Part) (held : Option ℕ) → IsSearch heads status path todo parts None → IsSearch heads status path todo parts held
+IsSearch-hold heads status path todo parts held is = record {
   there = is.there;
   back = is.back;
   closed = is.closed;
   inside = is.inside;
   rising = is.rising;
   covered = is.covered;
-  known = λ i p a h o l has. known_with standing todo todo None held _ _ a (λ there. inr (inr (inl there))) (λ bad. absurd (cc)) (is.known i p a h o l has);
+  known = λ i p a h o l has. known_with status todo todo None held _ _ a (λ there. inr (inr (inl there))) (λ bad. absurd (cc)) (is.known i p a h o l has);
   pending = is.pending;
   forth = is.forth;
   back_in = is.back_in;
 }
 
 -- the current point is done, or is in the last part or before it
-pub IsSearch-drop : (heads : ℕ → List ℕ) (standing : List Standing) (path todo : List ℕ) (parts : List Part) (point : ℕ)
-    → ((i : ℕ) → i < length parts → (standing_of standing point ≡ Done) ⊎ OnFrom standing (start_of parts i) point)
-    → IsSearch heads standing path todo parts (Some point) → IsSearch heads standing path todo parts None
-IsSearch-drop heads standing path todo parts point seen is = record {
+pub IsSearch-drop : (heads : ℕ → List ℕ) (status : List Status) (path todo : List ℕ) (parts : List Part) (point : ℕ)
+    → ((i : ℕ) → i < length parts → (status_of status point ≡ Done) ⊎ OnFrom status (start_of parts i) point)
+    → IsSearch heads status path todo parts (Some point) → IsSearch heads status path todo parts None
+IsSearch-drop heads status path todo parts point seen is = record {
   there = is.there;
   back = is.back;
   closed = is.closed;
   inside = is.inside;
   rising = is.rising;
   covered = is.covered;
-  known = λ i p a h o l has. known_with standing todo todo (Some point) None _ _ a
+  known = λ i p a h o l has. known_with status todo todo (Some point) None _ _ a
       (λ there. inr (inr (inl there)))
       (λ e. let same : point ≡ a = cc in elim (seen i h) [ inl done ↦ inl (rw same at done) | inr on ↦ inr (inl (rw same at on)) ])
       (is.known i p a h o l has);
@@ -77,9 +77,9 @@ shorter : (xs : List ℕ) (a k : ℕ) → k < length xs → k < length (xs ++ a 
 shorter xs a k h = omega (arith, length-append xs (a ∷ []))
 
 -- the last edge of the list gives the current point
-pub IsSearch-next : (heads : ℕ → List ℕ) (standing : List Standing) (path todo : List ℕ) (parts : List Part) (part : Part) (point : ℕ)
-    → IsLastPart parts part → part.todo ≤ length todo → IsSearch heads standing path (todo ++ point ∷ []) parts None → IsSearch heads standing path todo parts (Some point)
-IsSearch-next heads standing path todo parts part point last room is = record {
+pub IsSearch-next : (heads : ℕ → List ℕ) (status : List Status) (path todo : List ℕ) (parts : List Part) (part : Part) (point : ℕ)
+    → IsLastPart parts part → part.todo ≤ length todo → IsSearch heads status path (todo ++ point ∷ []) parts None → IsSearch heads status path todo parts (Some point)
+IsSearch-next heads status path todo parts part point last room is = record {
   there = is.there;
   back = is.back;
   closed = is.closed;
@@ -89,7 +89,7 @@ IsSearch-next heads standing path todo parts part point last room is = record {
       ((is.inside i h).0, omega (arith, up.1, begin));
   rising = is.rising;
   covered = is.covered;
-  known = λ i p a h o l has. known_with standing (todo ++ point ∷ []) todo None (Some point) _ _ a
+  known = λ i p a h o l has. known_with status (todo ++ point ∷ []) todo None (Some point) _ _ a
       (λ there. elim (pushed todo point there.0 there.2) [
         | inl w ↦ inr (inr (inl (there.0, there.1, w.0, sym w.1 ∙ there.3)))
         | inr w ↦ inr (inr (inr (let same : point ≡ a = sym w.1 ∙ there.3 in ap Some same)))
@@ -101,9 +101,9 @@ IsSearch-next heads standing path todo parts part point last room is = record {
   back_in = is.back_in;
 }
 
-pub LedTo-next : (heads : ℕ → List ℕ) (standing : List Standing) (path todo : List ℕ) (parts : List Part) (part : Part) (point : ℕ)
-    → IsLastPart parts part → part.todo ≤ length todo → IsSearch heads standing path (todo ++ point ∷ []) parts None → LedTo heads path parts point
-LedTo-next heads standing path todo parts part point last room is =
+pub LedTo-next : (heads : ℕ → List ℕ) (status : List Status) (path todo : List ℕ) (parts : List Part) (part : Part) (point : ℕ)
+    → IsLastPart parts part → part.todo ≤ length todo → IsSearch heads status path (todo ++ point ∷ []) parts None → LedTo heads path parts point
+LedTo-next heads status path todo parts part point last room is =
     let was = is.pending (length todo) (omega (arith, length-append todo (point ∷ []))) in
     record {
       from = was.from;
@@ -116,9 +116,9 @@ LedTo-next heads standing path todo parts part point last room is =
     }
 
 -- where the last part leads, the whole path leads
-pub goes_along : (heads : ℕ → List ℕ) (standing : List Standing) (path todo : List ℕ) (parts : List Part) (held : Option ℕ) (point place : ℕ)
-    → IsSearch heads standing path todo parts held → LedTo heads path parts point → place < length path → Goes heads (get_or path place 0) point
-goes_along heads standing path todo parts held point place is led h =
+pub goes_along : (heads : ℕ → List ℕ) (status : List Status) (path todo : List ℕ) (parts : List Part) (held : Option ℕ) (point place : ℕ)
+    → IsSearch heads status path todo parts held → LedTo heads path parts point → place < length path → Goes heads (get_or path place 0) point
+goes_along heads status path todo parts held point place is led h =
     let there : Goes heads (get_or path place 0) (get_or path led.from 0) = elim (cases_lt place led.from) [
       | inl lt ↦ is.forth place led.from (omega arith) led.inside
       | inr le ↦ is.back_in led.from place le h (λ i l o. led.last i l)
@@ -126,9 +126,9 @@ goes_along heads standing path todo parts held point place is led h =
     goes_both there (Steps led.goes Stays)
 
 -- parts that begin after a point to which the last one leads are joined to the part that has it
-pub IsSearch-join : (heads : ℕ → List ℕ) (standing : List Standing) (path todo : List ℕ) (old new : List Part) (held : Option ℕ) (point place : ℕ)
-    → LedTo heads path old point → standing_of standing point ≡ OnPath place → Joins place old new → IsSearch heads standing path todo old held → IsSearch heads standing path todo new held
-IsSearch-join heads standing path todo old new held point place led on joins is =
+pub IsSearch-join : (heads : ℕ → List ℕ) (status : List Status) (path todo : List ℕ) (old new : List Part) (held : Option ℕ) (point place : ℕ)
+    → LedTo heads path old point → status_of status point ≡ OnPath place → Joins place old new → IsSearch heads status path todo old held → IsSearch heads status path todo new held
+IsSearch-join heads status path todo old new held point place led on joins is =
     let start : (i : ℕ) → i < length new → start_of new i ≡ start_of old i = (λ i h. ap (λ (part : Part). part.path) (joins.same i h)) in
     let begin : (i : ℕ) → i < length new → todo_of new i ≡ todo_of old i = (λ i h. ap (λ (part : Part). part.todo) (joins.same i h)) in
     let in_old : (i : ℕ) → i < length new → i < length old = (λ i h. omega (arith, joins.fewer)) in
@@ -164,7 +164,7 @@ IsSearch-join heads standing path todo old new held point place led on joins is 
         front : (i : ℕ) → i < length old → start_of old i ≤ place → start_of old i ≤ p → (i : ℕ) × (i < length new) × (start_of new i ≤ p)
         front i l at_most o = elim (cases_lt i (length new)) [
           | inl lt ↦ (i, lt, rw (ap (λ (part : Part). part.path) (joins.same i lt)) o)
-          | inr le ↦ absurd (let up = is.rising (length new) i le l in let b = joins.behind less in omega (arith, up.0))
+          | inr le ↦ absurd (let up = is.rising (length new) i le l in let b = joins.following less in omega (arith, up.0))
         ]
 
     back_case : (p q : ℕ) → p ≤ q → q < length path → ((i : ℕ) → i < length new → start_of old i ≤ q → start_of old i ≤ p) → (length new < length old) ⊎ (length old ≤ length new)
@@ -176,8 +176,8 @@ IsSearch-join heads standing path todo old new held point place led on joins is 
         | inr large ↦ absurd (let up = is.rising (length new) i large l in omega (arith, up.0))
       ])
       | inr le ↦
-          let behind = joins.behind less in
-          let to : Goes heads (get_or path q 0) point = goes_along heads standing path todo old held point q is led h in
+          let following = joins.following less in
+          let to : Goes heads (get_or path q 0) point = goes_along heads status path todo old held point q is led h in
           let from : Goes heads (get_or path place 0) (get_or path p 0) = elim (cases_lt place p) [
             | inl lt ↦ is.forth place p (omega arith) (omega arith)
             | inr ge ↦ is.back_in p place ge at_place.0 (λ i l e. elim (cases_lt i (length new)) [
@@ -203,23 +203,23 @@ part_of parts part i h = elim (cases_lt i (length parts)) [
 ]
 
 -- a point on the path that was fresh
-pub record Enters (standing : List Standing) (path : List ℕ) (point : ℕ) : Type 0 where
-  pub own : standing_of (set standing point (OnPath (length path))) point ≡ OnPath (length path)
-  pub same : (a : ℕ) → a ≢ point → standing_of (set standing point (OnPath (length path))) a ≡ standing_of standing a
-  pub done : (a : ℕ) → standing_of standing a ≡ Done → standing_of (set standing point (OnPath (length path))) a ≡ Done
-  pub on : (a p : ℕ) → standing_of standing a ≡ OnPath p → standing_of (set standing point (OnPath (length path))) a ≡ OnPath p
-  pub was_done : (a : ℕ) → standing_of (set standing point (OnPath (length path))) a ≡ Done → standing_of standing a ≡ Done
+pub record Enters (status : List Status) (path : List ℕ) (point : ℕ) : Type 0 where
+  pub own : status_of (set status point (OnPath (length path))) point ≡ OnPath (length path)
+  pub same : (a : ℕ) → a ≢ point → status_of (set status point (OnPath (length path))) a ≡ status_of status a
+  pub done : (a : ℕ) → status_of status a ≡ Done → status_of (set status point (OnPath (length path))) a ≡ Done
+  pub on : (a p : ℕ) → status_of status a ≡ OnPath p → status_of (set status point (OnPath (length path))) a ≡ OnPath p
+  pub was_done : (a : ℕ) → status_of (set status point (OnPath (length path))) a ≡ Done → status_of status a ≡ Done
 
-pub Enters-fresh : (standing : List Standing) (path : List ℕ) (point : ℕ) → point < length standing → standing_of standing point ≡ Fresh → Enters standing path point
-Enters-fresh standing path point small fresh =
-    let own : standing_of (set standing point (OnPath (length path))) point ≡ OnPath (length path) = get_or-set_same standing point (OnPath (length path)) Fresh small in
-    let same : (a : ℕ) → a ≢ point → standing_of (set standing point (OnPath (length path))) a ≡ standing_of standing a
-    = (λ a ne. get_or-set_other standing point a (OnPath (length path)) Fresh ne) in
+pub Enters-fresh : (status : List Status) (path : List ℕ) (point : ℕ) → point < length status → status_of status point ≡ Fresh → Enters status path point
+Enters-fresh status path point small fresh =
+    let own : status_of (set status point (OnPath (length path))) point ≡ OnPath (length path) = get_or-set_same status point (OnPath (length path)) Fresh small in
+    let same : (a : ℕ) → a ≢ point → status_of (set status point (OnPath (length path))) a ≡ status_of status a
+    = (λ a ne. get_or-set_other status point a (OnPath (length path)) Fresh ne) in
     record {
       own = own;
       same = same;
-      done = λ a e. same a (λ is. let f : standing_of standing a ≡ Fresh = rw is fresh in let bad : Fresh ≡ Done = sym f ∙ e in cc) ∙ e;
-      on = λ a p e. same a (λ is. let f : standing_of standing a ≡ Fresh = rw is fresh in let bad : Fresh ≡ OnPath p = sym f ∙ e in cc) ∙ e;
+      done = λ a e. same a (λ is. let f : status_of status a ≡ Fresh = rw is fresh in let bad : Fresh ≡ Done = sym f ∙ e in cc) ∙ e;
+      on = λ a p e. same a (λ is. let f : status_of status a ≡ Fresh = rw is fresh in let bad : Fresh ≡ OnPath p = sym f ∙ e in cc) ∙ e;
       was_done = λ a e. elim (cases_eq a point) [
         | inl is ↦ absurd (let f = rw is at e in let bad : OnPath (length path) ≡ Done = sym own ∙ f in cc)
         | inr ne ↦ sym (same a ne) ∙ e
@@ -227,11 +227,11 @@ Enters-fresh standing path point small fresh =
     }
 
 -- a fresh point is put on the path, as a part of its own
-pub IsSearch-enter : (heads : ℕ → List ℕ) (standing : List Standing) (path todo : List ℕ) (parts : List Part) (point : ℕ)
-    → point < length standing → standing_of standing point ≡ Fresh → ((place : ℕ) → place < length path → Goes heads (get_or path place 0) point)
-    → IsSearch heads standing path todo parts (Some point)
-    → IsSearch heads (set standing point (OnPath (length path))) (path ++ point ∷ []) (todo ++ heads point) (parts ++ record { path = length path; todo = length todo } ∷ []) None
-IsSearch-enter heads standing path todo parts point small fresh led is = record {
+pub IsSearch-enter : (heads : ℕ → List ℕ) (status : List Status) (path todo : List ℕ) (parts : List Part) (point : ℕ)
+    → point < length status → status_of status point ≡ Fresh → ((place : ℕ) → place < length path → Goes heads (get_or path place 0) point)
+    → IsSearch heads status path todo parts (Some point)
+    → IsSearch heads (set status point (OnPath (length path))) (path ++ point ∷ []) (todo ++ heads point) (parts ++ record { path = length path; todo = length todo } ∷ []) None
+IsSearch-enter heads status path todo parts point small fresh led is = record {
   there = λ p h. elim (pushed path point p h) [
     | inl w ↦ rw w.1 (enters.on (get_or path p 0) p (is.there p w.0))
     | inr w ↦ rw (w.1, w.0) enters.own
@@ -280,8 +280,8 @@ IsSearch-enter heads standing path todo parts point small fresh led is = record 
     part : Part
     part = record { path = length path; todo = length todo }
 
-    enters : Enters standing path point
-    enters = Enters-fresh standing path point small fresh
+    enters : Enters status path point
+    enters = Enters-fresh status path point small fresh
 
     longer : length (path ++ point ∷ []) ≡ length path + 1
     longer = length-append path (point ∷ [])
@@ -301,7 +301,7 @@ IsSearch-enter heads standing path todo parts point small fresh led is = record 
     new_start : start_of (parts ++ part ∷ []) (length parts) ≡ length path
     new_start = ap (λ (p : Part). p.path) (get_or_push parts part no_part (length parts) refl)
 
-    on_new : (start a : ℕ) → start ≤ length path → a ≡ point → OnFrom (set standing point (OnPath (length path))) start a
+    on_new : (start a : ℕ) → start ≤ length path → a ≡ point → OnFrom (set status point (OnPath (length path))) start a
     on_new start a h same = (length path, h, rw same enters.own)
 
     has_new : (start a : ℕ) → start ≤ length todo → Has (heads point) a → HasFrom (todo ++ heads point) start a
@@ -310,8 +310,8 @@ IsSearch-enter heads standing path todo parts point small fresh led is = record 
     has_old : (start a : ℕ) → HasFrom todo start a → HasFrom (todo ++ heads point) start a
     has_old start a has = (has.0, has.1, omega (arith, long_todo, has.2), get_or_append_left todo (heads point) 0 has.0 has.2 ∙ has.3)
 
-    still : (start todo_start a : ℕ) → start ≤ length path → Known standing todo (Some point) start todo_start a
-        → Known (set standing point (OnPath (length path))) (todo ++ heads point) None start todo_start a
+    still : (start todo_start a : ℕ) → start ≤ length path → Known status todo (Some point) start todo_start a
+        → Known (set status point (OnPath (length path))) (todo ++ heads point) None start todo_start a
     still start todo_start a h known = elim known [
       | inl done ↦ inl (enters.done a done)
       | inr more ↦ elim more [
@@ -326,7 +326,7 @@ IsSearch-enter heads standing path todo parts point small fresh led is = record 
     known_case : (i p a : ℕ) → start_of (parts ++ part ∷ []) i ≤ p → p < length (path ++ point ∷ []) → Has (heads (get_or (path ++ point ∷ []) p 0)) a
         → PartOf parts part i
         → ((p < length path) × (get_or (path ++ point ∷ []) p 0 ≡ get_or path p 0)) ⊎ ((p ≡ length path) × (get_or (path ++ point ∷ []) p 0 ≡ point))
-        → Known (set standing point (OnPath (length path))) (todo ++ heads point) None (start_of (parts ++ part ∷ []) i) (todo_of (parts ++ part ∷ []) i) a
+        → Known (set status point (OnPath (length path))) (todo ++ heads point) None (start_of (parts ++ part ∷ []) i) (todo_of (parts ++ part ∷ []) i) a
     known_case i p a o l has (OldPart k s t) (inl v) = rw (s, t) (still (start_of parts i) (todo_of parts i) a (is.inside i k).0 (is.known i p a k (rw s at o) v.0 (rw v.1 at has)))
     known_case i p a o l has (OldPart k s t) (inr v) = rw (s, t) (inr (inr (inl (has_new (todo_of parts i) a (is.inside i k).1 (rw v.1 at has)))))
     known_case i p a o l has (NewPart k s t) (inl v) = absurd (let from : length path ≤ p = rw s at o in omega (arith, v.0))
@@ -364,30 +364,30 @@ IsSearch-enter heads standing path todo parts point small fresh led is = record 
         }
 
 -- a point is in one of three states
-pub data PointState (standing : List Standing) (a : ℕ) : Type 0 where
-  IsFresh : standing_of standing a ≡ Fresh → PointState standing a
-  IsOn : (p : ℕ) → standing_of standing a ≡ OnPath p → PointState standing a
-  IsDone : standing_of standing a ≡ Done → PointState standing a
+pub data PointState (status : List Status) (a : ℕ) : Type 0 where
+  IsFresh : status_of status a ≡ Fresh → PointState status a
+  IsOn : (p : ℕ) → status_of status a ≡ OnPath p → PointState status a
+  IsDone : status_of status a ≡ Done → PointState status a
 
-found_case : (standing : List Standing) (a : ℕ) (found : Standing) → standing_of standing a ≡ found → PointState standing a
-found_case standing a Fresh e = IsFresh e
-found_case standing a (OnPath p) e = IsOn p e
-found_case standing a Done e = IsDone e
+found_case : (status : List Status) (a : ℕ) (found : Status) → status_of status a ≡ found → PointState status a
+found_case status a Fresh e = IsFresh e
+found_case status a (OnPath p) e = IsOn p e
+found_case status a Done e = IsDone e
 
-pub found : (standing : List Standing) (a : ℕ) → PointState standing a
-found standing a = found_case standing a (standing_of standing a) refl
+pub found : (status : List Status) (a : ℕ) → PointState status a
+found status a = found_case status a (status_of status a) refl
 
 -- the last part of a path, with no edge of it left to follow
-pub record IsWhole (heads : ℕ → List ℕ) (standing : List Standing) (path : List ℕ) (start : ℕ) : Type 0 where
-  pub there : (place : ℕ) → place < length path → standing_of standing (get_or path place 0) ≡ OnPath place
-  pub back : (point place : ℕ) → standing_of standing point ≡ OnPath place → (place < length path) × (get_or path place 0 ≡ point)
-  pub closed : (a b : ℕ) → standing_of standing a ≡ Done → Has (heads a) b → standing_of standing b ≡ Done
-  pub leads : (a b : ℕ) → OnFrom standing start a → Has (heads a) b → (standing_of standing b ≡ Done) ⊎ OnFrom standing start b
-  pub together : (a b : ℕ) → OnFrom standing start a → OnFrom standing start b → Goes heads a b
+pub record IsWhole (heads : ℕ → List ℕ) (status : List Status) (path : List ℕ) (start : ℕ) : Type 0 where
+  pub there : (place : ℕ) → place < length path → status_of status (get_or path place 0) ≡ OnPath place
+  pub back : (point place : ℕ) → status_of status point ≡ OnPath place → (place < length path) × (get_or path place 0 ≡ point)
+  pub closed : (a b : ℕ) → status_of status a ≡ Done → Has (heads a) b → status_of status b ≡ Done
+  pub leads : (a b : ℕ) → OnFrom status start a → Has (heads a) b → (status_of status b ≡ Done) ⊎ OnFrom status start b
+  pub together : (a b : ℕ) → OnFrom status start a → OnFrom status start b → Goes heads a b
 
-pub IsWhole-last : (heads : ℕ → List ℕ) (standing : List Standing) (path todo : List ℕ) (parts : List Part) (part : Part) → IsLastPart parts part → length todo ≤ part.todo
-    → IsSearch heads standing path todo parts None → IsWhole heads standing path part.path
-IsWhole-last heads standing path todo parts part last room is =
+pub IsWhole-last : (heads : ℕ → List ℕ) (status : List Status) (path todo : List ℕ) (parts : List Part) (part : Part) → IsLastPart parts part → length todo ≤ part.todo
+    → IsSearch heads status path todo parts None → IsWhole heads status path part.path
+IsWhole-last heads status path todo parts part last room is =
     let end : length parts - 1 < length parts = omega (arith, last.some) in
     let start : start_of parts (length parts - 1) ≡ part.path = ap (λ (p : Part). p.path) last.is in
     let begin : todo_of parts (length parts - 1) ≡ part.todo = ap (λ (p : Part). p.todo) last.is in
@@ -418,15 +418,15 @@ IsWhole-last heads standing path todo parts part last room is =
     }
 
 -- a point of a part that is finished is done, and any other is what it was
-pub settled : (heads : ℕ → List ℕ) (two : Bool) (count start : ℕ) (path : List ℕ) (old new : List Standing) (old_marks marks : List Bool)
+pub settled : (heads : ℕ → List ℕ) (two : Bool) (count start : ℕ) (path : List ℕ) (old new : List Status) (old_marks marks : List Bool)
     → Settles two count start (length path) path old new old_marks marks → IsWhole heads old path start → (a : ℕ)
-    → (OnFrom old start a × (standing_of new a ≡ Done)) ⊎ ((OnFrom old start a → ⊥) × (standing_of new a ≡ standing_of old a))
+    → (OnFrom old start a × (status_of new a ≡ Done)) ⊎ ((OnFrom old start a → ⊥) × (status_of new a ≡ status_of old a))
 settled heads two count start path old new old_marks marks settles whole a = by_case (found old a)
   where
-    alike : (OnFrom old start a → ⊥) → standing_of new a ≡ standing_of old a
+    alike : (OnFrom old start a → ⊥) → status_of new a ≡ status_of old a
     alike off = settles.same a (λ p o h same. off (p, o, rw (← same) (whole.there p h)))
 
-    by_case : PointState old a → (OnFrom old start a × (standing_of new a ≡ Done)) ⊎ ((OnFrom old start a → ⊥) × (standing_of new a ≡ standing_of old a))
+    by_case : PointState old a → (OnFrom old start a × (status_of new a ≡ Done)) ⊎ ((OnFrom old start a → ⊥) × (status_of new a ≡ status_of old a))
     by_case (IsFresh e) = let off : OnFrom old start a → ⊥ = (λ on. let z = on.2 in let bad : Fresh ≡ OnPath on.0 = sym e ∙ z in cc) in inr (off, alike off)
     by_case (IsDone e) = let off : OnFrom old start a → ⊥ = (λ on. let z = on.2 in let bad : Done ≡ OnPath on.0 = sym e ∙ z in cc) in inr (off, alike off)
     by_case (IsOn p e) = elim (cases_lt p start) [
@@ -437,16 +437,16 @@ settled heads two count start path old new old_marks marks settles whole a = by_
     ]
 
 -- a done point stays done
-done_stays : (heads : ℕ → List ℕ) (two : Bool) (count start : ℕ) (path : List ℕ) (old new : List Standing) (old_marks marks : List Bool)
-    → Settles two count start (length path) path old new old_marks marks → IsWhole heads old path start → (a : ℕ) → standing_of old a ≡ Done → standing_of new a ≡ Done
+done_stays : (heads : ℕ → List ℕ) (two : Bool) (count start : ℕ) (path : List ℕ) (old new : List Status) (old_marks marks : List Bool)
+    → Settles two count start (length path) path old new old_marks marks → IsWhole heads old path start → (a : ℕ) → status_of old a ≡ Done → status_of new a ≡ Done
 done_stays heads two count start path old new old_marks marks settles whole a e = elim (settled heads two count start path old new old_marks marks settles whole a) [
   | inl w ↦ w.1
   | inr w ↦ w.1 ∙ e
 ]
 
-done_closed : (heads : ℕ → List ℕ) (two : Bool) (count start : ℕ) (path : List ℕ) (old new : List Standing) (old_marks marks : List Bool)
+done_closed : (heads : ℕ → List ℕ) (two : Bool) (count start : ℕ) (path : List ℕ) (old new : List Status) (old_marks marks : List Bool)
     → Settles two count start (length path) path old new old_marks marks → IsWhole heads old path start
-    → (a b : ℕ) → standing_of new a ≡ Done → Has (heads a) b → standing_of new b ≡ Done
+    → (a b : ℕ) → status_of new a ≡ Done → Has (heads a) b → status_of new b ≡ Done
 done_closed heads two count start path old new old_marks marks settles whole a b e has = elim (settled heads two count start path old new old_marks marks settles whole a) [
   | inl w ↦ elim (whole.leads a b w.0 has) [
     | inl done ↦ done_stays heads two count start path old new old_marks marks settles whole b done
@@ -456,7 +456,7 @@ done_closed heads two count start path old new old_marks marks settles whole a b
 ]
 
 -- the last part is left
-pub IsSearch-leave : (heads : ℕ → List ℕ) (two : Bool) (count : ℕ) (path todo : List ℕ) (parts : List Part) (part : Part) (old new : List Standing) (old_marks marks : List Bool)
+pub IsSearch-leave : (heads : ℕ → List ℕ) (two : Bool) (count : ℕ) (path todo : List ℕ) (parts : List Part) (part : Part) (old new : List Status) (old_marks marks : List Bool)
     → IsLastPart parts part → length todo ≤ part.todo → Settles two count part.path (length path) path old new old_marks marks
     → IsSearch heads old path todo parts None → IsSearch heads new (take part.path path) todo (take (length parts - 1) parts) None
 IsSearch-leave heads two count path todo parts part old new old_marks marks last room settles is = record {
@@ -464,7 +464,7 @@ IsSearch-leave heads two count path todo parts part old new old_marks marks last
   back = λ a p e. elim (settled heads two count part.path path old new old_marks marks settles whole a) [
     | inl w ↦ absurd (let z = w.1 in let bad : Done ≡ OnPath p = sym z ∙ e in cc)
     | inr w ↦
-        let was : standing_of old a ≡ OnPath p = sym w.1 ∙ e in
+        let was : status_of old a ≡ OnPath p = sym w.1 ∙ e in
         let at = is.back a p was in
         elim (cases_lt p part.path) [
           | inl lt ↦ (omega (arith, short), kept p lt ∙ at.1)
@@ -547,11 +547,11 @@ IsSearch-leave heads two count path todo parts part old new old_marks marks last
     same_todo : (i : ℕ) → i < length parts - 1 → todo_of (take (length parts - 1) parts) i ≡ todo_of parts i
     same_todo i h = ap (λ (p : Part). p.todo) (get_or-take (length parts - 1) parts i no_part h)
 
-    off_same : (p : ℕ) → p < part.path → standing_of new (get_or path p 0) ≡ standing_of old (get_or path p 0)
+    off_same : (p : ℕ) → p < part.path → status_of new (get_or path p 0) ≡ status_of old (get_or path p 0)
     off_same p h = settles.same (get_or path p 0) (λ q o l same.
         let one = is.there q l in
         let two = is.there p (omega (arith, fits)) in
-        let both : OnPath q ≡ OnPath p = sym one ∙ ap (standing_of old) same ∙ two in
+        let both : OnPath q ≡ OnPath p = sym one ∙ ap (status_of old) same ∙ two in
         let at : q ≡ p = cc in
         omega arith)
 
@@ -568,14 +568,14 @@ IsSearch-leave heads two count path todo parts part old new old_marks marks last
     ]
 
 -- the members found so far stay so while no point becomes done
-pub IsTold-keep : (heads : ℕ → List ℕ) (count : ℕ) (old new : List Standing) (marks : List Bool) → ((a : ℕ) → standing_of new a ≡ Done → standing_of old a ≡ Done)
-    → IsTold heads count old marks → IsTold heads count new marks
-IsTold-keep heads count old new marks was told = record { size = told.size; sound = told.sound; whole = λ a small e circles. told.whole a small (was a e) circles }
+pub IsReported-keep : (heads : ℕ → List ℕ) (count : ℕ) (old new : List Status) (marks : List Bool) → ((a : ℕ) → status_of new a ≡ Done → status_of old a ≡ Done)
+    → IsReported heads count old marks → IsReported heads count new marks
+IsReported-keep heads count old new marks was reported = record { size = reported.size; sound = reported.sound; whole = λ a small e circles. reported.whole a small (was a e) circles }
 
 -- two children of a part
-has_two : (heads : ℕ → List ℕ) (count start : ℕ) (path : List ℕ) (standing : List Standing) → IsWhole heads standing path start
-    → (a b : ℕ) → OnFrom standing start a → OnFrom standing start b → a ≢ b → a < count → b < count → HasTwo count start path
-has_two heads count start path standing whole a b on to ne a_child b_child =
+has_two : (heads : ℕ → List ℕ) (count start : ℕ) (path : List ℕ) (status : List Status) → IsWhole heads status path start
+    → (a b : ℕ) → OnFrom status start a → OnFrom status start b → a ≢ b → a < count → b < count → HasTwo count start path
+has_two heads count start path status whole a b on to ne a_child b_child =
     let from = whole.back a on.0 on.2 in
     let there = whole.back b to.0 to.2 in
     elim (cases_lt on.0 to.0) [
@@ -586,32 +586,32 @@ has_two heads count start path standing whole a b on to ne a_child b_child =
     ]
 
 -- a member of a cycle in a part that is left has another child beside it there
-circles_two : (heads : ℕ → List ℕ) (two : Bool) (count start : ℕ) (path : List ℕ) (old new : List Standing) (old_marks marks : List Bool)
+circles_two : (heads : ℕ → List ℕ) (two : Bool) (count start : ℕ) (path : List ℕ) (old new : List Status) (old_marks marks : List Bool)
     → Settles two count start (length path) path old new old_marks marks → IsWhole heads old path start
     → (a : ℕ) → a < count → OnFrom old start a → Circles heads count a → HasTwo count start path
 circles_two heads two count start path old new old_marks marks settles whole a small on circles =
     let at = whole.back a on.0 on.2 in
-    let a_done : standing_of new a ≡ Done = rw at.1 at (settles.done on.0 on.1 at.0) in
-    let b_done : standing_of new circles.0 ≡ Done
-    = goes_on (λ p. standing_of new p ≡ Done) (done_closed heads two count start path old new old_marks marks settles whole) a_done circles.3 in
+    let a_done : status_of new a ≡ Done = rw at.1 at (settles.done on.0 on.1 at.0) in
+    let b_done : status_of new circles.0 ≡ Done
+    = goes_on (λ p. status_of new p ≡ Done) (done_closed heads two count start path old new old_marks marks settles whole) a_done circles.3 in
     elim (settled heads two count start path old new old_marks marks settles whole circles.0) [
       | inl w ↦ has_two heads count start path old whole a circles.0 on w.0 (λ same. circles.2 (sym same)) small circles.1
       | inr w ↦ absurd (
-          let was : standing_of old circles.0 ≡ Done = sym w.1 ∙ b_done in
-          let done : standing_of old a ≡ Done = goes_on (λ p. standing_of old p ≡ Done) whole.closed was circles.4 in
+          let was : status_of old circles.0 ≡ Done = sym w.1 ∙ b_done in
+          let done : status_of old a ≡ Done = goes_on (λ p. status_of old p ≡ Done) whole.closed was circles.4 in
           let z = on.2 in
           let bad : Done ≡ OnPath on.0 = sym done ∙ z in
           cc)
     ]
 
 -- the members found once the last part is left
-pub IsTold-leave : (heads : ℕ → List ℕ) (two : Bool) (count start : ℕ) (path : List ℕ) (old new : List Standing) (old_marks marks : List Bool)
+pub IsReported-leave : (heads : ℕ → List ℕ) (two : Bool) (count start : ℕ) (path : List ℕ) (old new : List Status) (old_marks marks : List Bool)
     → (two ≡ true → HasTwo count start path) → (HasTwo count start path → two ≡ true) → Settles two count start (length path) path old new old_marks marks → IsWhole heads old path start
-    → IsTold heads count old old_marks → IsTold heads count new marks
-IsTold-leave heads two count start path old new old_marks marks if_two two_if settles whole told = record {
-  size = settles.marks_size ∙ told.size;
+    → IsReported heads count old old_marks → IsReported heads count new marks
+IsReported-leave heads two count start path old new old_marks marks if_two two_if settles whole reported = record {
+  size = settles.marks_size ∙ reported.size;
   sound = λ a t. elim (settles.only a t) [
-    | inl was ↦ told.sound a was
+    | inl was ↦ reported.sound a was
     | inr w ↦
         let pair = if_two w.0 in
         let on : OnFrom old start a = (w.1, w.2, rw w.4 at (whole.there w.1 w.3)) in
@@ -628,7 +628,7 @@ IsTold-leave heads two count start path old new old_marks marks if_two two_if se
         let at = whole.back a on.0 on.2 in
         let both = two_if (circles_two heads two count start path old new old_marks marks settles whole a small on circles) in
         rw at.1 at (settles.marks on.0 on.1 at.0 both (rw at.1 small))
-    | inr w ↦ settles.keeps a (told.whole a small (sym w.1 ∙ e) circles)
+    | inr w ↦ settles.keeps a (reported.whole a small (sym w.1 ∙ e) circles)
   ];
 }
   where
@@ -636,7 +636,7 @@ IsTold-leave heads two count start path old new old_marks marks if_two two_if se
     unlike pair a is = λ same.
         let one = whole.there pair.one (let o = pair.apart in let h = pair.inside in omega arith) in
         let other = whole.there pair.other pair.inside in
-        let both : OnPath pair.one ≡ OnPath pair.other = sym one ∙ ap (standing_of old) (is ∙ sym same) ∙ other in
+        let both : OnPath pair.one ≡ OnPath pair.other = sym one ∙ ap (status_of old) (is ∙ sym same) ∙ other in
         let at : pair.one ≡ pair.other = cc in
         let o = pair.apart in
         omega arith

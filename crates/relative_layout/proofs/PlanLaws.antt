@@ -6,7 +6,7 @@ use Rattle.geom_core.specs.Spec.{resolve_of}
 use Rattle.geom_core.specs.declared.geometry.Size.{Size}
 use Rattle.relative_layout.specs.declared.extent.Extent.{Extent}
 use Rattle.relative_layout.specs.declared.plan.RelativePlan.{RelativePlan}
-use Rattle.relative_layout.specs.RelativePlan.{IsExtent, StandsRelative, spanned_as}
+use Rattle.relative_layout.specs.RelativePlan.{IsExtent, RepresentsRelative, spanned_as}
 use Rattle.view_model.specs.declared.facts.Facts.{Facts}
 use Rattle.view_model.specs.declared.relative.Anchors.{Anchors}
 use Rattle.view_model.specs.declared.relative.Axis.{Axis}
@@ -47,28 +47,28 @@ first_only : {A : Type 0} {axis : Axis} → axis ≡ Horizontal → axis ≡ Ver
 first_only is other = absurd (cc)
 
 pub take-across : (plan : RelativePlan) (across : Extent) (own : Facts) (specs : Specs) (past : List (List Spanned)) (taken : List Spanned) (kid : Facts) (anchors : Anchors) (size : Size) (tied : Tied) (span : ℤ × ℤ)
-    → plan.axis ≡ Horizontal → TakesIn plan.across across plan.rtl Horizontal kid anchors size tied span → StandsRelative plan own specs past taken
-    → StandsRelative (record plan { across = across }) own specs past (taken ++ spanned_as own specs past kid anchors size ∷ [])
-take-across plan across own specs [] taken kid anchors size tied span is takes stands = record {
+    → plan.axis ≡ Horizontal → TakesIn plan.across across plan.rtl Horizontal kid anchors size tied span → RepresentsRelative plan own specs past taken
+    → RepresentsRelative (record plan { across = across }) own specs past (taken ++ spanned_as own specs past kid anchors size ∷ [])
+take-across plan across own specs [] taken kid anchors size tied span is takes represents = record {
   of_axis = is;
-  of_rtl = stands.of_rtl;
-  of_across = IsExtent-push plan.across across Horizontal own specs taken kid anchors size tied span (rw stands.of_rtl at takes) stands.of_across;
-  of_down = stands.of_down;
+  of_rtl = represents.of_rtl;
+  of_across = IsExtent-push plan.across across Horizontal own specs taken kid anchors size tied span (rw represents.of_rtl at takes) represents.of_across;
+  of_down = represents.of_down;
 }
-take-across plan across own specs (first ∷ []) taken kid anchors size tied span is takes stands = first_only is stands.of_axis
-take-across plan across own specs (first ∷ second ∷ more) taken kid anchors size tied span is takes stands = absurd stands
+take-across plan across own specs (first ∷ []) taken kid anchors size tied span is takes represents = first_only is represents.of_axis
+take-across plan across own specs (first ∷ second ∷ more) taken kid anchors size tied span is takes represents = absurd represents
 
 pub take-down : (plan : RelativePlan) (down : Extent) (own : Facts) (specs : Specs) (past : List (List Spanned)) (taken : List Spanned) (kid : Facts) (anchors : Anchors) (size : Size) (tied : Tied) (span : ℤ × ℤ)
-    → plan.axis ≡ Vertical → TakesIn plan.down down plan.rtl Vertical kid anchors size tied span → StandsRelative plan own specs past taken
-    → StandsRelative (record plan { down = down }) own specs past (taken ++ spanned_as own specs past kid anchors size ∷ [])
-take-down plan down own specs [] taken kid anchors size tied span is takes stands = first_only stands.of_axis is
-take-down plan down own specs (first ∷ []) taken kid anchors size tied span is takes stands = record {
+    → plan.axis ≡ Vertical → TakesIn plan.down down plan.rtl Vertical kid anchors size tied span → RepresentsRelative plan own specs past taken
+    → RepresentsRelative (record plan { down = down }) own specs past (taken ++ spanned_as own specs past kid anchors size ∷ [])
+take-down plan down own specs [] taken kid anchors size tied span is takes represents = first_only represents.of_axis is
+take-down plan down own specs (first ∷ []) taken kid anchors size tied span is takes represents = record {
   of_axis = is;
-  of_rtl = stands.of_rtl;
-  of_across = stands.of_across;
-  of_down = IsExtent-push plan.down down Vertical own specs taken kid anchors size tied span (rw stands.of_rtl at takes) stands.of_down;
+  of_rtl = represents.of_rtl;
+  of_across = represents.of_across;
+  of_down = IsExtent-push plan.down down Vertical own specs taken kid anchors size tied span (rw represents.of_rtl at takes) represents.of_down;
 }
-take-down plan down own specs (first ∷ second ∷ more) taken kid anchors size tied span is takes stands = absurd stands
+take-down plan down own specs (first ∷ second ∷ more) taken kid anchors size tied span is takes represents = absurd represents
 
 -- the final place of a child, by an axis that has all children
 pub final_span-of_extent : (extent : Extent) (axis : Axis) (own : Facts) (specs : Specs) (kids : List Spanned) (kid : Facts) (span : Option (ℤ × ℤ)) (size : Size)

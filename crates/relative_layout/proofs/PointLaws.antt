@@ -8,11 +8,11 @@ use Rattle.relative_layout.proofs.Counting.{cases_eq}
 use Rattle.relative_layout.proofs.NamingLaws.{last_is, leads_from, leads_inside, leads_parts, leads_whole, named_some, none_is}
 use Rattle.relative_layout.proofs.OrderLaws.{reach_both}
 use Rattle.relative_layout.specs.Naming.{AreNamers, Has, id_at, link_at, row_at}
-use Rattle.relative_layout.specs.Parts.{AreMarked, IsTold, standing_of}
+use Rattle.relative_layout.specs.Parts.{AreMarked, IsReported, status_of}
 use Rattle.relative_layout.specs.Points.{Circles, Goes, Stays, Steps, heads_of, id_point}
 use Rattle.relative_layout.specs.Taking.{is_marked}
-use Rattle.relative_layout.specs.declared.parts.Standing.{Standing}
-use Rattle.relative_layout.specs.declared.parts.Standing.TheVariants.{Done}
+use Rattle.relative_layout.specs.declared.parts.Status.{Status}
+use Rattle.relative_layout.specs.declared.parts.Status.TheVariants.{Done}
 use Rattle.view_model.specs.declared.relative.Axis.{Axis}
 use Rattle.view_model.specs.declared.relative.Link.{Link}
 use Rattle.view_model.specs.Orders.{Reaches, AtOnce, Through}
@@ -140,9 +140,9 @@ reaches_circles axis kids rows naming place end same (Through {b = b} e w) =
     (b, leads_inside axis kids place b e, (λ is. (leads_parts axis kids place b e).0 (sym is)), rw same at goes, leads_last axis kids rows place b _ refl naming e)
 
 -- once all is done
-pub AreMarked-done : (axis : Axis) (kids : List Link) (rows : List (List ℕ)) (standing : List Standing) (marks : List Bool) → AreNamers axis kids (length kids) rows
-    → ((place : ℕ) → place < length kids → standing_of standing place ≡ Done) → IsTold (heads_of kids rows) (length kids) standing marks → AreMarked (leads axis kids) (length kids) marks
-AreMarked-done axis kids rows standing marks naming done told = record {
-  sound = λ place t. circles_reaches axis kids rows place naming (let h = marked_inside marks place t in omega (arith, told.size)) (told.sound place t);
-  whole = λ place small way. told.whole place small (done place small) (reaches_circles axis kids rows naming place place refl way);
+pub AreMarked-done : (axis : Axis) (kids : List Link) (rows : List (List ℕ)) (status : List Status) (marks : List Bool) → AreNamers axis kids (length kids) rows
+    → ((place : ℕ) → place < length kids → status_of status place ≡ Done) → IsReported (heads_of kids rows) (length kids) status marks → AreMarked (leads axis kids) (length kids) marks
+AreMarked-done axis kids rows status marks naming done reported = record {
+  sound = λ place t. circles_reaches axis kids rows place naming (let h = marked_inside marks place t in omega (arith, reported.size)) (reported.sound place t);
+  whole = λ place small way. reported.whole place small (done place small) (reaches_circles axis kids rows naming place place refl way);
 }

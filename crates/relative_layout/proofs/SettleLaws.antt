@@ -11,36 +11,36 @@ use Rattle.relative_layout.proofs.Counting.{cases_eq}
 use Rattle.relative_layout.proofs.PointLaws.{heads-child, heads-id}
 use Rattle.relative_layout.proofs.TakingLaws.{row-least, set_keeps, set_only, set_sets}
 use Rattle.relative_layout.specs.declared.parts.Part.{Part}
-use Rattle.relative_layout.specs.declared.parts.Standing.{Standing}
-use Rattle.relative_layout.specs.declared.parts.Standing.TheVariants.{Done, Fresh, OnPath}
+use Rattle.relative_layout.specs.declared.parts.Status.{Status}
+use Rattle.relative_layout.specs.declared.parts.Status.TheVariants.{Done, Fresh, OnPath}
 use Rattle.relative_layout.specs.Naming.{id_at}
-use Rattle.relative_layout.specs.Parts.{Settles, fresh, is_fresh, search_effort, standing_of}
+use Rattle.relative_layout.specs.Parts.{Settles, fresh, is_fresh, search_effort, status_of}
 use Rattle.relative_layout.specs.Points.{heads_of, id_point}
 use Rattle.relative_layout.specs.Taking.{is_marked}
 use Rattle.view_model.specs.declared.relative.Link.{Link}
 use Rattle.view_model.specs.SiblingRules.{last_with_id}
 
-pub all_fresh : (count point : ℕ) → standing_of (replicate count Fresh) point ≡ Fresh
+pub all_fresh : (count point : ℕ) → status_of (replicate count Fresh) point ≡ Fresh
 all_fresh count point = elim (cases_lt point count) [
   | inl lt ↦ get_or-replicate count point Fresh Fresh lt
   | inr le ↦ get_or_past (replicate count Fresh) point Fresh (let long : length (replicate count Fresh) ≡ count = length-replicate count Fresh in omega arith)
 ]
 
 -- one fresh point fewer
-fresh_less : (standing : List Standing) (point place : ℕ) → point < length standing → standing_of standing point ≡ Fresh → fresh (set standing point (OnPath place)) + 1 ≡ fresh standing
+fresh_less : (status : List Status) (point place : ℕ) → point < length status → status_of status point ≡ Fresh → fresh (set status point (OnPath place)) + 1 ≡ fresh status
 unfolding fresh
-fresh_less standing point place h is =
-    let e = sum_by-set (λ s. cond {A = ℕ} (is_fresh s) 1 0) standing point (OnPath place) Fresh h in
-    let one : ◌≡◌ {A = ℕ} (cond (is_fresh (standing_of standing point)) 1 0) 1 = rw is refl in
+fresh_less status point place h is =
+    let e = sum_by-set (λ s. cond {A = ℕ} (is_fresh s) 1 0) status point (OnPath place) Fresh h in
+    let one : ◌≡◌ {A = ℕ} (cond (is_fresh (status_of status point)) 1 0) 1 = rw is refl in
     omega (arith, e, one)
 
-fresh_no_more : (standing : List Standing) (point : ℕ) → point < length standing → fresh (set standing point Done) ≤ fresh standing
+fresh_no_more : (status : List Status) (point : ℕ) → point < length status → fresh (set status point Done) ≤ fresh status
 unfolding fresh
-fresh_no_more standing point h = let e = sum_by-set (λ s. cond {A = ℕ} (is_fresh s) 1 0) standing point Done Fresh h in omega (arith, e)
+fresh_no_more status point h = let e = sum_by-set (λ s. cond {A = ℕ} (is_fresh s) 1 0) status point Done Fresh h in omega (arith, e)
 
 -- a stretch of no point
-pub Settles-none : (two : Bool) (count start : ℕ) (path : List ℕ) (standing : List Standing) (marks : List Bool) → Settles two count start start path standing standing marks marks
-Settles-none two count start path standing marks = record {
+pub Settles-none : (two : Bool) (count start : ℕ) (path : List ℕ) (status : List Status) (marks : List Bool) → Settles two count start start path status status marks marks
+Settles-none two count start path status marks = record {
   size = refl;
   marks_size = refl;
   done = λ p o h. absurd (omega arith);
@@ -74,14 +74,14 @@ MarksOne-case true count point old new size marked one id = elim (cases_lt point
 ]
 
 -- one point more of the stretch
-pub Settles-next : (two : Bool) (count start place : ℕ) (path : List ℕ) (old mid new : List Standing) (old_marks mid_marks marks : List Bool)
+pub Settles-next : (two : Bool) (count start place : ℕ) (path : List ℕ) (old mid new : List Status) (old_marks mid_marks marks : List Bool)
     → start ≤ place → get_or path place 0 < length old → length old_marks ≡ count
     → new ≡ set mid (get_or path place 0) Done
     → (two ≡ true → get_or path place 0 < count → marks ≡ set mid_marks (get_or path place 0) true) → (two ≡ false → marks ≡ mid_marks) → (count ≤ get_or path place 0 → marks ≡ mid_marks)
     → Settles two count start place path old mid old_marks mid_marks → Settles two count start (place + 1) path old new old_marks marks
 Settles-next two count start place path old mid new old_marks mid_marks marks from small size is marked one id was =
     let fits : get_or path place 0 < length mid = omega (arith, was.size) in
-    let own : standing_of (set mid (get_or path place 0) Done) (get_or path place 0) ≡ Done = get_or-set_same mid (get_or path place 0) Done Fresh fits in
+    let own : status_of (set mid (get_or path place 0) Done) (get_or path place 0) ≡ Done = get_or-set_same mid (get_or path place 0) Done Fresh fits in
     let adds = MarksOne-case two count (get_or path place 0) mid_marks marks (was.marks_size ∙ size) marked one id in
     rw is (record {
       size = length-set mid (get_or path place 0) Done ∙ was.size;
@@ -122,23 +122,23 @@ heads_most kids rows point = elim (cases_lt point (length kids)) [
 less_effort : (sum few many todo more parts : ℕ) → many ≡ few + 1 → more ≤ 1 + sum → few * (3 + sum) + (todo + more) + (parts + 1) ≤ many * (3 + sum) + todo + parts
 less_effort sum few many todo more parts e h = rw e (omega arith)
 
-pub effort-enter : (kids : List Link) (rows : List (List ℕ)) (standing : List Standing) (point place : ℕ) (todo : List ℕ) (parts : List Part) (part : Part) → point < length standing → standing_of standing point ≡ Fresh
-    → search_effort rows (set standing point (OnPath place)) (length (todo ++ heads_of kids rows point)) (length (parts ++ part ∷ [])) ≤ search_effort rows standing (length todo) (length parts)
+pub effort-enter : (kids : List Link) (rows : List (List ℕ)) (status : List Status) (point place : ℕ) (todo : List ℕ) (parts : List Part) (part : Part) → point < length status → status_of status point ≡ Fresh
+    → search_effort rows (set status point (OnPath place)) (length (todo ++ heads_of kids rows point)) (length (parts ++ part ∷ [])) ≤ search_effort rows status (length todo) (length parts)
 unfolding search_effort
-effort-enter kids rows standing point place todo parts part h is =
+effort-enter kids rows status point place todo parts part h is =
     rw (length-append todo (heads_of kids rows point), length-append parts (part ∷ []))
-    (less_effort (sum_by length rows) (fresh (set standing point (OnPath place))) (fresh standing) (length todo) (length (heads_of kids rows point)) (length parts)
-    (sym (fresh_less standing point place h is)) (heads_most kids rows point))
+    (less_effort (sum_by length rows) (fresh (set status point (OnPath place))) (fresh status) (length todo) (length (heads_of kids rows point)) (length parts)
+    (sym (fresh_less status point place h is)) (heads_most kids rows point))
 
-pub effort-fewer : (rows : List (List ℕ)) (standing : List Standing) (todo old new : ℕ) → new ≤ old → search_effort rows standing todo new ≤ search_effort rows standing todo old
+pub effort-fewer : (rows : List (List ℕ)) (status : List Status) (todo old new : ℕ) → new ≤ old → search_effort rows status todo new ≤ search_effort rows status todo old
 unfolding search_effort
-effort-fewer rows standing todo old new h = omega arith
+effort-fewer rows status todo old new h = omega arith
 
-pub effort-next : (rows : List (List ℕ)) (old new : List Standing) (todo more parts left : ℕ) → search_effort rows new more left ≤ search_effort rows old todo parts → search_effort rows new more left < search_effort rows old (todo + 1) parts
+pub effort-next : (rows : List (List ℕ)) (old new : List Status) (todo more parts left : ℕ) → search_effort rows new more left ≤ search_effort rows old todo parts → search_effort rows new more left < search_effort rows old (todo + 1) parts
 unfolding search_effort
 effort-next rows old new todo more parts left h = omega arith
 
-pub effort-leave : (rows : List (List ℕ)) (old new : List Standing) (todo : ℕ) (parts : List Part) → fresh new ≤ fresh old → 0 < length parts
+pub effort-leave : (rows : List (List ℕ)) (old new : List Status) (todo : ℕ) (parts : List Part) → fresh new ≤ fresh old → 0 < length parts
     → search_effort rows new todo (length (take (length parts - 1) parts)) < search_effort rows old todo (length parts)
 unfolding search_effort
 effort-leave rows old new todo parts h some =

@@ -8,7 +8,7 @@ use Rattle.view_model.specs.declared.relative.Axis.{Axis}
 use Rattle.view_model.specs.declared.relative.Axis.TheVariants.{Horizontal, Vertical}
 use Rattle.view_model.specs.declared.relative.Link.{Link}
 use Rattle.view_model.specs.declared.verbs.TheConstants.{LEFT_OF, RIGHT_OF, ABOVE, BELOW, ALIGN_LEFT, ALIGN_TOP, ALIGN_RIGHT, ALIGN_BOTTOM, START_OF, END_OF, ALIGN_START, ALIGN_END}
-use Rattle.view_model.specs.SiblingRules.{last_with_id, names, nobody, value_of}
+use Rattle.view_model.specs.SiblingRules.{last_with_id, names, no_link, value_of}
 
 -- the ids that rules name on an axis, filled up with zeros
 abbrev pub padded_ids : Axis → Rules → List ℕ
@@ -19,7 +19,7 @@ padded_ids Vertical rules =
     value_of rules ABOVE ∷ value_of rules BELOW ∷ value_of rules ALIGN_TOP ∷ value_of rules ALIGN_BOTTOM ∷ 0 ∷ 0 ∷ 0 ∷ 0 ∷ []
 
 abbrev pub link_at : List Link → ℕ → Link
-link_at kids place = slice_index_or kids place nobody
+link_at kids place = slice_index_or kids place no_link
 
 abbrev pub id_at : List Link → ℕ → ℕ
 id_at kids place = (link_at kids place).id

@@ -27,10 +27,10 @@ pub record HasTakenOnAxis (plan : RelativePlan) (axis : Axis) (own : Facts) (spe
   pub of_down : IsExtent plan.down Vertical own specs down
 
 -- it has completed these phases, and has taken these children in the one that it is in
-abbrev pub StandsRelative : RelativePlan → Facts → Specs → List (List Spanned) → List Spanned → Type 0
-StandsRelative plan own specs [] taken = HasTakenOnAxis plan Horizontal own specs taken []
-StandsRelative plan own specs (first ∷ []) taken = HasTakenOnAxis plan Vertical own specs first taken
-StandsRelative plan own specs (first ∷ second ∷ more) taken = ⊥
+abbrev pub RepresentsRelative : RelativePlan → Facts → Specs → List (List Spanned) → List Spanned → Type 0
+RepresentsRelative plan own specs [] taken = HasTakenOnAxis plan Horizontal own specs taken []
+RepresentsRelative plan own specs (first ∷ []) taken = HasTakenOnAxis plan Vertical own specs first taken
+RepresentsRelative plan own specs (first ∷ second ∷ more) taken = ⊥
 
 -- a child as it is taken with this size
 abbrev pub spanned_as : Facts → Specs → List (List Spanned) → Facts → Anchors → Size → Spanned
@@ -47,8 +47,8 @@ is_first (first ∷ more) = false
 -- the plan at the end of a phase, once it has returned whether another follows: one does after the first
 pub record TurnsRelative (plan : RelativePlan) (own : Facts) (specs : Specs) (past : List (List Spanned)) (taken : List Spanned) (answer : Bool) : Type 0 where
   pub answers : answer ≡ is_first past
-  pub follows : answer ≡ true → StandsRelative plan own specs (past ++ taken ∷ []) []
-  pub ends : answer ≡ false → StandsRelative plan own specs past taken
+  pub follows : answer ≡ true → RepresentsRelative plan own specs (past ++ taken ∷ []) []
+  pub ends : answer ≡ false → RepresentsRelative plan own specs past taken
 
 -- a child in its place, with its sides on an axis
 abbrev pub spanned_at : List Child → (ℕ → ℤ × ℤ) → ℕ → Spanned

@@ -2,9 +2,9 @@
 //! path-based).
 ghost use Rattle.std.specs.Prelude.{◌≡◌, ◌≢◌, ◌<◌, ◌≤◌, ◌-◌, ◌+◌, ◌++◌, ◌∷◌, ℕ, [], IfNone, IfOk, IfSome, None, OnOk, Some, false, length, replicate, slice_index, slice_set, take, true};
 ghost use Rattle.relative_layout.specs.Naming.{IsNaming, lists_of};
-ghost use Rattle.relative_layout.specs.Parts.{AreMarked, HasTwo, IsLastPart, IsSearching, Joins, Leaves, LedTo, Visits, begins_after, fresh, heads_in, search_effort, standing_of};
+ghost use Rattle.relative_layout.specs.Parts.{AreMarked, HasTwo, IsLastPart, IsSearching, Joins, Leaves, LedTo, Visits, begins_after, fresh, heads_in, search_effort, status_of};
 ghost use Rattle.relative_layout.specs.Points.{Goes};
-ghost use Rattle.relative_layout.specs.declared.parts.Standing.TheVariants.{Done, Fresh, OnPath};
+ghost use Rattle.relative_layout.specs.declared.parts.Status.TheVariants.{Done, Fresh, OnPath};
 ghost use Rattle.view_model.specs.SiblingRules.{leads};
 ghost use Rattle.view_model.specs.declared.limits.TheConstants.{MAX_VIEWS};
 
@@ -16,7 +16,7 @@ use view_model::Link;
 
 /// The state of a point in the search.
 #[derive(Debug, Clone, Copy)]
-pub enum Standing {
+pub enum Status {
     Fresh,
     /// On the path, at this place.
     OnPath(usize),
@@ -34,7 +34,7 @@ pub struct Part {
 /// The state of the search. The path is cut into parts, and all points of one lead to one another.
 #[derive(Drop)]
 pub struct Search {
-    standing: Vec<Standing>,
+    status: Vec<Status>,
     path: Vec<u32>,
     /// The edges of points of the path that are not followed yet.
     todo: Vec<u32>,
@@ -64,14 +64,14 @@ impl Search {
     /// Before any point is entered.
     fn start(alloc: Global, count: usize) -> Result<Search, AllocError>
         requires few { count ≤ MAX_VIEWS }
-        ensures standing { IfOk result (λ search. search.standing.items ≡ replicate (count + count) Fresh) }
+        ensures status { IfOk result (λ search. search.status.items ≡ replicate (count + count) Fresh) }
         ensures path { IfOk result (λ search. search.path.items ≡ []) }
         ensures todo { IfOk result (λ search. search.todo.items ≡ []) }
         ensures parts { IfOk result (λ search. search.parts.items ≡ []) }
         ensures members { IfOk result (λ search. search.members.items ≡ replicate count false) }
     {
         Ok(Search {
-            standing: vec![in alloc; Standing::Fresh; count + count]?,
+            status: vec![in alloc; Status::Fresh; count + count]?,
             path: Vec::new(alloc),
             todo: Vec::new(alloc),
             parts: Vec::new(alloc),
@@ -88,7 +88,7 @@ impl Search {
         ensures search { OnOk result (IsSearching kids.now naming.now self.new None) }
         ensures parts { OnOk result (self.new.parts.items ≡ []) }
         ensures each { OnOk result ((point : ℕ) → point < length kids.now + length kids.now
-            → standing_of self.new.standing.items point ≢ Fresh) }
+            → status_of self.new.status.items point ≢ Fresh) }
     {
         for point in 0..kids.len() + kids.len() {
             self.search_from(kids, naming, point)?;
@@ -110,10 +110,10 @@ impl Search {
         requires parts { self.old.parts.items ≡ [] }
         ensures search { OnOk result (IsSearching kids.now naming.now self.new None) }
         ensures parts { OnOk result (self.new.parts.items ≡ []) }
-        ensures visits { OnOk result (Visits self.old.standing.items self.new.standing.items) }
-        ensures here { OnOk result (standing_of self.new.standing.items point ≢ Fresh) }
+        ensures visits { OnOk result (Visits self.old.status.items self.new.status.items) }
+        ensures here { OnOk result (status_of self.new.status.items point ≢ Fresh) }
     {
-        if let Standing::Fresh = self.standing[point] {
+        if let Status::Fresh = self.status[point] {
             self.enter(kids, naming, point)?;
             self.leave_all(kids, naming)?;
         }
@@ -127,7 +127,7 @@ impl Search {
         requires search { IsSearching kids.now naming.now self.old None }
         ensures search { OnOk result (IsSearching kids.now naming.now self.new None) }
         ensures parts { OnOk result (self.new.parts.items ≡ []) }
-        ensures visits { OnOk result (Visits self.old.standing.items self.new.standing.items) }
+        ensures visits { OnOk result (Visits self.old.status.items self.new.status.items) }
     {
         while let Some(part) = self.last_part() {
             self.step(kids, naming, part)?;
@@ -152,10 +152,10 @@ impl Search {
         requires search { IsSearching kids.now naming.now self.old None }
         requires last { IsLastPart self.old.parts.items part }
         ensures search { OnOk result (IsSearching kids.now naming.now self.new None) }
-        ensures visits { OnOk result (Visits self.old.standing.items self.new.standing.items) }
-        ensures effort { OnOk result (search_effort (lists_of naming.now.namers.items) self.new.standing.items
+        ensures visits { OnOk result (Visits self.old.status.items self.new.status.items) }
+        ensures effort { OnOk result (search_effort (lists_of naming.now.namers.items) self.new.status.items
             (length self.new.todo.items) (length self.new.parts.items)
-            < search_effort (lists_of naming.now.namers.items) self.old.standing.items (length self.old.todo.items)
+            < search_effort (lists_of naming.now.namers.items) self.old.status.items (length self.old.todo.items)
             (length self.old.parts.items)) }
     {
         if self.todo.len() <= part.todo {
@@ -171,7 +171,7 @@ impl Search {
     fn take_next(&mut self) -> usize
         requires { 0 < length self.old.todo.items }
         ensures todo { self.old.todo.items ≡ self.new.todo.items ++ result ∷ [] }
-        ensures standing { self.new.standing ≡ self.old.standing }
+        ensures status { self.new.status ≡ self.old.status }
         ensures path { self.new.path ≡ self.old.path }
         ensures parts { self.new.parts ≡ self.old.parts }
         ensures members { self.new.members ≡ self.old.members }
@@ -190,16 +190,16 @@ impl Search {
         requires search { IsSearching kids.now naming.now self.old (Some point) }
         requires led { LedTo (heads_in kids.now naming.now) self.old.path.items self.old.parts.items point }
         ensures search { OnOk result (IsSearching kids.now naming.now self.new None) }
-        ensures visits { OnOk result (Visits self.old.standing.items self.new.standing.items) }
-        ensures effort { OnOk result (search_effort (lists_of naming.now.namers.items) self.new.standing.items
+        ensures visits { OnOk result (Visits self.old.status.items self.new.status.items) }
+        ensures effort { OnOk result (search_effort (lists_of naming.now.namers.items) self.new.status.items
             (length self.new.todo.items) (length self.new.parts.items)
-            ≤ search_effort (lists_of naming.now.namers.items) self.old.standing.items (length self.old.todo.items)
+            ≤ search_effort (lists_of naming.now.namers.items) self.old.status.items (length self.old.todo.items)
             (length self.old.parts.items)) }
     {
-        match self.standing[point] {
-            Standing::Fresh => self.enter(kids, naming, point)?,
-            Standing::OnPath(place) => self.join(place),
-            Standing::Done => {}
+        match self.status[point] {
+            Status::Fresh => self.enter(kids, naming, point)?,
+            Status::OnPath(place) => self.join(place),
+            Status::Done => {}
         }
         Ok(())
     }
@@ -210,16 +210,16 @@ impl Search {
         requires point { point < length kids.now + length kids.now }
         requires naming { IsNaming kids.now naming.now }
         requires search { IsSearching kids.now naming.now self.old (Some point) }
-        requires fresh { standing_of self.old.standing.items point ≡ Fresh }
+        requires fresh { status_of self.old.status.items point ≡ Fresh }
         requires led { (place : ℕ)
             → place < length self.old.path.items
             → Goes (heads_in kids.now naming.now) (slice_index self.old.path.items place) point }
         ensures search { OnOk result (IsSearching kids.now naming.now self.new None) }
-        ensures visits { OnOk result (Visits self.old.standing.items self.new.standing.items) }
-        ensures here { OnOk result (standing_of self.new.standing.items point ≢ Fresh) }
-        ensures effort { OnOk result (search_effort (lists_of naming.now.namers.items) self.new.standing.items
+        ensures visits { OnOk result (Visits self.old.status.items self.new.status.items) }
+        ensures here { OnOk result (status_of self.new.status.items point ≢ Fresh) }
+        ensures effort { OnOk result (search_effort (lists_of naming.now.namers.items) self.new.status.items
             (length self.new.todo.items) (length self.new.parts.items)
-            ≤ search_effort (lists_of naming.now.namers.items) self.old.standing.items (length self.old.todo.items)
+            ≤ search_effort (lists_of naming.now.namers.items) self.old.status.items (length self.old.todo.items)
             (length self.old.parts.items)) }
     {
         self.append(point)?;
@@ -230,9 +230,9 @@ impl Search {
     /// Appends a point to the path, as a part of its own.
     fn append(&mut self, point: usize) -> Result<(), AllocError>
         requires few { point < MAX_VIEWS + MAX_VIEWS }
-        requires point { point < length self.old.standing.items }
-        ensures standing { OnOk result
-            (self.new.standing.items ≡ slice_set self.old.standing.items point (OnPath (length self.old.path.items))) }
+        requires point { point < length self.old.status.items }
+        ensures status { OnOk result
+            (self.new.status.items ≡ slice_set self.old.status.items point (OnPath (length self.old.path.items))) }
         ensures path { OnOk result (self.new.path.items ≡ self.old.path.items ++ point ∷ []) }
         ensures parts { OnOk result (self.new.parts.items ≡ self.old.parts.items
             ++ (record { path = length self.old.path.items; todo = length self.old.todo.items }) ∷ []) }
@@ -245,7 +245,7 @@ impl Search {
         };
         self.parts.push(part)?;
         self.path.push(point as u32)?;
-        self.standing[point] = Standing::OnPath(part.path);
+        self.status[point] = Status::OnPath(part.path);
         Ok(())
     }
 
@@ -253,7 +253,7 @@ impl Search {
     fn join(&mut self, place: usize)
         ensures joins { Joins place self.old.parts.items self.new.parts.items }
         ensures last { begins_after place self.new.parts.items ≡ false }
-        ensures standing { self.new.standing ≡ self.old.standing }
+        ensures status { self.new.status ≡ self.old.status }
         ensures path { self.new.path ≡ self.old.path }
         ensures todo { self.new.todo ≡ self.old.todo }
         ensures members { self.new.members ≡ self.old.members }
@@ -268,9 +268,9 @@ impl Search {
         requires start { start ≤ length self.old.path.items }
         requires inside { (place : ℕ)
             → place < length self.old.path.items
-            → slice_index self.old.path.items place < length self.old.standing.items }
+            → slice_index self.old.path.items place < length self.old.status.items }
         requires members { length self.old.members.items ≡ count }
-        ensures leaves { Leaves count start self.old.path.items self.old.standing.items self.new.standing.items
+        ensures leaves { Leaves count start self.old.path.items self.old.status.items self.new.status.items
             self.old.members.items self.new.members.items }
         ensures path { self.new.path.items ≡ take start self.old.path.items }
         ensures parts { self.new.parts.items ≡ take (length self.old.parts.items - 1) self.old.parts.items }
@@ -287,10 +287,10 @@ impl Search {
     /// Marks a point of the path as done, and as a member if it is a child that is not alone.
     fn settle(&mut self, count: usize, place: usize, two: bool)
         requires place { place < length self.old.path.items }
-        requires inside { slice_index self.old.path.items place < length self.old.standing.items }
+        requires inside { slice_index self.old.path.items place < length self.old.status.items }
         requires members { length self.old.members.items ≡ count }
-        ensures standing { self.new.standing.items
-            ≡ slice_set self.old.standing.items (slice_index self.old.path.items place) Done }
+        ensures status { self.new.status.items
+            ≡ slice_set self.old.status.items (slice_index self.old.path.items place) Done }
         ensures marked { two ≡ true
             → slice_index self.old.path.items place < count
             → self.new.members.items ≡ slice_set self.old.members.items (slice_index self.old.path.items place) true }
@@ -301,7 +301,7 @@ impl Search {
         ensures todo { self.new.todo ≡ self.old.todo }
     {
         let point = self.path[place] as usize;
-        self.standing[point] = Standing::Done;
+        self.status[point] = Status::Done;
         if two && point < count {
             self.members[point] = true;
         }

@@ -7,7 +7,7 @@ ghost use Rattle.view_model.specs.Measuring.{Specs, pair_of};
 ghost use Rattle.view_model.specs.RelativeLayout.{Spanned, across_specs, down_specs, final_rect, phase_specs, relative_size, span_or_none};
 
 use crate::extent::Extent;
-use crate::sides::{loose_spec, told_spec};
+use crate::sides::{loose_spec, reported_spec};
 use crate::spans::rect_between;
 use geom_core::{Rect, Size, Spec};
 use view_model::{Anchors, Axis, Edges, Facts};
@@ -26,11 +26,11 @@ pub struct RelativePlan {
 }
 
 impl RelativePlan {
-    ghost use Rattle.relative_layout.specs.RelativePlan.{StandsRelative, TurnsRelative, edges_as, spanned_as};
+    ghost use Rattle.relative_layout.specs.RelativePlan.{RepresentsRelative, TurnsRelative, edges_as, spanned_as};
 
     /// The plan of a group with these facts under these specs, before its first child.
     pub fn start(own: &Facts, ws: Spec, hs: Spec) -> RelativePlan
-        ensures { StandsRelative result (layout_facts own.now) (record { across = ws; down = hs }) [] [] }
+        ensures { RepresentsRelative result (layout_facts own.now) (record { across = ws; down = hs }) [] [] }
     {
         RelativePlan {
             axis: Axis::Horizontal,
@@ -43,7 +43,7 @@ impl RelativePlan {
     /// Whether the group runs from right to left, by which the anchors of its children are found.
     pub fn is_rtl(&self) -> bool
         ensures { (own : FactsValue) (specs : Specs) (past : List (List Spanned)) (taken : List Spanned)
-            → StandsRelative self.now own specs past taken
+            → RepresentsRelative self.now own specs past taken
             → result ≡ own.rtl }
     {
         self.rtl
@@ -53,7 +53,7 @@ impl RelativePlan {
     #[inline(never)]
     pub fn ask(&self, kid: &Facts, edges: Edges, anchors: &Anchors) -> (Spec, Spec)
         ensures { (own : FactsValue) (specs : Specs) (past : List (List Spanned)) (taken : List Spanned)
-            → StandsRelative self.now own specs past taken
+            → RepresentsRelative self.now own specs past taken
             → result ≡ pair_of (phase_specs own specs past (layout_facts kid.now) edges anchors.now) }
     {
         match self.axis {
@@ -68,11 +68,11 @@ impl RelativePlan {
         requires width { IsSide size.w }
         requires height { IsSide size.h }
         ensures edges { (own : FactsValue) (specs : Specs) (past : List (List Spanned)) (taken : List Spanned)
-            → StandsRelative self.old own specs past taken
+            → RepresentsRelative self.old own specs past taken
             → result ≡ edges_as own specs past (layout_facts kid.now) edges anchors.now size }
         ensures taken { (own : FactsValue) (specs : Specs) (past : List (List Spanned)) (taken : List Spanned)
-            → StandsRelative self.old own specs past taken
-            → StandsRelative self.new own specs past
+            → RepresentsRelative self.old own specs past taken
+            → RepresentsRelative self.new own specs past
             (taken ++ spanned_as own specs past (layout_facts kid.now) anchors.now size ∷ []) }
     {
         match self.axis {
@@ -100,7 +100,7 @@ impl RelativePlan {
     /// Ends a phase: true if another follows.
     pub fn turn(&mut self) -> bool
         ensures { (own : FactsValue) (specs : Specs) (past : List (List Spanned)) (taken : List Spanned)
-            → StandsRelative self.old own specs past taken
+            → RepresentsRelative self.old own specs past taken
             → TurnsRelative self.new own specs past taken result }
     {
         match self.axis {
@@ -115,7 +115,7 @@ impl RelativePlan {
     /// The own size, once every child of the second phase is taken.
     pub fn finish(&self) -> Size
         ensures value { (own : FactsValue) (specs : Specs) (first second : List Spanned)
-            → StandsRelative self.now own specs (first ∷ []) second
+            → RepresentsRelative self.now own specs (first ∷ []) second
             → result ≡ relative_size own specs first second }
         ensures width { IsSide result.w }
         ensures height { IsSide result.h }
@@ -131,7 +131,7 @@ impl RelativePlan {
         requires width { IsSide size.w }
         requires height { IsSide size.h }
         ensures { (own : FactsValue) (specs : Specs) (first second : List Spanned)
-            → StandsRelative self.now own specs (first ∷ []) second
+            → RepresentsRelative self.now own specs (first ∷ []) second
             → result ≡ final_rect own specs (relative_size own specs first second) (layout_facts kid.now) edges size }
     {
         rect_between(
@@ -144,7 +144,7 @@ impl RelativePlan {
     /// The specs of a child in the first phase.
     fn across_specs(&self, kid: &Facts, anchors: &Anchors) -> (Spec, Spec)
         ensures { (own : FactsValue) (specs : Specs) (taken : List Spanned)
-            → StandsRelative self.now own specs [] taken
+            → RepresentsRelative self.now own specs [] taken
             → result ≡ pair_of (across_specs own specs kid.now anchors.now) }
     {
         (
@@ -157,11 +157,11 @@ impl RelativePlan {
     /// The specs of a child in the second phase, in which its sides from left to right are known.
     fn down_specs(&self, kid: &Facts, edges: Edges, anchors: &Anchors) -> (Spec, Spec)
         ensures { (own : FactsValue) (specs : Specs) (first taken : List Spanned)
-            → StandsRelative self.now own specs (first ∷ []) taken
+            → RepresentsRelative self.now own specs (first ∷ []) taken
             → result ≡ pair_of (down_specs own specs kid.now (span_or_none edges.across) anchors.now) }
     {
         (
-            told_spec(edges.across.unwrap_or((0, 0))),
+            reported_spec(edges.across.unwrap_or((0, 0))),
             self.down.spec(&Axis::Vertical.tied(self.rtl, kid), anchors),
         )
     }

@@ -272,7 +272,7 @@ pub fn loose_spec(band: &Band, kid: &Tied) -> Spec
 
 /// The spec of a child that gets what is between its sides.
 #[tactic(auto, unfolding(view_model::specs::RelativeLayout::width_of))]
-pub fn told_spec(span: (i32, i32)) -> Spec
+pub fn reported_spec(span: (i32, i32)) -> Spec
     ensures { result ≡ exactly (width_of span) }
 {
     exactly(i64::from(span.1) - i64::from(span.0))

@@ -33,18 +33,18 @@ unfolding is_utf8 chars encode decoded head_of entry_of id_of kind_of offset_of 
 first_version_back = refl
 
 -- a text view of the id 1 with the text `hi`
-abbrev told : ℕ → List ℕ → PlainView
-told id text = record { number = 1; class = class.TextView; facts = record (new_facts (pos 0) (pos 0)) { id = id }; text = text }
+abbrev reported : ℕ → List ℕ → PlainView
+reported id text = record { number = 1; class = class.TextView; facts = record (new_facts (pos 0) (pos 0)) { id = id }; text = text }
 
-told_bytes : encoded (saved_of (Branch (told 1 (104 ∷ 105 ∷ [])) Nothing Nothing)) ≡ 86 ∷ 83 ∷ 2 ∷ 1 ∷ 0 ∷ 1 ∷ 0 ∷ 0 ∷ 0 ∷ 2 ∷ 2 ∷ 0 ∷ 104 ∷ 105 ∷ []
+reported_bytes : encoded (saved_of (Branch (reported 1 (104 ∷ 105 ∷ [])) Nothing Nothing)) ≡ 86 ∷ 83 ∷ 2 ∷ 1 ∷ 0 ∷ 1 ∷ 0 ∷ 0 ∷ 0 ∷ 2 ∷ 2 ∷ 0 ∷ 104 ∷ 105 ∷ []
 unfolding encode
-told_bytes = refl
+reported_bytes = refl
 
-told_back : decoded (86 ∷ 83 ∷ 2 ∷ 1 ∷ 0 ∷ 1 ∷ 0 ∷ 0 ∷ 0 ∷ 2 ∷ 2 ∷ 0 ∷ 104 ∷ 105 ∷ []) ≡ Ok ((1, Text (104 ∷ 105 ∷ [])) ∷ [])
+reported_back : decoded (86 ∷ 83 ∷ 2 ∷ 1 ∷ 0 ∷ 1 ∷ 0 ∷ 0 ∷ 0 ∷ 2 ∷ 2 ∷ 0 ∷ 104 ∷ 105 ∷ []) ≡ Ok ((1, Text (104 ∷ 105 ∷ [])) ∷ [])
 unfolding is_utf8 chars encode decoded head_of entry_of id_of kind_of offset_of text_of words_of
-told_back = refl
+reported_back = refl
 
-text_restored : restored ((1, Text (104 ∷ 105 ∷ [])) ∷ []) (Branch (told 1 (120 ∷ [])) Nothing Nothing) ≡ Branch (told 1 (104 ∷ 105 ∷ [])) Nothing Nothing
+text_restored : restored ((1, Text (104 ∷ 105 ∷ [])) ∷ []) (Branch (reported 1 (120 ∷ [])) Nothing Nothing) ≡ Branch (reported 1 (104 ∷ 105 ∷ [])) Nothing Nothing
 text_restored = refl
 
 -- the length of a text is a field, and its bytes are another
@@ -116,7 +116,7 @@ both_are_restored = refl
 
 -- of a text and an offset of one id the later in preorder stays
 abbrev both : Forest PlainView
-both = Branch (view 1 class.ScrollView 1 (pos 5)) (Branch (told 1 (120 ∷ [])) Nothing Nothing) Nothing
+both = Branch (view 1 class.ScrollView 1 (pos 5)) (Branch (reported 1 (120 ∷ [])) Nothing Nothing) Nothing
 
 the_text_stays : saved_of both ≡ (1, Text (120 ∷ [])) ∷ []
 unfolding encode

@@ -25,8 +25,8 @@ use Rattle.saved_state.specs.declared.value.Value.TheVariants.{Offset, Text}
 abbrev pub AreBytes : List ℕ → Type 0
 AreBytes bytes = (i : ℕ) → get_or bytes i 0 < 256
 
-bytes_behind : (n : ℕ) (bytes : List ℕ) → AreBytes bytes → AreBytes (drop n bytes)
-bytes_behind n bytes fit i = rw get_or-drop (fit (n + i))
+bytes_after : (n : ℕ) (bytes : List ℕ) → AreBytes bytes → AreBytes (drop n bytes)
+bytes_after n bytes fit i = rw get_or-drop (fit (n + i))
 
 bytes_before : (n : ℕ) (bytes : List ℕ) → AreBytes bytes → AreBytes (take n bytes)
 bytes_before n bytes fit i = elim (cases_lt i n) [
@@ -207,7 +207,7 @@ entry_found version before place entry bytes fit is =
     let value = bind_ok (value_of kind.0 (place + 5) (drop 5 bytes)) _ entry kind.2 in
     let first = id_found before place id.0 bytes fit id.1 in
     let second = kind_found version (place + 4) kind.0 (drop 4 bytes) kind.1 in
-    let third = value_found version (place + 5) (drop 5 bytes) (bytes_behind 5 bytes fit) kind.0 value.0 second.0 value.1 in
+    let third = value_found version (place + 5) (drop 5 bytes) (bytes_after 5 bytes fit) kind.0 value.0 second.0 value.1 in
     let rest : drop 4 bytes ≡ value_bytes value.0 ++ drop (value_size value.0) (drop 5 bytes) =
     second.1 ∙ ap (λ (rest : List ℕ). kind.0 ∷ rest) (drop-drop 1 4 bytes) ∙ third.cells in
     subst (λ (entry : StateEntry). IsEntryOf version before entry bytes) (ok_is (id.0, value.0) entry value.2)
@@ -234,7 +234,7 @@ entries_found version (suc n) before place entries bytes fit is =
     let size = entry_size first.0.1 in
     let rest = bind_ok (entries_of version n first.0.0 (place + size) (drop size bytes)) _ entries first.2 in
     let own = entry_found version before place first.0 bytes fit first.1 in
-    let more = entries_found version n first.0.0 (place + size) rest.0 (drop size bytes) (bytes_behind size bytes fit) rest.1 in
+    let more = entries_found version n first.0.0 (place + size) rest.0 (drop size bytes) (bytes_after size bytes fit) rest.1 in
     let cells : bytes ≡ entry_bytes first.0 ++ flat_map entry_bytes rest.0 = own.cells ∙ ap (λ (list : List ℕ). entry_bytes first.0 ++ list) more.cells in
     subst (λ (made : List StateEntry). AreEntries version before (suc n) made bytes) (ok_is (first.0 ∷ rest.0) entries rest.2)
     (record { rises = (own.above, own.fits, own.value, more.rises); count = ap suc more.count; cells = rw flat_map-cons cells })
@@ -254,7 +254,7 @@ head_cells bytes fit there v s =
     let second : drop 1 bytes ≡ 83 ∷ drop 2 bytes = drop-cons bytes 1 0 (omega arith) ∙ ap (λ (byte : ℕ). byte ∷ drop 2 bytes) s in
     let third : drop 2 bytes ≡ slice_index bytes 2 ∷ drop 3 bytes = drop-cons bytes 2 0 (omega arith) in
     let counted : drop 3 bytes ≡ little_bytes 2 (little_number 2 (drop 3 bytes)) ++ drop 5 bytes =
-    number_2 (drop 3 bytes) (bytes_behind 3 bytes fit) long
+    number_2 (drop 3 bytes) (bytes_after 3 bytes fit) long
     ∙ ap (λ (rest : List ℕ). little_bytes 2 (little_number 2 (drop 3 bytes)) ++ rest) (drop-drop 2 3 bytes) in
     first
     ∙ ap (λ (rest : List ℕ). 86 ∷ rest) second
@@ -273,7 +273,7 @@ head_found bytes head fit is =
     (record {
       known = known;
       version_is = refl;
-      few = little_from-lt 0 2 (drop 3 bytes) (bytes_behind 3 bytes fit);
+      few = little_from-lt 0 2 (drop 3 bytes) (bytes_after 3 bytes fit);
       cells = head_cells bytes fit (ltb-false (length bytes) 5 whole.0) (grind (arith, nat_tests, letters.0)) (grind (arith, nat_tests, letters.0));
     })
   where
@@ -290,7 +290,7 @@ unfolding decoded
 decoded_found bytes entries fit is =
     let read = bind_ok (head_of bytes) (λ (head : ℕ × ℕ). entries_of head.0 head.1 0 5 (drop 5 bytes)) entries is in
     let head = head_found bytes read.0 fit read.1 in
-    let found = entries_found read.0.0 read.0.1 0 5 entries (drop 5 bytes) (bytes_behind 5 bytes fit) read.2 in
+    let found = entries_found read.0.0 read.0.1 0 5 entries (drop 5 bytes) (bytes_after 5 bytes fit) read.2 in
     subst (λ (version : ℕ). IsState version entries × (bytes ≡ encoded_as version entries)) head.version_is (
       record { known = head.known; rises = found.rises; few = let a = found.count in let b = head.few in omega arith },
       head.cells
@@ -316,7 +316,7 @@ state_found version n place entries bytes fit few is =
 pub state_read : (version count before place counter : ℕ) (bytes : List ℕ) (done : List StateEntry) → AreBytes bytes → count < 65536 → count ≤ counter → length bytes ≤ place
     → ahead done (entries_of version (count - counter) before place (drop place bytes)) ≡ entries_of version count 0 5 (drop 5 bytes) → IsState 2 done
 state_read version count before place counter bytes done fit few none over rest =
-    state_found version count 5 done (drop 5 bytes) (bytes_behind 5 bytes fit) few (sym rest ∙ read_end version done before place bytes count counter none over)
+    state_found version count 5 done (drop 5 bytes) (bytes_after 5 bytes fit) few (sym rest ∙ read_end version done before place bytes count counter none over)
 
 -- what was read, as it is returned
 pub found_of : (bytes : List ℕ) (result : Result (List StateEntry) Fault) → AreBytes bytes → ReadAs (decoded bytes) result

@@ -6,8 +6,8 @@ mod OffsetLaws
 pub mod RestoredLaws
 mod ReadingLaws
 mod RestoringLaws
-pub mod RetoldLaws
-pub mod RetoldParts
+pub mod RestatedLaws
+pub mod RestatedParts
 mod SavingLaws
 mod StateLaws
 mod TextLaws

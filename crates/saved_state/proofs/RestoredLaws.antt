@@ -10,8 +10,8 @@ use Rattle.kept_views.proofs.Lines.{SameButOffset, put_kept}
 use Rattle.kept_views.proofs.Requested.{pressed_in, pressed_out}
 use Rattle.kept_views.specs.Kept.{IsConsistent, IsKept}
 use Rattle.kept_views.specs.Pressing.{path_of}
-use Rattle.saved_state.proofs.RetoldLaws.{put_once}
-use Rattle.saved_state.specs.Restored.{all_given, all_set, given_held, given_keys, given_values, moved_one, on_paths, paired, retold, set_by, wanted, with_text_at, with_text_of}
+use Rattle.saved_state.proofs.RestatedLaws.{put_once}
+use Rattle.saved_state.specs.Restored.{all_given, all_set, given_held, given_keys, given_values, moved_one, on_paths, paired, restated, set_by, wanted, with_text_at, with_text_of}
 use Rattle.saved_state.specs.Restoring.{given}
 use Rattle.saved_state.specs.State.{StateEntry}
 use Rattle.saved_state.specs.declared.value.Value.{Value}
@@ -252,18 +252,18 @@ with_text_number None view = refl
 with_text_number (Some (Offset offset)) view = refl
 with_text_number (Some (Text text)) view = refl
 
-pub laid-retold : (entries : List StateEntry) (held : ℕ → Held) (list : Forest Row) → laid_rows held (retold entries list) ≡ laid_rows held list
-laid-retold entries held Nothing = refl
-laid-retold entries held (Branch row kids siblings) =
-    rw (with_text_number (given entries row.view) row.view, laid-retold entries held kids, laid-retold entries held siblings) refl
+pub laid-restated : (entries : List StateEntry) (held : ℕ → Held) (list : Forest Row) → laid_rows held (restated entries list) ≡ laid_rows held list
+laid-restated entries held Nothing = refl
+laid-restated entries held (Branch row kids siblings) =
+    rw (with_text_number (given entries row.view) row.view, laid-restated entries held kids, laid-restated entries held siblings) refl
 
 -- a tree of the code, once all are set
 module _ (old new : Views) (entries : List StateEntry)
     (came : (key : ℕ) → held_of new key ≡ all_given entries old.tree (set_by entries old.tree) (held_of old) key) where
-  pub restored_geometry : new.tree ≡ retold entries old.tree → geometry_of new ≡ geometry_of old
-  restored_geometry told =
-      ap (laid_rows (held_of new)) told
-      ∙ laid-retold entries (held_of new) old.tree
+  pub restored_geometry : new.tree ≡ restated entries old.tree → geometry_of new ≡ geometry_of old
+  restored_geometry reported =
+      ap (laid_rows (held_of new)) reported
+      ∙ laid-restated entries (held_of new) old.tree
       ∙ laid_along (held_of old) (held_of new) old.tree
       (λ key live. ap (λ (own : Held). own.state.bounds) (came key) ∙ all_bounds entries old.tree (set_by entries old.tree) (held_of old) key)
 

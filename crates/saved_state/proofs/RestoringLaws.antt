@@ -5,8 +5,8 @@ use Rattle.std.specs.List.{All, fold}
 use mathlib.Core.Path.{fun_ext}
 use Rattle.kept_views.specs.Kept.{IsConsistent, IsKept}
 use Rattle.saved_state.proofs.RestoredLaws.{IsLiveIn, all_kept, given_offsets, offset_by, set_at, set_given, set_more}
-use Rattle.saved_state.proofs.RetoldLaws.{all_retold, given_in}
-use Rattle.saved_state.specs.Restored.{all_given, all_set, given_values, retold, set_by, wanted, with_text_at, with_text_of}
+use Rattle.saved_state.proofs.RestatedLaws.{all_restated, given_in}
+use Rattle.saved_state.specs.Restored.{all_given, all_set, given_values, restated, set_by, wanted, with_text_at, with_text_of}
 use Rattle.saved_state.specs.Restoring.{given, restored, with_value}
 use Rattle.saved_state.specs.State.{StateEntry}
 use Rattle.saved_state.specs.declared.value.Value.{Value}
@@ -28,7 +28,7 @@ view_restored (Some (Text text)) view before offset e = ap (λ (offset : ℤ). l
 
 module _ (old : Views) (is : IsTree old) (entries : List StateEntry) (new : ℕ → Held)
     (came : (key : ℕ) → 0 < count_of_key key old.tree → (new key).offset ≡ offset_by (wanted entries old.tree key) (held_of old key).offset) where
-  rows_restored : (list : Forest Row) → Within list old.tree → plain_rows new (retold entries list) ≡ restored entries (plain_rows (held_of old) list)
+  rows_restored : (list : Forest Row) → Within list old.tree → plain_rows new (restated entries list) ≡ restored entries (plain_rows (held_of old) list)
   rows_restored Nothing w = refl
   rows_restored (Branch row kids siblings) w =
       let live : 0 < count_of_key row.key old.tree = let a = count_of_key-within row.key w in let b = times_self row kids siblings in omega arith in
@@ -36,16 +36,16 @@ module _ (old : Views) (is : IsTree old) (entries : List StateEntry) (new : ℕ 
       let set : (new row.key).offset ≡ offset_by (given entries row.view) (held_of old row.key).offset =
       came row.key live ∙ ap (λ (given : Option Value). offset_by given (held_of old row.key).offset) own in
       let view : PlainView = with_value (given entries row.view) (scrolled (held_of old) row) in
-      ap (λ (view : PlainView). Branch view (plain_rows new (retold entries kids)) (plain_rows new (retold entries siblings)))
+      ap (λ (view : PlainView). Branch view (plain_rows new (restated entries kids)) (plain_rows new (restated entries siblings)))
       (view_restored (given entries row.view) row.view (held_of old row.key).offset (new row.key).offset set)
-      ∙ ap (λ (below : Forest PlainView). Branch view below (plain_rows new (retold entries siblings))) (rows_restored kids (Within-children_of_first w))
+      ∙ ap (λ (below : Forest PlainView). Branch view below (plain_rows new (restated entries siblings))) (rows_restored kids (Within-children_of_first w))
       ∙ ap (λ (after : Forest PlainView). Branch view (restored entries (plain_rows (held_of old) kids)) after) (rows_restored siblings (Within-later_siblings w))
 
-pub plain_restored : (old new : Views) (entries : List StateEntry) → IsTree old → new.tree ≡ retold entries old.tree
+pub plain_restored : (old new : Views) (entries : List StateEntry) → IsTree old → new.tree ≡ restated entries old.tree
     → ((key : ℕ) → held_of new key ≡ all_given entries old.tree (set_by entries old.tree) (held_of old) key)
     → plain_of new ≡ restored entries (plain_of old)
-plain_restored old new entries is told came =
-    ap (plain_rows (held_of new)) told
+plain_restored old new entries is reported came =
+    ap (plain_rows (held_of new)) reported
     ∙ rows_restored old is entries (held_of new)
     (λ key live.
     let count : 0 < key_count key (rows old.tree) = let a = key_count-rows key old.tree in omega arith in
@@ -60,8 +60,8 @@ module _ (old new : Views) (entries : List StateEntry) (values : List (ℕ × Va
   values_live = All-same (IsLiveIn old.tree) values (given_values entries old.tree (rows old.tree)) copied (given_in entries old.tree old.tree)
 
   module _ (put : new.tree ≡ fold with_text_at old.tree values) (set : (key : ℕ) → held_of new key ≡ all_set old.tree values (held_of old) key) where
-    pub told : new.tree ≡ retold entries old.tree
-    told = put ∙ ap (fold with_text_at old.tree) copied ∙ all_retold entries old.tree is.keys
+    pub reported : new.tree ≡ restated entries old.tree
+    reported = put ∙ ap (fold with_text_at old.tree) copied ∙ all_restated entries old.tree is.keys
 
     pub came : (key : ℕ) → held_of new key ≡ all_given entries old.tree (set_by entries old.tree) (held_of old) key
     came key =
@@ -70,7 +70,7 @@ module _ (old new : Views) (entries : List StateEntry) (values : List (ℕ × Va
         ∙ ap (λ (held : ℕ → Held). held key) (set_given entries old.tree (rows old.tree) (held_of old))
 
     pub values_plain : plain_of new ≡ restored entries (plain_of old)
-    values_plain = plain_restored old new entries is told came
+    values_plain = plain_restored old new entries is reported came
 
     pub values_consistent : IsConsistent old → IsConsistent new
     values_consistent kept =

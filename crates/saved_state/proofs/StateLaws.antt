@@ -66,14 +66,14 @@ read_over version done before place bytes count counter none over =
     rw (zero_left, lt-ltb 0 (length (drop place bytes)) some) refl
 
 -- a fault is reported as it was, whatever was before it
-pub told_on : {A B : Type 0} (fault : Fault) (first : Result A ℕ) (all : Result B ℕ) → ((wrong : ℕ) → first ≡ Err wrong → all ≡ Err wrong) → FailsAs first fault → FailsAs all fault
-told_on (faults.Refused refusal) first all goes says = (says.0, goes says.0 says.1, says.2)
-told_on faults.NoMemory first all goes says = tt
+pub reported_on : {A B : Type 0} (fault : Fault) (first : Result A ℕ) (all : Result B ℕ) → ((wrong : ℕ) → first ≡ Err wrong → all ≡ Err wrong) → FailsAs first fault → FailsAs all fault
+reported_on (faults.Refused refusal) first all goes says = (says.0, goes says.0 says.1, says.2)
+reported_on faults.NoMemory first all goes says = tt
 
 -- a fault that reports the first wrong place
-pub told_at : {A : Type 0} (fault : Fault) (read : Result A ℕ) (place : ℕ) → read ≡ Err place → is_bad_at place fault → FailsAs read fault
-told_at (faults.Refused refusal) read place wrong bad = (place, wrong, bad)
-told_at faults.NoMemory read place wrong bad = absurd bad
+pub reported_at : {A : Type 0} (fault : Fault) (read : Result A ℕ) (place : ℕ) → read ≡ Err place → is_bad_at place fault → FailsAs read fault
+reported_at (faults.Refused refusal) read place wrong bad = (place, wrong, bad)
+reported_at faults.NoMemory read place wrong bad = absurd bad
 
 pub counted : (bytes : List ℕ) (version count : ℕ) → head_of bytes ≡ Ok (version, count) → decoded bytes ≡ entries_of version count 0 5 (drop 5 bytes)
 unfolding decoded

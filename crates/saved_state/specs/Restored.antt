@@ -74,11 +74,11 @@ abbrev pub with_text_at : Forest Row → ℕ × Value → Forest Row
 with_text_at tree set = changed_at_key set.0 (with_text_of (Some set.1)) tree
 
 -- the rows of a tree with the texts that a state gives; their offsets are kept beside them
-abbrev pub retold : List StateEntry → Forest Row → Forest Row
-retold entries tree = map_rows (λ (row : Row). record row { view = with_text_of (given entries row.view) row.view }) tree
+abbrev pub restated : List StateEntry → Forest Row → Forest Row
+restated entries tree = map_rows (λ (row : Row). record row { view = with_text_of (given entries row.view) row.view }) tree
 
 -- a tree has the texts that a state gives, and is the same otherwise
-pub record Retells (entries : List StateEntry) (old new : Views) : Type 0 where
-  pub tree : new.tree ≡ retold entries old.tree
+pub record Restates (entries : List StateEntry) (old new : Views) : Type 0 where
+  pub tree : new.tree ≡ restated entries old.tree
   pub orders : new.orders ≡ old.orders
   pub next : new.next ≡ old.next

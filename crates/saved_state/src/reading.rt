@@ -97,7 +97,7 @@ fn id_at(bytes: &[u8], place: usize, before: u32) -> Result<u32, StateFault>
     ensures value { ReadAs (id_of before place (drop place bytes.now)) result }
     ensures there { IfOk result (λ _. place + 4 ≤ length bytes.now) }
 {
-    let rest = behind(bytes, place);
+    let rest = following(bytes, place);
     if rest.len() < 4 {
         return Err(bad_state(place));
     }
@@ -115,7 +115,7 @@ fn kind_at(bytes: &[u8], place: usize, version: u8) -> Result<u8, StateFault>
     ensures value { ReadAs (kind_of version place (drop place bytes.now)) result }
     ensures there { IfOk result (λ _. place + 1 ≤ length bytes.now) }
 {
-    let rest = behind(bytes, place);
+    let rest = following(bytes, place);
     if rest.is_empty() || !has_kind(version, rest[0]) {
         return Err(bad_state(place));
     }
@@ -150,7 +150,7 @@ fn offset_at(bytes: &[u8], place: usize) -> Result<u32, StateFault>
     ensures value { ReadAs (offset_of place (drop place bytes.now)) result }
     ensures there { IfOk result (λ _. place + 4 ≤ length bytes.now) }
 {
-    let rest = behind(bytes, place);
+    let rest = following(bytes, place);
     if rest.len() < 4 {
         return Err(bad_state(place));
     }
@@ -168,7 +168,7 @@ fn text_at(alloc: Global, bytes: &[u8], place: usize) -> Result<Text, StateFault
     ensures value { ReadAs (text_of place (drop place bytes.now)) result }
     ensures there { IfOk result (λ text. place + value_size (TextValue text) ≤ length bytes.now) }
 {
-    let rest = behind(bytes, place);
+    let rest = following(bytes, place);
     if rest.len() < 2 {
         return Err(bad_state(place));
     }
@@ -184,7 +184,7 @@ fn words_at(alloc: Global, bytes: &[u8], place: usize, count: u16) -> Result<Tex
     ensures there { IfOk result (λ _. place + count ≤ length bytes.now) }
     ensures count { IfOk result (λ text. length (encode_utf8_all text) ≡ count) }
 {
-    let rest = behind(bytes, place);
+    let rest = following(bytes, place);
     let count = usize::from(count);
     if rest.len() < count {
         return Err(bad_state(place));
@@ -196,7 +196,7 @@ fn words_at(alloc: Global, bytes: &[u8], place: usize, count: u16) -> Result<Tex
 }
 
 /// The bytes from a place on.
-fn behind(bytes: &[u8], place: usize) -> &[u8]
+fn following(bytes: &[u8], place: usize) -> &[u8]
     requires { place ≤ length bytes.now }
     ensures { result.now ≡ drop place bytes.now }
 {

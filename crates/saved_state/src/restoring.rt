@@ -3,7 +3,7 @@ ghost use Rattle.std.specs.Prelude.{◌≡◌, ℕ, ◌++◌, All, Some, false, 
 ghost use Rattle.std.specs.Option.{option_map};
 ghost use Rattle.kept_views.specs.Kept.{IsConsistent};
 ghost use Rattle.saved_state.specs.Answers.{RestoredUnless};
-ghost use Rattle.saved_state.specs.Restored.{Retells, all_given, all_set, given_held, given_values, moved_one, on_paths, paired, set_by, wanted, with_text_at};
+ghost use Rattle.saved_state.specs.Restored.{Restates, all_given, all_set, given_held, given_values, moved_one, on_paths, paired, set_by, wanted, with_text_at};
 ghost use Rattle.saved_state.specs.Restoring.{given, is_for_other_class, restored};
 ghost use Rattle.saved_state.specs.Saving.{OffsetsFit};
 ghost use Rattle.saved_state.specs.State.{IsValue};
@@ -25,7 +25,7 @@ pub fn restore(alloc: Global, tree: &mut ViewTree, states: &States) -> Result<()
     ensures plain { OnOk result (plain_of tree.new ≡ restored states.now (plain_of tree.old)) }
     ensures refused { RestoredUnless (is_for_other_class states.now (rows (plain_of tree.old))) result }
     ensures unchanged { OnErr result (tree.new ≡ tree.old) }
-    ensures retells { OnOk result (Retells states.now tree.old tree.new) }
+    ensures restates { OnOk result (Restates states.now tree.old tree.new) }
     ensures counts { tree.new.counts ≡ tree.old.counts }
     ensures geometry { geometry_of tree.new ≡ geometry_of tree.old }
     ensures consistent { IsConsistent tree.old → IsConsistent tree.new }
@@ -36,7 +36,7 @@ pub fn restore(alloc: Global, tree: &mut ViewTree, states: &States) -> Result<()
         → held_of tree.new key ≡ held_of tree.old key }
     ensures fits { OffsetsFit (plain_of tree.old) → OffsetsFit (plain_of tree.new) }
 {
-    states.tell();
+    states.recall();
     if is_for_other_class(tree, states) {
         return Err(other_class());
     }

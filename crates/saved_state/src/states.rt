@@ -39,7 +39,7 @@ impl States {
     }
 
     /// The invariant of every state, for contracts alone.
-    pub(crate) fn tell(&self)
+    pub(crate) fn recall(&self)
         ensures { IsState VERSION self.now }
     {
         let _count = self.entries.len();
@@ -60,7 +60,7 @@ impl States {
         ensures entry { FindsEntry self.now id result }
         ensures few { length self.now ≤ MAX_ENTRIES }
     {
-        self.tell();
+        self.recall();
         if id == 0 {
             return None;
         }

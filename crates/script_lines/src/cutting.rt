@@ -70,7 +70,7 @@ impl Model for Lines {
 impl Lines {
     /// Before the first byte.
     pub fn new() -> Lines
-        ensures stands { IsAfter result [] }
+        ensures reached { IsAfter result [] }
         ensures line { result.line ≡ [] }
     {
         Lines {
@@ -89,7 +89,7 @@ impl Lines {
         ensures lines { (before : List ℕ) → IsAfter self.now before
             → (cut_of (before ++ take result.bytes piece.now)).lines
             ≡ (cut_of before).lines ++ (cut_of (take result.bytes piece.now)).lines }
-        ensures stands { (before : List ℕ) → IsAfter self.now before
+        ensures reached { (before : List ℕ) → IsAfter self.now before
             → IsAfter self.now (before ++ take result.bytes piece.now) }
         ensures begun { self.now.begun ≢ [] → result.bytes ≡ 0 }
         ensures all { self.now.begun ≡ [] → begins_passed (drop result.bytes piece.now) ≡ false }
@@ -117,7 +117,7 @@ impl Lines {
         ensures whole { self.old.begun ≡ [] → result.1 ≢ LinePlace.Held }
         ensures line { (result.1 ≡ LinePlace.Held) ⊎ (self.new.line ≡ []) }
         ensures begun { (result.1 ≡ LinePlace.No) ⊎ (self.new.begun ≡ []) }
-        ensures stands { (before : List ℕ) → IsAfter self.old before
+        ensures reached { (before : List ℕ) → IsAfter self.old before
             → IsAfter self.new (before ++ take result.0 piece.now) }
     {
         let end = line_end(piece);
@@ -154,7 +154,7 @@ impl Lines {
             → (cut_of (before ++ take result.0 piece.now)).lines
             ≡ (cut_of before).lines ++ lines_as result.1 self.new.line }
         ensures line { (result.1 ≡ Ended.Line) ⊎ (self.new.line ≡ []) }
-        ensures stands { (before : List ℕ) → IsAfter self.old before
+        ensures reached { (before : List ℕ) → IsAfter self.old before
             → IsAfter self.new (before ++ take result.0 piece.now) }
     {
         let (used, place) = self.next_line(piece);

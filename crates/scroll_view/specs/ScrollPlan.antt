@@ -1,6 +1,6 @@
 -- What a plan represents: a group, its specs, and the children that it has taken in each phase.
 use Rattle.std.specs.Prelude.{◌≡◌, pos, Bool, true, false, List, [], ◌∷◌, ◌++◌}
-use Rattle.frame_layout.specs.FramePlan.{StandsFrame}
+use Rattle.frame_layout.specs.FramePlan.{RepresentsFrame}
 use Rattle.scroll_view.specs.declared.plan.ScrollPlan.{ScrollPlan}
 use Rattle.view_model.specs.declared.facts.Facts.{Facts}
 use Rattle.view_model.specs.Facts.{new_facts, padding_left, padding_right}
@@ -25,16 +25,16 @@ specs_in plan = record { across = plan.ws; down = plan.hs }
 pub record HasTaken (plan : ScrollPlan) (own : Facts) (specs : Specs) (first : List Measured) : Type 0 where
   pub own_facts : own_in plan ≡ scrolled own
   pub own_specs : specs_in plan ≡ specs
-  pub frame : StandsFrame plan.frame own specs [] first
+  pub frame : RepresentsFrame plan.frame own specs [] first
 
 -- it has completed these phases, and has taken these children in the one that it is in
-abbrev pub StandsScroll : ScrollPlan → Facts → Specs → List (List Measured) → List Measured → Type 0
-StandsScroll plan own specs [] taken = HasTaken plan own specs taken × (plan.filling ≡ false)
-StandsScroll plan own specs (first ∷ []) taken = HasTaken plan own specs first × (plan.filling ≡ true)
-StandsScroll plan own specs (first ∷ second ∷ more) taken = ⊥
+abbrev pub RepresentsScroll : ScrollPlan → Facts → Specs → List (List Measured) → List Measured → Type 0
+RepresentsScroll plan own specs [] taken = HasTaken plan own specs taken × (plan.filling ≡ false)
+RepresentsScroll plan own specs (first ∷ []) taken = HasTaken plan own specs first × (plan.filling ≡ true)
+RepresentsScroll plan own specs (first ∷ second ∷ more) taken = ⊥
 
 -- the plan at the end of a phase, once it has returned whether another follows
 pub record TurnsScroll (plan : ScrollPlan) (own : Facts) (specs : Specs) (past : List (List Measured)) (taken : List Measured) (answer : Bool) : Type 0 where
   pub answers : answer ≡ (scroll_rule own specs).turns (past ++ taken ∷ [])
-  pub follows : answer ≡ true → StandsScroll plan own specs (past ++ taken ∷ []) []
-  pub ends : answer ≡ false → StandsScroll plan own specs past taken
+  pub follows : answer ≡ true → RepresentsScroll plan own specs (past ++ taken ∷ []) []
+  pub ends : answer ≡ false → RepresentsScroll plan own specs past taken

@@ -29,12 +29,12 @@ pub struct ScrollPlan {
 }
 
 impl ScrollPlan {
-    ghost use Rattle.scroll_view.specs.ScrollPlan.{StandsScroll, TurnsScroll, own_in, specs_in};
+    ghost use Rattle.scroll_view.specs.ScrollPlan.{RepresentsScroll, TurnsScroll, own_in, specs_in};
 
     /// The plan of a group with these facts under these specs, before its first child.
     #[inline(always)]
     pub fn start(own: &Facts, ws: Spec, hs: Spec) -> ScrollPlan
-        ensures { StandsScroll result (layout_facts own.now) (record { across = ws; down = hs }) [] [] }
+        ensures { RepresentsScroll result (layout_facts own.now) (record { across = ws; down = hs }) [] [] }
     {
         ScrollPlan {
             padding: Insets {
@@ -55,7 +55,7 @@ impl ScrollPlan {
     /// measured size, which the first phase ignores.
     pub fn ask(&self, kid: &Facts, size: Size) -> Option<(Spec, Spec)>
         ensures { (own : FactsValue) (specs : Specs) (past : List (List Measured)) (taken : List Measured)
-            → StandsScroll self.now own specs past taken
+            → RepresentsScroll self.now own specs past taken
             → result ≡ option_map pair_of
             ((scroll_rule own specs).ask past taken (record { facts = layout_facts kid.now; size = size })) }
     {
@@ -73,8 +73,8 @@ impl ScrollPlan {
     /// Takes the size that a child has got; if `ask` returned `None`, the one that was passed to it.
     pub fn take(&mut self, kid: &Facts, size: Size)
         ensures { (own : FactsValue) (specs : Specs) (past : List (List Measured)) (taken : List Measured)
-            → StandsScroll self.old own specs past taken
-            → StandsScroll self.new own specs past
+            → RepresentsScroll self.old own specs past taken
+            → RepresentsScroll self.new own specs past
             (taken ++ taken_as (scroll_rule own specs) past taken (layout_facts kid.now) size ∷ []) }
     {
         if !self.filling {
@@ -85,7 +85,7 @@ impl ScrollPlan {
     /// Ends a phase: true if another follows.
     pub fn turn(&mut self) -> bool
         ensures { (own : FactsValue) (specs : Specs) (past : List (List Measured)) (taken : List Measured)
-            → StandsScroll self.old own specs past taken
+            → RepresentsScroll self.old own specs past taken
             → TurnsScroll self.new own specs past taken result }
     {
         if self.filling || !self.is_filled() {
@@ -98,7 +98,7 @@ impl ScrollPlan {
     /// The own size, once every child of the last phase is taken.
     pub fn finish(&self) -> Size
         ensures value { (own : FactsValue) (specs : Specs) (past : List (List Measured)) (taken : List Measured)
-            → StandsScroll self.now own specs past taken
+            → RepresentsScroll self.now own specs past taken
             → result ≡ (scroll_rule own specs).size (past ++ taken ∷ []) }
         ensures width { IsSide result.w }
         ensures height { IsSide result.h }

@@ -5,5 +5,5 @@ mod GivenLaws
 pub mod StillLaws
 pub mod ScrolledLaws
 pub mod ShownLaws
-mod ToldLaws
+mod ReportedStates
 mod UnseenLaws

@@ -4,7 +4,7 @@ ghost use Rattle.damage_rect.specs.Within.{LiesIn};
 ghost use Rattle.geom_core.specs.declared.geometry.Rect.{Rect};
 ghost use Rattle.kept_views.specs.Kept.{IsConsistent};
 ghost use Rattle.saved_state.specs.Answers.{RestoredUnless};
-ghost use Rattle.saved_state.specs.Restored.{Retells, all_given, on_paths, set_by, wanted};
+ghost use Rattle.saved_state.specs.Restored.{Restates, all_given, on_paths, set_by, wanted};
 ghost use Rattle.saved_state.specs.Restoring.{is_for_other_class, restored};
 ghost use Rattle.saved_state.specs.Saving.{OffsetsFit};
 ghost use Rattle.seen_edits.specs.Scrolled.{GivenIn, IsIn, NotesGiven};
@@ -39,7 +39,7 @@ pub fn restore_views(
     ensures plain { OnOk result (plain_of tree.new ≡ restored states.now (plain_of tree.old)) }
     ensures refused { RestoredUnless (is_for_other_class states.now (rows (plain_of tree.old))) result }
     ensures unchanged { OnErr result (tree.new ≡ tree.old) }
-    ensures retells { OnOk result (Retells states.now tree.old tree.new) }
+    ensures restates { OnOk result (Restates states.now tree.old tree.new) }
     ensures is_tree { IsTree tree.new }
     ensures counts { tree.new.counts ≡ tree.old.counts }
     ensures geometry { geometry_of tree.new ≡ geometry_of tree.old }

@@ -11,7 +11,7 @@ use Rattle.view_model.specs.Forest.{Forest}
 use Rattle.view_model.specs.PlainTree.{PlainView, part_of}
 use Rattle.std.specs.Prelude.{ℤ, ◌||◌, not}
 use Rattle.touch_dispatch.specs.declared.taker.Taker.{Taker}
-use Rattle.touch_dispatch.specs.declared.taker.Taker.TheVariants.{Nobody, Earlier, Handed}
+use Rattle.touch_dispatch.specs.declared.taker.Taker.TheVariants.{NoChild, Earlier, Sent}
 use Rattle.touch_dispatch.specs.declared.receiver.Receiver.{Receiver}
 use Rattle.touch_dispatch.proofs.DistinctLaws.{without_none}
 use Rattle.touch_dispatch.proofs.TargetLaws.{dropped_there, oldest_there, put_cases}
@@ -86,10 +86,10 @@ caught_given tree gesture (Some child) group pointer caught there = caught_put t
 
 pub caught_settled : (tree : Forest PlainView) (group : ℕ) (event : Event) (taker : Taker) (progress : Progress) → AreChildren tree progress.gesture
     → AreChildren tree (settled group event (record { taker = taker; progress = progress })).progress.gesture
-caught_settled tree group event Nobody progress caught =
+caught_settled tree group event NoChild progress caught =
     caught_given tree progress.gesture (oldest (progress.gesture.targets group)) group event.pointer caught (λ child is. oldest_there child (progress.gesture.targets group) is)
 caught_settled tree group event Earlier progress caught = caught
-caught_settled tree group event (Handed child) progress caught = caught
+caught_settled tree group event (Sent child) progress caught = caught
 
 pub caught_ended : (tree : Forest PlainView) (group : ℕ) (split : Bool) (event : Event) (intercepted : Bool) (progress : Progress) → AreChildren tree progress.gesture
     → AreChildren tree (ended group split event intercepted progress).gesture

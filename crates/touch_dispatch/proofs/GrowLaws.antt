@@ -15,10 +15,10 @@ use Rattle.view_tree.specs.Rows.{At_first, Later, Later_on, Row, views_of}
 use Rattle.touch_dispatch.specs.declared.log.Kind.{Kind}
 use Rattle.touch_dispatch.specs.declared.log.Kind.TheVariants.{Ask, Touch, Click, Scroll}
 use Rattle.touch_dispatch.specs.declared.taker.Taker.{Taker}
-use Rattle.touch_dispatch.specs.declared.taker.Taker.TheVariants.{Nobody, Earlier, Handed}
+use Rattle.touch_dispatch.specs.declared.taker.Taker.TheVariants.{NoChild, Earlier, Sent}
 use Rattle.touch_dispatch.specs.declared.receiver.Receiver.{Receiver}
 use Rattle.touch_dispatch.proofs.TryWalk.{GetsPart}
-use Rattle.touch_dispatch.specs.Dispatch.{EventChild, Scene, Tried, answered, begun, child_of, ended, ended_by, event_children, group_reached, hand_out, hand_part, hand_to, intercepted_cleared, is_handed, is_offered, offered, part_for, reached_by, receiver, settled, taken_by, tried_event, try_child, try_children, unless_taken}
+use Rattle.touch_dispatch.specs.Dispatch.{EventChild, Scene, Tried, answered, begun, child_of, ended, ended_by, event_children, group_reached, hand_out, hand_part, hand_to, intercepted_cleared, is_sent, is_offered, offered, part_for, reached_by, receiver, settled, taken_by, tried_event, try_child, try_children, unless_taken}
 use Rattle.touch_dispatch.specs.Drags.{pulled}
 use Rattle.touch_dispatch.specs.Gestures.{PlainGesture, at_number, set_drag, set_pressed}
 use Rattle.touch_dispatch.specs.Handling.{Progress, Reached, asked, click_handled, click_noted, clicks, drag_answer, drag_handled, handled, handled_by, intercepts, is_down, is_nil, is_same_offset, looked, many, moved_by, noted, noted_with, offset_after, pressed_after, scrolled_to, targets_at, with_gesture}
@@ -126,9 +126,9 @@ grow_try scene own event kid progress grows =
     ]
 
 pub grow_unless : (next : Progress → Tried) (taker : Taker) (progress : Progress) → many progress ≤ many (next progress).progress → many progress ≤ many (unless_taken next taker progress).progress
-grow_unless next Nobody progress grows = grows
+grow_unless next NoChild progress grows = grows
 grow_unless next Earlier progress grows = omega arith
-grow_unless next (Handed child) progress grows = omega arith
+grow_unless next (Sent child) progress grows = omega arith
 
 pub grow_tries : (scene : Scene) (own : PlainView) (event : Event) (kids : List EventChild) (progress : Progress) → AllGrow kids → many progress ≤ many (try_children scene own event kids progress).progress
 grow_tries scene own event [] progress grow = omega arith
@@ -139,9 +139,9 @@ grow_tries scene own event (kid ∷ kids) progress grow =
     omega arith
 
 pub many-settled : (group : ℕ) (event : Event) (taker : Taker) (progress : Progress) → many (settled group event (record { taker = taker; progress = progress })).progress ≡ many progress
-many-settled group event Nobody progress = refl
+many-settled group event NoChild progress = refl
 many-settled group event Earlier progress = refl
-many-settled group event (Handed child) progress = refl
+many-settled group event (Sent child) progress = refl
 
 pub grow_offered : (scene : Scene) (own : PlainView) (kids : List EventChild) (event : Event) (intercepted : Bool) (progress : Progress) → AllGrow kids → many progress ≤ many (offered scene own kids event intercepted progress).progress
 grow_offered scene own kids event intercepted progress grow =
@@ -168,7 +168,7 @@ grow_part child (Some part) kids progress grow = grow_child child part kids prog
 
 pub grow_hand_to : (scene : Scene) (own : PlainView) (kids : List EventChild) (event : Event) (intercepted : Bool) (taker : Taker) (child : ℕ) (ids : ℕ → Bool) (progress : Progress) → AllGrow kids
     → many progress ≤ many (hand_to scene own kids event intercepted taker (record { child = child; ids = ids }) progress).progress
-grow_hand_to scene own kids event intercepted taker child ids progress grow = elim (cases_Bool (is_handed taker child)) [
+grow_hand_to scene own kids event intercepted taker child ids progress grow = elim (cases_Bool (is_sent taker child)) [
   | inl e ↦ rw e (omega arith)
   | inr e ↦ rw e (grow_part child (part_for (scene.rects child) (progress.offsets own.number) event intercepted ids) kids progress grow)
 ]

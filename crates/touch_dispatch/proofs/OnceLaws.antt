@@ -14,7 +14,7 @@ use Rattle.view_model.specs.Forest.{Branch, Forest, Nothing}
 use Rattle.view_model.specs.PlainTree.{PlainView}
 use Rattle.touch_dispatch.proofs.CaughtLaws.{asked_targets, handled_targets}
 use Rattle.touch_dispatch.proofs.DistinctLaws.{more_ids}
-use Rattle.touch_dispatch.specs.Dispatch.{EventChild, Scene, begun, child_of, hand_out, hand_part, hand_to, is_handed, part_for}
+use Rattle.touch_dispatch.specs.Dispatch.{EventChild, Scene, begun, child_of, hand_out, hand_part, hand_to, is_sent, part_for}
 use Rattle.touch_dispatch.specs.Drags.{pulled}
 use Rattle.touch_dispatch.specs.Gestures.{PlainGesture, set_drag, set_pressed, set_targets}
 use Rattle.touch_dispatch.specs.Handling.{Progress, asked, click_noted, clicks, drag_answer, drag_handled, handled, handled_by, intercepts, is_down, is_nil, is_same_offset, looked, moved_by, noted, offset_after, pressed_after, scrolled_to, targets_at, with_gesture}
@@ -108,13 +108,13 @@ price_targets_list (t ∷ targets) p distinct =
 -- what the targets get that did not get the event before
 abbrev pub price_kept : {tally : Entry → ℕ} {kids : List EventChild} → Taker → List Target → Priced tally kids → ℕ
 price_kept taker [] p = 0
-price_kept taker (t ∷ targets) p = (if is_handed taker t.child then 0 else price_of t.child p) + price_kept taker targets p
+price_kept taker (t ∷ targets) p = (if is_sent taker t.child then 0 else price_of t.child p) + price_kept taker targets p
 
 pub kept_less : {tally : Entry → ℕ} {kids : List EventChild} (taker : Taker) (targets : List Target) (p : Priced tally kids) → price_kept taker targets p ≤ price_list targets p
 kept_less taker [] p = omega arith
 kept_less taker (t ∷ targets) p =
     let h = kept_less taker targets p in
-    elim (cases_Bool (is_handed taker t.child)) [
+    elim (cases_Bool (is_sent taker t.child)) [
       | inl e ↦ rw e (omega arith)
       | inr e ↦ rw e (omega arith)
     ]
@@ -252,8 +252,8 @@ pub bound_out : {tally : Entry → ℕ} {kids : List EventChild} (scene : Scene)
 bound_out {tally = tally} scene own event intercepted taker [] said p progress all = no_step tally progress 0 all
 bound_out {tally = tally} {kids = kids} scene own event intercepted taker (t ∷ targets) said p progress all =
     let reached = hand_to scene own kids event intercepted taker t progress in
-    let one : Step tally progress reached.progress (if is_handed taker t.child then 0 else price_of t.child p) =
-    elim (cases_Bool (is_handed taker t.child)) [
+    let one : Step tally progress reached.progress (if is_sent taker t.child then 0 else price_of t.child p) =
+    elim (cases_Bool (is_sent taker t.child)) [
       | inl e ↦ rw e (no_step tally progress 0 all)
       | inr e ↦ rw e (bound_part t.child (part_for (scene.rects t.child) (progress.offsets own.number) event intercepted t.ids) p progress all)
     ] in

@@ -6,7 +6,7 @@ use Rattle.touch_event.specs.declared.event.Action.{Action}
 use Rattle.touch_event.specs.declared.event.Action.TheVariants.{Down, Up, Move, Cancel, PointerDown, PointerUp}
 use Rattle.touch_dispatch.specs.declared.log.Entry.{Entry}
 use Rattle.touch_dispatch.specs.declared.taker.Taker.{Taker}
-use Rattle.touch_dispatch.specs.declared.taker.Taker.TheVariants.{Earlier, Handed, Nobody}
+use Rattle.touch_dispatch.specs.declared.taker.Taker.TheVariants.{Earlier, Sent, NoChild}
 use Rattle.touch_event.specs.declared.event.Event.{Event}
 use Rattle.view_model.specs.Forest.{Branch, Forest, Nothing}
 use Rattle.view_model.specs.Classes.{is_group}
@@ -24,9 +24,9 @@ use Rattle.touch_targets.specs.Captures.{Target, drop_pointers, is_target, put_t
 
 -- how the targets of a group change, by which child took the pointer
 abbrev pub TriedIs : List Target → Taker → List Target → Type 0
-TriedIs old Nobody new = new ≡ old
+TriedIs old NoChild new = new ≡ old
 TriedIs old Earlier new = (child : ℕ) × (ids : ℕ → Bool) × (is_target child old ≡ true) × (new ≡ put_target child ids old)
-TriedIs old (Handed child) new = (ids : ℕ → Bool) × (is_target child old ≡ false) × (new ≡ put_target child ids old)
+TriedIs old (Sent child) new = (ids : ℕ → Bool) × (is_target child old ≡ false) × (new ≡ put_target child ids old)
 
 pub record TriedStep (tally : Entry → ℕ) (group : ℕ) (old : Progress) (taker : Taker) (new : Progress) (price : ℕ) : Type 0 where
   pub step : Step tally old new price
@@ -79,7 +79,7 @@ try_step tally scene own event kid price progress bound stays all =
 unless_step : (tally : Entry → ℕ) (group : ℕ) (old : Progress) (first more : ℕ) (next : Progress → Tried) (taker : Taker) (progress : Progress) → TriedStep tally group old taker progress first
     → (targets_at progress group ≡ targets_at old group → TriedStep tally group progress (next progress).taker (next progress).progress more)
     → TriedStep tally group old (unless_taken next taker progress).taker (unless_taken next taker progress).progress (more + first)
-unless_step tally group old first more next Nobody progress step on =
+unless_step tally group old first more next NoChild progress step on =
     let n = on step.is in
     let a = step.step.cost in
     let b = n.step.cost in
@@ -88,7 +88,7 @@ unless_step tally group old first more next Nobody progress step on =
       is = subst (λ t. TriedIs t (next progress).taker (targets_at (next progress).progress group)) step.is n.is;
     }
 unless_step tally group old first more next Earlier progress step on = let a = step.step.cost in record { step = record { cost = omega arith; distinct = step.step.distinct }; is = step.is }
-unless_step tally group old first more next (Handed child) progress step on = let a = step.step.cost in record { step = record { cost = omega arith; distinct = step.step.distinct }; is = step.is }
+unless_step tally group old first more next (Sent child) progress step on = let a = step.step.cost in record { step = record { cost = omega arith; distinct = step.step.distinct }; is = step.is }
 
 -- the children that are tried are no targets
 pub tries_step : {tally : Entry → ℕ} {kids : List EventChild} (scene : Scene) (own : PlainView) (event : Event) (p : Priced tally kids) (progress : Progress) → AllStay own.number kids → AllDistinct progress.gesture.targets
@@ -112,34 +112,34 @@ list_ids child ids (t ∷ targets) p =
 
 -- what the targets may get is what those may that were there
 pub kept_by : {tally : Entry → ℕ} {kids : List EventChild} (old new : List Target) (taker : Taker) (p : Priced tally kids) → TriedIs old taker new → price_kept taker new p ≤ price_list old p
-kept_by old new Nobody p is = rw is (kept_less Nobody old p)
+kept_by old new NoChild p is = rw is (kept_less NoChild old p)
 kept_by old new Earlier p is =
     let h = kept_less Earlier (more_ids is.0 is.1 old) p in
     let e = list_ids is.0 is.1 old p in
     rw (is.3, put_old is.0 is.1 old is.2) (omega arith)
-kept_by old new (Handed child) p is =
-    let h = kept_less (Handed child) old p in
+kept_by old new (Sent child) p is =
+    let h = kept_less (Sent child) old p in
     rw (is.2, put_fresh child is.0 old is.1, eq-eqb child child refl) (omega arith)
 
 -- the pointer that no child took
 settled_step : {tally : Entry → ℕ} {kids : List EventChild} (group : ℕ) (event : Event) (old : Progress) (price : ℕ) (taker : Taker) (progress : Progress) (p : Priced tally kids) → TriedStep tally group old taker progress price
     → let settled_ = settled group event (record { taker = taker; progress = progress }) in
     Step tally old settled_.progress price × (price_kept settled_.taker (targets_at settled_.progress group) p ≤ price_list (targets_at old group) p)
-settled_step {tally = tally} group event old price Nobody progress p step = by_oldest (oldest (targets_at progress group)) refl
+settled_step {tally = tally} group event old price NoChild progress p step = by_oldest (oldest (targets_at progress group)) refl
   where
     by_oldest : (o : Option ℕ) → oldest (targets_at progress group) ≡ o
         → Step tally old (record progress { gesture = given o group event.pointer progress.gesture }) price
-        × (price_kept Nobody ((given o group event.pointer progress.gesture).targets group) p ≤ price_list (targets_at old group) p)
-    by_oldest None e = (step.step, kept_by (targets_at old group) (targets_at progress group) Nobody p step.is)
+        × (price_kept NoChild ((given o group event.pointer progress.gesture).targets group) p ≤ price_list (targets_at old group) p)
+    by_oldest None e = (step.step, kept_by (targets_at old group) (targets_at progress group) NoChild p step.is)
     by_oldest (Some child) e =
         let there = oldest_there child (targets_at progress group) e in (
           record { cost = step.step.cost; distinct = put_step tally group child (only event.pointer) progress step.step.distinct },
-          subst (λ t. price_kept Nobody ((given (Some child) group event.pointer progress.gesture).targets group) p ≤ price_list t p) step.is
+          subst (λ t. price_kept NoChild ((given (Some child) group event.pointer progress.gesture).targets group) p ≤ price_list t p) step.is
               (kept_by (targets_at progress group) ((given (Some child) group event.pointer progress.gesture).targets group) Earlier p
               (child, only event.pointer, there, set_here group (put_target child (only event.pointer) (targets_at progress group)) progress.gesture)),
         )
 settled_step group event old price Earlier progress p step = (step.step, kept_by (targets_at old group) (targets_at progress group) Earlier p step.is)
-settled_step group event old price (Handed child) progress p step = (step.step, kept_by (targets_at old group) (targets_at progress group) (Handed child) p step.is)
+settled_step group event old price (Sent child) progress p step = (step.step, kept_by (targets_at old group) (targets_at progress group) (Sent child) p step.is)
 
 offered_step : {tally : Entry → ℕ} {kids : List EventChild} (scene : Scene) (own : PlainView) (event : Event) (intercepted : Bool) (p : Priced tally kids) (progress : Progress) → AllStay own.number kids → AllDistinct progress.gesture.targets
     → let second = offered scene own kids event intercepted progress in
@@ -149,7 +149,7 @@ offered_step {tally = tally} {kids = kids} scene own event intercepted p progres
       | inl e ↦
           let tried = try_children scene own event kids progress in
           rw e (settled_step own.number event progress (price_others (targets_at progress own.number) p) tried.taker tried.progress p (tries_step scene own event p progress stays all))
-      | inr e ↦ rw e (no_step tally progress _ all, kept_less Nobody (targets_at progress own.number) p)
+      | inr e ↦ rw e (no_step tally progress _ all, kept_less NoChild (targets_at progress own.number) p)
     ]
 
 ended_step : (tally : Entry → ℕ) (group : ℕ) (split : Bool) (event : Event) (intercepted : Bool) (progress : Progress) → AllDistinct progress.gesture.targets → Step tally progress (ended group split event intercepted progress) 0

@@ -13,7 +13,7 @@ use Rattle.view_model.specs.declared.facts.Facts.{Facts}
 use Rattle.view_tree.proofs.forest.KeyLaws.{Within, located, number-within, count_of_key-within, times_self}
 use Rattle.touch_dispatch.specs.declared.receiver.Receiver.{Receiver}
 use Rattle.touch_dispatch.specs.declared.taker.Taker.{Taker}
-use Rattle.touch_dispatch.specs.declared.taker.Taker.TheVariants.{Nobody, Earlier, Handed}
+use Rattle.touch_dispatch.specs.declared.taker.Taker.TheVariants.{NoChild, Earlier, Sent}
 use Rattle.touch_dispatch.specs.declared.log.Entry.{Entry}
 use Rattle.view_tree.proofs.forest.Backwards.{count-later, count_of_key-later, from_later, kids-within, last_is, last_none, later-within, previous_in, previous_within, within_within}
 use Rattle.touch_dispatch.proofs.CaughtLaws.{caught_put}
@@ -21,7 +21,7 @@ use Rattle.touch_dispatch.proofs.SceneLaws.{kid_root, kids_part, offset_live, re
 use Rattle.touch_dispatch.proofs.StayLaws.{AllStay, children_stay, occurs, stays_hand_to}
 use Rattle.touch_dispatch.proofs.TargetLaws.{headed}
 use Rattle.touch_dispatch.proofs.TryWalk.{GetsPart, TryWalk, before}
-use Rattle.touch_dispatch.specs.Dispatch.{EventChild, Scene, Tried, answered, begun, child_of, ended, event_children, group_reached, hand_out, hand_to, is_handed, is_taken, offered, only, part_for, reached_by, receiver, taken_by, tried_ids, try_child, try_children, unless_taken}
+use Rattle.touch_dispatch.specs.Dispatch.{EventChild, Scene, Tried, answered, begun, child_of, ended, event_children, group_reached, hand_out, hand_to, is_sent, is_taken, offered, only, part_for, reached_by, receiver, taken_by, tried_ids, try_child, try_children, unless_taken}
 use Rattle.touch_dispatch.specs.Gestures.{PlainGesture, set_targets}
 use Rattle.touch_dispatch.specs.Handling.{Progress, Reached, asked, handled, is_nil, targets_at, with_gesture}
 use Rattle.touch_dispatch.specs.Points.{is_tried}
@@ -64,7 +64,7 @@ pub group_chain : (scene : Scene) (own : PlainView) (kids : List EventChild) (ev
 group_chain scene own kids event start first second third last e1 e2 e3 e4 = rw (e4, ← e3, ← e2, ← e1) refl
 
 pub hand_to_kid : (scene : Scene) (own : PlainView) (kids : List EventChild) (event : Event) (intercepted : Bool) (taker : Taker) (target : Target) (progress : Progress) (part : Event) (kid : EventChild)
-    (reached : Reached) → is_handed taker target.child ≡ false
+    (reached : Reached) → is_sent taker target.child ≡ false
     → part_for (scene.rects target.child) (progress.offsets own.number) event intercepted target.ids ≡ Some part
     → child_of target.child kids ≡ Some kid → kid.reach part progress ≡ reached
     → hand_to scene own kids event intercepted taker target progress ≡ reached
@@ -75,7 +75,7 @@ if_is b x y e = rw e refl
 
 pub try_no : (scene : Scene) (own : PlainView) (event : Event) (kid : EventChild) (progress : Progress)
     → is_tried kid.view.facts.visibility (scene.rects kid.view.number) (progress.offsets own.number) event ≡ false
-    → try_child scene own event kid progress ≡ record { taker = Nobody; progress = progress }
+    → try_child scene own event kid progress ≡ record { taker = NoChild; progress = progress }
 try_no scene own event kid progress e = rw e refl
 
 pub try_earlier : (scene : Scene) (own : PlainView) (event : Event) (kid : EventChild) (progress new : Progress)
@@ -88,18 +88,18 @@ try_earlier scene own event kid progress new e1 e2 e3 =
     ∙ if_is (is_target kid.view.number (targets_at progress own.number)) _ _ e2
     ∙ ap (λ c. let t : Tried = record { taker = Earlier; progress = c } in t) e3
 
-pub try_handed : (scene : Scene) (own : PlainView) (event : Event) (kid : EventChild) (progress : Progress) (part : Event) (reached : Reached) → GetsPart scene own event kid progress part
+pub try_sent : (scene : Scene) (own : PlainView) (event : Event) (kid : EventChild) (progress : Progress) (part : Event) (reached : Reached) → GetsPart scene own event kid progress part
     → kid.reach part progress ≡ reached
     → try_child scene own event kid progress ≡ taken_by own event kid.view.number reached
-try_handed scene own event kid progress part reached gets e = rw (gets.tried, gets.other, ← gets.part_is, e) refl
+try_sent scene own event kid progress part reached gets e = rw (gets.tried, gets.other, ← gets.part_is, e) refl
 
-pub taken_no : (own : PlainView) (event : Event) (child : ℕ) (reached : Reached) → reached.yes ≡ false → taken_by own event child reached ≡ record { taker = Nobody; progress = reached.progress }
+pub taken_no : (own : PlainView) (event : Event) (child : ℕ) (reached : Reached) → reached.yes ≡ false → taken_by own event child reached ≡ record { taker = NoChild; progress = reached.progress }
 taken_no own event child reached e = rw e refl
 
 pub taken_yes : (own : PlainView) (event : Event) (child : ℕ) (reached : Reached) (new : Progress) → reached.yes ≡ true
     → with_gesture (set_targets own.number (put_target child (tried_ids own.facts.split event) (targets_at reached.progress own.number))) reached.progress ≡ new
-    → taken_by own event child reached ≡ record { taker = Handed child; progress = new }
-taken_yes own event child reached new e is = rw e (ap (λ c. let t : Tried = record { taker = Handed child; progress = c } in t) is)
+    → taken_by own event child reached ≡ record { taker = Sent child; progress = new }
+taken_yes own event child reached new e is = rw e (ap (λ c. let t : Tried = record { taker = Sent child; progress = c } in t) is)
 
 -- a view is not among those below it
 pub views_occurs : (n : ℕ) (list : Forest Row) → occurs n (views_of list) ≡ count_of_number n list
@@ -160,19 +160,19 @@ walk_begin views slop view event progress (Some key) is live e =
     }
 
 -- a child that did not take the pointer
-pub not_taken : (taker : Taker) → is_taken taker ≡ false → taker ≡ Nobody
-not_taken Nobody e = refl
+pub not_taken : (taker : Taker) → is_taken taker ≡ false → taker ≡ NoChild
+not_taken NoChild e = refl
 not_taken Earlier e = absurd (cc)
-not_taken (Handed child) e = absurd (cc)
+not_taken (Sent child) e = absurd (cc)
 
 pub taken_stays : (next : Progress → Tried) (taker : Taker) (progress : Progress) → is_taken taker ≡ true → unless_taken next taker progress ≡ record { taker = taker; progress = progress }
-taken_stays next Nobody progress e = absurd (cc)
+taken_stays next NoChild progress e = absurd (cc)
 taken_stays next Earlier progress e = refl
-taken_stays next (Handed child) progress e = refl
+taken_stays next (Sent child) progress e = refl
 
 -- the result for a list of children, by its first one and the rest
 pub from_first : (scene : Scene) (own : PlainView) (event : Event) (start now : Progress) (tried : Tried) (row : Row) (kids siblings list : Forest Row) → list ≡ Branch row kids siblings
-    → try_children scene own event (event_children scene (views_of (later_siblings list))) start ≡ record { taker = Nobody; progress = now }
+    → try_children scene own event (event_children scene (views_of (later_siblings list))) start ≡ record { taker = NoChild; progress = now }
     → try_child scene own event (record { view = head_view list; reach = reached_by scene (head_view list) (event_children scene (views_of (children_of_first list))) }) now ≡ tried
     → try_children scene own event (event_children scene (views_of list)) start ≡ tried
 from_first scene own event start now tried row kids siblings Nothing is rest e = absurd (cc)
@@ -182,7 +182,7 @@ from_first scene own event start now tried row kids siblings (Branch r b a) is r
 
 -- the same for the views after the one of a key
 pub from_kid : (views : Views) (slop : ℤ) (view kid : ℕ) (event : Event) (start now : Progress) (tried : Tried) → IsLive views kid
-    → try_children (scene_of views slop) (own_of views view) event (event_children (scene_of views slop) (views_of (later_siblings (part_from kid views.tree)))) start ≡ record { taker = Nobody; progress = now }
+    → try_children (scene_of views slop) (own_of views view) event (event_children (scene_of views slop) (views_of (later_siblings (part_from kid views.tree)))) start ≡ record { taker = NoChild; progress = now }
     → try_child (scene_of views slop) (own_of views view) event (child_at views slop kid) now ≡ tried
     → try_children (scene_of views slop) (own_of views view) event (event_children (scene_of views slop) (views_of (part_from kid views.tree))) start ≡ tried
 from_kid views slop view kid event start now tried live rest e =
@@ -204,7 +204,7 @@ WalkTo views slop view kid event start new next =
     TryWalk views slop view event next start new × (before next (children_of_first (part_from view views.tree)) views.tree < before (Some kid) (children_of_first (part_from view views.tree)) views.tree)
 
 to_none : (views : Views) (slop : ℤ) (view kid : ℕ) (event : Event) (start new : Progress) → IsKidAt views view kid → part_from kid views.tree ≡ children_of_first (part_from view views.tree)
-    → try_children (scene_of views slop) (own_of views view) event (event_children (scene_of views slop) (views_of (part_from kid views.tree))) start ≡ record { taker = Nobody; progress = new }
+    → try_children (scene_of views slop) (own_of views view) event (event_children (scene_of views slop) (views_of (part_from kid views.tree))) start ≡ record { taker = NoChild; progress = new }
     → WalkTo views slop view kid event start new None
 to_none views slop view kid event start new is all tried =
     let few = count-later is.within in (
@@ -214,7 +214,7 @@ to_none views slop view kid event start new is all tried =
 
 to_some : (views : Views) (slop : ℤ) (view kid : ℕ) (event : Event) (start new : Progress) (row : Row) (kids : Forest Row) → IsTree views → IsLive views view → IsKidAt views view kid
     → Later (Branch row kids (part_from kid views.tree)) (children_of_first (part_from view views.tree))
-    → try_children (scene_of views slop) (own_of views view) event (event_children (scene_of views slop) (views_of (part_from kid views.tree))) start ≡ record { taker = Nobody; progress = new }
+    → try_children (scene_of views slop) (own_of views view) event (event_children (scene_of views slop) (views_of (part_from kid views.tree))) start ≡ record { taker = NoChild; progress = new }
     → WalkTo views slop view kid event start new (Some row.key)
 to_some views slop view kid event start new row kids is live at there tried =
     let w = kids-within view views.tree live in
@@ -231,7 +231,7 @@ to_some views slop view kid event start new row kids is live at there tried =
 
 pub walk_on : (views : Views) (slop : ℤ) (view kid : ℕ) (event : Event) (start old new : Progress) (next : Option ℕ) → IsTree views → IsLive views view
     → TryWalk views slop view event (Some kid) start old
-    → try_child (scene_of views slop) (own_of views view) event (child_at views slop kid) old ≡ record { taker = Nobody; progress = new }
+    → try_child (scene_of views slop) (own_of views view) event (child_at views slop kid) old ≡ record { taker = NoChild; progress = new }
     → next ≡ previous_key None kid views.tree
     → WalkTo views slop view kid event start new next
 walk_on views slop view kid event start old new next is live walk e previous =
@@ -244,7 +244,7 @@ walk_on views slop view kid event start old new next is live walk e previous =
     let once : (key : ℕ) → count_of_key key list ≤ 1 = λ key. let h = is.keys key in let i = count_of_key-within key (kids-within view views.tree live) in omega arith in
     let there : 0 < count_of_key kid list = let h = count_of_key-later kid l in let s = times_self f.row f.kids f.siblings in subst (λ k. 0 < count_of_key k list) f.key_is (let h = count_of_key-later f.row.key l in omega arith) in
     let within_list : previous_key None kid views.tree ≡ previous_key None f.row.key list = previous_within kid v.row list v.siblings None w is.keys there ∙ ap (λ k. previous_key None k list) (sym f.key_is) in
-    let tried = from_kid views slop view kid event start old (record { taker = Nobody; progress = new }) k.live walk.rest e in
+    let tried = from_kid views slop view kid event start old (record { taker = NoChild; progress = new }) k.live walk.rest e in
     elim (previous_in f.row f.kids f.siblings None l once) [
       | inl p ↦
           subst (WalkTo views slop view kid event start new) (sym (previous ∙ within_list ∙ p.0))

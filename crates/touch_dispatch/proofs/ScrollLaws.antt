@@ -5,7 +5,7 @@ use Rattle.std.proofs.lemmas.Int.{ints}
 use Rattle.std.specs.Prelude.{if◌then◌else◌, ◌==◌, ◌||◌, ◌&&◌, not, is_some, pos}
 use Rattle.touch_dispatch.proofs.OnceLaws.{total_more}
 use Rattle.touch_dispatch.specs.Once.{total, touches}
-use Rattle.touch_dispatch.specs.Dispatch.{EventChild, Scene, Tried, answered, begun, child_of, dispatched, ended, ended_by, event_children, group_reached, hand_out, hand_part, hand_to, intercepted_cleared, is_handed, is_offered, offered, reach, reached_by, receiver, taken_by, tried_event, try_child, try_children, unless_taken}
+use Rattle.touch_dispatch.specs.Dispatch.{EventChild, Scene, Tried, answered, begun, child_of, dispatched, ended, ended_by, event_children, group_reached, hand_out, hand_part, hand_to, intercepted_cleared, is_sent, is_offered, offered, reach, reached_by, receiver, taken_by, tried_event, try_child, try_children, unless_taken}
 use Rattle.touch_dispatch.specs.Gestures.{at_number, set_drag, set_pressed}
 use Rattle.touch_dispatch.specs.Handling.{Progress, Reached, answered_ask, drag_answer, intercepts, looked, pressed_after, asked, click_handled, click_noted, clicks, drag_handled, handled, handled_by, is_down, is_nil, is_same_offset, moved_by, noted_with, offset_after, targets_at, with_gesture}
 use Rattle.touch_dispatch.specs.Points.{is_near_first, is_tried, local_event}
@@ -17,7 +17,7 @@ use Rattle.touch_dispatch.specs.declared.log.Kind.{Kind}
 use Rattle.touch_dispatch.specs.declared.log.Kind.TheVariants.{Ask, Touch, Click, Scroll}
 use Rattle.touch_dispatch.specs.declared.receiver.Receiver.{Receiver}
 use Rattle.touch_dispatch.specs.declared.taker.Taker.{Taker}
-use Rattle.touch_dispatch.specs.declared.taker.Taker.TheVariants.{Nobody, Earlier, Handed}
+use Rattle.touch_dispatch.specs.declared.taker.Taker.TheVariants.{NoChild, Earlier, Sent}
 use Rattle.touch_event.specs.declared.event.Action.{Action}
 use Rattle.touch_event.specs.declared.event.Action.TheVariants.{Down, Up, Move, Cancel, PointerDown, PointerUp}
 use Rattle.touch_event.specs.declared.event.Event.{Event}
@@ -268,9 +268,9 @@ try_logs scene own event kid progress logs =
     ]
 
 unless_logs : (next : Progress → Tried) (taker : Taker) (progress : Progress) → LogsScrolls progress (next progress).progress → LogsScrolls progress (unless_taken next taker progress).progress
-unless_logs next Nobody progress logs = logs
+unless_logs next NoChild progress logs = logs
 unless_logs next Earlier progress logs = still progress
-unless_logs next (Handed child) progress logs = still progress
+unless_logs next (Sent child) progress logs = still progress
 
 tries_log : (scene : Scene) (own : PlainView) (event : Event) (kids : List EventChild) (progress : Progress) → AllLog kids → LogsScrolls progress (try_children scene own event kids progress).progress
 tries_log scene own event [] progress logs = still progress
@@ -304,7 +304,7 @@ part_logs child (Some part) kids progress logs = child_logs child part kids prog
 hand_to_logs : (scene : Scene) (own : PlainView) (kids : List EventChild) (event : Event) (intercepted : Bool) (taker : Taker) (target : Target) (progress : Progress) → AllLog kids
     → LogsScrolls progress (hand_to scene own kids event intercepted taker target progress).progress
 hand_to_logs scene own kids event intercepted taker target progress logs =
-    elim (cases_Bool (is_handed taker target.child)) [
+    elim (cases_Bool (is_sent taker target.child)) [
       | inl e ↦ rw e (still progress)
       | inr e ↦ rw e (part_logs target.child _ kids progress logs)
     ]

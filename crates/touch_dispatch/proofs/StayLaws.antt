@@ -9,9 +9,9 @@ use Rattle.view_model.specs.Classes.{is_group}
 use Rattle.view_model.specs.Forest.{Forest, Nothing, Branch}
 use Rattle.view_model.specs.PlainTree.{PlainView}
 use Rattle.touch_dispatch.specs.declared.taker.Taker.{Taker}
-use Rattle.touch_dispatch.specs.declared.taker.Taker.TheVariants.{Nobody, Earlier, Handed}
+use Rattle.touch_dispatch.specs.declared.taker.Taker.TheVariants.{NoChild, Earlier, Sent}
 use Rattle.touch_dispatch.proofs.CaughtLaws.{asked_targets, handled_targets}
-use Rattle.touch_dispatch.specs.Dispatch.{EventChild, Scene, Tried, answered, begun, child_of, ended, ended_by, event_children, given, group_reached, hand_out, hand_part, hand_to, intercepted_cleared, is_handed, is_offered, offered, oldest, reached_by, receiver, taken_by, tried_event, try_child, try_children, unless_taken}
+use Rattle.touch_dispatch.specs.Dispatch.{EventChild, Scene, Tried, answered, begun, child_of, ended, ended_by, event_children, given, group_reached, hand_out, hand_part, hand_to, intercepted_cleared, is_sent, is_offered, offered, oldest, reached_by, receiver, taken_by, tried_event, try_child, try_children, unless_taken}
 use Rattle.touch_dispatch.specs.Gestures.{PlainGesture, set_targets}
 use Rattle.touch_dispatch.specs.Handling.{Progress, Reached, asked, is_down, is_nil, targets_at}
 use Rattle.touch_dispatch.specs.Points.{is_tried, local_event}
@@ -59,9 +59,9 @@ stays_try n scene own event kid progress ne stays =
 
 stays_unless : (n : ℕ) (next : Progress → Tried) (taker : Taker) (progress : Progress) → targets_at (next progress).progress n ≡ targets_at progress n
     → targets_at (unless_taken next taker progress).progress n ≡ targets_at progress n
-stays_unless n next Nobody progress stays = stays
+stays_unless n next NoChild progress stays = stays
 stays_unless n next Earlier progress stays = refl
-stays_unless n next (Handed child) progress stays = refl
+stays_unless n next (Sent child) progress stays = refl
 
 stays_tries : (n : ℕ) (scene : Scene) (own : PlainView) (event : Event) (kids : List EventChild) (progress : Progress) → own.number ≢ n → AllStay n kids
     → targets_at (try_children scene own event kids progress).progress n ≡ targets_at progress n
@@ -103,7 +103,7 @@ stays_part n child (Some part) kids progress stays = stays_child n child part ki
 pub stays_hand_to : (n : ℕ) (scene : Scene) (own : PlainView) (kids : List EventChild) (event : Event) (intercepted : Bool) (taker : Taker) (target : Target) (progress : Progress)
     → AllStay n kids → targets_at (hand_to scene own kids event intercepted taker target progress).progress n ≡ targets_at progress n
 stays_hand_to n scene own kids event intercepted taker target progress stays =
-    elim (cases_Bool (is_handed taker target.child)) [
+    elim (cases_Bool (is_sent taker target.child)) [
       | inl e ↦ rw e refl
       | inr e ↦ rw e (stays_part n target.child _ kids progress stays)
     ]

@@ -8,7 +8,7 @@ use Rattle.touch_dispatch.proofs.ParentLaws.{may_kid}
 use Rattle.touch_dispatch.proofs.ReachSteps.{caught_put_at, hand_to_kid, part_for_same, put_is}
 use Rattle.touch_dispatch.proofs.SceneLaws.{kid_named, offset_live, reach_at, rect_live, same_own}
 use Rattle.touch_dispatch.proofs.TryWalk.{GetsPart}
-use Rattle.touch_dispatch.specs.Dispatch.{hand_to, is_handed, part_for, reach, tried_event}
+use Rattle.touch_dispatch.specs.Dispatch.{hand_to, is_sent, part_for, reach, tried_event}
 use Rattle.touch_dispatch.specs.Gestures.{set_targets}
 use Rattle.touch_dispatch.specs.Handling.{Progress}
 use Rattle.touch_dispatch.specs.Kept.{Kept, MayCapture, gesture_of, is_open}
@@ -96,18 +96,18 @@ gets_part {views = views} {view = view} {kid = kid} slop entries part reads trie
     }
 
 -- a target of a view gets its part of an event
-pub record HandsTo (views : Views) (slop : ℤ) (view kid : ℕ) (event : Event) (intercepted : Bool) (taker : Taker) (target : Target) (part : Event) (progress : Progress) : Type 0 where
+pub record SendsTo (views : Views) (slop : ℤ) (view kid : ℕ) (event : Event) (intercepted : Bool) (taker : Taker) (target : Target) (part : Event) (progress : Progress) : Type 0 where
   pub there : IsKidAt views view kid
   pub is : hand_to (scene_of views slop) (own_of views view) (kids_of views slop view) event intercepted taker target progress
       ≡ reach (scene_of views slop) (views_of (first_tree (part_from kid views.tree))) part progress
 
-pub hands_to : {views : Views} {kept : Kept} {view child kid : ℕ} {event part : Event} {intercepted : Bool} {taker : Taker} {own_facts : Facts} {state : State} {ids : ℕ → Bool} (slop : ℤ) (entries : List Entry)
+pub sends_to : {views : Views} {kept : Kept} {view child kid : ℕ} {event part : Event} {intercepted : Bool} {taker : Taker} {own_facts : Facts} {state : State} {ids : ℕ → Bool} (slop : ℤ) (entries : List Entry)
     → MayReach views kept view event → is_target child ((gesture_of kept).targets (own_of views view).number) ≡ true
     → key_where (λ (v : PlainView). v.number == child) views.tree ≡ Some kid → number_of views kid ≡ child → own_facts ≡ facts_of views view → state ≡ state_of views kid
     → ids ≡ first_ids (from_child child ((gesture_of kept).targets (own_of views view).number))
-    → is_handed taker child ≡ false → part_for state.bounds own_facts.offset event intercepted ids ≡ Some part
-    → HandsTo views slop view kid event intercepted taker (target_of child ((gesture_of kept).targets (own_of views view).number)) part (progress_by (offsets_in views) (gesture_of kept) entries)
-hands_to {views = views} {kept = kept} {view = view} {child = child} {kid = kid} {event = event} {part = part} {intercepted = intercepted} {taker = taker} {own_facts = own_facts} {state = state} {ids = ids} slop entries may there found number own state_is ids_is other part_is =
+    → is_sent taker child ≡ false → part_for state.bounds own_facts.offset event intercepted ids ≡ Some part
+    → SendsTo views slop view kid event intercepted taker (target_of child ((gesture_of kept).targets (own_of views view).number)) part (progress_by (offsets_in views) (gesture_of kept) entries)
+sends_to {views = views} {kept = kept} {view = view} {child = child} {kid = kid} {event = event} {part = part} {intercepted = intercepted} {taker = taker} {own_facts = own_facts} {state = state} {ids = ids} slop entries may there found number own state_is ids_is other part_is =
     let k = kid_named views slop view child kid may.tree may.live (may.caught.children (own_of views view).number child there) found in
     let progress = progress_by (offsets_in views) (gesture_of kept) entries in
     record {

@@ -2,7 +2,7 @@
 use Rattle.std.proofs.Common.{◌≡◌, ℕ, ℤ, ◌+◌, ◌-◌, true, false, Option, Some, None}
 use Rattle.std.specs.Prelude.{IfSome}
 use Rattle.touch_event.specs.declared.event.Event.{Event}
-use Rattle.touch_dispatch.specs.declared.taker.Taker.TheVariants.{Nobody}
+use Rattle.touch_dispatch.specs.declared.taker.Taker.TheVariants.{NoChild}
 use Rattle.touch_targets.specs.Captures.{is_target}
 use Rattle.view_model.specs.Forest.{Forest, count_of}
 use Rattle.view_model.specs.PlainTree.{PlainView}
@@ -14,9 +14,9 @@ use Rattle.touch_dispatch.specs.Points.{is_tried, local_event}
 use Rattle.touch_dispatch.specs.TreeEvents.{IsKidAt, own_of, scene_of}
 
 -- the children after the next one
-abbrev pub behind : Option ℕ → Forest Row → Forest Row → Forest Row
-behind None list tree = list
-behind (Some kid) list tree = later_siblings (part_from kid tree)
+abbrev pub following : Option ℕ → Forest Row → Forest Row → Forest Row
+following None list tree = list
+following (Some kid) list tree = later_siblings (part_from kid tree)
 
 -- how many views there are up to the next child
 abbrev pub before : Option ℕ → Forest Row → Forest Row → ℕ
@@ -26,7 +26,7 @@ before (Some kid) list tree = 1 + count_of list - count_of (part_from kid tree)
 -- no child after the next one took the pointer
 pub record TryWalk (views : Views) (slop : ℤ) (view : ℕ) (event : Event) (next : Option ℕ) (start now : Progress) : Type 0 where
   pub kid : IfSome next (IsKidAt views view)
-  pub rest : try_children (scene_of views slop) (own_of views view) event (event_children (scene_of views slop) (views_of (behind next (children_of_first (part_from view views.tree)) views.tree))) start ≡ record { taker = Nobody; progress = now }
+  pub rest : try_children (scene_of views slop) (own_of views view) event (event_children (scene_of views slop) (views_of (following next (children_of_first (part_from view views.tree)) views.tree))) start ≡ record { taker = NoChild; progress = now }
 
 -- a child gets its part of an event: it is tried, and is no target yet
 pub record GetsPart (scene : Scene) (own : PlainView) (event : Event) (kid : EventChild) (progress : Progress) (part : Event) : Type 0 where

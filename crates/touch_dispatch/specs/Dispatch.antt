@@ -8,7 +8,7 @@ use Rattle.touch_dispatch.specs.Handling.{Progress, Reached, asked, handled, is_
 use Rattle.touch_dispatch.specs.Points.{cancel_event, is_tried, local_event}
 use Rattle.touch_dispatch.specs.declared.receiver.Receiver.{Receiver}
 use Rattle.touch_dispatch.specs.declared.taker.Taker.{Taker}
-use Rattle.touch_dispatch.specs.declared.taker.Taker.TheVariants.{Nobody, Earlier, Handed}
+use Rattle.touch_dispatch.specs.declared.taker.Taker.TheVariants.{NoChild, Earlier, Sent}
 use Rattle.touch_event.specs.Splitting.{split_event}
 use Rattle.touch_event.specs.declared.event.Action.{Action}
 use Rattle.touch_event.specs.declared.event.Action.TheVariants.{Down, Up, Move, Cancel, PointerDown, PointerUp}
@@ -92,8 +92,8 @@ tried_ids split event = if split then only event.pointer else every
 abbrev pub taken_by : PlainView → Event → ℕ → Reached → Tried
 taken_by own event child reached =
     if reached.yes
-    then record { taker = Handed child; progress = with_gesture (set_targets own.number (put_target child (tried_ids own.facts.split event) (targets_at reached.progress own.number))) reached.progress }
-    else record { taker = Nobody; progress = reached.progress }
+    then record { taker = Sent child; progress = with_gesture (set_targets own.number (put_target child (tried_ids own.facts.split event) (targets_at reached.progress own.number))) reached.progress }
+    else record { taker = NoChild; progress = reached.progress }
 
 abbrev pub try_child : Scene → PlainView → Event → EventChild → Progress → Tried
 try_child scene own event kid progress =
@@ -101,16 +101,16 @@ try_child scene own event kid progress =
     then (if is_target kid.view.number (targets_at progress own.number)
     then record { taker = Earlier; progress = with_gesture (set_targets own.number (put_target kid.view.number (only event.pointer) (targets_at progress own.number))) progress }
     else taken_by own event kid.view.number (kid.reach (local_event (scene.rects kid.view.number) (progress.offsets own.number) (tried_event own.facts.split event)) progress))
-    else record { taker = Nobody; progress = progress }
+    else record { taker = NoChild; progress = progress }
 
 abbrev pub unless_taken : (Progress → Tried) → Taker → Progress → Tried
-unless_taken next Nobody progress = next progress
+unless_taken next NoChild progress = next progress
 unless_taken next Earlier progress = record { taker = Earlier; progress = progress }
-unless_taken next (Handed child) progress = record { taker = Handed child; progress = progress }
+unless_taken next (Sent child) progress = record { taker = Sent child; progress = progress }
 
 -- from the last to the first, until one takes the pointer
 abbrev pub try_children : Scene → PlainView → Event → List EventChild → Progress → Tried
-try_children scene own event [] progress = record { taker = Nobody; progress = progress }
+try_children scene own event [] progress = record { taker = NoChild; progress = progress }
 try_children scene own event (kid ∷ later) progress =
     let tried = try_children scene own event later progress in
     unless_taken (try_child scene own event kid) tried.taker tried.progress
@@ -130,7 +130,7 @@ given (Some child) group pointer gesture = set_targets group (put_target child (
 
 abbrev pub settled : ℕ → Event → Tried → Tried
 settled group event tried =
-    unless_taken (λ progress. record { taker = Nobody; progress = with_gesture (given (oldest (targets_at progress group)) group event.pointer) progress }) tried.taker tried.progress
+    unless_taken (λ progress. record { taker = NoChild; progress = with_gesture (given (oldest (targets_at progress group)) group event.pointer) progress }) tried.taker tried.progress
 
 -- the children are tried
 abbrev pub is_offered : Action → Bool → Bool
@@ -145,17 +145,17 @@ abbrev pub offered : Scene → PlainView → List EventChild → Event → Bool 
 offered scene own kids event intercepted progress =
     if not intercepted && is_offered event.action own.facts.split
     then settled own.number event (try_children scene own event kids progress)
-    else record { taker = Nobody; progress = progress }
+    else record { taker = NoChild; progress = progress }
 
 abbrev pub is_taken : Taker → Bool
-is_taken Nobody = false
+is_taken NoChild = false
 is_taken Earlier = true
-is_taken (Handed child) = true
+is_taken (Sent child) = true
 
-abbrev pub is_handed : Taker → ℕ → Bool
-is_handed Nobody child = false
-is_handed Earlier child = false
-is_handed (Handed handed) child = handed == child
+abbrev pub is_sent : Taker → ℕ → Bool
+is_sent NoChild child = false
+is_sent Earlier child = false
+is_sent (Sent forwarded) child = forwarded == child
 
 -- a target's part of an event: if it is intercepted it gets a cancel, and a cancel goes whole
 abbrev pub part_for : Option Rect → ℤ → Event → Bool → (ℕ → Bool) → Option Event
@@ -176,7 +176,7 @@ hand_part (Some part) (Some kid) progress = kid.reach part progress
 
 abbrev pub hand_to : Scene → PlainView → List EventChild → Event → Bool → Taker → Target → Progress → Reached
 hand_to scene own kids event intercepted taker target progress =
-    if is_handed taker target.child
+    if is_sent taker target.child
     then record { yes = true; progress = progress }
     else hand_part (part_for (scene.rects target.child) (progress.offsets own.number) event intercepted target.ids) (child_of target.child kids) progress
 

@@ -85,7 +85,7 @@ fn reach_whole(
     ensures asked_once { (n : ℕ) → total (asks n) log.new.entries.items ≤ total (asks n) log.old.entries.items + 1 }
     ensures kept { KeepsScene tree.old tree.new gesture.old gesture.new log.old log.new }
 {
-    gesture.tell_distinct();
+    gesture.recall_distinct();
     reach(tree, gesture, log, delivery)
 }
 
@@ -121,7 +121,7 @@ pub fn cancel_view(tree: &mut ViewTree, gesture: &mut Gesture, view: Key, slop: 
         event: &event,
         limits: &limits,
     };
-    tell_tree(tree, view);
+    recall_tree(tree, view);
     let Some(parent) = tree.parent(view) else {
         reach_whole(tree, gesture, log, &delivery);
         return;
@@ -135,7 +135,7 @@ pub fn cancel_view(tree: &mut ViewTree, gesture: &mut Gesture, view: Key, slop: 
 }
 
 /// The invariant of every tree, for contracts alone.
-fn tell_tree(tree: &ViewTree, view: Key)
+fn recall_tree(tree: &ViewTree, view: Key)
     requires { IsLive tree.now view }
     ensures { IsTree tree.now }
 {

@@ -133,7 +133,7 @@ impl Gesture {
     }
 
     /// No group has a child twice. This is for contracts alone.
-    pub(crate) fn tell_distinct(&self)
+    pub(crate) fn recall_distinct(&self)
         ensures { AllDistinct (gesture_of self.now).targets }
     {
         let _ = &self.targets;

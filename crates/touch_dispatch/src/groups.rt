@@ -67,8 +67,8 @@ pub fn settle(gesture: &mut Gesture, group: u64, event: &Event, taker: Taker)
     ensures opened { (view : ℕ) → is_open gesture.new view ≡ is_open gesture.old view }
 {
     match taker {
-        Taker::Nobody => give_to_oldest(gesture, group, event.pointer),
-        Taker::Earlier | Taker::Handed(_) => {}
+        Taker::NoChild => give_to_oldest(gesture, group, event.pointer),
+        Taker::Earlier | Taker::Sent(_) => {}
     }
 }
 

@@ -2,9 +2,9 @@
 
 #[derive(Clone, Copy, Debug, PartialEq, Eq)]
 pub enum Taker {
-    Nobody,
+    NoChild,
     /// A child that was a target before.
     Earlier,
     /// A child that got the event, and becomes a target.
-    Handed(u64),
+    Sent(u64),
 }

@@ -9,7 +9,7 @@ use Rattle.touch_targets.specs.Seats.{Caught, drop_caught, mask_without}
 use Rattle.touch_targets.specs.declared.node.Node.{Node}
 use Rattle.touch_targets.proofs.Chains.{first_of, from_start, has_apart, map_same, no_some, some_is, starts_at, there, true_not_false}
 use Rattle.touch_targets.proofs.Removing.{elsewhere}
-use Rattle.touch_targets.proofs.Unlinking.{has_behind, without_behind}
+use Rattle.touch_targets.proofs.Unlinking.{has_following, without_following}
 use Rattle.touch_targets.proofs.Walks.{Here, LinkWalk, chain_ahead, here, last_end, node_here, walk_start, whole_here}
 
 -- the pool as it was, and the pool once the walk has reached this place
@@ -37,7 +37,7 @@ drops_start s group ids g linked is = record {
 front_lacks : (at : ℕ → Option Node) (g : ℕ) (start : Option ℕ) (place : ℕ) (front back : List ℕ) → Chain at g start (front ++ place ∷ back) → has_place place front ≡ false
 front_lacks at g start place [] back c = refl
 front_lacks at g start place (q ∷ front) back c =
-    let apart : place ≢ q = has_apart q place (front ++ place ∷ back) (has_behind place front back) c.1 in
+    let apart : place ≢ q = has_apart q place (front ++ place ∷ back) (has_following place front back) c.1 in
     rw (ne_eqb place q apart) (front_lacks at g c.2.next place front back c.5)
 
 -- how one captured child changes
@@ -116,7 +116,7 @@ module _
       let now = places group in
       let gone : places_by u group ≡ drops.walk.front ++ at.back =
       (rw (zero, eq-eqb group group refl) at now) ∙ ap (without_place place) whole
-      ∙ without_behind (get t) group (first_of (places_by t group)) place drops.walk.front at.back whole_chain in
+      ∙ without_following (get t) group (first_of (places_by t group)) place drops.walk.front at.back whole_chain in
       record {
         linked = linked;
         opened = still_open;

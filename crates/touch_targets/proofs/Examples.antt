@@ -16,8 +16,8 @@ holds pointer child targets = list_any (λ (t : Target). t.child == child && t.i
 abbrev pointers : (ℕ → Bool) → List Bool
 pointers ids = ids 0 ∷ ids 1 ∷ ids 2 ∷ []
 
-abbrev told : List Target → List (ℕ × List Bool)
-told targets = map (λ (t : Target). (t.child, pointers t.ids)) targets
+abbrev reported : List Target → List (ℕ × List Bool)
+reported targets = map (λ (t : Target). (t.child, pointers t.ids)) targets
 
 -- the child 5 is captured by the pointer 0, and then 7 by 1
 abbrev one : List Target
@@ -29,14 +29,14 @@ two = put_target 7 (has_id 2) one
 newest_first : order two ≡ 7 ∷ 5 ∷ []
 newest_first = refl
 
-two_told : told two ≡ (7, false ∷ true ∷ false ∷ []) ∷ (5, true ∷ false ∷ false ∷ []) ∷ []
+two_reported : reported two ≡ (7, false ∷ true ∷ false ∷ []) ∷ (5, true ∷ false ∷ false ∷ []) ∷ []
 unfolding has_id
-two_told = refl
+two_reported = refl
 
 -- one more pointer for the older child leaves the order
-more_told : told (put_target 5 (has_id 4) two) ≡ (7, false ∷ true ∷ false ∷ []) ∷ (5, true ∷ false ∷ true ∷ []) ∷ []
+more_reported : reported (put_target 5 (has_id 4) two) ≡ (7, false ∷ true ∷ false ∷ []) ∷ (5, true ∷ false ∷ true ∷ []) ∷ []
 unfolding has_id
-more_told = refl
+more_reported = refl
 
 holds_one : holds 1 7 two ≡ true
 unfolding has_id
@@ -46,17 +46,17 @@ holds_no_other : holds 0 7 two ≡ false
 unfolding has_id
 holds_no_other = refl
 
-behind_newest : first_child (older (from_child 7 two)) ≡ Some 5
-behind_newest = refl
+after_newest : first_child (older (from_child 7 two)) ≡ Some 5
+after_newest = refl
 
-behind_oldest : first_child (older (from_child 5 two)) ≡ None
-behind_oldest = refl
+after_oldest : first_child (older (from_child 5 two)) ≡ None
+after_oldest = refl
 
 -- the pointer 1 goes up, and with it the child that had no other
-dropped_told : told (drop_pointers (has_id 2) two) ≡ (5, true ∷ false ∷ false ∷ []) ∷ []
+dropped_reported : reported (drop_pointers (has_id 2) two) ≡ (5, true ∷ false ∷ false ∷ []) ∷ []
 unfolding has_id
-dropped_told = refl
+dropped_reported = refl
 
-removed_told : told (without_child 5 two) ≡ (7, false ∷ true ∷ false ∷ []) ∷ []
+removed_reported : reported (without_child 5 two) ≡ (7, false ∷ true ∷ false ∷ []) ∷ []
 unfolding has_id
-removed_told = refl
+removed_reported = refl

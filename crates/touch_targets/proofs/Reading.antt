@@ -83,9 +83,9 @@ module _ (s : Slab Node) (linked : AreLinked s) where
           let node : d.2 ≡ m = some_is (sym d.3 ∙ ap (get s) (sym same) ∙ is) in
           let there : has_place q ps ≡ true = within q (subst (λ x. has_place x (r ∷ rest) ≡ true) (sym same) (has_first r rest)) in
           let second = found g start q m ps c is there in
-          let behind : second.rest ≡ rest =
+          let following : second.rest ≡ rest =
           sym (from_start s g m.next second.rest second.chain) ∙ from_start s g m.next rest (subst (λ (n : Node). Chain (get s) g n.next rest) node d.5) in
-          (rw (d.3, node) refl, second.from ∙ ap (λ l. target_by m ∷ targets_at s l) behind ∙ rw (d.3, node) refl)
+          (rw (d.3, node) refl, second.from ∙ ap (λ l. target_by m ∷ targets_at s l) following ∙ rw (d.3, node) refl)
 
   -- the node that a target names is there
   pub next_there : (p q : ℕ) (k : Node) → get s p ≡ Some k → k.next ≡ Some q → There (get s q)

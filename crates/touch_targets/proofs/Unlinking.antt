@@ -4,7 +4,7 @@ use Rattle.std.specs.Prelude.{◌==◌, ◌&&◌, if◌then◌else◌, is_none}
 use Rattle.std.proofs.lemmas.Bool.{cases_Bool, cases_eq, eq-eqb, ne_eqb}
 use Rattle.std.specs.List.{last_or}
 use Rattle.slab.specs.Slab.{Slab, get}
-use Rattle.touch_targets.specs.Nodes.{AreLinked, Chain, IsBehind, IsLinked, caught_at, changed, has_place, places_by, relinked, view_of, without_place}
+use Rattle.touch_targets.specs.Nodes.{AreLinked, Chain, IsFollowing, IsLinked, caught_at, changed, has_place, places_by, relinked, view_of, without_place}
 use Rattle.touch_targets.specs.declared.node.Node.{Node}
 use Rattle.touch_targets.proofs.Chains.{StaysLinked, TargetOf, Was, are_linked, cases_Option, chain_stays, has_apart, has_cases, has_first, has_later, no_some, places_are, places_none, some_is, target_in, there, true_not_false, was}
 
@@ -73,9 +73,9 @@ unlinked_at s0 s1 s2 group place None next one two x = rw (two x, one x) (first_
 unlinked_at s0 s1 s2 group place (Some p) next one two x = rw (two x, one x) (later_goes (x == group) (x == p) (x == place) next (get s0 x))
 
 -- what is among the places before and after one
-pub has_behind : (p : ℕ) (front back : List ℕ) → has_place p (front ++ p ∷ back) ≡ true
-has_behind p [] back = has_first p back
-has_behind p (q ∷ front) back = has_later q p (front ++ p ∷ back) (has_behind p front back)
+pub has_following : (p : ℕ) (front back : List ℕ) → has_place p (front ++ p ∷ back) ≡ true
+has_following p [] back = has_first p back
+has_following p (q ∷ front) back = has_later q p (front ++ p ∷ back) (has_following p front back)
 
 lacks_one : (p place : ℕ) (front back : List ℕ) → has_place p (front ++ place ∷ back) ≡ false → has_place p (front ++ back) ≡ false
 lacks_one p place [] back h = elim (cases_Bool (p == place)) [ inl is ↦ true_not_false (rw is refl) h | inr is ↦ rw is at h ]
@@ -105,12 +105,12 @@ has_without place p (q ∷ ps) apart h =
     ]
 
 -- a place that is there once among others leaves these
-pub without_behind : (at : ℕ → Option Node) (g : ℕ) (start : Option ℕ) (place : ℕ) (front back : List ℕ) → Chain at g start (front ++ place ∷ back)
+pub without_following : (at : ℕ → Option Node) (g : ℕ) (start : Option ℕ) (place : ℕ) (front back : List ℕ) → Chain at g start (front ++ place ∷ back)
     → without_place place (front ++ place ∷ back) ≡ front ++ back
-without_behind at g start place [] back c = rw (eq-eqb place place refl) (without_absent place back c.1)
-without_behind at g start place (q ∷ front) back c =
-    let apart : place ≢ q = has_apart q place (front ++ place ∷ back) (has_behind place front back) c.1 in
-    rw (ne_eqb q place (λ e. apart (sym e))) (ap (λ l. q ∷ l) (without_behind at g c.2.next place front back c.5))
+without_following at g start place [] back c = rw (eq-eqb place place refl) (without_absent place back c.1)
+without_following at g start place (q ∷ front) back c =
+    let apart : place ≢ q = has_apart q place (front ++ place ∷ back) (has_following place front back) c.1 in
+    rw (ne_eqb q place (λ e. apart (sym e))) (ap (λ l. q ∷ l) (without_following at g c.2.next place front back c.5))
 
 -- the last of some places is among them
 record LastIn (o : Option ℕ) (ps : List ℕ) : Type 0 where
@@ -158,11 +158,11 @@ module _
   old = subst (Chain at group g.newest) whole (linked.chained group g group_is)
 
   stays : (p : ℕ) (n : Node) → p ≢ place → is_at previous p ≡ false → at p ≡ Some n → StaysLinked n (new p)
-  stays p n apart behind h = record {
+  stays p n apart following h = record {
     node = node_unlinked group previous place k.next p n;
     is = now p n h;
     group = rw (ne_eqb p place apart) refl;
-    next = rw (ne_eqb p place apart, behind) refl;
+    next = rw (ne_eqb p place apart, following) refl;
   }
 
   not_at : (o : Option ℕ) (p : ℕ) → ((b : ℕ) → o ≡ Some b → p ≢ b) → is_at o p ≡ false
@@ -174,15 +174,15 @@ module _
       → ((b : ℕ) → ahead ≡ Some b → has_place b (front ++ place ∷ back) ≡ false) → Chain new group (past place k.next start) (front ++ back)
   cut [] start ahead c last apart =
       let same : c.2 ≡ k = some_is (sym c.3 ∙ place_is) in
-      let behind : Chain at group k.next back = subst (λ (n : Node). Chain at group n.next back) same c.5 in
+      let following : Chain at group k.next back = subst (λ (n : Node). Chain at group n.next back) same c.5 in
       subst (λ o. Chain new group o back) (sym (past_is place k.next start c.0))
       (chain_stays at new group k.next back
       (λ p n has h. stays p n (has_apart place p back has c.1)
       (not_at previous p (λ b e. has_apart b p (place ∷ back) (has_later place p back has) (apart b (last ∙ e)))) h)
-      behind)
+      following)
   cut (p ∷ front) start ahead c last apart =
       let n = c.2 in
-      let other : p ≢ place = λ e. has_apart p place (front ++ place ∷ back) (has_behind place front back) c.1 (sym e) in
+      let other : p ≢ place = λ e. has_apart p place (front ++ place ∷ back) (has_following place front back) c.1 (sym e) in
       let later = cut front n.next (Some p) c.5 last (λ b e. subst (λ r. has_place r (front ++ place ∷ back) ≡ false) (some_is e) c.1) in
       subst (λ o. Chain new group o (p ∷ front ++ back)) (sym (past_not place p k.next start c.0 other)) (
         c.0,
@@ -199,7 +199,7 @@ module _
       link p n (q ∷ front) lacks c last =
           let l = last_in q front (place ∷ back) in
           let apart : p ≢ l.place = λ e. has_apart p l.place ((q ∷ front) ++ place ∷ back) l.there lacks (sym e) in
-          let other : q ≢ place = λ e. has_apart q place (front ++ place ∷ back) (has_behind place front back) c.1 (sym e) in
+          let other : q ≢ place = λ e. has_apart q place (front ++ place ∷ back) (has_following place front back) c.1 (sym e) in
           rw (sym last, l.is, ne_eqb p l.place apart) (sym (past_not place q k.next n.next c.0 other))
 
   whole_cut : Chain new group (past place k.next g.newest) (front ++ back)
@@ -207,7 +207,7 @@ module _
 
   -- both the place and the one before it are targets of the group
   place_target : TargetOf group (at place)
-  place_target = target_in at group g.newest (front ++ place ∷ back) place old (has_behind place front back)
+  place_target = target_in at group g.newest (front ++ place ∷ back) place old (has_following place front back)
 
   previous_target : (p : ℕ) → previous ≡ Some p → TargetOf group (at p)
   previous_target p e = go front before_is old
@@ -234,13 +234,13 @@ module _
       go [] last c = rw (sym last) (sym (past_is place k.next g.newest c.0))
       go (q ∷ front) last c =
           let l = last_in q front (place ∷ back) in
-          let other : q ≢ place = λ e. has_apart q place (front ++ place ∷ back) (has_behind place front back) c.1 (sym e) in
+          let other : q ≢ place = λ e. has_apart q place (front ++ place ∷ back) (has_following place front back) c.1 (sym e) in
           rw (sym last, l.is) (sym (past_not place q k.next g.newest c.0 other))
 
   group_chain : (n : Node) → at group ≡ Some n → Chain new group (if group == group && is_none previous then k.next else n.newest) (places_unlinked group place places group)
   group_chain n h =
       let same : g ≡ n = some_is (sym group_is ∙ h) in
-      let left : without_place place (places group) ≡ front ++ back = ap (without_place place) whole ∙ without_behind at group g.newest place front back old in
+      let left : without_place place (places group) ≡ front ++ back = ap (without_place place) whole ∙ without_following at group g.newest place front back old in
       subst (λ (n : Node). Chain new group (if group == group && is_none previous then k.next else n.newest) (places_unlinked group place places group)) same
       (rw (eq-eqb group group refl, left, start_is) whole_cut)
 
@@ -314,14 +314,14 @@ module _
 
 -- the same of slabs
 pub are_unlinked : (s t : Slab Node) (group place : ℕ) (previous : Option ℕ) (g k : Node) → AreLinked s → get s group ≡ Some g → get s place ≡ Some k
-    → IsBehind previous place (places_by s group) → ((x : ℕ) → get t x ≡ option_map (node_unlinked group previous place k.next x) (get s x)) → AreLinked t
-are_unlinked s t group place previous g k linked group_is place_is behind written =
-    are_linked t _ (unlinked (get s) (get t) (places_by s) group place previous g k linked group_is place_is behind.front behind.back behind.whole behind.before written)
+    → IsFollowing previous place (places_by s group) → ((x : ℕ) → get t x ≡ option_map (node_unlinked group previous place k.next x) (get s x)) → AreLinked t
+are_unlinked s t group place previous g k linked group_is place_is following written =
+    are_linked t _ (unlinked (get s) (get t) (places_by s) group place previous g k linked group_is place_is following.front following.back following.whole following.before written)
 
 pub places_unlinked_by : (s t : Slab Node) (group place : ℕ) (previous : Option ℕ) (g k : Node) → AreLinked s → get s group ≡ Some g → get s place ≡ Some k
-    → IsBehind previous place (places_by s group) → ((x : ℕ) → get t x ≡ option_map (node_unlinked group previous place k.next x) (get s x))
+    → IsFollowing previous place (places_by s group) → ((x : ℕ) → get t x ≡ option_map (node_unlinked group previous place k.next x) (get s x))
     → (x : ℕ) → places_by t x ≡ (if x == group then without_place place (places_by s x) else places_by s x)
-places_unlinked_by s t group place previous g k linked group_is place_is behind written x =
+places_unlinked_by s t group place previous g k linked group_is place_is following written x =
     elim (cases_Option (get s x)) [
       | inl none ↦
           let apart : x ≢ group = λ e. no_some (ap (get s) (sym e) ∙ none) group_is in
@@ -330,7 +330,7 @@ places_unlinked_by s t group place previous g k linked group_is place_is behind 
       | inr there ↦
           let now : get t x ≡ Some (node_unlinked group previous place k.next x there.value) =
           written x ∙ ap (option_map (node_unlinked group previous place k.next x)) there.is in
-          places_are t _ (unlinked (get s) (get t) (places_by s) group place previous g k linked group_is place_is behind.front behind.back behind.whole behind.before written) x _ now
+          places_are t _ (unlinked (get s) (get t) (places_by s) group place previous g k linked group_is place_is following.front following.back following.whole following.before written) x _ now
     ]
 
 pub views_unlinked : (s t : Slab Node) (group place : ℕ) (previous next : Option ℕ) → ((x : ℕ) → get t x ≡ option_map (node_unlinked group previous place next x) (get s x))
@@ -350,20 +350,20 @@ others_unlinked s t group place previous next written x apart = ap caught_at (wr
     same (Some n) = rw (ne_eqb x place apart) refl
 
 -- a place after another is that of a target
-pub behind_there : (s : Slab Node) (group place : ℕ) (previous : Option ℕ) (g : Node) → AreLinked s → get s group ≡ Some g → IsBehind previous place (places_by s group)
+pub after_there : (s : Slab Node) (group place : ℕ) (previous : Option ℕ) (g : Node) → AreLinked s → get s group ≡ Some g → IsFollowing previous place (places_by s group)
     → TargetOf group (get s place)
-behind_there s group place previous g linked group_is behind =
+after_there s group place previous g linked group_is following =
     target_in (get s) group g.newest (places_by s group) place (linked.chained group g group_is)
-    (subst (λ l. has_place place l ≡ true) (sym behind.whole) (has_behind place behind.front behind.back))
+    (subst (λ l. has_place place l ≡ true) (sym following.whole) (has_following place following.front following.back))
 
-pub previous_there : (s : Slab Node) (group place : ℕ) (previous : Option ℕ) (g : Node) → AreLinked s → get s group ≡ Some g → IsBehind previous place (places_by s group)
+pub previous_there : (s : Slab Node) (group place : ℕ) (previous : Option ℕ) (g : Node) → AreLinked s → get s group ≡ Some g → IsFollowing previous place (places_by s group)
     → (p : ℕ) → previous ≡ Some p → TargetOf group (get s p)
-previous_there s group place previous g linked group_is behind p e = go behind.front behind.whole behind.before
+previous_there s group place previous g linked group_is following p e = go following.front following.whole following.before
   where
-    go : (front : List ℕ) → places_by s group ≡ front ++ place ∷ behind.back → last_or None front ≡ previous → TargetOf group (get s p)
+    go : (front : List ℕ) → places_by s group ≡ front ++ place ∷ following.back → last_or None front ≡ previous → TargetOf group (get s p)
     go [] whole last = no_some (sym last) e
     go (q ∷ front) whole last =
-        let l = last_in q front (place ∷ behind.back) in
+        let l = last_in q front (place ∷ following.back) in
         let is : l.place ≡ p = some_is (sym l.is ∙ last ∙ e) in
         target_in (get s) group g.newest (places_by s group) p (linked.chained group g group_is)
-        (subst (λ m. has_place p m ≡ true) (sym whole) (subst (λ r. has_place r ((q ∷ front) ++ place ∷ behind.back) ≡ true) is l.there))
+        (subst (λ m. has_place p m ≡ true) (sym whole) (subst (λ r. has_place r ((q ∷ front) ++ place ∷ following.back) ≡ true) is l.there))

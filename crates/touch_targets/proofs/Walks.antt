@@ -3,7 +3,7 @@ use Rattle.std.proofs.Common.{◌≡◌, ◌≢◌, ℕ, true, false, length, Li
 use Rattle.std.proofs.lemmas.List.{append_assoc}
 use Rattle.std.specs.List.{last_or}
 use Rattle.slab.specs.Slab.{Slab, get}
-use Rattle.touch_targets.specs.Nodes.{AreLinked, Chain, IsBehind, has_place, places_by, places_from}
+use Rattle.touch_targets.specs.Nodes.{AreLinked, Chain, IsFollowing, has_place, places_by, places_from}
 use Rattle.touch_targets.specs.declared.node.Node.{Node}
 use Rattle.touch_targets.proofs.Chains.{chain_after, chain_none, first_of, from_start, no_some, some_is, starts_at, there}
 
@@ -68,8 +68,8 @@ module _ (s : Slab Node) (group : ℕ) (previous : Option ℕ) (place : ℕ) (wa
   pub whole_here : places_by s group ≡ walk.front ++ place ∷ at.back
   whole_here = walk.whole ∙ ap (λ l. walk.front ++ l) at.first
 
-  pub behind_here : IsBehind previous place (places_by s group)
-  behind_here = record { front = walk.front; back = at.back; whole = whole_here; before = walk.before }
+  pub after_here : IsFollowing previous place (places_by s group)
+  after_here = record { front = walk.front; back = at.back; whole = whole_here; before = walk.before }
 
   pub node_here : (n : Node) → get s place ≡ Some n → Chain (get s) group n.next at.back
   node_here n is = subst (λ (n : Node). Chain (get s) group n.next at.back) (some_is (sym at.is ∙ is)) at.chain

@@ -78,7 +78,7 @@ IsTarget None = ⊥
 IsTarget (Some node) = node.group ≢ None
 
 -- one place comes right after another among these, or first if that is none
-pub record IsBehind (previous : Option ℕ) (place : ℕ) (places : List ℕ) : Type 0 where
+pub record IsFollowing (previous : Option ℕ) (place : ℕ) (places : List ℕ) : Type 0 where
   pub front : List ℕ
   pub back : List ℕ
   pub whole : places ≡ front ++ place ∷ back

@@ -3,7 +3,7 @@ ghost use Rattle.std.specs.Prelude.{◌≡◌, ◌≢◌, ◌==◌, ◌≤◌, �
 ghost use Rattle.slab.specs.Slab.{get, ContainsKey, HasRoomFor, slab_len};
 ghost use Rattle.slab_link.specs.declared.link.TheConstants.{LINKS_END};
 ghost use Rattle.touch_targets.specs.declared.node.Node.{Node};
-ghost use Rattle.touch_targets.specs.Nodes.{AreLinked, IsBehind, IsTarget, caught_at, caught_by, caught_in_place, changed, fresh_node, has_place, left_at, places_by, relinked, view_at, view_of, without_place, without_caught};
+ghost use Rattle.touch_targets.specs.Nodes.{AreLinked, IsFollowing, IsTarget, caught_at, caught_by, caught_in_place, changed, fresh_node, has_place, left_at, places_by, relinked, view_at, view_of, without_place, without_caught};
 ghost use Rattle.touch_targets.specs.Seats.{drop_caught, is_caught, mask_with, mask_without, put_caught};
 
 use crate::node::Node;
@@ -40,7 +40,7 @@ fn write_ids(nodes: &mut Slab<Node>, place: usize, ids: u32)
 }
 
 /// Sets what comes right after a target, or first if that is none.
-fn set_behind(nodes: &mut Slab<Node>, group: usize, previous: Option<usize>, next: Link)
+fn set_following(nodes: &mut Slab<Node>, group: usize, previous: Option<usize>, next: Link)
     requires group { ContainsKey nodes.old group }
     requires previous { (p : ℕ) → previous ≡ Some p → ContainsKey nodes.old p }
     ensures nodes { (x : ℕ) → get nodes.new x ≡ relinked (get nodes.old) group previous next x }
@@ -102,7 +102,7 @@ pub fn link_newest(nodes: &mut Slab<Node>, group: usize, child: usize, ids: u32)
 pub fn unlink(nodes: &mut Slab<Node>, group: usize, previous: Option<usize>, place: usize)
     requires linked { AreLinked nodes.old }
     requires group { ContainsKey nodes.old group }
-    requires behind { IsBehind previous place (places_by nodes.old group) }
+    requires following { IsFollowing previous place (places_by nodes.old group) }
     ensures linked { AreLinked nodes.new }
     ensures places { (x : ℕ)
         → places_by nodes.new x
@@ -112,7 +112,7 @@ pub fn unlink(nodes: &mut Slab<Node>, group: usize, previous: Option<usize>, pla
     ensures capacity { nodes.new.capacity ≡ nodes.old.capacity }
 {
     let next = nodes[place].next;
-    set_behind(nodes, group, previous, next);
+    set_following(nodes, group, previous, next);
     set_target(nodes, place, Link::none(), Link::none(), 0);
 }
 
@@ -121,7 +121,7 @@ fn before(nodes: &Slab<Node>, group: usize, place: usize) -> Option<usize>
     requires linked { AreLinked nodes.now }
     requires group { ContainsKey nodes.now group }
     requires there { has_place place (places_by nodes.now group) ≡ true }
-    ensures { IsBehind result place (places_by nodes.now group) }
+    ensures { IsFollowing result place (places_by nodes.now group) }
 {
     let mut previous = None;
     let mut at = nodes[group].newest.key();
@@ -279,7 +279,7 @@ fn drop_ids_at(
 ) -> Option<usize>
     requires linked { AreLinked nodes.old }
     requires group { ContainsKey nodes.old group }
-    requires behind { IsBehind previous place (places_by nodes.old group) }
+    requires following { IsFollowing previous place (places_by nodes.old group) }
     ensures linked { AreLinked nodes.new }
     ensures previous { result ≡ (if left_at nodes.old place ids == 0 then previous else Some place) }
     ensures places { (x : ℕ)

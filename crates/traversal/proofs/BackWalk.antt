@@ -26,9 +26,9 @@ use Rattle.traversal.proofs.LaidStages.{IsDone, LayingState, as_begun, done_join
 use Rattle.traversal.proofs.LaidWalk.{narrow_for, sides_at}
 
 -- the children after the next one
-abbrev pub behind : Option ℕ → Forest Row → Forest Row → Forest Row
-behind None list tree = list
-behind (Some kid) list tree = later_siblings (part_from kid tree)
+abbrev pub following : Option ℕ → Forest Row → Forest Row → Forest Row
+following None list tree = list
+following (Some kid) list tree = later_siblings (part_from kid tree)
 
 -- how many views there are up to the next child
 abbrev pub before : Option ℕ → Forest Row → Forest Row → ℕ
@@ -42,9 +42,9 @@ pub record IsKid (tree list : Forest Row) (kid : ℕ) : Type 0 where
 -- so far, the children after `next` were laid, and nothing else was done
 pub record BackWalk (tree list : Forest Row) (placer : Placer) (spot : Spot) (canvas : Option Canvas) (start : LayingState) (next : Option ℕ) (now : LayingState) : Type 0 where
   pub kid : IfSome next (IsKid tree list)
-  pub places : PlacesAs placer spot (sizes_back start.held (behind next list tree))
-  pub quiet : IsQuietBack now.held spot start.held (behind next list tree)
-  pub done : IsDone canvas start now (behind next list tree)
+  pub places : PlacesAs placer spot (sizes_back start.held (following next list tree))
+  pub quiet : IsQuietBack now.held spot start.held (following next list tree)
+  pub done : IsDone canvas start now (following next list tree)
 
 -- the first of a list is laid once the rest is
 pub record WithFirst (placer : Placer) (spot : Spot) (canvas : Option Canvas) (start mid : LayingState) (list : Forest Row) : Type 0 where
@@ -181,13 +181,13 @@ module _ (tree list : Forest Row) (placer : Placer) (spot : Spot) (canvas : Opti
       let f = located kid tree at.live in
       let alone : KeepsInside start.held now.held (Branch f.row f.kids Nothing) = rw f.is at still in
       let same : now.held kid ≡ start.held kid = subst (λ k. now.held k ≡ start.held k) f.key_is (alone f.row.key (times_self f.row f.kids Nothing)) in
-      narrow_for placer spot (sizes_back start.held (behind (Some kid) list tree)) (sides_of (now.held kid).state.edges) walk.places
+      narrow_for placer spot (sizes_back start.held (following (Some kid) list tree)) (sides_of (now.held kid).state.edges) walk.places
       (λ class. subst (λ (held : Held). AreSidesNarrow (sides_of held.state.edges)) (sym same)
       (sides_at tree kid start.held at.live shown (AreNarrow-back start.held at.within (narrow class))))
 
-  pub back_few : count_of list ≤ MAX_VIEWS → length (sizes_back start.held (behind (Some kid) list tree)) + count_of (first_tree (part_from kid tree)) ≤ MAX_VIEWS
+  pub back_few : count_of list ≤ MAX_VIEWS → length (sizes_back start.held (following (Some kid) list tree)) + count_of (first_tree (part_from kid tree)) ≤ MAX_VIEWS
   back_few few =
-      let sizes = sizes_back-few start.held (behind (Some kid) list tree) in
+      let sizes = sizes_back-few start.held (following (Some kid) list tree) in
       let parts = count_of-parts (part_from kid tree) in
       let later = count-later at.within in
       omega arith

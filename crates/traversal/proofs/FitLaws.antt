@@ -22,7 +22,7 @@ use Rattle.view_model.specs.PlainTree.{PlainView}
 use Rattle.view_model.proofs.CourseLaws.{children_in, course_children}
 use Rattle.traversal.specs.Changing.{FitAll}
 use Rattle.traversal.specs.Narrow.{AreSidesNarrow, IsNarrow, IsStretch}
-use Rattle.traversal.specs.Reporting.{near, near_size, told_each, told_in}
+use Rattle.traversal.specs.Reporting.{near, near_size, reported_each, reported_over}
 use Rattle.kept_views.proofs.PlacedKids.{finals_in, laid_back_from, laid_from, laid_in}
 use Rattle.traversal.proofs.LaidWhole.{at_narrow}
 use Rattle.traversal.proofs.NarrowSides.{AllNarrow, finals_narrow, sides_in}
@@ -76,10 +76,10 @@ placed_fit_back spot [] tidy = tt
 placed_fit_back spot (kid ∷ kids) tidy =
     let own = tidy.0.0 in
     let size = own.size kid.specs in
-    let behind = reverse (map final_size kids) in
-    let rect = place_in spot behind (final_size kid) kid.edges in
+    let following = reverse (map final_size kids) in
+    let rect = place_in spot following (final_size kid) kid.edges in
     fit_append (kid.child.lay kid.specs rect) (laid_back_from spot kids)
-    (own.lays kid.specs rect (place_narrow spot.view.class spot behind (final_size kid) kid.edges size.0 size.1 tidy.0.1))
+    (own.lays kid.specs rect (place_narrow spot.view.class spot following (final_size kid) kid.edges size.0 size.1 tidy.0.1))
     (placed_fit_back spot kids tidy.1)
 
 placed_fit_all : (spot : Spot) (kids : List Final) → TidyFinals spot.view.class kids → FitAll (laid_in spot kids)
@@ -143,8 +143,8 @@ near_is (negsuc n) fits = absurd (let low = fits.low in omega (arith, ints))
 pub near_size_is : (rect : Rect) → IsNarrow rect → near_size rect ≡ size_of_rect rect
 near_size_is rect fits = rw (near_is _ fits.width, near_is _ fits.height) refl
 
-pub told_is : (geometry : List Laid) (hooks : List Hook) → FitAll geometry → told_in geometry hooks ≡ told_each geometry hooks
-told_is [] hooks fit = refl
-told_is (laid ∷ geometry) hooks fit =
-    ap (λ (size : Size). told_in geometry (reported_as laid.number size hooks)) (near_size_is laid.rect fit.0)
-    ∙ told_is geometry (reported_as laid.number (size_of_rect laid.rect) hooks) fit.1
+pub reported_is : (geometry : List Laid) (hooks : List Hook) → FitAll geometry → reported_over geometry hooks ≡ reported_each geometry hooks
+reported_is [] hooks fit = refl
+reported_is (laid ∷ geometry) hooks fit =
+    ap (λ (size : Size). reported_over geometry (reported_as laid.number size hooks)) (near_size_is laid.rect fit.0)
+    ∙ reported_is geometry (reported_as laid.number (size_of_rect laid.rect) hooks) fit.1

@@ -12,9 +12,9 @@ use Rattle.view_tree.specs.Views.{IsTree, Views, geometry_of, held_of, plain_of}
 use Rattle.traversal.specs.Changing.{FitAll, IsFramed, IsPassed}
 use Rattle.traversal.specs.declared.outcome.Frame.{Frame}
 use Rattle.traversal.specs.Frames.{Framed, Pass, after_frame, after_pass, ended, fired_in, followed, reported_in, spent}
-use Rattle.traversal.specs.Reporting.{told_in}
-use Rattle.traversal.proofs.ReportedLaws.{Apart, apart_rows, told_reported}
-use Rattle.traversal.proofs.FitLaws.{layout_fits, told_is}
+use Rattle.traversal.specs.Reporting.{reported_over}
+use Rattle.traversal.proofs.ReportedLaws.{Apart, apart_rows, over_reported}
+use Rattle.traversal.proofs.FitLaws.{layout_fits, reported_is}
 
 abbrev settled_by : ℕ → Pass → Framed
 settled_by before pass = record { tree = pass.tree; hooks = reported_in pass.geometry pass.hooks; settled = true; fired = before; geometry = pass.geometry }
@@ -39,16 +39,16 @@ pass_fits tree hooks window =
     subst FitAll (sym (spent_geometry (ranged geometry tree) hooks geometry (fired_in hooks geometry))) (layout_fits tree window)
 
 settled : (before : ℕ) (tree : Forest PlainView) (old : List Hook) (window : Size) (views : Views) (hooks new : List Hook) (frame : Frame) → IsPassed (after_pass tree old window) views hooks → IsTree views
-    → new ≡ told_in (geometry_of views) hooks → frame.settled ≡ true → frame.fired ≡ before → IsFramed (settled_by before (after_pass tree old window)) views new frame
-settled before tree old window views hooks new frame passed is_tree told is fired =
+    → new ≡ reported_over (geometry_of views) hooks → frame.settled ≡ true → frame.fired ≡ before → IsFramed (settled_by before (after_pass tree old window)) views new frame
+settled before tree old window views hooks new frame passed is_tree reported is fired =
     let pass = after_pass tree old window in
     record {
       plain = passed.plain;
       hooks_are =
-          told
-          ∙ ap (λ (g : List Laid). told_in g hooks) passed.geometry
-          ∙ told_is pass.geometry hooks (pass_fits tree old window)
-          ∙ told_reported pass.geometry hooks (subst Apart passed.geometry (apart_rows (held_of views) views.tree is_tree.numbers))
+          reported
+          ∙ ap (λ (g : List Laid). reported_over g hooks) passed.geometry
+          ∙ reported_is pass.geometry hooks (pass_fits tree old window)
+          ∙ over_reported pass.geometry hooks (subst Apart passed.geometry (apart_rows (held_of views) views.tree is_tree.numbers))
           ∙ ap (reported_in pass.geometry) passed.hooks_are;
       settled = is;
       fired = fired;
@@ -58,26 +58,26 @@ settled before tree old window views hooks new frame passed is_tree told is fire
 -- the first pass was the last
 pub settled_first : (tree : Forest PlainView) (old : List Hook) (window : Size) (views : Views) (hooks new : List Hook) (frame : Frame)
     → IsPassed (after_pass tree old window) views hooks → (after_pass tree old window).fired ≡ false
-    → IsTree views → new ≡ told_in (geometry_of views) hooks → frame.settled ≡ true → frame.fired ≡ 0
+    → IsTree views → new ≡ reported_over (geometry_of views) hooks → frame.settled ≡ true → frame.fired ≡ 0
     → IsFramed (after_frame tree old window) views new frame
-settled_first tree old window views hooks new frame passed quiet is_tree told is fired =
+settled_first tree old window views hooks new frame passed quiet is_tree reported is fired =
     subst (λ (after : Framed). IsFramed after views new frame) (sym (first_settles window (after_pass tree old window) quiet))
-    (settled 0 tree old window views hooks new frame passed is_tree told is fired)
+    (settled 0 tree old window views hooks new frame passed is_tree reported is fired)
 
 -- the second one was
 pub settled_second : (tree : Forest PlainView) (old : List Hook) (window : Size) (mid views : Views) (between hooks new : List Hook) (frame : Frame)
     → IsPassed (after_pass tree old window) mid between → (after_pass tree old window).fired ≡ true
     → IsPassed (after_pass (plain_of mid) between window) views hooks → (after_pass (plain_of mid) between window).fired ≡ false
-    → IsTree views → new ≡ told_in (geometry_of views) hooks → frame.settled ≡ true → frame.fired ≡ 1
+    → IsTree views → new ≡ reported_over (geometry_of views) hooks → frame.settled ≡ true → frame.fired ≡ 1
     → IsFramed (after_frame tree old window) views new frame
-settled_second tree old window mid views between hooks new frame first fired passed quiet is_tree told is count =
+settled_second tree old window mid views between hooks new frame first fired passed quiet is_tree reported is count =
     let pass = after_pass tree old window in
     let same : after_pass (plain_of mid) between window ≡ after_pass pass.tree pass.hooks window =
     ap (λ (t : Forest PlainView). after_pass t between window) first.plain ∙ ap (λ (h : List Hook). after_pass pass.tree h window) first.hooks_are in
     let passed : IsPassed (after_pass pass.tree pass.hooks window) views hooks = subst (λ (p : Pass). IsPassed p views hooks) same passed in
     let quiet : (after_pass pass.tree pass.hooks window).fired ≡ false = subst (λ (p : Pass). p.fired ≡ false) same quiet in
     subst (λ (after : Framed). IsFramed after views new frame) (sym (second_settles window pass fired quiet))
-    (settled 1 pass.tree pass.hooks window views hooks new frame passed is_tree told is count)
+    (settled 1 pass.tree pass.hooks window views hooks new frame passed is_tree reported is count)
 
 -- after a frame that has not settled no view has bounds
 ended_nowhere : (before : ℕ) (pass : Pass) → (ended before pass).settled ≡ false → (ended before pass).geometry ≡ []

@@ -11,8 +11,8 @@ use Rattle.view_model.specs.Geometry.{Laid, rect_in, size_of_rect}
 use Rattle.view_tree.specs.Views.{IsTree, Views, geometry_of, held_of}
 use Rattle.traversal.specs.Changing.{FitAll}
 use Rattle.traversal.specs.Frames.{differs, fired_in, fires, same_size}
-use Rattle.traversal.specs.Reporting.{told_each, told_in}
-use Rattle.traversal.proofs.FitLaws.{told_is}
+use Rattle.traversal.specs.Reporting.{reported_each, reported_over}
+use Rattle.traversal.proofs.FitLaws.{reported_is}
 use Rattle.traversal.proofs.ReportedLaws.{Apart, apart_rows}
 
 same_self : (size : Size) → same_size size size ≡ true
@@ -45,7 +45,7 @@ hook_elsewhere view other size (hook ∷ hooks) apart = elim (cases_Bool (hook.v
   | inr e ↦ rw e (elim (cases_Bool (hook.view == other)) [ inl f ↦ rw f refl | inr f ↦ rw f (hook_elsewhere view other size hooks apart) ])
 ]
 
-hook_after : (geometry : List Laid) (number : ℕ) (hooks : List Hook) → rect_in geometry number ≡ None → hook_of (told_each geometry hooks) number ≡ hook_of hooks number
+hook_after : (geometry : List Laid) (number : ℕ) (hooks : List Hook) → rect_in geometry number ≡ None → hook_of (reported_each geometry hooks) number ≡ hook_of hooks number
 hook_after [] number hooks none = refl
 hook_after (laid ∷ geometry) number hooks none = elim (cases_eq laid.number number) [
   | inl e ↦ absurd (let none = rw (eq-eqb laid.number number e) at none in cc)
@@ -54,19 +54,19 @@ hook_after (laid ∷ geometry) number hooks none = elim (cases_eq laid.number nu
       hook_after geometry number (reported_as laid.number (size_of_rect laid.rect) hooks) none ∙ hook_elsewhere laid.number number (size_of_rect laid.rect) hooks ne
 ]
 
-told_quiet : (geometry : List Laid) (hooks : List Hook) → Apart geometry → fired_in (told_each geometry hooks) geometry ≡ None
-told_quiet [] hooks apart = refl
-told_quiet (laid ∷ geometry) hooks apart =
+quiet_over : (geometry : List Laid) (hooks : List Hook) → Apart geometry → fired_in (reported_each geometry hooks) geometry ≡ None
+quiet_over [] hooks apart = refl
+quiet_over (laid ∷ geometry) hooks apart =
     let size = size_of_rect laid.rect in
     let after = reported_as laid.number size hooks in
-    let own : fires (told_each geometry after) laid ≡ false = ap (λ hook. differs hook size) (hook_after geometry laid.number after apart.0) ∙ hook_here laid.number size hooks in
-    rw own (told_quiet geometry after apart.1)
+    let own : fires (reported_each geometry after) laid ≡ false = ap (λ hook. differs hook size) (hook_after geometry laid.number after apart.0) ∙ hook_here laid.number size hooks in
+    rw own (quiet_over geometry after apart.1)
 
 -- once the sizes of a tree are reported, no hook fires
-pub reported_quiet : (views : Views) (hooks new : List Hook) → IsTree views → FitAll (geometry_of views) → new ≡ told_in (geometry_of views) hooks → fired_in new (geometry_of views) ≡ None
-reported_quiet views hooks new is fits told =
-    ap (λ (hooks : List Hook). fired_in hooks (geometry_of views)) (told ∙ told_is (geometry_of views) hooks fits)
-    ∙ told_quiet (geometry_of views) hooks (apart_rows (held_of views) views.tree is.numbers)
+pub reported_quiet : (views : Views) (hooks new : List Hook) → IsTree views → FitAll (geometry_of views) → new ≡ reported_over (geometry_of views) hooks → fired_in new (geometry_of views) ≡ None
+reported_quiet views hooks new is fits reported =
+    ap (λ (hooks : List Hook). fired_in hooks (geometry_of views)) (reported ∙ reported_is (geometry_of views) hooks fits)
+    ∙ quiet_over (geometry_of views) hooks (apart_rows (held_of views) views.tree is.numbers)
 
 none_of : (view : ℕ) (size : Size) (hooks : List Hook) → length (filter (λ (hook : Hook). hook.view == view) hooks) ≡ 0 → reported_as view size hooks ≡ hooks
 none_of view size [] none = refl
@@ -90,16 +90,16 @@ one_still view size (hook ∷ hooks) single quiet = elim (cases_Bool (hook.view 
       rw e (ap (λ (rest : List Hook). hook ∷ rest) (one_still view size hooks single quiet))
 ]
 
-each_still : (geometry : List Laid) (hooks : List Hook) → ((view : ℕ) → length (filter (λ (hook : Hook). hook.view == view) hooks) ≤ 1) → fired_in hooks geometry ≡ None → told_each geometry hooks ≡ hooks
+each_still : (geometry : List Laid) (hooks : List Hook) → ((view : ℕ) → length (filter (λ (hook : Hook). hook.view == view) hooks) ≤ 1) → fired_in hooks geometry ≡ None → reported_each geometry hooks ≡ hooks
 each_still [] hooks single quiet = refl
 each_still (laid ∷ geometry) hooks single quiet = elim (cases_Bool (fires hooks laid)) [
   | inl e ↦ absurd (let quiet = rw e at quiet in cc)
   | inr e ↦
       let quiet = rw e at quiet in
-      ap (told_each geometry) (one_still laid.number (size_of_rect laid.rect) hooks (single laid.number) e) ∙ each_still geometry hooks single quiet
+      ap (reported_each geometry) (one_still laid.number (size_of_rect laid.rect) hooks (single laid.number) e) ∙ each_still geometry hooks single quiet
 ]
 
 -- if no hook fires, no reported size changes
-pub told_still : (geometry : List Laid) (hooks : List Hook) → FitAll geometry → ((view : ℕ) → length (filter (λ (hook : Hook). hook.view == view) hooks) ≤ 1)
-    → fired_in hooks geometry ≡ None → told_in geometry hooks ≡ hooks
-told_still geometry hooks fits single quiet = told_is geometry hooks fits ∙ each_still geometry hooks single quiet
+pub reported_still : (geometry : List Laid) (hooks : List Hook) → FitAll geometry → ((view : ℕ) → length (filter (λ (hook : Hook). hook.view == view) hooks) ≤ 1)
+    → fired_in hooks geometry ≡ None → reported_over geometry hooks ≡ hooks
+reported_still geometry hooks fits single quiet = reported_is geometry hooks fits ∙ each_still geometry hooks single quiet

@@ -14,7 +14,7 @@ use Rattle.view_tree.specs.Rows.{Row, count_of_number}
 use Rattle.view_tree.specs.Views.{Held, laid_at, laid_rows}
 use Rattle.view_tree.proofs.values.GeometryLaws.{find-laid_absent}
 use Rattle.traversal.specs.Frames.{reported_by, reported_in}
-use Rattle.traversal.specs.Reporting.{told_each}
+use Rattle.traversal.specs.Reporting.{reported_each}
 
 rect_absent : (held : ℕ → Held) (number : ℕ) (tree : Forest Row) → count_of_number number tree ≡ 0 → rect_in (laid_rows held tree) number ≡ None
 rect_absent held number tree none = ap (option_map (λ (laid : Laid). laid.rect)) (find-laid_absent held number tree none)
@@ -44,10 +44,10 @@ none_reported : (hooks : List Hook) → hooks ≡ reported_in [] hooks
 none_reported [] = refl
 none_reported (hook ∷ hooks) = ap (λ (l : List Hook). hook ∷ l) (none_reported hooks)
 
-pub told_reported : (geometry : List Laid) (hooks : List Hook) → Apart geometry → told_each geometry hooks ≡ reported_in geometry hooks
-told_reported [] hooks apart = none_reported hooks
-told_reported (laid ∷ geometry) hooks apart =
-    told_reported geometry (reported_as laid.number (size_of_rect laid.rect) hooks) apart.1 ∙ next_all laid geometry hooks apart.0
+pub over_reported : (geometry : List Laid) (hooks : List Hook) → Apart geometry → reported_each geometry hooks ≡ reported_in geometry hooks
+over_reported [] hooks apart = none_reported hooks
+over_reported (laid ∷ geometry) hooks apart =
+    over_reported geometry (reported_as laid.number (size_of_rect laid.rect) hooks) apart.1 ∙ next_all laid geometry hooks apart.0
 
 nowhere : (number : ℕ) (first second : List Laid) → rect_in first number ≡ None → rect_in second number ≡ None → rect_in (first ++ second) number ≡ None
 nowhere number first second none more =
@@ -69,11 +69,11 @@ apart_before held Nothing rest once away apart = apart
 apart_before held (Branch row kids siblings) rest once away apart =
     let number = row.view.number in
     let own : count_of_number number kids + count_of_number number siblings ≡ 0 = let o = once number in let o = rw (eq-eqb number number refl) at o in omega arith in
-    let behind : Apart (laid_rows held siblings ++ rest) =
+    let following : Apart (laid_rows held siblings ++ rest) =
     apart_before held siblings rest (λ n. let o = once n in omega arith) (λ n some. away n (omega arith)) apart in
     let below : Apart (laid_rows held kids ++ (laid_rows held siblings ++ rest)) =
     apart_before held kids (laid_rows held siblings ++ rest) (λ n. let o = once n in omega arith)
-    (λ n some. let o = once n in nowhere n (laid_rows held siblings) rest (rect_absent held n siblings (omega arith)) (away n (omega arith))) behind in
+    (λ n some. let o = once n in nowhere n (laid_rows held siblings) rest (rect_absent held n siblings (omega arith)) (away n (omega arith))) following in
     let none : rect_in (laid_rows held kids ++ (laid_rows held siblings ++ rest)) number ≡ None =
     nowhere number (laid_rows held kids) (laid_rows held siblings ++ rest) (rect_absent held number kids (omega arith))
     (nowhere number (laid_rows held siblings) rest (rect_absent held number siblings (omega arith)) (away number (rw (eq-eqb number number refl) (omega arith)))) in

@@ -15,11 +15,11 @@ abbrev pub near_size : Rect → Size
 near_size rect = record { w = near (rect.right -ℤ rect.left); h = near (rect.bottom -ℤ rect.top) }
 
 -- the hooks once each view of a geometry, in turn, has reported its size
-abbrev pub told_each : List Laid → List Hook → List Hook
-told_each [] hooks = hooks
-told_each (laid ∷ geometry) hooks = told_each geometry (reported_as laid.number (size_of_rect laid.rect) hooks)
+abbrev pub reported_each : List Laid → List Hook → List Hook
+reported_each [] hooks = hooks
+reported_each (laid ∷ geometry) hooks = reported_each geometry (reported_as laid.number (size_of_rect laid.rect) hooks)
 
 -- the same, with the nearest sizes
-abbrev pub told_in : List Laid → List Hook → List Hook
-told_in [] hooks = hooks
-told_in (laid ∷ geometry) hooks = told_in geometry (reported_as laid.number (near_size laid.rect) hooks)
+abbrev pub reported_over : List Laid → List Hook → List Hook
+reported_over [] hooks = hooks
+reported_over (laid ∷ geometry) hooks = reported_over geometry (reported_as laid.number (near_size laid.rect) hooks)

@@ -12,7 +12,7 @@ ghost use Rattle.traversal.specs.Counting.{IsMeasuringCounted};
 ghost use Rattle.traversal.specs.Changing.{FitAll, IsDamage, IsFramed, SameShape};
 ghost use Rattle.traversal.specs.Frames.{after_frame, fired_in, frame_calls};
 ghost use Rattle.traversal.specs.Growing.{IsMeasuredByFrame, IsUnedited, frame_edits};
-ghost use Rattle.traversal.specs.Reporting.{told_in};
+ghost use Rattle.traversal.specs.Reporting.{reported_over};
 ghost use Rattle.traversal.specs.Resting.{IsAtRest};
 ghost use Rattle.size_hooks.specs.Hooks.{IsMap};
 ghost use Rattle.view_model.specs.Geometry.{rect_at};
@@ -88,7 +88,7 @@ pub fn frame(tree: &mut ViewTree, hooks: &mut Hooks, window: Size, work: &mut Wo
 
 /// Ends a frame whose last pass fired no hook, after `fired` that were fired before; `damage` has to be painted.
 fn settle(tree: &ViewTree, hooks: &mut Hooks, damage: Rect, fired: u8) -> Frame
-    ensures hooks { hooks.new ≡ told_in (geometry_of tree.now) hooks.old }
+    ensures hooks { hooks.new ≡ reported_over (geometry_of tree.now) hooks.old }
     ensures is_tree { IsTree tree.now }
     ensures map { IsMap hooks.old }
     ensures settled { result.settled ≡ true }

@@ -159,10 +159,10 @@ unfolding edge_within from_zero
 before_edge most k (pos n) lt = let h : k < n = omega arith in omega (arith, ints)
 before_edge most k (negsuc n) lt = absurd (omega arith)
 
-behind_edge : (most k : ℕ) (at : ℤ) → k < most → edge_within most at ≤ k → at ≤ℤ pos k
+after_edge : (most k : ℕ) (at : ℤ) → k < most → edge_within most at ≤ k → at ≤ℤ pos k
 unfolding edge_within from_zero
-behind_edge most k (pos n) lt le = let h : n ≤ k = omega arith in omega (arith, ints)
-behind_edge most k (negsuc n) lt le = omega (arith, ints)
+after_edge most k (pos n) lt le = let h : n ≤ k = omega arith in omega (arith, ints)
+after_edge most k (negsuc n) lt le = omega (arith, ints)
 
 pub seen_from : (most first k : ℕ) (edge left x : ℤ) → first ≡ edge_within most (edge -ℤ left) → edge ≤ℤ x → x -ℤ left ≡ pos k → first ≤ k
 seen_from most first k edge left x is le at = elim (cases_lt k first) [
@@ -172,7 +172,7 @@ seen_from most first k edge left x is le at = elim (cases_lt k first) [
 
 pub seen_to : (most last k : ℕ) (edge left x : ℤ) → last ≡ edge_within most (edge -ℤ left) → x <ℤ edge → x -ℤ left ≡ pos k → last ≤ k → most ≤ k
 seen_to most last k edge left x is lt at le = elim (cases_lt k most) [
-  | inl within ↦ let h = behind_edge most k (edge -ℤ left) within (omega (arith, is)) in absurd (omega (arith, ints))
+  | inl within ↦ let h = after_edge most k (edge -ℤ left) within (omega (arith, is)) in absurd (omega (arith, ints))
   | inr ge ↦ ge
 ]
 

@@ -62,8 +62,8 @@ named = record (new_facts (pos 10) (pos 10)) { id = 1 }
 beside : Facts
 beside = let facts = new_facts (pos 20) (pos 10) in record facts { rules = record { values = slice_set facts.rules.values END_OF 1 } }
 
-one_behind_another_lies_at_its_left :
+one_after_another_lies_at_its_left :
     full_layout (group class.RelativeLayout named beside) window
     ≡ at 1 0 0 100 20 ∷ at 2 90 0 100 10 ∷ at 3 70 0 90 10 ∷ []
 unfolding match window rtl view group at named beside clamp_coordinate child_spec_of default_size_of remaining_of resolve_of near_side far_side bounded_spec available_to unbounded_spec loose_spec free_near span_of moved_span width_of
-one_behind_another_lies_at_its_left = refl
+one_after_another_lies_at_its_left = refl

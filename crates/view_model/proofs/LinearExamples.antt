@@ -113,13 +113,13 @@ unfolding match wrap view line summed leaf frame at window clamp_coordinate chil
 the_line_lies_in_the_middle = refl
 
 -- a child with a weight is measured in the first pass and in the weight pass; one that the first pass leaves out, once
-told : Specs
-told = record { across = exactly (pos 100); down = exactly (pos 20) }
+reported : Specs
+reported = record { across = exactly (pos 100); down = exactly (pos 20) }
 
-each_pass_counts : measure_calls (line 1 false match match) (Branch (leaf 2 (pos 10) match 256) Nothing (Branch (leaf 3 (pos 0) match 256) Nothing (Branch (leaf 4 (pos 5) match 0) Nothing Nothing))) told ≡ 5
-unfolding match wrap view line summed leaf frame at window clamp_coordinate child_spec_of default_size_of remaining_of resolve_of second_spec after_share alignment_on claim dim_on extent first_dim first_length greater high_margin high_padding is_skipped line_begin low_margin low_padding margins_on min_on needed_breadth padding_on resolved_breadth share size_on spec_on used_before where_even where_weighted whole_weight told
+each_pass_counts : measure_calls (line 1 false match match) (Branch (leaf 2 (pos 10) match 256) Nothing (Branch (leaf 3 (pos 0) match 256) Nothing (Branch (leaf 4 (pos 5) match 0) Nothing Nothing))) reported ≡ 5
+unfolding match wrap view line summed leaf frame at window clamp_coordinate child_spec_of default_size_of remaining_of resolve_of second_spec after_share alignment_on claim dim_on extent first_dim first_length greater high_margin high_padding is_skipped line_begin low_margin low_padding margins_on min_on needed_breadth padding_on resolved_breadth share size_on spec_on used_before where_even where_weighted whole_weight reported
 each_pass_counts = refl
 
-its_children_take_all : total_size (line 1 false match match) (Branch (leaf 2 (pos 10) match 256) Nothing (Branch (leaf 3 (pos 0) match 256) Nothing (Branch (leaf 4 (pos 5) match 0) Nothing Nothing))) told ≡ pos 100
-unfolding match wrap view line summed leaf frame at window clamp_coordinate child_spec_of default_size_of remaining_of resolve_of second_spec after_share alignment_on claim dim_on extent first_dim first_length greater high_margin high_padding is_skipped line_begin low_margin low_padding margins_on min_on needed_breadth padding_on resolved_breadth share size_on spec_on used_before where_even where_weighted whole_weight told
+its_children_take_all : total_size (line 1 false match match) (Branch (leaf 2 (pos 10) match 256) Nothing (Branch (leaf 3 (pos 0) match 256) Nothing (Branch (leaf 4 (pos 5) match 0) Nothing Nothing))) reported ≡ pos 100
+unfolding match wrap view line summed leaf frame at window clamp_coordinate child_spec_of default_size_of remaining_of resolve_of second_spec after_share alignment_on claim dim_on extent first_dim first_length greater high_margin high_padding is_skipped line_begin low_margin low_padding margins_on min_on needed_breadth padding_on resolved_breadth share size_on spec_on used_before where_even where_weighted whole_weight reported
 its_children_take_all = refl

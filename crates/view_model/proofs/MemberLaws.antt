@@ -7,7 +7,7 @@ use Rattle.std.specs.Prelude.{◌==◌, slice_index, slice_index_or}
 use Rattle.view_model.specs.declared.relative.Axis.{Axis}
 use Rattle.view_model.specs.declared.relative.Link.{Link}
 use Rattle.view_model.specs.Orders.{AreMembers, AtOnce, IsAcyclic, Reaches, Through, leads_by, members_of}
-use Rattle.view_model.specs.SiblingRules.{leads, names, nobody, sibling_verbs, value_of}
+use Rattle.view_model.specs.SiblingRules.{leads, names, no_link, sibling_verbs, value_of}
 
 -- one path after the other
 pub reach_both : {r : ℕ → ℕ → Bool} {a b c : ℕ} → Reaches r a b → Reaches r b c → Reaches r a c
@@ -110,12 +110,12 @@ after_first test from count rest are = record {
   below = λ p small. let below : slice_index rest p < from + suc count = are.below (suc p) (omega arith) in omega arith;
   rising = λ p q less small. are.rising (suc p) (suc q) (omega arith) (omega arith);
   sound = λ p small. are.sound (suc p) (omega arith);
-  whole = λ place low high passes. let there = are.whole place (omega arith) (omega arith) passes in behind place low there.0 there.1 there.2;
+  whole = λ place low high passes. let there = are.whole place (omega arith) (omega arith) passes in following place low there.0 there.1 there.2;
 }
   where
-    behind : (place : ℕ) → from + 1 ≤ place → (p : ℕ) → p < suc (length rest) → slice_index (from ∷ rest) p ≡ place → (q : ℕ) × (q < length rest) × (slice_index rest q ≡ place)
-    behind place low zero small is = let same : from ≡ place = is in absurd (omega arith)
-    behind place low (suc p) small is = (p, omega arith, is)
+    following : (place : ℕ) → from + 1 ≤ place → (p : ℕ) → p < suc (length rest) → slice_index (from ∷ rest) p ≡ place → (q : ℕ) × (q < length rest) × (slice_index rest q ≡ place)
+    following place low zero small is = let same : from ≡ place = is in absurd (omega arith)
+    following place low (suc p) small is = (p, omega arith, is)
 
 -- a list whose first number passes, where the others are known
 with_first : (test : ℕ → Bool) (from count : ℕ) (others list : List ℕ) → ((rest : List ℕ) → AreThose test (from + 1) count rest → rest ≡ others)
@@ -149,13 +149,13 @@ module _ (r : ℕ → ℕ → Bool) (count : ℕ) (inside : (a b : ℕ) → r a 
   })
 
 -- if no place reaches itself, there are no members
-nobody_passes : (test : ℕ → Bool) (list : List ℕ) → ((place : ℕ) → test place ≡ false) → filter test list ≡ []
-nobody_passes test [] none = refl
-nobody_passes test (place ∷ list) none = rw (none place) (nobody_passes test list none)
+none_passes : (test : ℕ → Bool) (list : List ℕ) → ((place : ℕ) → test place ≡ false) → filter test list ≡ []
+none_passes test [] none = refl
+none_passes test (place ∷ list) none = rw (none place) (none_passes test list none)
 
 pub no_members : (r : ℕ → ℕ → Bool) (count : ℕ) → IsAcyclic r → members_of r count ≡ []
 no_members r count acyclic =
-    nobody_passes (λ place. leads_by r count place place) (range_with_len 0 count)
+    none_passes (λ place. leads_by r count place place) (range_with_len 0 count)
     (λ place. elim (cases_Bool (leads_by r count place place)) [
       | inl itself ↦ absurd (acyclic place (leads_by-reaches r count place place itself))
       | inr not_itself ↦ not_itself
@@ -167,10 +167,10 @@ unfolding leads names
 leads_inside axis links a b is = elim (cases_lt b (length links)) [
   | inl small ↦ small
   | inr past ↦
-      let id = (slice_index_or links b nobody).id in
-      let named = (and_parts (not (a == b)) (names axis (slice_index_or links a nobody).rules id) is).1 in
-      let some = (and_parts (not (id == 0)) (list_any (λ verb. value_of (slice_index_or links a nobody).rules verb == id) (sibling_verbs axis)) named).0 in
-      let none : id ≡ 0 = ap (λ (link : Link). link.id) (get_or_past links b nobody past) in
+      let id = (slice_index_or links b no_link).id in
+      let named = (and_parts (not (a == b)) (names axis (slice_index_or links a no_link).rules id) is).1 in
+      let some = (and_parts (not (id == 0)) (list_any (λ verb. value_of (slice_index_or links a no_link).rules verb == id) (sibling_verbs axis)) named).0 in
+      let none : id ≡ 0 = ap (λ (link : Link). link.id) (get_or_past links b no_link past) in
       let bad : false ≡ true = rw (eq-eqb id 0 none) at some in
       absurd (cc)
 ]

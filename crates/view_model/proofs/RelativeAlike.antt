@@ -62,13 +62,13 @@ anchor_shown (suc left) shown named place anchor found = by_name (named place) (
   where
     by_test : (sibling : ℕ) (v : Bool) → shown sibling ≡ v → (anchor_within left shown named sibling ≡ Some anchor → shown anchor ≡ true)
         → (if v then Some sibling else anchor_within left shown named sibling) ≡ Some anchor → shown anchor ≡ true
-    by_test sibling true is behind found = let same : sibling ≡ anchor = cc in ap shown (sym same) ∙ is
-    by_test sibling false is behind found = behind found
+    by_test sibling true is following found = let same : sibling ≡ anchor = cc in ap shown (sym same) ∙ is
+    by_test sibling false is following found = following found
 
     by_name : (name : Option ℕ) → ((sibling : ℕ) → anchor_within left shown named sibling ≡ Some anchor → shown anchor ≡ true)
         → shown_or shown (anchor_within left shown named) name ≡ Some anchor → shown anchor ≡ true
-    by_name None behind found = no_anchor found
-    by_name (Some sibling) behind found = by_test sibling (shown sibling) refl (behind sibling) found
+    by_name None following found = no_anchor found
+    by_name (Some sibling) following found = by_test sibling (shown sibling) refl (following sibling) found
 
 -- sides that are the same for all children that take part
 abbrev pub SpansAgree : List Child → (ℕ → ℤ × ℤ) → (ℕ → ℤ × ℤ) → Type 0

@@ -49,8 +49,8 @@ gone facts = record facts { visibility = Gone }
 child : Facts → Child
 child facts = child_by (record { number = 0; class = class.View; facts = facts; text = [] }) []
 
-told : ℕ → ℕ → Specs
-told width height = record { across = record { mode = Exactly; size = pos width }; down = record { mode = Exactly; size = pos height } }
+reported : ℕ → ℕ → Specs
+reported width height = record { across = record { mode = Exactly; size = pos width }; down = record { mode = Exactly; size = pos height } }
 
 loose : Specs
 loose = record { across = record { mode = Unspecified; size = pos 0 }; down = record { mode = AtMost; size = pos 100 } }
@@ -68,33 +68,33 @@ size w h = record { w = pos w; h = pos h }
 row : List Facts
 row = view 1 (pos 20) (pos 10) [] ∷ view 2 (pos 30) (pos 10) ((RIGHT_OF, 1) ∷ []) ∷ view 0 (pos 10) (pos 10) ((RIGHT_OF, 2) ∷ []) ∷ []
 
-stand_in_a_row : all_sides (relative_course (new_facts match match) (told 100 100) (map child row)) ≡ Some (rect 0 0 20 10) ∷ Some (rect 20 0 50 10) ∷ Some (rect 50 0 60 10) ∷ []
-unfolding row told view with_rules child rect all_sides match near_side far_side bounded_spec available_to unbounded_spec loose_spec free_near span_of moved_span width_of default_size_of resolve_of clamp_coordinate
-stand_in_a_row = refl
+are_in_a_row : all_sides (relative_course (new_facts match match) (reported 100 100) (map child row)) ≡ Some (rect 0 0 20 10) ∷ Some (rect 20 0 50 10) ∷ Some (rect 50 0 60 10) ∷ []
+unfolding row reported view with_rules child rect all_sides match near_side far_side bounded_spec available_to unbounded_spec loose_spec free_near span_of moved_span width_of default_size_of resolve_of clamp_coordinate
+are_in_a_row = refl
 
 -- if the second is gone, the third is beside the first
 hidden : List Facts
 hidden = view 1 (pos 20) (pos 10) [] ∷ gone (view 2 (pos 30) (pos 10) ((RIGHT_OF, 1) ∷ [])) ∷ view 0 (pos 10) (pos 10) ((RIGHT_OF, 2) ∷ []) ∷ []
 
-gone_anchor_is_passed : all_sides (relative_course (new_facts match match) (told 100 100) (map child hidden)) ≡ Some (rect 0 0 20 10) ∷ None ∷ Some (rect 20 0 30 10) ∷ []
-unfolding hidden gone told view with_rules child rect all_sides match near_side far_side bounded_spec available_to unbounded_spec loose_spec free_near span_of moved_span width_of default_size_of resolve_of clamp_coordinate
+gone_anchor_is_passed : all_sides (relative_course (new_facts match match) (reported 100 100) (map child hidden)) ≡ Some (rect 0 0 20 10) ∷ None ∷ Some (rect 20 0 30 10) ∷ []
+unfolding hidden gone reported view with_rules child rect all_sides match near_side far_side bounded_spec available_to unbounded_spec loose_spec free_near span_of moved_span width_of default_size_of resolve_of clamp_coordinate
 gone_anchor_is_passed = refl
 
 -- of two siblings with one id the last is the anchor
 twins : List Facts
 twins = view 1 (pos 10) (pos 10) [] ∷ view 1 (pos 20) (pos 10) [] ∷ view 0 (pos 5) (pos 5) ((RIGHT_OF, 1) ∷ []) ∷ []
 
-last_of_two : all_sides (relative_course (new_facts match match) (told 100 100) (map child twins)) ≡ Some (rect 0 0 10 10) ∷ Some (rect 0 0 20 10) ∷ Some (rect 20 0 25 5) ∷ []
-unfolding twins told view with_rules child rect all_sides match near_side far_side bounded_spec available_to unbounded_spec loose_spec free_near span_of moved_span width_of default_size_of resolve_of clamp_coordinate
+last_of_two : all_sides (relative_course (new_facts match match) (reported 100 100) (map child twins)) ≡ Some (rect 0 0 10 10) ∷ Some (rect 0 0 20 10) ∷ Some (rect 20 0 25 5) ∷ []
+unfolding twins reported view with_rules child rect all_sides match near_side far_side bounded_spec available_to unbounded_spec loose_spec free_near span_of moved_span width_of default_size_of resolve_of clamp_coordinate
 last_of_two = refl
 
 -- a child that is the last with the id that it names is tied to no sibling
 own_id : List Facts
 own_id = view 1 (pos 10) (pos 10) [] ∷ view 1 (pos 20) (pos 10) ((RIGHT_OF, 1) ∷ []) ∷ []
 
-nobody_is_its_own_anchor : all_sides (relative_course (new_facts match match) (told 100 100) (map child own_id)) ≡ Some (rect 0 0 10 10) ∷ Some (rect 0 0 20 10) ∷ []
-unfolding own_id told view with_rules child rect all_sides match near_side far_side bounded_spec available_to unbounded_spec loose_spec free_near span_of moved_span width_of default_size_of resolve_of clamp_coordinate
-nobody_is_its_own_anchor = refl
+no_child_is_its_own_anchor : all_sides (relative_course (new_facts match match) (reported 100 100) (map child own_id)) ≡ Some (rect 0 0 10 10) ∷ Some (rect 0 0 20 10) ∷ []
+unfolding own_id reported view with_rules child rect all_sides match near_side far_side bounded_spec available_to unbounded_spec loose_spec free_near span_of moved_span width_of default_size_of resolve_of clamp_coordinate
+no_child_is_its_own_anchor = refl
 
 -- one at the left and one at the right of a bar with padding, both in the middle of its height
 bar : Facts
@@ -103,8 +103,8 @@ bar = record (new_facts match (pos 48)) { padding = record { left = pos 8; top =
 ends : List Facts
 ends = view 0 (pos 30) (pos 8) ((PARENT_LEFT, 1) ∷ (CENTER_V, 1) ∷ []) ∷ view 0 (pos 12) (pos 8) ((PARENT_RIGHT, 1) ∷ (CENTER_V, 1) ∷ []) ∷ []
 
-at_both_ends : all_sides (relative_course bar (told 320 48) (map child ends)) ≡ Some (rect 8 20 38 28) ∷ Some (rect 300 20 312 28) ∷ []
-unfolding bar ends told view with_rules child rect all_sides match near_side far_side bounded_spec available_to unbounded_spec loose_spec free_near span_of moved_span width_of default_size_of resolve_of clamp_coordinate
+at_both_ends : all_sides (relative_course bar (reported 320 48) (map child ends)) ≡ Some (rect 8 20 38 28) ∷ Some (rect 300 20 312 28) ∷ []
+unfolding bar ends reported view with_rules child rect all_sides match near_side far_side bounded_spec available_to unbounded_spec loose_spec free_near span_of moved_span width_of default_size_of resolve_of clamp_coordinate
 at_both_ends = refl
 
 -- a group that is as large as its children: it is as wide as the first, and then the others move to its right and to
@@ -132,16 +132,16 @@ limit_is_filled = refl
 between : List Facts
 between = view 1 (pos 10) (pos 10) [] ∷ view 2 (pos 10) (pos 10) ((PARENT_RIGHT, 1) ∷ []) ∷ view 0 (pos 5) (pos 5) ((RIGHT_OF, 1) ∷ (LEFT_OF, 2) ∷ (BELOW, 1) ∷ []) ∷ []
 
-fills_what_is_between : all_sides (relative_course (new_facts match match) (told 100 100) (map child between)) ≡ Some (rect 0 0 10 10) ∷ Some (rect 90 0 100 10) ∷ Some (rect 10 10 90 15) ∷ []
-unfolding between told view with_rules child rect all_sides match near_side far_side bounded_spec available_to unbounded_spec loose_spec free_near span_of moved_span width_of default_size_of resolve_of clamp_coordinate
+fills_what_is_between : all_sides (relative_course (new_facts match match) (reported 100 100) (map child between)) ≡ Some (rect 0 0 10 10) ∷ Some (rect 90 0 100 10) ∷ Some (rect 10 10 90 15) ∷ []
+unfolding between reported view with_rules child rect all_sides match near_side far_side bounded_spec available_to unbounded_spec loose_spec free_near span_of moved_span width_of default_size_of resolve_of clamp_coordinate
 fills_what_is_between = refl
 
 -- a start form replaces a left one, even if it names no child
 starts : List Facts
 starts = view 1 (pos 10) (pos 10) ((PARENT_RIGHT, 1) ∷ []) ∷ view 0 (pos 5) (pos 5) ((LEFT_OF, 1) ∷ (START_OF, 7) ∷ []) ∷ []
 
-start_form_wins : all_sides (relative_course (new_facts match match) (told 100 100) (map child starts)) ≡ Some (rect 90 0 100 10) ∷ Some (rect 0 0 5 5) ∷ []
-unfolding starts told view with_rules child rect all_sides match near_side far_side bounded_spec available_to unbounded_spec loose_spec free_near span_of moved_span width_of default_size_of resolve_of clamp_coordinate
+start_form_wins : all_sides (relative_course (new_facts match match) (reported 100 100) (map child starts)) ≡ Some (rect 90 0 100 10) ∷ Some (rect 0 0 5 5) ∷ []
+unfolding starts reported view with_rules child rect all_sides match near_side far_side bounded_spec available_to unbounded_spec loose_spec free_near span_of moved_span width_of default_size_of resolve_of clamp_coordinate
 start_form_wins = refl
 
 -- a far side before the near one counts as the near one
@@ -206,18 +206,18 @@ entangled first second third =
     (Branch (plain 3 (view 2 (pos 5) (pos 5) ((second, 1) ∷ []))) Nothing (Branch (plain 4 (view 3 (pos 5) (pos 5) ((third, 1) ∷ []))) Nothing Nothing)))
 
 -- a pair that name each other are reported; one that only names one of them is no member
-a_pair_is_told : first_cycle member.View (entangled RIGHT_OF ALIGN_LEFT END_OF) ≡ Some (record { number = 18; reason = Cycle false (member.View 2 ∷ member.View 3 ∷ []) })
+a_pair_is_reported : first_cycle member.View (entangled RIGHT_OF ALIGN_LEFT END_OF) ≡ Some (record { number = 18; reason = Cycle false (member.View 2 ∷ member.View 3 ∷ []) })
 unfolding entangled group plain view with_rules match leads names
-a_pair_is_told = refl
+a_pair_is_reported = refl
 
-the_other_axis_is_told : first_cycle member.View (entangled BELOW ALIGN_TOP RIGHT_OF) ≡ Some (record { number = 18; reason = Cycle true (member.View 2 ∷ member.View 3 ∷ []) })
+the_other_axis_is_reported : first_cycle member.View (entangled BELOW ALIGN_TOP RIGHT_OF) ≡ Some (record { number = 18; reason = Cycle true (member.View 2 ∷ member.View 3 ∷ []) })
 unfolding entangled group plain view with_rules match leads names
-the_other_axis_is_told = refl
+the_other_axis_is_reported = refl
 
 -- names on two axes make no circle
-no_circle_is_told : first_cycle member.View (entangled RIGHT_OF BELOW END_OF) ≡ None
+no_circle_is_reported : first_cycle member.View (entangled RIGHT_OF BELOW END_OF) ≡ None
 unfolding entangled group plain view with_rules match leads names
-no_circle_is_told = refl
+no_circle_is_reported = refl
 
 -- three in a circle are all members
 all_three : Forest PlainView
@@ -225,6 +225,6 @@ all_three =
     group (Branch (plain 2 (view 1 (pos 5) (pos 5) ((RIGHT_OF, 2) ∷ []))) Nothing
     (Branch (plain 3 (view 2 (pos 5) (pos 5) ((RIGHT_OF, 3) ∷ []))) Nothing (Branch (plain 4 (view 3 (pos 5) (pos 5) ((RIGHT_OF, 1) ∷ []))) Nothing Nothing)))
 
-three_are_told : first_cycle member.View all_three ≡ Some (record { number = 18; reason = Cycle false (member.View 2 ∷ member.View 3 ∷ member.View 4 ∷ []) })
+three_are_reported : first_cycle member.View all_three ≡ Some (record { number = 18; reason = Cycle false (member.View 2 ∷ member.View 3 ∷ member.View 4 ∷ []) })
 unfolding all_three group plain view with_rules match leads names
-three_are_told = refl
+three_are_reported = refl

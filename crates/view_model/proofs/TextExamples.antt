@@ -46,9 +46,9 @@ a_cell_has_its_character : cell_of 2 (97 ∷ 98 ∷ 99 ∷ 10 ∷ 100 ∷ []) 1 
 unfolding lines_for cell_in
 a_cell_has_its_character = refl
 
-a_cell_behind_a_newline : cell_of 2 (97 ∷ 98 ∷ 99 ∷ 10 ∷ 100 ∷ []) 2 0 ≡ Some 100
+a_cell_after_a_newline : cell_of 2 (97 ∷ 98 ∷ 99 ∷ 10 ∷ 100 ∷ []) 2 0 ≡ Some 100
 unfolding lines_for cell_in
-a_cell_behind_a_newline = refl
+a_cell_after_a_newline = refl
 
 a_cell_without_a_character : cell_of 2 (97 ∷ 98 ∷ 99 ∷ 10 ∷ 100 ∷ []) 1 1 ≡ None
 unfolding lines_for cell_in

@@ -28,12 +28,12 @@ unfoldable pub names : Axis → Rules → ℕ → Bool
 names axis rules id = not (id == 0) && list_any (λ verb. value_of rules verb == id) (sibling_verbs axis)
 
 -- a child that has no id and names none
-abbrev pub nobody : Link
-nobody = record { id = 0; rules = record { values = [] } }
+abbrev pub no_link : Link
+no_link = record { id = 0; rules = record { values = [] } }
 
 -- the rule relation of an axis: a child leads to each other child whose id it names, gone or not
 unfoldable pub leads : Axis → List Link → ℕ → ℕ → Bool
-leads axis kids a b = not (a == b) && names axis (slice_index_or kids a nobody).rules (slice_index_or kids b nobody).id
+leads axis kids a b = not (a == b) && names axis (slice_index_or kids a no_link).rules (slice_index_or kids b no_link).id
 
 -- a start or end form, if set, replaces the left or right form
 abbrev pub form_of : ℕ → ℕ → ℕ
@@ -61,7 +61,7 @@ last_below passes (suc place) = if passes place then Some place else last_below 
 
 -- the last of all children with this id
 abbrev pub last_with_id : List Link → ℕ → Option ℕ
-last_with_id kids id = if id == 0 then None else last_below (λ place. (slice_index_or kids place nobody).id == id) (length kids)
+last_with_id kids id = if id == 0 then None else last_below (λ place. (slice_index_or kids place no_link).id == id) (length kids)
 
 abbrev pub other_than : ℕ → Option ℕ → Option ℕ
 other_than place None = None
@@ -69,7 +69,7 @@ other_than place (Some other) = if other == place then None else Some other
 
 -- the sibling that a child's own rule names; if that is the child itself, the rule has no effect
 abbrev pub named_sibling : Bool → Axis → Tie → List Link → ℕ → Option ℕ
-named_sibling rtl axis tie kids place = other_than place (last_with_id kids (anchor_id rtl axis tie (slice_index_or kids place nobody).rules))
+named_sibling rtl axis tie kids place = other_than place (last_with_id kids (anchor_id rtl axis tie (slice_index_or kids place no_link).rules))
 
 -- a sibling that takes part in layout, or what is used instead of one that is gone
 abbrev pub shown_or : (ℕ → Bool) → (ℕ → Option ℕ) → Option ℕ → Option ℕ

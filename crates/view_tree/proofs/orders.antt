@@ -11,5 +11,5 @@ pub mod OnlyLayouts
 pub mod PlaceLaws
 pub mod RowLaws
 pub mod StayLaws
-pub mod ToldParents
+pub mod ReportedParents
 pub mod TreeLaws

@@ -30,11 +30,11 @@ AreCyclic links false members = IsCycle (leads Horizontal links) (length links) 
 AreCyclic links true members = IsAcyclic (leads Horizontal links) × IsCycle (leads Vertical links) (length links) members
 
 -- there is a cycle, and its members are reported under these names
-pub record IsCycleTold (name : ℕ → Member) (links : List Link) (refusal : PlainRefusal) : Type 0 where
+pub record IsCycleReported (name : ℕ → Member) (links : List Link) (refusal : PlainRefusal) : Type 0 where
   pub down : Bool
   pub members : List ℕ
   pub cyclic : AreCyclic links down members
-  pub told : refusal ≡ record { number = CYCLE; reason = Cycle down (map name members) }
+  pub reported : refusal ≡ record { number = CYCLE; reason = Cycle down (map name members) }
 
 -- a child that is a view, by its place
 abbrev pub view_member : Forest PlainView → ℕ → Member
@@ -45,9 +45,9 @@ abbrev pub HasNoCycle : Forest PlainView → Type 0
 HasNoCycle tree = EveryBranch (λ (view : PlainView) (kids : Forest PlainView). is_relative view.class ≡ true → IsFree (links_in kids)) tree
 
 -- the result reports a cycle with these members, unless memory runs out
-abbrev pub IsToldOf : (ℕ → Member) → Bool → List ℕ → Fault → Type 0
-IsToldOf name down members (fault.Refused refusal) = plain_refusal refusal ≡ record { number = CYCLE; reason = Cycle down (map name members) }
-IsToldOf name down members fault.NoMemory = Unit {0}
+abbrev pub IsReportedFrom : (ℕ → Member) → Bool → List ℕ → Fault → Type 0
+IsReportedFrom name down members (fault.Refused refusal) = plain_refusal refusal ≡ record { number = CYCLE; reason = Cycle down (map name members) }
+IsReportedFrom name down members fault.NoMemory = Unit {0}
 
 -- the children of a view, as rules read them, once the one of a number is another
 abbrev pub links_below : Views → ℕ → ℕ → Link → List Link
@@ -63,5 +63,5 @@ AreNewOrders views view link (Some parent) (Ok None) = is_relative (class_of vie
 AreNewOrders views view link (Some parent) (Ok (Some orders)) = (is_relative (class_of views parent) ≡ true) × AreOrders (links_below views parent (number_of views view) link) (plain_orders orders)
 AreNewOrders views view link (Some parent) (Err (fault.Refused refusal)) =
     (is_relative (class_of views parent) ≡ true)
-    × IsCycleTold (view_member (views_of (children_of_first (part_from parent views.tree)))) (links_below views parent (number_of views view) link) (plain_refusal refusal)
+    × IsCycleReported (view_member (views_of (children_of_first (part_from parent views.tree)))) (links_below views parent (number_of views view) link) (plain_refusal refusal)
 AreNewOrders views view link (Some parent) (Err fault.NoMemory) = Unit {0}

@@ -29,30 +29,30 @@ cycle_of name links numbers =
 
 -- a value of each child of a view of this depth, by its number: the children are those one deeper among the views after
 -- it in preorder, until one is no deeper; the first of these has this number
-abbrev pub behind : {X : Type 0} → (ℕ → Sprout → X) → ℕ → ℕ → List Sprout → List X
-behind f depth number [] = []
-behind f depth number (sprout ∷ more) =
+abbrev pub following : {X : Type 0} → (ℕ → Sprout → X) → ℕ → ℕ → List Sprout → List X
+following f depth number [] = []
+following f depth number (sprout ∷ more) =
     if nat_lt depth sprout.depth
-    then (if sprout.depth == suc depth then f number sprout ∷ behind f depth (suc number) more else behind f depth (suc number) more)
+    then (if sprout.depth == suc depth then f number sprout ∷ following f depth (suc number) more else following f depth (suc number) more)
     else []
 
-abbrev pub links_behind : ℕ → ℕ → List Sprout → List Link
-links_behind depth number sprouts = behind (λ number sprout. sprout_link sprout) depth number sprouts
+abbrev pub links_following : ℕ → ℕ → List Sprout → List Link
+links_following depth number sprouts = following (λ number sprout. sprout_link sprout) depth number sprouts
 
-abbrev pub numbers_behind : ℕ → ℕ → List Sprout → List ℕ
-numbers_behind depth number sprouts = behind (λ number sprout. number) depth number sprouts
+abbrev pub numbers_following : ℕ → ℕ → List Sprout → List ℕ
+numbers_following depth number sprouts = following (λ number sprout. number) depth number sprouts
 
 -- what is reported of a view of this number, which has these after it in preorder
-abbrev pub cycle_behind : (ℕ → Member) → ℕ → Sprout → List Sprout → Option PlainRefusal
-cycle_behind name number sprout more =
+abbrev pub cycle_after : (ℕ → Member) → ℕ → Sprout → List Sprout → Option PlainRefusal
+cycle_after name number sprout more =
     if is_relative sprout.class
-    then cycle_of name (links_behind sprout.depth (suc number) more) (numbers_behind sprout.depth (suc number) more)
+    then cycle_of name (links_following sprout.depth (suc number) more) (numbers_following sprout.depth (suc number) more)
     else None
 
 -- what is reported of views in preorder, the first of which has this number
 abbrev pub cycle_in : (ℕ → Member) → ℕ → List Sprout → Option PlainRefusal
 cycle_in name number [] = None
-cycle_in name number (sprout ∷ more) = option_or (cycle_behind name number sprout more) (cycle_in name (suc number) more)
+cycle_in name number (sprout ∷ more) = option_or (cycle_after name number sprout more) (cycle_in name (suc number) more)
 
 -- one entry, under this number
 pub record IsEntryFor (number : ℕ) (links : List Link) (numbers : List ℕ) (entries : List (ℕ × Group)) : Type 0 where
@@ -66,15 +66,15 @@ IsOwnFor false number links numbers entries = entries ≡ []
 IsOwnFor true number links numbers entries = IsEntryFor number links numbers entries
 
 -- an entry of a view of this number, which has these after it in preorder
-abbrev pub IsBehind : ℕ → Sprout → List Sprout → List (ℕ × Group) → Type 0
-IsBehind number sprout more entries =
-    IsOwnFor (is_relative sprout.class) number (links_behind sprout.depth (suc number) more) (numbers_behind sprout.depth (suc number) more) entries
+abbrev pub IsFollowing : ℕ → Sprout → List Sprout → List (ℕ × Group) → Type 0
+IsFollowing number sprout more entries =
+    IsOwnFor (is_relative sprout.class) number (links_following sprout.depth (suc number) more) (numbers_following sprout.depth (suc number) more) entries
 
 -- entries of all relative layouts among views in preorder, the first of which has this number
 abbrev pub AreEntries : ℕ → List Sprout → List (ℕ × Group) → Type 0
 AreEntries number [] entries = entries ≡ []
 AreEntries number (sprout ∷ more) entries =
-    (own : List (ℕ × Group)) × (rest : List (ℕ × Group)) × (entries ≡ own ++ rest) × IsBehind number sprout more own × AreEntries (suc number) more rest
+    (own : List (ℕ × Group)) × (rest : List (ℕ × Group)) × (entries ≡ own ++ rest) × IsFollowing number sprout more own × AreEntries (suc number) more rest
 
 -- a value is made, or the reason against it is reported, unless memory runs out
 abbrev pub IsMadeUnless : {A : Type 0} → Option PlainRefusal → (A → Type 0) → Result A Fault → Type 0

@@ -140,14 +140,14 @@ abbrev pub unlinked : (ℕ → Option PlainNode) → ℕ → PlainNode → ℕ �
 unlinked at key node =
     changed_at (changed_at (changed_at (without at key)
     node.previous (λ before. record before { next = node.next }))
-    node.next (λ behind. record behind { previous = node.previous }))
+    node.next (λ following. record following { previous = node.previous }))
     node.parent (λ above. record above { first = replaced_if_none node.previous node.next above.first; last = replaced_if_none node.next node.previous above.last })
 
 -- the nodes and the root represent the whole tree
 pub record RepresentsTree (at : ℕ → Option PlainNode) (root : Option ℕ) (next : ℕ) (tree : Forest Row) : Type 0 where
   pub outer : first_key tree ≡ root
   pub single : later_siblings tree ≡ Nothing
-  pub stand : RepresentsPart at None None tree
+  pub represented : RepresentsPart at None None tree
   pub distinct : (key : ℕ) → count_of_key key tree ≤ 1
   pub few : count_of tree < next
 
@@ -176,7 +176,7 @@ holders_of id tree = if id == 0 then None else holders (count_where (has_id id) 
 
 -- each view has a node, each node a view, each number its key, and each id its views
 pub record IsPlanted (inside : Inside) : Type 0 where
-  pub stands : RepresentsTree (links_at inside.nodes) inside.root inside.next (tree_of inside)
+  pub represents : RepresentsTree (links_at inside.nodes) inside.root inside.next (tree_of inside)
   pub kept : IsTree (value_of inside)
   pub full : slab_len inside.nodes ≡ count_of (tree_of inside)
   pub found : (number : ℕ) → get_key nat_eq inside.keys number ≡ key_where (λ view. view.number == number) (tree_of inside)

@@ -25,9 +25,9 @@ first_row_key [] = None
 first_row_key (row ∷ list) = Some row.key
 
 -- the rows in preorder after the view of this key and all below it; `later` are those after the list
-abbrev pub rows_behind : List Row → ℕ → Forest Row → List Row
-rows_behind later key Nothing = later
-rows_behind later key (Branch row kids siblings) =
+abbrev pub rows_following : List Row → ℕ → Forest Row → List Row
+rows_following later key Nothing = later
+rows_following later key (Branch row kids siblings) =
     if row.key == key
     then rows siblings ++ later
-    else (if count_of_key key kids == 0 then rows_behind later key siblings else rows_behind (rows siblings ++ later) key kids)
+    else (if count_of_key key kids == 0 then rows_following later key siblings else rows_following (rows siblings ++ later) key kids)

@@ -41,7 +41,7 @@ RunsBelow (Branch row kids siblings) = AreDirected row.view.facts.rtl kids
 pub record IsPart (at : ℕ → Option PlainNode) (view : ℕ) (part : Forest Row) : Type 0 where
   pub parent : Option ℕ
   pub before : Option ℕ
-  pub stand : RepresentsPart at parent before part
+  pub represented : RepresentsPart at parent before part
   pub first : first_key part ≡ Some view
   pub once : (key : ℕ) → count_of_key key part ≤ 1
   pub few : count_of part ≤ MAX_VIEWS

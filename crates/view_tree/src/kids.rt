@@ -2,7 +2,7 @@
 ghost use Rattle.std.specs.Prelude.{◌≡◌, ◌<◌, ◌≤◌, ◌+◌, ◌++◌, ◌∷◌, [], ℕ, IfOk, OnOk, length, map, slice_index};
 ghost use Rattle.view_model.specs.Cycles.{member_from};
 ghost use Rattle.view_model.specs.declared.limits.TheConstants.{MAX_VIEWS};
-ghost use Rattle.view_tree.specs.Cycles.{IsToldOf};
+ghost use Rattle.view_tree.specs.Cycles.{IsReportedFrom};
 ghost use Rattle.view_tree.specs.Grafting.{IsGroupOrCycle};
 
 use crate::fault::AttachFault;
@@ -56,16 +56,16 @@ pub fn group_of(alloc: Global, kids: Kids, next: u64) -> Result<Group, AttachFau
         }),
         Err(OrderFault::NoMemory) => Err(AttachFault::NoMemory),
         Err(OrderFault::Cycle { down, members }) => {
-            Err(told(alloc, next, &kids.numbers, down, &members))
+            Err(reported(alloc, next, &kids.numbers, down, &members))
         }
     }
 }
 
 /// The refusal for a cycle with members at these places.
-fn told(alloc: Global, next: u64, numbers: &[u64], down: bool, places: &[u32]) -> AttachFault
+fn reported(alloc: Global, next: u64, numbers: &[u64], down: bool, places: &[u32]) -> AttachFault
     requires inside { (p : ℕ) → p < length places.now → slice_index places.now p < length numbers.now }
     requires near { (p : ℕ) → p < length numbers.now → slice_index numbers.now p < next + MAX_VIEWS }
-    ensures { IsToldOf (λ place. member_from next (slice_index numbers.now place)) down places.now result }
+    ensures { IsReportedFrom (λ place. member_from next (slice_index numbers.now place)) down places.now result }
 {
     match members_at(alloc, next, numbers, places) {
         Ok(members) => AttachFault::Refused(Refusal {

@@ -9,6 +9,6 @@ pub mod GrownCaught
 pub mod PointerLaws
 pub mod PointerSetLaws
 pub mod SceneLaws
-pub mod ToldCaught
+pub mod GestureAfterReports
 pub mod TouchExamples
 pub mod TouchLaws

@@ -3,7 +3,7 @@ ghost use Rattle.std.specs.Prelude.{◌≡◌, ℕ, false, ◌∷◌, [], Err, I
 ghost use Rattle.damage_rect.specs.Within.{LiesIn};
 ghost use Rattle.geom_core.specs.declared.geometry.Rect.{Rect};
 ghost use Rattle.hex.specs.Hex.{encode_lower};
-ghost use Rattle.saved_state.specs.Restored.{Retells, on_paths, set_by};
+ghost use Rattle.saved_state.specs.Restored.{Restates, on_paths, set_by};
 ghost use Rattle.saved_state.specs.Restoring.{is_for_other_class, restored};
 ghost use Rattle.saved_state.specs.Saving.{OffsetsFit};
 ghost use Rattle.saved_state.specs.State.{decoded};
@@ -90,7 +90,7 @@ pub fn take_up(
     ensures taken { TakesUp (is_for_other_class states.now (rows (plain_of tree.old))) result }
     ensures plain { OnOk result (plain_of tree.new ≡ restored states.now (plain_of tree.old)) }
     ensures unchanged { OnErr result (tree.new ≡ tree.old) }
-    ensures retells { OnOk result (Retells states.now tree.old tree.new) }
+    ensures restates { OnOk result (Restates states.now tree.old tree.new) }
     ensures is_tree { IsTree tree.new }
     ensures counts { tree.new.counts ≡ tree.old.counts }
     ensures asked { (key : ℕ)

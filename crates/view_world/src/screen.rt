@@ -20,9 +20,9 @@ ghost use Rattle.view_world.specs.screen.Changed.{CarriesOut, Inflates, LeavesVi
 ghost use Rattle.view_world.specs.frames.Counting.{RisesWithin, paint_bound};
 ghost use Rattle.view_world.specs.editing.Inflating.{asked_file, asked_for, inflation_of};
 ghost use Rattle.view_world.specs.saving.Offsets.{EditsWithin};
-ghost use Rattle.view_world.specs.replying.Responses.{IsTellable, response_text};
+ghost use Rattle.view_world.specs.replying.Responses.{IsReportable, response_text};
 ghost use Rattle.view_world.specs.frames.Seen.{black_picture, has_any_scrolled};
-ghost use Rattle.view_world.specs.world.Step.{Done, after_edit, defined, dpi_told, inflation, resource_given, step, with_window};
+ghost use Rattle.view_world.specs.world.Step.{Done, after_edit, defined, dpi_reported, inflation, resource_given, step, with_window};
 ghost use Rattle.view_world.specs.screen.KeyedScreen.{new_screen, window_of, world_of};
 ghost use Rattle.view_world.specs.world.Marks.{has_settled};
 ghost use Rattle.view_world.specs.frames.Resting.{IsFrameDone, IsIdle, IsShown, KeepsEdit, KeepsLine};
@@ -37,7 +37,7 @@ mod state;
 mod touch;
 
 use crate::editing::inflating::{fetch, inflation_of, views_of};
-use crate::editing::naming::{find, place_of, resolve, tell_tree};
+use crate::editing::naming::{find, place_of, resolve, recall_tree};
 use crate::editing::texts::resolved;
 use crate::fault::StepFault;
 use crate::replying::pixels::part_in;
@@ -202,7 +202,7 @@ impl Screen {
 
     /// Whether a view has moved its children, by the deliveries of the last line that had any.
     pub fn has_scrolled(&self) -> bool
-        ensures { result ≡ has_any_scrolled self.now.told }
+        ensures { result ≡ has_any_scrolled self.now.reported }
     {
         has_any_scrolled(self.log.entries())
     }
@@ -242,7 +242,7 @@ impl Screen {
         ensures no_shelf { result ≢ Err StepFault.Shelf }
     {
         let response = self.carry_out(alloc, command, work)?;
-        self.tell(response, sink)
+        self.recall(response, sink)
     }
 
     /// Adds the views of a file, and then writes which they are.
@@ -273,15 +273,15 @@ impl Screen {
         ensures sink_failed { (K.state sink.new).faults ≡ faults_after_line result (K.state sink.old).faults }
     {
         let response = self.inflate(alloc, name, into, shelf)?;
-        self.tell(response, sink)
+        self.recall(response, sink)
     }
 
     /// Writes the text of a line that was carried out.
-    fn tell<K: Sink>(&mut self, response: Response, sink: &mut K) -> Result<(), StepFault>
-        requires { IsTellable self.old.views self.old.surface self.old.told self.old.saved response }
+    fn recall<K: Sink>(&mut self, response: Response, sink: &mut K) -> Result<(), StepFault>
+        requires { IsReportable self.old.views self.old.surface self.old.reported self.old.saved response }
         ensures carried { WritesReply (Done (world_of self.old) (response_text self.old.views self.old.surface
-            self.old.told self.old.saved response)) (world_of self.new) (K.state sink.old) (K.state sink.new) result }
-        ensures silent { response_text self.old.views self.old.surface self.old.told self.old.saved response ≡ []
+            self.old.reported self.old.saved response)) (world_of self.new) (K.state sink.old) (K.state sink.new) result }
+        ensures silent { response_text self.old.views self.old.surface self.old.reported self.old.saved response ≡ []
             → sink.new ≡ sink.old }
         ensures done { IsDone result }
         ensures same { self.new ≡ self.old }
@@ -311,8 +311,8 @@ impl Screen {
         ensures changed { (files : Files)
             → AreAtHand files (F.files shelf.old) (asked_for (plain_of self.old.views) (Some (name.now, into)))
             → Inflates (inflation files (world_of self.old) name.now into) self.new result }
-        ensures told { IfOk result
-            (λ response. IsTellable self.new.views self.new.surface self.new.told self.new.saved response) }
+        ensures reported { IfOk result
+            (λ response. IsReportable self.new.views self.new.surface self.new.reported self.new.saved response) }
         ensures unchanged { OnErr result (self.new ≡ self.old) }
         ensures files_stay { F.files shelf.new ≡ F.files shelf.old }
         ensures unasked { asked_for (plain_of self.old.views) (Some (name.now, into)) ≡ None → shelf.new ≡ shelf.old }
@@ -422,7 +422,7 @@ impl Screen {
 
     /// Sets the density of the screen, as long as there is no view.
     fn set_dpi(&mut self, dpi: u32) -> Result<Response, StepFault>
-        ensures changed { CarriesOut (dpi_told (world_of self.old) dpi (plain_of self.old.views)) self.new result }
+        ensures changed { CarriesOut (dpi_reported (world_of self.old) dpi (plain_of self.old.views)) self.new result }
         ensures unchanged { OnErr result (self.new ≡ self.old) }
         ensures memory { result ≢ Err StepFault.NoMemory }
         ensures numbers { self.new.views.next ≡ self.old.views.next }
@@ -461,10 +461,10 @@ impl Screen {
         ensures numbers { self.new.views.next ≤ self.old.views.next + 1 }
         ensures keeps { OnOk result (KeepsEdit edit.entry self.old self.new) }
     {
-        tell_tree(&self.tree);
+        recall_tree(&self.tree);
         let window = self.surface.size();
         let made = change(alloc, &mut self.tree, window, edit, &mut self.damage);
-        tell_tree(&self.tree);
+        recall_tree(&self.tree);
         respond(made)
     }
 
@@ -575,7 +575,7 @@ impl Screen {
         if self.tree.root().is_none() {
             return Err(StepFault::Refused(Refusal::plain(NO_ROOT)));
         }
-        tell_tree(&self.tree);
+        recall_tree(&self.tree);
         let outcome = frame(&mut self.tree, &mut self.hooks, window, work);
         let response = Response::Framed {
             settled: outcome.settled,
@@ -586,7 +586,7 @@ impl Screen {
             self.stage = Stage::Unsettled;
             return Ok(response);
         }
-        tell_tree(&self.tree);
+        recall_tree(&self.tree);
         self.damage.add(outcome.damage);
         paint_damage(&self.tree, &mut self.surface, &mut self.damage, work);
         self.stage = Stage::Settled;

@@ -8,11 +8,11 @@ use Rattle.whole_tool.proofs.ToolLaws.{not_ended, whole_prefix}
 
 -- a text that reports a refused file was delivered, or a front part of it
 pub dumps_refusal : {E : Type 0} (page : List ℕ) (old new : SinkState) (outcome : Result (Unit {0}) E) → Delivered old new outcome page → Dumps page true old new (status_of_text 1 outcome)
-dumps_refusal page old new (Ok _) told = record {
-  writes = record { whole = λ _. told.whole; part = whole_prefix old.gone new.gone page told.whole };
+dumps_refusal page old new (Ok _) reported = record {
+  writes = record { whole = λ _. reported.whole; part = whole_prefix old.gone new.gone page reported.whole };
   ended = λ _. refl;
 }
-dumps_refusal page old new (Err _) told = record {
-  writes = record { whole = λ e. absurd (not_ended 4 (omega arith) e); part = told.prefix };
+dumps_refusal page old new (Err _) reported = record {
+  writes = record { whole = λ e. absurd (not_ended 4 (omega arith) e); part = reported.prefix };
   ended = λ e. absurd (not_ended 4 (omega arith) e);
 }

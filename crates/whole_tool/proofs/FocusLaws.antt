@@ -33,7 +33,7 @@ use Rattle.view_tree.specs.Rows.{Row, first_key}
 use Rattle.view_tree.specs.Views.{Held, held_of, plain_rows}
 use Rattle.view_world.specs.screen.KeyedScreen.{KeyedScreen, stage_of, window_of, world_of}
 use Rattle.view_world.specs.editing.Naming.{named}
-use Rattle.view_world.specs.world.Step.{bounds_asked, bounds_in, bounds_told, with_named}
+use Rattle.view_world.specs.world.Step.{bounds_asked, bounds_in, bounds_reported, with_named}
 use Rattle.view_world.specs.frames.Watched.{IsWorth}
 use Rattle.view_world.specs.world.World.{World, empty_world}
 use Rattle.view_world.specs.world.World as plain
@@ -49,7 +49,7 @@ abbrev pub by_stage : World → Question → plain.Stage → Result (Option ℕ)
 by_stage world question plain.NoWindow = Err NO_FRAME
 by_stage world question plain.NoFrame = Err NO_FRAME
 by_stage world question plain.Unsettled = Err UNSETTLED
-by_stage world question plain.Settled = answer_by world question (bounds_told world (Some question.view))
+by_stage world question plain.Settled = answer_by world question (bounds_reported world (Some question.view))
 
 no_rows : (rows : Forest Row) (held : ℕ → Held) (root : Option ℕ) → root ≡ first_key rows → is_none root ≡ true → plain_rows held rows ≡ Nothing
 no_rows Nothing held root er none = refl
@@ -92,15 +92,15 @@ pub answer-no_view : (world : World) (question : Question) → named world.tree 
 answer-no_view world question none =
     ap (λ (found : Option ℕ). answer_by world question (with_named found (λ number. bounds_in world (view_in world.tree number)))) none
 
-told_answer : (world : World) (question : Question) (found : Option PlainView) → answer_by world question (bounds_in world found) ≡ Ok (next_in world question.side world.window (named world.tree question.view))
-told_answer world question None = refl
-told_answer world question (Some view) = refl
+reported_answer : (world : World) (question : Question) (found : Option PlainView) → answer_by world question (bounds_in world found) ≡ Ok (next_in world question.side world.window (named world.tree question.view))
+reported_answer world question None = refl
+reported_answer world question (Some view) = refl
 
 pub answer-view : (world : World) (question : Question) (window : Size) (number : ℕ) → world.window ≡ Some window → named world.tree question.view ≡ Some number
     → by_stage world question plain.Settled ≡ Ok (next_focus world.tree world.geometry window number question.side)
 answer-view world question window number some found =
     ap (λ (found : Option ℕ). answer_by world question (with_named found (λ number. bounds_in world (view_in world.tree number)))) found
-    ∙ told_answer world question (view_in world.tree number)
+    ∙ reported_answer world question (view_in world.tree number)
     ∙ ap (λ (window : Option Size). Ok (next_in world question.side window (named world.tree question.view))) some
     ∙ ap (λ (found : Option ℕ). Ok (next_in world question.side (Some window) found)) found
 
@@ -150,11 +150,11 @@ whole_part files script old new short worth = record {
 
 asks_ended : (files : Files) (script : List ℕ) (question : Question) (left : Option (List ℕ)) (first last : Trace) (status : ℕ) → status ≤ 1 → Answers files script question first last
     → status ≡ (if refuses_focus script files question then 1 else 0) → AsksWith files script question left first last status
-asks_ended files script question left first last status small answers told = record {
+asks_ended files script question left first last status small answers reported = record {
   writes = λ _. record { whole = λ _. answers.gone; part = whole_prefix first.gone last.gone _ answers.gone };
   cut = λ long. absurd (let short = answers.short in omega (arith, short, long));
   part = whole_part files script first.work last.work answers.short answers.worth;
-  ended = λ _. (answers, told);
+  ended = λ _. (answers, reported);
   taken = λ e. absurd (omega (arith, small, e));
   failed_write = λ e. absurd (omega (arith, small, e));
   no_memory = λ e. absurd (omega (arith, small, e));

@@ -244,11 +244,11 @@ carried_sink reply new before after fault e carried = subst (λ (f : StepFault).
 -- the reply to a line, by what the code has
 reply_at : (files : Files) (first mid : Trace) (runner : LineRunner) (progress : ScriptProgress) (tally : Tally) (line : Line) (reply : LineReply) → HasCarriedOut first mid runner progress tally
     → reply_to_line files (carried_of runner.carrier) line ≡ reply → reply_to_line files progress.carried line ≡ reply
-reply_at files first mid runner progress tally line reply at told = ap (λ (c : Carried). reply_to_line files c line) (sym at.carried) ∙ told
+reply_at files first mid runner progress tally line reply at reported = ap (λ (c : Carried). reply_to_line files c line) (sym at.carried) ∙ reported
 
 tally_reply_at : (files : Files) (first mid : Trace) (runner : LineRunner) (progress : ScriptProgress) (tally : Tally) (line : Line) (reply : LineReply) → HasCarriedOut first mid runner progress tally
     → reply_to_line files (carried_of runner.carrier) line ≡ reply → reply_to_line files (carried_in tally.watched) line ≡ reply
-tally_reply_at files first mid runner progress tally line reply at told = ap (λ (c : Carried). reply_to_line files c line) (sym (watching_same runner.carrier tally.watched at.tallied.watched)) ∙ told
+tally_reply_at files first mid runner progress tally line reply at reported = ap (λ (c : Carried). reply_to_line files c line) (sym (watching_same runner.carrier tally.watched at.tallied.watched)) ∙ reported
 
 -- a line was refused, and to write that failed
 pub refused_part : (start : Carried) (files : Files) (first mid now : Trace) (runner : LineRunner) (lines : List Line) (line : Line) (number : ℕ) (refusal : PlainRefusal)
@@ -276,13 +276,13 @@ pub refused_at : (files : Files) (first mid now : Trace) (runner : LineRunner) (
     → HasCarriedOut first mid runner progress tally → carrier ≡ runner.carrier → now.work ≡ mid.work → now.fetches ≡ fetches_after (asked_by_line (carried_of runner.carrier) line) mid.fetches → reply_to_line files (carried_of runner.carrier) line ≡ Refused refusal → number ≡ progress.lines + 1
     → count ≡ progress.refused + 1 → Appends mid.gone now.gone (refused_line number refusal)
     → HasCarriedOut first now (record runner { carrier = carrier; lines = number; refused = count; text = text }) (after_line files progress line) (with_cost files tally line)
-refused_at files first mid now runner carrier text progress tally line number count refusal at same idle fetched refused counted told gone =
+refused_at files first mid now runner carrier text progress tally line number count refusal at same idle fetched refused counted reported gone =
     let reply = reply_at files first mid runner progress tally line (Refused refusal) at refused in
     let cost = refused_cost files tally refusal line (tally_reply_at files first mid runner progress tally line (Refused refusal) at refused) in
     rw (reply, cost) (record {
       lines = counted;
       carried = ap carried_of same ∙ at.carried;
-      refused = told;
+      refused = reported;
       few = omega (arith, at.few);
       gone = appends_both first.gone mid.gone now.gone progress.text (refused_line (progress.lines + 1) refusal) at.gone (subst (λ (n : ℕ). Appends mid.gone now.gone (refused_line n refusal)) counted gone);
       tallied = record {
@@ -315,7 +315,7 @@ pub done_part : (start : Carried) (files : Files) (first mid now : Trace) (runne
     → WorksToWrite start files first now (lines ++ line ∷ [])
 done_part start files first mid now runner lines line carrier text at done part tallied fetched =
     let so_far = after_from start files lines in
-    let told : line_text files so_far line ≡ text = ap (reply_text so_far) (reply_at files first mid runner so_far (tally_from start files lines) line (Done (carried_of carrier) text) at done) in
+    let reported : line_text files so_far line ≡ text = ap (reply_text so_far) (reply_at files first mid runner so_far (tally_from start files lines) line (Done (carried_of carrier) text) at done) in
     record {
       done = lines;
       line = line;
@@ -323,7 +323,7 @@ done_part start files first mid now runner lines line carrier text at done part 
       all = refl;
       between = mid.gone;
       gone = at.gone;
-      part = subst (AppendsPrefix mid.gone now.gone) (sym told) part;
+      part = subst (AppendsPrefix mid.gone now.gone) (sym reported) part;
       worth = subst (λ (t : Tally). IsWorth t.costs first.work now.work) (sym (tally_from-push start files lines line)) tallied.worth;
       fetched = fetched_in start files first mid now runner lines line at fetched;
     }
@@ -368,36 +368,36 @@ stops_in_piece start files first now before piece n line stop e stops =
     (ap (λ (l : List Line). l ++ more.0) (sym e) ∙ sym more.1 ∙ ap (λ (l : List ℕ). (cut_of l).lines) all) stops
 
 -- no line ended
-pub behind_same : (start : Carried) (shelf : Option Files) (first now : Trace) (held : LineBuffer) (runner : LineRunner) (before bytes : List ℕ)
+pub after_same : (start : Carried) (shelf : Option Files) (first now : Trace) (held : LineBuffer) (runner : LineRunner) (before bytes : List ℕ)
     → WithFiles shelf (λ files. HasCarriedOut first now runner (after_from start files (cut_of before).lines) (tally_from start files (cut_of before).lines)) → IsAfter held bytes
     → (cut_of bytes).lines ≡ (cut_of before).lines ++ [] → HasReadUpTo start shelf first now (record { lines = held; runner = runner }) bytes
-behind_same start shelf first now held runner before bytes at stands e = record {
-  held = stands;
-  runner = λ files told. subst (λ (l : List Line). HasCarriedOut first now runner (after_from start files l) (tally_from start files l)) (sym (e ∙ append-nil (cut_of before).lines)) (at files told);
+after_same start shelf first now held runner before bytes at reached e = record {
+  held = reached;
+  runner = λ files reported. subst (λ (l : List Line). HasCarriedOut first now runner (after_from start files l) (tally_from start files l)) (sym (e ∙ append-nil (cut_of before).lines)) (at files reported);
 }
 
 -- the lines that ended are passed over
-pub behind_passed : (start : Carried) (shelf : Option Files) (first now : Trace) (held : LineBuffer) (runner : LineRunner) (before front : List ℕ) (number count : ℕ)
+pub after_passed : (start : Carried) (shelf : Option Files) (first now : Trace) (held : LineBuffer) (runner : LineRunner) (before front : List ℕ) (number count : ℕ)
     → WithFiles shelf (λ files. HasCarriedOut first now runner (after_from start files (cut_of before).lines) (tally_from start files (cut_of before).lines))
     → WithFiles shelf (λ files. number ≡ (after_from start files (cut_of before).lines).lines + count) → IsAfter held (before ++ front)
     → (cut_of (before ++ front)).lines ≡ (cut_of before).lines ++ (cut_of front).lines → ArePassedOver front count
     → HasReadUpTo start shelf first now (record { lines = held; runner = record runner { lines = number } }) (before ++ front)
-behind_passed start shelf first now held runner before front number count at counted stands e passed = record {
-  held = stands;
-  runner = λ files told.
-      let done = passed_lines files first now runner (after_from start files (cut_of before).lines) (tally_from start files (cut_of before).lines) (cut_of front).lines number passed.idle (omega (arith, counted files told, passed.counted)) (at files told) in
+after_passed start shelf first now held runner before front number count at counted reached e passed = record {
+  held = reached;
+  runner = λ files reported.
+      let done = passed_lines files first now runner (after_from start files (cut_of before).lines) (tally_from start files (cut_of before).lines) (cut_of front).lines number passed.idle (omega (arith, counted files reported, passed.counted)) (at files reported) in
       subst (λ (l : List Line). HasCarriedOut first now (record runner { lines = number }) (after_from start files l) (tally_from start files l)) (sym e)
       (rw (after_from-append start files (cut_of before).lines (cut_of front).lines, tally_from-append start files (cut_of before).lines (cut_of front).lines) done);
 }
 
 -- one line ended, and was carried out
-pub behind_more : (start : Carried) (shelf : Option Files) (first now : Trace) (held : LineBuffer) (runner : LineRunner) (before bytes : List ℕ) (line : Line)
+pub after_more : (start : Carried) (shelf : Option Files) (first now : Trace) (held : LineBuffer) (runner : LineRunner) (before bytes : List ℕ) (line : Line)
     → WithFiles shelf (λ files. HasCarriedOut first now runner (after_line files (after_from start files (cut_of before).lines) line) (with_cost files (tally_from start files (cut_of before).lines) line))
     → IsAfter held bytes → (cut_of bytes).lines ≡ (cut_of before).lines ++ line ∷ [] → HasReadUpTo start shelf first now (record { lines = held; runner = runner }) bytes
-behind_more start shelf first now held runner before bytes line at stands e = record {
-  held = stands;
-  runner = λ files told. subst (λ (l : List Line). HasCarriedOut first now runner (after_from start files l) (tally_from start files l)) (sym e)
-      (rw (after_from-push start files (cut_of before).lines line, tally_from-push start files (cut_of before).lines line) (at files told));
+after_more start shelf first now held runner before bytes line at reached e = record {
+  held = reached;
+  runner = λ files reported. subst (λ (l : List Line). HasCarriedOut first now runner (after_from start files l) (tally_from start files l)) (sym e)
+      (rw (after_from-push start files (cut_of before).lines line, tally_from-push start files (cut_of before).lines line) (at files reported));
 }
 
 -- the last line, if there is none, and if there is one

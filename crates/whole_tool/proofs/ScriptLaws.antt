@@ -38,8 +38,8 @@ Consumes-Keeps (Some a) (Some b) (Some c) xs lost kept = lost ∙ ap (λ l. xs +
 
 -- what was taken is at the front of the script
 pub consumed : (old new : Option (List ℕ)) (script taken : List ℕ) → old ≡ Some script → Consumes old new taken → (rest : List ℕ) × (script ≡ taken ++ rest) × (new ≡ Some rest)
-consumed old None script taken told lost = elim (subst (λ l. Consumes l None taken) told lost) [ ]
-consumed old (Some rest) script taken told lost = (rest, subst (λ l. Consumes l (Some rest) taken) told lost, refl)
+consumed old None script taken reported lost = elim (subst (λ l. Consumes l None taken) reported lost) [ ]
+consumed old (Some rest) script taken reported lost = (rest, subst (λ l. Consumes l (Some rest) taken) reported lost, refl)
 
 -- if nothing is left, all was taken
 pub taken_whole : (new : Option (List ℕ)) (script taken : List ℕ) → Consumes (Some script) new taken → IsAtEnd new → taken ≡ script
@@ -47,7 +47,7 @@ taken_whole None script taken lost end = elim lost [ ]
 taken_whole (Some rest) script taken lost end = sym (lost ∙ ap (λ l. taken ++ l) end ∙ append-nil taken)
 
 pub taken_by_end : (old new : Option (List ℕ)) (script taken : List ℕ) → old ≡ Some script → Consumes old new taken → IsAtEnd new → taken ≡ script
-taken_by_end old new script taken told lost end = taken_whole new script taken (subst (λ l. Consumes l new taken) told lost) end
+taken_by_end old new script taken reported lost end = taken_whole new script taken (subst (λ l. Consumes l new taken) reported lost) end
 
 -- the first bytes of a script that is too long, by what was taken
 take_front : (script taken bytes rest : List ℕ) (left : ℕ) → script ≡ (taken ++ bytes) ++ rest → length taken + left ≡ max_script → left ≤ length bytes
@@ -61,15 +61,15 @@ take_front script taken bytes rest left e count enough =
 -- a read failed
 pub ends_source : (start : Carried) (files : Files) (first last : Trace) (old new : Option (List ℕ)) (script taken : List ℕ) → old ≡ Some script → Consumes old new taken → length taken ≤ max_script
     → Works start files first last (cut_of taken).lines → WorksTaken start files script new first last
-ends_source start files first last old new script taken told lost within works =
-    let c = consumed old new script taken told lost in
+ends_source start files first last old new script taken reported lost within works =
+    let c = consumed old new script taken reported lost in
     record { taken = taken; takes = record { rest = c.0; front = c.1; left = c.2 }; within = within; works = works }
 
 -- one byte too many came
 pub ends_long : (start : Carried) (files : Files) (first last : Trace) (old new : Option (List ℕ)) (script taken bytes : List ℕ) (left : ℕ) → old ≡ Some script → Consumes old new (taken ++ bytes)
     → length taken + left ≡ max_script → length bytes ≡ left + 1 → Works start files first last (cut_of (taken ++ take left bytes)).lines → RunsTo start files script new first last (Err end.Long)
-ends_long start files first last old new script taken bytes left told lost count many works =
-    let c = consumed old new script (taken ++ bytes) told lost in
+ends_long start files first last old new script taken bytes left reported lost count many works =
+    let c = consumed old new script (taken ++ bytes) reported lost in
     let long : max_script < length script = omega (arith, ap length c.1, length-append (taken ++ bytes) c.0, length-append taken bytes, count, many) in
     let front = take_front script taken bytes c.0 left c.1 count (omega (arith, many)) in
     (long, subst (Works start files first last) (sym (carried_long script long ∙ ap (λ (l : List ℕ). (cut_of l).lines) front)) works)
@@ -77,8 +77,8 @@ ends_long start files first last old new script taken bytes left told lost count
 -- the run stopped in a line that ended in the first bytes of a piece
 pub ends_stopped : (start : Carried) (files : Files) (first last : Trace) (old new : Option (List ℕ)) (script taken bytes : List ℕ) (left n : ℕ) (stop : Stop) → old ≡ Some script → Consumes old new (taken ++ bytes)
     → length taken + left ≡ max_script → n ≤ left → StopsIn start files first last (cut_of (taken ++ take n bytes)).lines stop → StopsIn start files first last (carried_lines script) stop
-ends_stopped start files first last old new script taken bytes left n stop told lost count within stops =
-    let c = consumed old new script (taken ++ bytes) told lost in
+ends_stopped start files first last old new script taken bytes left n stop reported lost count within stops =
+    let c = consumed old new script (taken ++ bytes) reported lost in
     let split : script ≡ (taken ++ take n bytes) ++ (drop n bytes ++ c.0) =
     c.1 ∙ ap (λ l. (taken ++ l) ++ c.0) (sym (take-append-drop n bytes))
     ∙ ap (λ l. l ++ c.0) (sym (append_assoc taken (take n bytes) (drop n bytes)))
@@ -92,7 +92,7 @@ pub record HasTakenBytes (start : Carried) (shelf : Option Files) (before after 
   pub bytes : List ℕ
   pub consumed : Consumes before after bytes
   pub count : length bytes + left ≡ max_script
-  pub behind : HasReadUpTo start shelf first now run bytes
+  pub following : HasReadUpTo start shelf first now run bytes
 
 -- what a run is given of a piece that was read is not too long
 pub piece_short : (taken buffer : List ℕ) (left n : ℕ) → length taken + left ≡ max_script → n ≤ left → length (taken ++ take n buffer) < 2 ^ 63
@@ -101,26 +101,26 @@ piece_short taken buffer left n count within = omega (arith, length-append taken
 -- and once one piece more was read and carried out
 pub taken_on : (start : Carried) (shelf : Option Files) (before mid new : Option (List ℕ)) (first last now : Trace) (old run : Run) (left n given : ℕ) (buffer : List ℕ) (t : HasTakenBytes start shelf before mid first last old left)
     → Consumes mid new (take n buffer) → n ≤ length buffer → n ≤ left → given ≡ n → HasReadUpTo start shelf first now run (t.bytes ++ take given buffer) → HasTakenBytes start shelf before new first now run (left - n)
-taken_on start shelf before mid new first last now old run left n given buffer t lost read within all behind = record {
+taken_on start shelf before mid new first last now old run left n given buffer t lost read within all following = record {
   bytes = t.bytes ++ take n buffer;
   consumed = Consumes-Consumes before mid new t.bytes (take n buffer) t.consumed lost;
   count = omega (arith, length-append t.bytes (take n buffer), length-take n buffer, t.count, read, within);
-  behind = subst (λ (k : ℕ). HasReadUpTo start shelf first now run (t.bytes ++ take k buffer)) all behind;
+  following = subst (λ (k : ℕ). HasReadUpTo start shelf first now run (t.bytes ++ take k buffer)) all following;
 }
 
 -- the run got to the end of its script, and stopped in the last line
 pub ends_last : (start : Carried) (files : Files) (first last : Trace) (old new : Option (List ℕ)) (script taken : List ℕ) (stop : Stop) → old ≡ Some script → Consumes old new taken → IsAtEnd new → length taken ≤ max_script
     → StopsIn start files first last (lines_of taken) stop → StopsIn start files first last (carried_lines script) stop
-ends_last start files first last old new script taken stop told lost end short stops =
-    let all = taken_by_end old new script taken told lost end in
+ends_last start files first last old new script taken stop reported lost end short stops =
+    let all = taken_by_end old new script taken reported lost end in
     let fits : length script ≤ max_script = subst (λ (l : List ℕ). length l ≤ max_script) all short in
     subst (λ (l : List Line). StopsIn start files first last l stop) (ap lines_of all ∙ sym (carried_short script fits)) stops
 
 -- the run got to the end of its script
 pub ends_well : (start : Carried) (files : Files) (first last : Trace) (old new : Option (List ℕ)) (script taken : List ℕ) (runner : LineRunner) → old ≡ Some script → Consumes old new taken → IsAtEnd new → length taken ≤ max_script
     → HasCarriedOut first last runner (after_from start files (lines_of taken)) (tally_from start files (lines_of taken)) → RunsTo start files script new first last (Ok (nat_lt 0 runner.refused))
-ends_well start files first last old new script taken runner told lost end short at =
-    let all = taken_by_end old new script taken told lost end in (
+ends_well start files first last old new script taken runner reported lost end short at =
+    let all = taken_by_end old new script taken reported lost end in (
       subst (λ (l : List ℕ). length l ≤ max_script) all short,
       subst (λ (l : List ℕ). Works start files first last (lines_of l)) all (record { gone = at.gone; worth = at.tallied.worth; fetched = at.fetched }),
       ap (nat_lt 0) (at.refused ∙ ap (λ (l : List ℕ). (after_from start files (lines_of l)).refused) all),

@@ -101,14 +101,14 @@ pub tallied_world : (files : Files) (first old new : Work) (before after : Keyed
     → ((box : Rect) → HasBox before box → IsWatched after (watched_after (watched_in before box) command (world_of after)))
     → ((box : Rect) → HasBox before box → IsWorth (costs_of (watched_in before box) command) old new)
     → HasTallied first new (carrier.Alone after) (after_bytes files costs watching bytes)
-tallied_world files first old new before after costs (WatchedWorld watched) bytes text command read stands so_far done seen worth =
+tallied_world files first old new before after costs (WatchedWorld watched) bytes text command read reached so_far done seen worth =
     let cost : after_bytes files costs (WatchedWorld watched) bytes ≡ after_done costs watched command (step files watched.world command) = ap (after_command files costs watched) read in
-    let stepped : step files watched.world command ≡ world.Done (world_of after) text = ap (λ (w : Watched). step files w.world command) (sym stands.same) ∙ done in
+    let stepped : step files watched.world command ≡ world.Done (world_of after) text = ap (λ (w : Watched). step files w.world command) (sym reached.same) ∙ done in
     subst (HasTallied first new (carrier.Alone after)) (sym (cost ∙ ap (after_done costs watched command) stepped)) (record {
-      watched = subst (λ (w : Watched). IsWatched after (watched_after w command (world_of after))) stands.same (seen watched.box stands.box);
-      worth = worth_both costs (costs_of watched command) first old new so_far (subst (λ (w : Watched). IsWorth (costs_of w command) old new) stands.same (worth watched.box stands.box));
+      watched = subst (λ (w : Watched). IsWatched after (watched_after w command (world_of after))) reached.same (seen watched.box reached.box);
+      worth = worth_both costs (costs_of watched command) first old new so_far (subst (λ (w : Watched). IsWorth (costs_of w command) old new) reached.same (worth watched.box reached.box));
     })
-tallied_world files first old new before after costs (WatchedWindows watched) bytes text command read stands so_far done seen worth = absurd stands
+tallied_world files first old new before after costs (WatchedWindows watched) bytes text command read reached so_far done seen worth = absurd reached
 
 -- and a line that a stack carried out costs what it costs in its windows
 
@@ -123,13 +123,13 @@ pub tallied_stack : (files : Files) (first old new : Work) (before after : Keyed
     → stack_line_of bytes ≡ Ok line → IsWatching (carrier.Stacked before) watching → IsWorth costs first old → stack_step files (stack_of before) line ≡ stack_reply.Done (stack_of after) text
     → WorksBy (way_of (stack_of before) line) before after result old new → IsDone result
     → HasTallied first new (carrier.Stacked after) (after_bytes files costs watching bytes)
-tallied_stack files first old new before after costs (WatchedWorld watched) bytes text line result read stands so_far done works ended = absurd stands
-tallied_stack files first old new before after costs (WatchedWindows watched) bytes text line result read stands so_far done works ended =
-    let same = stack_same before watched stands in
+tallied_stack files first old new before after costs (WatchedWorld watched) bytes text line result read reached so_far done works ended = absurd reached
+tallied_stack files first old new before after costs (WatchedWindows watched) bytes text line result read reached so_far done works ended =
+    let same = stack_same before watched reached in
     let cost : after_bytes files costs (WatchedWindows watched) bytes ≡ after_change files costs watched line (stack_step files (plain_stack watched) line) = ap (after_read files costs watched) read in
     let stepped : stack_step files (plain_stack watched) line ≡ stack_reply.Done (stack_of after) text = ap (λ (s : PlainStack). stack_step files s line) (sym same) ∙ done in
     let by = subst (λ (s : PlainStack). WorksBy (way_of s line) before after result old new) same works in
-    let left = way_watched files before after watched (way_of (plain_stack watched) line) result old new text stands by stepped ended in
+    let left = way_watched files before after watched (way_of (plain_stack watched) line) result old new text reached by stepped ended in
     subst (HasTallied first new (carrier.Stacked after)) (sym (cost ∙ ap (after_change files costs watched line) stepped))
     (record { watched = record { panes = refl; worlds = left.0 }; worth = worth_both costs _ first old new so_far left.1 })
 

@@ -38,11 +38,11 @@ not_ended status big (inr e) = omega arith
 -- a run that got to the end of its script
 ended_with : (start : Carried) (files : Files) (script : List ℕ) (left first last : Option (List ℕ)) (status : ℕ) → status ≤ 1 → IsComplete status → length script ≤ max_script
     → Appends first last (after_from start files (lines_of script)).text → status ≡ (if nat_lt 0 (after_from start files (lines_of script)).refused then 1 else 0) → RunsWith start files script left first last status
-ended_with start files script left first last status small ended short gone told =
+ended_with start files script left first last status small ended short gone reported =
     let text = subst (λ (l : List Line). Appends first last (after_from start files l).text) (sym (carried_short script short)) gone in
     record {
       writes = record { whole = λ _. text; part = whole_prefix first last (after_from start files (carried_lines script)).text text };
-      ended = λ _. (short, told);
+      ended = λ _. (short, reported);
       taken = λ e. absurd (omega (arith, small, e));
       no_memory = λ e. absurd (omega (arith, small, e));
       failed_fetch = λ e. absurd (omega (arith, small, e));

@@ -136,7 +136,7 @@ impl Run {
     /// A run of no lines yet.
     pub fn new(alloc: Global, carrier: Carrier) -> Run
         requires { IsFirst carrier }
-        ensures behind { (shelf : Option Files) (first : Trace)
+        ensures following { (shelf : Option Files) (first : Trace)
             → HasReadUpTo (carried_of result.runner.carrier) shelf first first result [] }
         ensures carrier { result.runner.carrier ≡ carrier }
         ensures numbers { next_of result.runner.carrier ≡ 1 }

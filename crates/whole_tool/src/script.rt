@@ -48,7 +48,7 @@ pub fn run_to_end<S: Source, K: Sink, F: Shelf>(
     sink: &mut K,
     work: &mut Work,
 ) -> Result<bool, End>
-    requires behind { (files : Option Files) (first : Trace)
+    requires following { (files : Option Files) (first : Trace)
         → HasReadUpTo (carried_of run.old.runner.carrier) files first first run.old [] }
     requires numbers { next_of run.old.runner.carrier ≡ 1 }
     ensures runs { RunsFrom (carried_of run.old.runner.carrier) (F.files shelf.old)

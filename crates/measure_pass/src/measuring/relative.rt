@@ -4,7 +4,7 @@ ghost use Rattle.kept_views.specs.Kept.{Ready};
 ghost use Rattle.measure_pass.specs.Courses.{IsMeasuredBelow};
 ghost use Rattle.measure_pass.specs.Measured.{KeepsRest, kids_from, tree_from};
 ghost use Rattle.measure_pass.specs.Siblings.{AfterTurn, AfterTurns, FirstHasSize, FirstIsKnown, HaveSizes, TurnIsFixed, kept_spans, kids_in, order_on, phase_of};
-ghost use Rattle.relative_layout.specs.RelativePlan.{StandsRelative};
+ghost use Rattle.relative_layout.specs.RelativePlan.{RepresentsRelative};
 ghost use Rattle.view_model.specs.declared.facts.Facts.{Facts as FactsValue};
 ghost use Rattle.view_model.specs.declared.kinds.Class.TheVariants.{RelativeLayout};
 ghost use Rattle.view_model.specs.Cycles.{links_in};
@@ -67,7 +67,7 @@ fn measure_turns(
     requires siblings { class_of tree.old view ≡ RelativeLayout }
     requires ready { Ready (held_of tree.old) (kids_from view tree.old.tree) }
     ensures turns { (own : FactsValue) (specs : Specs) (past : List (List Spanned))
-        → StandsRelative plan.old own specs past []
+        → RepresentsRelative plan.old own specs past []
         → phase_axis past ≡ axis
         → ((place : ℕ) → FirstIsKnown axis (held_of tree.old)
         ((phase_of axis own specs (kids_in (kids_from view tree.old.tree))).before place)
@@ -101,7 +101,7 @@ fn measure_in_turn(tree: &mut ViewTree, turn: Turn, plan: &mut RelativePlan, wor
     requires kid { IsLive tree.old turn.kid }
     requires ready { Ready (held_of tree.old) (tree_from turn.kid tree.old.tree) }
     ensures turn { (own : FactsValue) (specs : Specs) (past : List (List Spanned)) (taken : List Spanned) (place : ℕ)
-        → StandsRelative plan.old own specs past taken
+        → RepresentsRelative plan.old own specs past taken
         → phase_axis past ≡ turn.axis
         → part_from turn.kid tree.old.tree ≡ siblings_from place (kids_from turn.view tree.old.tree)
         → TurnIsFixed turn.axis own specs (kids_in (kids_from turn.view tree.old.tree))

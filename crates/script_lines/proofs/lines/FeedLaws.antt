@@ -8,7 +8,7 @@ use Rattle.std.proofs.lemmas.List.{take_all, append-nil, take-append-le, take-ap
 use Rattle.std.proofs.Math.Seq.{take-append-add}
 use Rattle.script_lines.specs.cutting.Lines.{Line, Text, LongLine, Cut, cut_of, is_line_feed, last_line, last_of, line_of, max_line, without_return}
 use Rattle.script_lines.specs.cutting.LineBuffer.{held_of}
-use Rattle.script_lines.proofs.lines.LineLaws.{cut-append, behind_none, behind_feed, add_one, last_of-some}
+use Rattle.script_lines.proofs.lines.LineLaws.{cut-append, after_none, after_feed, add_one, last_of-some}
 
 take_short : (k m : ℕ) (ys : List ℕ) → m ≡ min (length ys) k → take m ys ≡ take k ys
 take_short k m ys e = elim (cases_lt k (length ys)) [
@@ -39,7 +39,7 @@ held_now n now old rest body e en eo = e ∙ ap (λ k. take k (old ++ body)) en 
 cut-more : (before body : List ℕ) → position_or_len is_line_feed body ≡ length body → cut_of (before ++ body) ≡ record { lines = (cut_of before).lines; rest = (cut_of before).rest ++ body }
 cut-more before body h =
     cut-append before body
-    ∙ ap (λ (c : Cut). record { lines = (cut_of before).lines ++ c.lines; rest = c.rest }) (behind_none (cut_of before).rest body h)
+    ∙ ap (λ (c : Cut). record { lines = (cut_of before).lines ++ c.lines; rest = c.rest }) (after_none (cut_of before).rest body h)
     ∙ ap (λ (l : List Line). record { lines = l; rest = (cut_of before).rest ++ body }) (append-nil (cut_of before).lines)
 
 cut-more_all : (before piece : List ℕ) (at : ℕ) → at ≡ position_or_len is_line_feed piece → at ≡ length piece
@@ -55,7 +55,7 @@ cut-ended : (before piece : List ℕ) (at : ℕ) → at ≡ position_or_len is_l
 cut-ended before piece at p h =
     ap (λ n. cut_of (before ++ take n piece)) (add_one at)
     ∙ cut-append before _
-    ∙ ap (λ (c : Cut). record { lines = (cut_of before).lines ++ c.lines; rest = c.rest }) (behind_feed (cut_of before).rest piece at p h)
+    ∙ ap (λ (c : Cut). record { lines = (cut_of before).lines ++ c.lines; rest = c.rest }) (after_feed (cut_of before).rest piece at p h)
 
 -- the line that ends, by what is held of it
 line_of-long : (rest body : List ℕ) → max_line < length (held_of (held_of rest ++ body)) → line_of (rest ++ body) ≡ LongLine
@@ -76,9 +76,9 @@ line_of-text rest body h =
 pub fed_none-lines : (before piece : List ℕ) (at : ℕ) → at ≡ position_or_len is_line_feed piece → at ≡ length piece → (cut_of (before ++ take at piece)).lines ≡ (cut_of before).lines ++ []
 fed_none-lines before piece at p e = ap (λ (c : Cut). c.lines) (cut-more_all before piece at p e) ∙ sym (append-nil (cut_of before).lines)
 
-pub fed_none-stands : (before piece now : List ℕ) (at : ℕ) → at ≡ position_or_len is_line_feed piece → at ≡ length piece → now ≡ held_of (held_of (cut_of before).rest ++ take at piece)
+pub fed_none-reached : (before piece now : List ℕ) (at : ℕ) → at ≡ position_or_len is_line_feed piece → at ≡ length piece → now ≡ held_of (held_of (cut_of before).rest ++ take at piece)
     → now ≡ held_of (cut_of (before ++ take at piece)).rest
-fed_none-stands before piece now at p e k = k ∙ take_twice (max_line + 1) (cut_of before).rest (take at piece) ∙ ap (λ (c : Cut). held_of c.rest) (sym (cut-more_all before piece at p e))
+fed_none-reached before piece now at p e k = k ∙ take_twice (max_line + 1) (cut_of before).rest (take at piece) ∙ ap (λ (c : Cut). held_of c.rest) (sym (cut-more_all before piece at p e))
 
 pub fed_long-lines : (before piece now : List ℕ) (at : ℕ) → at ≡ position_or_len is_line_feed piece → at < length piece → now ≡ held_of (held_of (cut_of before).rest ++ take at piece) → max_line < length now
     → (cut_of (before ++ take (at + 1) piece)).lines ≡ (cut_of before).lines ++ LongLine ∷ []
@@ -94,8 +94,8 @@ fed_line-lines before piece now at line p h k l el =
     ∙ ap (λ r. (cut_of before).lines ++ r ∷ []) (line_of-text (cut_of before).rest (take at piece) (subst (λ b. length b ≤ max_line) k l))
     ∙ ap (λ b. (cut_of before).lines ++ Text b ∷ []) (sym (el ∙ ap without_return k))
 
-pub fed-stands : (before piece : List ℕ) (at : ℕ) → at ≡ position_or_len is_line_feed piece → at < length piece → [] ≡ held_of (cut_of (before ++ take (at + 1) piece)).rest
-fed-stands before piece at p h = ap (λ (c : Cut). held_of c.rest) (sym (cut-ended before piece at p h))
+pub fed-reached : (before piece : List ℕ) (at : ℕ) → at ≡ position_or_len is_line_feed piece → at < length piece → [] ≡ held_of (cut_of (before ++ take (at + 1) piece)).rest
+fed-reached before piece at p h = ap (λ (c : Cut). held_of c.rest) (sym (cut-ended before piece at p h))
 
 -- nothing is held of the line that began
 pub none_held : (n : ℕ) (buffer old rest : List ℕ) → n ≡ 0 → take n buffer ≡ old → old ≡ held_of rest → [] ≡ held_of rest

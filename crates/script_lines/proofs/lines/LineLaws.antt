@@ -27,18 +27,18 @@ fold_onto before cut [] = refl
 fold_onto before cut (b ∷ bs) = ap (λ c. fold cut_step c bs) (step_onto before cut b) ∙ fold_onto before (cut_step cut b) bs
 
 -- the beginning of a line is cut further
-abbrev pub cut_behind : List ℕ → List ℕ → Cut
-cut_behind rest bytes = fold cut_step (record { lines = []; rest = rest }) bytes
+abbrev pub cut_following : List ℕ → List ℕ → Cut
+cut_following rest bytes = fold cut_step (record { lines = []; rest = rest }) bytes
 
 -- more bytes only append lines
-pub cut-append : (a b : List ℕ) → cut_of (a ++ b) ≡ record { lines = (cut_of a).lines ++ (cut_behind (cut_of a).rest b).lines; rest = (cut_behind (cut_of a).rest b).rest }
+pub cut-append : (a b : List ℕ) → cut_of (a ++ b) ≡ record { lines = (cut_of a).lines ++ (cut_following (cut_of a).rest b).lines; rest = (cut_following (cut_of a).rest b).rest }
 cut-append a b =
     fold-append cut_step _ a b
     ∙ ap (λ (l : List Line). fold cut_step (record { lines = l; rest = (cut_of a).rest }) b) (sym (append-nil (cut_of a).lines))
     ∙ fold_onto (cut_of a).lines (record { lines = []; rest = (cut_of a).rest }) b
 
 pub cut_lines-append : (a b : List ℕ) → (more : List Line) × ((cut_of (a ++ b)).lines ≡ (cut_of a).lines ++ more)
-cut_lines-append a b = ((cut_behind (cut_of a).rest b).lines, ap (λ c. c.lines) (cut-append a b))
+cut_lines-append a b = ((cut_following (cut_of a).rest b).lines, ap (λ c. c.lines) (cut-append a b))
 
 one_add : (n : ℕ) → 1 + n ≡ suc n
 one_add n = omega arith
@@ -53,32 +53,32 @@ pub place_other : (b : ℕ) (bs : List ℕ) → is_line_feed b ≡ false → pos
 place_other b bs e = (let q : position_or_len is_line_feed (b ∷ bs) ≡ 1 + position_or_len is_line_feed bs = rw e refl in q) ∙ one_add (position_or_len is_line_feed bs)
 
 -- bytes without a line feed are appended to the rest
-pub behind_none : (held bytes : List ℕ) → position_or_len is_line_feed bytes ≡ length bytes → cut_behind held bytes ≡ record { lines = []; rest = held ++ bytes }
-behind_none held [] h = ap (λ (r : List ℕ). record { lines = []; rest = r }) (sym (append-nil held))
-behind_none held (b ∷ bs) h = elim (cases_Bool (is_line_feed b)) [
+pub after_none : (held bytes : List ℕ) → position_or_len is_line_feed bytes ≡ length bytes → cut_following held bytes ≡ record { lines = []; rest = held ++ bytes }
+after_none held [] h = ap (λ (r : List ℕ). record { lines = []; rest = r }) (sym (append-nil held))
+after_none held (b ∷ bs) h = elim (cases_Bool (is_line_feed b)) [
   | inl e ↦ absurd (let q = place_feed b bs e in omega (arith, q, h))
   | inr e ↦ (
       let q = place_other b bs e in
       ap (λ c. fold cut_step c bs) (step_other (record { lines = []; rest = held }) b e)
-      ∙ behind_none (held ++ b ∷ []) bs (omega (arith, q, h))
+      ∙ after_none (held ++ b ∷ []) bs (omega (arith, q, h))
       ∙ ap (λ (r : List ℕ). record { lines = []; rest = r }) (append_assoc held (b ∷ []) bs))
 ]
 
 -- the first line feed ends the line
-pub behind_feed : (held bytes : List ℕ) (at : ℕ) → at ≡ position_or_len is_line_feed bytes → at < length bytes
-    → cut_behind held (take (suc at) bytes) ≡ record { lines = line_of (held ++ take at bytes) ∷ []; rest = [] }
-behind_feed held [] at p h = absurd (omega (arith, h))
-behind_feed held (b ∷ bs) at p h = elim (cases_Bool (is_line_feed b)) [
+pub after_feed : (held bytes : List ℕ) (at : ℕ) → at ≡ position_or_len is_line_feed bytes → at < length bytes
+    → cut_following held (take (suc at) bytes) ≡ record { lines = line_of (held ++ take at bytes) ∷ []; rest = [] }
+after_feed held [] at p h = absurd (omega (arith, h))
+after_feed held (b ∷ bs) at p h = elim (cases_Bool (is_line_feed b)) [
   | inl e ↦ (
       let z : at ≡ 0 = p ∙ place_feed b bs e in
-      ap (λ n. cut_behind held (take (suc n) (b ∷ bs))) z
+      ap (λ n. cut_following held (take (suc n) (b ∷ bs))) z
       ∙ step_feed (record { lines = []; rest = held }) b e
       ∙ ap (λ (l : List ℕ). record { lines = line_of l ∷ []; rest = [] }) (sym (append-nil held) ∙ ap (λ n. held ++ take n (b ∷ bs)) (sym z)))
   | inr e ↦ (
       let z : at ≡ suc (position_or_len is_line_feed bs) = p ∙ place_other b bs e in
-      ap (λ n. cut_behind held (take (suc n) (b ∷ bs))) z
+      ap (λ n. cut_following held (take (suc n) (b ∷ bs))) z
       ∙ ap (λ c. fold cut_step c (take (suc (position_or_len is_line_feed bs)) bs)) (step_other (record { lines = []; rest = held }) b e)
-      ∙ behind_feed (held ++ b ∷ []) bs (position_or_len is_line_feed bs) refl (omega (arith, z, h))
+      ∙ after_feed (held ++ b ∷ []) bs (position_or_len is_line_feed bs) refl (omega (arith, z, h))
       ∙ ap (λ (l : List ℕ). record { lines = line_of l ∷ []; rest = [] }) (append_assoc held (b ∷ []) (take (position_or_len is_line_feed bs) bs) ∙ ap (λ n. held ++ take n (b ∷ bs)) (sym z)))
 ]
 

@@ -7,7 +7,7 @@ use Rattle.std.proofs.lemmas.Bool.Decides.{nat_tests}
 use Rattle.std.proofs.lemmas.List.Folds.{list_all-append}
 use Rattle.script_lines.specs.cutting.Lines.{ArePassedOver, Cut, Line, Text, cut_of, is_idle, is_line_feed, line_of, max_line, without_return}
 use Rattle.script_lines.specs.cutting.LineBuffer.{LineBuffer, IsAfter, held_of}
-use Rattle.script_lines.proofs.lines.LineLaws.{behind_feed, cut-append, cut_behind, place_other}
+use Rattle.script_lines.proofs.lines.LineLaws.{after_feed, cut-append, cut_following, place_other}
 
 -- an empty line
 pub empty_passed : (bytes : List ℕ) → 0 < length bytes → slice_index bytes 0 ≡ 10 → ArePassedOver (take 1 bytes) 1
@@ -42,7 +42,7 @@ hash_line bytes h =
 hash_passed : (bytes : List ℕ) (place : ℕ) → place ≡ position_or_len is_line_feed bytes → place < length bytes → suc place ≤ max_line → ArePassedOver (take (suc (suc place)) (35 ∷ bytes)) 1
 hash_passed bytes place p h most =
     let cut : cut_of (take (suc (suc place)) (35 ∷ bytes)) ≡ record { lines = line_of (35 ∷ take place bytes) ∷ []; rest = [] } =
-    behind_feed [] (35 ∷ bytes) (suc place) (ap suc p ∙ sym (place_other 35 bytes refl)) (omega (arith, h)) in
+    after_feed [] (35 ∷ bytes) (suc place) (ap suc p ∙ sym (place_other 35 bytes refl)) (omega (arith, h)) in
     let line = hash_line (take place bytes) (omega (arith, most, length-take place bytes)) in
     let cut_line = cut ∙ ap (λ (l : Line). record { lines = l ∷ []; rest = [] }) line.1 in
     record {
@@ -61,7 +61,7 @@ comment_passed (b ∷ bytes) place some e p h most =
 -- bytes after which no line has begun
 cut-whole : (before bytes : List ℕ) → (cut_of before).rest ≡ [] → cut_of (before ++ bytes) ≡ record { lines = (cut_of before).lines ++ (cut_of bytes).lines; rest = (cut_of bytes).rest }
 cut-whole before bytes e =
-    cut-append before bytes ∙ ap (λ (r : List ℕ). record { lines = (cut_of before).lines ++ (cut_behind r bytes).lines; rest = (cut_behind r bytes).rest }) e
+    cut-append before bytes ∙ ap (λ (r : List ℕ). record { lines = (cut_of before).lines ++ (cut_following r bytes).lines; rest = (cut_following r bytes).rest }) e
 
 -- one line more
 pub one_more_passed : (front more all : List ℕ) (count : ℕ) → ArePassedOver front count → ArePassedOver more 1 → all ≡ front ++ more → ArePassedOver all (count + 1)
@@ -84,7 +84,7 @@ nothing_held (b ∷ bytes) e =
 pub passed-lines : (held : LineBuffer) (before front : List ℕ) → held.begun ≡ [] → IsAfter held before → (cut_of (before ++ front)).lines ≡ (cut_of before).lines ++ (cut_of front).lines
 passed-lines held before front e s = ap (λ (c : Cut). c.lines) (cut-whole before front (nothing_held _ (sym e ∙ s.begun)))
 
-pub passed-stands : (held : LineBuffer) (before front : List ℕ) (count : ℕ) → held.begun ≡ [] → IsAfter held before → ArePassedOver front count → IsAfter held (before ++ front)
-passed-stands held before front count e s passed = record {
+pub passed-reached : (held : LineBuffer) (before front : List ℕ) (count : ℕ) → held.begun ≡ [] → IsAfter held before → ArePassedOver front count → IsAfter held (before ++ front)
+passed-reached held before front count e s passed = record {
   begun = e ∙ sym (ap (λ (c : Cut). held_of c.rest) (cut-whole before front (nothing_held _ (sym e ∙ s.begun))) ∙ ap held_of passed.rest);
 }

@@ -74,19 +74,19 @@ dropped_twice : (bytes : List ℕ) (at q p : ℕ) → drop p (drop q (drop at by
 dropped_twice bytes at q p = drop-drop p q (drop at bytes) ∙ drop-drop (q + p) at bytes
 
 -- the place after a word
-pub behind : (bytes : List ℕ) (at : ℕ) → drop (length bytes - length (after_word (drop at bytes))) bytes ≡ after_word (drop at bytes)
+pub following : (bytes : List ℕ) (at : ℕ) → drop (length bytes - length (after_word (drop at bytes))) bytes ≡ after_word (drop at bytes)
 unfolding after_word
-behind bytes at =
+following bytes at =
     let q = prefix_len is_space (drop at bytes) in
     let p = prefix_len in_word (after_spaces (drop at bytes)) in
     let e : after_word (drop at bytes) ≡ drop (at + (q + p)) bytes = dropped_twice bytes at q p in
     ap (λ rest. drop (length bytes - length rest) bytes) e ∙ dropped_again bytes (at + (q + p)) ∙ sym e
 
 -- an action, and the place after its word
-pub read_behind : (bytes : List ℕ) (at action : ℕ) (name rest : List ℕ) → word_in (words (drop at bytes)) ≡ Ok (name, words rest) → rest ≡ after_word (drop at bytes) → action_of name ≡ Ok action
+pub read_after : (bytes : List ℕ) (at action : ℕ) (name rest : List ℕ) → word_in (words (drop at bytes)) ≡ Ok (name, words rest) → rest ≡ after_word (drop at bytes) → action_of name ≡ Ok action
     → action_in (words (drop at bytes)) ≡ Ok (action, words (drop (length bytes - length rest) bytes))
-read_behind bytes at action name rest is behind_is named =
-    let same : drop (length bytes - length rest) bytes ≡ rest = ap (λ rest. drop (length bytes - length rest) bytes) behind_is ∙ behind bytes at ∙ sym behind_is in
+read_after bytes at action name rest is after_is named =
+    let same : drop (length bytes - length rest) bytes ≡ rest = ap (λ rest. drop (length bytes - length rest) bytes) after_is ∙ following bytes at ∙ sym after_is in
     rw (is, named, same) refl
 
 pub both_below : (a b : ℕ) → a < 64 → b < 64 → bit_or a b < 64

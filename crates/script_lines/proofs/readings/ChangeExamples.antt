@@ -42,9 +42,9 @@ pub a_least_size_below_0 : command_of (codes "min v1 -1 1") ≡ Err Range
 unfolding is_utf8 chars encode words natural_of integer_of within_of pair_of hex_digit_of hex_of id_of name_of parent_of dimension_of extents_of class_of add_of remove_of frame_of bounds_of set_of act_of change_of command_by command_in command_of after_word across_of down_of one_across one_down with_word with_words gravity_of gravity_change_of kids_of sides_of insets_of visibility_of visible_of new_id_of
 a_least_size_below_0 = refl
 
-pub a_fault_behind_a_number_outside_its_bounds : command_of (codes "min v1 -1 x") ≡ Err Syntax
+pub a_fault_after_a_number_outside_its_bounds : command_of (codes "min v1 -1 x") ≡ Err Syntax
 unfolding is_utf8 chars encode words natural_of integer_of within_of pair_of hex_digit_of hex_of id_of name_of parent_of dimension_of extents_of class_of add_of remove_of frame_of bounds_of set_of act_of change_of command_by command_in command_of after_word across_of down_of one_across one_down with_word with_words gravity_of gravity_change_of kids_of sides_of insets_of visibility_of visible_of new_id_of
-a_fault_behind_a_number_outside_its_bounds = refl
+a_fault_after_a_number_outside_its_bounds = refl
 
 pub a_least_size_is_no_match : command_of (codes "min v1 match 1") ≡ Err Syntax
 unfolding is_utf8 chars encode words natural_of integer_of within_of pair_of hex_digit_of hex_of id_of name_of parent_of dimension_of extents_of class_of add_of remove_of frame_of bounds_of set_of act_of change_of command_by command_in command_of after_word across_of down_of one_across one_down with_word with_words gravity_of gravity_change_of kids_of sides_of insets_of visibility_of visible_of new_id_of
@@ -122,9 +122,9 @@ pub a_word_beside_one_for_both_axes : command_of (codes "gravity v1 self center|
 unfolding is_utf8 chars encode words natural_of integer_of within_of pair_of hex_digit_of hex_of id_of name_of parent_of dimension_of extents_of class_of add_of remove_of frame_of bounds_of set_of act_of change_of command_by command_in command_of after_word across_of down_of one_across one_down with_word with_words gravity_of gravity_change_of kids_of sides_of insets_of visibility_of visible_of new_id_of
 a_word_beside_one_for_both_axes = refl
 
-pub one_for_both_axes_behind_a_word : command_of (codes "gravity v1 self left|center") ≡ Err Syntax
+pub one_for_both_axes_after_a_word : command_of (codes "gravity v1 self left|center") ≡ Err Syntax
 unfolding is_utf8 chars encode words natural_of integer_of within_of pair_of hex_digit_of hex_of id_of name_of parent_of dimension_of extents_of class_of add_of remove_of frame_of bounds_of set_of act_of change_of command_by command_in command_of after_word across_of down_of one_across one_down with_word with_words gravity_of gravity_change_of kids_of sides_of insets_of visibility_of visible_of new_id_of
-one_for_both_axes_behind_a_word = refl
+one_for_both_axes_after_a_word = refl
 
 pub three_words : command_of (codes "gravity v1 self left|top|bottom") ≡ Err Syntax
 unfolding is_utf8 chars encode words natural_of integer_of within_of pair_of hex_digit_of hex_of id_of name_of parent_of dimension_of extents_of class_of add_of remove_of frame_of bounds_of set_of act_of change_of command_by command_in command_of after_word across_of down_of one_across one_down with_word with_words gravity_of gravity_change_of kids_of sides_of insets_of visibility_of visible_of new_id_of
@@ -134,9 +134,9 @@ pub none_beside_another : command_of (codes "gravity v1 self none|left") ≡ Err
 unfolding is_utf8 chars encode words natural_of integer_of within_of pair_of hex_digit_of hex_of id_of name_of parent_of dimension_of extents_of class_of add_of remove_of frame_of bounds_of set_of act_of change_of command_by command_in command_of after_word across_of down_of one_across one_down with_word with_words gravity_of gravity_change_of kids_of sides_of insets_of visibility_of visible_of new_id_of
 none_beside_another = refl
 
-pub none_behind_another : command_of (codes "gravity v1 self left|none") ≡ Err Syntax
+pub none_after_another : command_of (codes "gravity v1 self left|none") ≡ Err Syntax
 unfolding is_utf8 chars encode words natural_of integer_of within_of pair_of hex_digit_of hex_of id_of name_of parent_of dimension_of extents_of class_of add_of remove_of frame_of bounds_of set_of act_of change_of command_by command_in command_of after_word across_of down_of one_across one_down with_word with_words gravity_of gravity_change_of kids_of sides_of insets_of visibility_of visible_of new_id_of
-none_behind_another = refl
+none_after_another = refl
 
 pub an_empty_part : command_of (codes "gravity v1 self left||top") ≡ Err Syntax
 unfolding is_utf8 chars encode words natural_of integer_of within_of pair_of hex_digit_of hex_of id_of name_of parent_of dimension_of extents_of class_of add_of remove_of frame_of bounds_of set_of act_of change_of command_by command_in command_of after_word across_of down_of one_across one_down with_word with_words gravity_of gravity_change_of kids_of sides_of insets_of visibility_of visible_of new_id_of
@@ -186,9 +186,9 @@ pub the_gravity_of_children : command_of (codes "gravity v1 kids left") ≡ Ok (
 unfolding is_utf8 chars encode words natural_of integer_of within_of pair_of hex_digit_of hex_of id_of name_of parent_of dimension_of extents_of class_of add_of remove_of frame_of bounds_of set_of act_of change_of command_by command_in command_of after_word across_of down_of one_across one_down with_word with_words gravity_of gravity_change_of kids_of sides_of insets_of visibility_of visible_of new_id_of
 the_gravity_of_children = refl
 
-pub a_gravity_of_nobody : command_of (codes "gravity v1 left") ≡ Err Syntax
+pub a_gravity_of_no_view : command_of (codes "gravity v1 left") ≡ Err Syntax
 unfolding is_utf8 chars encode words natural_of integer_of within_of pair_of hex_digit_of hex_of id_of name_of parent_of dimension_of extents_of class_of add_of remove_of frame_of bounds_of set_of act_of change_of command_by command_in command_of after_word across_of down_of one_across one_down with_word with_words gravity_of gravity_change_of kids_of sides_of insets_of visibility_of visible_of new_id_of
-a_gravity_of_nobody = refl
+a_gravity_of_no_view = refl
 
 pub a_weight : command_of (codes "weight v1 1") ≡ Ok (Act (Number 1) (act.Change (change.Weight 256)))
 unfolding is_utf8 chars encode words natural_of integer_of within_of pair_of hex_digit_of hex_of id_of name_of parent_of dimension_of extents_of class_of add_of remove_of frame_of bounds_of set_of act_of change_of command_by command_in command_of after_word across_of down_of one_across one_down with_word with_words gravity_of gravity_change_of kids_of sides_of insets_of visibility_of visible_of new_id_of weight_of last_number natural_within
@@ -222,9 +222,9 @@ pub a_weight_of_256ths_below_0 : command_of (codes "weight v1 1 -1") ≡ Err Ran
 unfolding is_utf8 chars encode words natural_of integer_of within_of pair_of hex_digit_of hex_of id_of name_of parent_of dimension_of extents_of class_of add_of remove_of frame_of bounds_of set_of act_of change_of command_by command_in command_of after_word across_of down_of one_across one_down with_word with_words gravity_of gravity_change_of kids_of sides_of insets_of visibility_of visible_of new_id_of weight_of last_number natural_within
 a_weight_of_256ths_below_0 = refl
 
-pub a_fault_behind_too_great_a_weight : command_of (codes "weight v1 65536 x") ≡ Err Syntax
+pub a_fault_after_too_great_a_weight : command_of (codes "weight v1 65536 x") ≡ Err Syntax
 unfolding is_utf8 chars encode words natural_of integer_of within_of pair_of hex_digit_of hex_of id_of name_of parent_of dimension_of extents_of class_of add_of remove_of frame_of bounds_of set_of act_of change_of command_by command_in command_of after_word across_of down_of one_across one_down with_word with_words gravity_of gravity_change_of kids_of sides_of insets_of visibility_of visible_of new_id_of weight_of last_number natural_within
-a_fault_behind_too_great_a_weight = refl
+a_fault_after_too_great_a_weight = refl
 
 pub a_weight_of_three_numbers : command_of (codes "weight v1 1 2 3") ≡ Err Syntax
 unfolding is_utf8 chars encode words natural_of integer_of within_of pair_of hex_digit_of hex_of id_of name_of parent_of dimension_of extents_of class_of add_of remove_of frame_of bounds_of set_of act_of change_of command_by command_in command_of after_word across_of down_of one_across one_down with_word with_words gravity_of gravity_change_of kids_of sides_of insets_of visibility_of visible_of new_id_of weight_of last_number natural_within

@@ -182,9 +182,9 @@ pub a_frame : command_of (codes "frame") ≡ Ok Frame
 unfolding is_utf8 chars encode words natural_of integer_of within_of pair_of hex_digit_of hex_of id_of name_of parent_of dimension_of extents_of class_of add_of remove_of frame_of bounds_of set_of act_of change_of command_by command_in command_of after_word
 a_frame = refl
 
-pub a_word_behind_a_frame : command_of (codes "frame x") ≡ Err Syntax
+pub a_word_after_a_frame : command_of (codes "frame x") ≡ Err Syntax
 unfolding is_utf8 chars encode words natural_of integer_of within_of pair_of hex_digit_of hex_of id_of name_of parent_of dimension_of extents_of class_of add_of remove_of frame_of bounds_of set_of act_of change_of command_by command_in command_of after_word
-a_word_behind_a_frame = refl
+a_word_after_a_frame = refl
 
 pub another_case : command_of (codes "Frame") ≡ Err Syntax
 unfolding is_utf8 chars encode words natural_of integer_of within_of pair_of hex_digit_of hex_of id_of name_of parent_of dimension_of extents_of class_of add_of remove_of frame_of bounds_of set_of act_of change_of command_by command_in command_of after_word
@@ -210,9 +210,9 @@ pub bytes_that_are_no_text : command_of (102 ∷ 255 ∷ []) ≡ Err Syntax
 unfolding is_utf8 chars encode words natural_of integer_of within_of pair_of hex_digit_of hex_of id_of name_of parent_of dimension_of extents_of class_of add_of remove_of frame_of bounds_of set_of act_of change_of command_by command_in command_of after_word
 bytes_that_are_no_text = refl
 
-pub a_comment_behind_a_space : command_of (codes " # frame") ≡ Err Syntax
+pub a_comment_after_a_space : command_of (codes " # frame") ≡ Err Syntax
 unfolding is_utf8 chars encode words natural_of integer_of within_of pair_of hex_digit_of hex_of id_of name_of parent_of dimension_of extents_of class_of add_of remove_of frame_of bounds_of set_of act_of change_of command_by command_in command_of after_word
-a_comment_behind_a_space = refl
+a_comment_after_a_space = refl
 
 pub a_comment : command_of (codes "# frame") ≡ Err Syntax
 unfolding is_utf8 chars encode words natural_of integer_of within_of pair_of hex_digit_of hex_of id_of name_of parent_of dimension_of extents_of class_of add_of remove_of frame_of bounds_of set_of act_of change_of command_by command_in command_of after_word

@@ -103,13 +103,13 @@ pub an_edit_of_another_line_counts : command_of (codes "hook v1 frame ; size v1 
 unfolding is_utf8 chars encode words natural_of integer_of within_of pair_of natural_within hex_digit_of hex_of id_of name_of dimension_of extents_of sides_of insets_of last_number weight_of across_of down_of one_across one_down with_word with_words gravity_of kids_of gravity_change_of color_of last_color change_of begins_line begins_edit asked_of unmade_of edit_of joined edits_of hook_of command_by command_in command_of after_word
 an_edit_of_another_line_counts = refl
 
-pub an_edit_behind_one_of_another_line : command_of (codes "hook v1 size v1 1 1 ; visible v1 gone ; size v1 1 2") ≡ Ok (Hook (Number 1) (high (pos 1) ∷ high (pos 2) ∷ []) true)
+pub an_edit_after_one_of_another_line : command_of (codes "hook v1 size v1 1 1 ; visible v1 gone ; size v1 1 2") ≡ Ok (Hook (Number 1) (high (pos 1) ∷ high (pos 2) ∷ []) true)
 unfolding is_utf8 chars encode words natural_of integer_of within_of pair_of natural_within hex_digit_of hex_of id_of name_of dimension_of extents_of sides_of insets_of last_number weight_of across_of down_of one_across one_down with_word with_words gravity_of kids_of gravity_change_of color_of last_color change_of begins_line begins_edit asked_of unmade_of edit_of joined edits_of hook_of command_by command_in command_of after_word
-an_edit_behind_one_of_another_line = refl
+an_edit_after_one_of_another_line = refl
 
-pub range_behind_an_edit_of_another_line : command_of (codes "hook v1 frame x y ; size v1 -1 1") ≡ Err Range
+pub range_after_an_edit_of_another_line : command_of (codes "hook v1 frame x y ; size v1 -1 1") ≡ Err Range
 unfolding is_utf8 chars encode words natural_of integer_of within_of pair_of natural_within hex_digit_of hex_of id_of name_of dimension_of extents_of sides_of insets_of last_number weight_of across_of down_of one_across one_down with_word with_words gravity_of kids_of gravity_change_of color_of last_color change_of begins_line begins_edit asked_of unmade_of edit_of joined edits_of hook_of command_by command_in command_of after_word
-range_behind_an_edit_of_another_line = refl
+range_after_an_edit_of_another_line = refl
 
 pub range_before_an_edit_of_another_line : command_of (codes "hook v1 size v1 -1 1 ; frame") ≡ Err Range
 unfolding is_utf8 chars encode words natural_of integer_of within_of pair_of natural_within hex_digit_of hex_of id_of name_of dimension_of extents_of sides_of insets_of last_number weight_of across_of down_of one_across one_down with_word with_words gravity_of kids_of gravity_change_of color_of last_color change_of begins_line begins_edit asked_of unmade_of edit_of joined edits_of hook_of command_by command_in command_of after_word
@@ -123,21 +123,21 @@ pub a_weight_that_is_too_large : command_of (codes "hook v1 weight v1 65535 1") 
 unfolding is_utf8 chars encode words natural_of integer_of within_of pair_of natural_within hex_digit_of hex_of id_of name_of dimension_of extents_of sides_of insets_of last_number weight_of across_of down_of one_across one_down with_word with_words gravity_of kids_of gravity_change_of color_of last_color change_of begins_line begins_edit asked_of unmade_of edit_of joined edits_of hook_of command_by command_in command_of after_word
 a_weight_that_is_too_large = refl
 
-pub syntax_behind_range : command_of (codes "hook v1 size v1 -1 1 ; size v1 1") ≡ Err Syntax
+pub syntax_after_range : command_of (codes "hook v1 size v1 -1 1 ; size v1 1") ≡ Err Syntax
 unfolding is_utf8 chars encode words natural_of integer_of within_of pair_of natural_within hex_digit_of hex_of id_of name_of dimension_of extents_of sides_of insets_of last_number weight_of across_of down_of one_across one_down with_word with_words gravity_of kids_of gravity_change_of color_of last_color change_of begins_line begins_edit asked_of unmade_of edit_of joined edits_of hook_of command_by command_in command_of after_word
-syntax_behind_range = refl
+syntax_after_range = refl
 
-pub syntax_of_a_word_behind_range : command_of (codes "hook v1 size v1 -1 1 ; frames") ≡ Err Syntax
+pub syntax_of_a_word_after_range : command_of (codes "hook v1 size v1 -1 1 ; frames") ≡ Err Syntax
 unfolding is_utf8 chars encode words natural_of integer_of within_of pair_of natural_within hex_digit_of hex_of id_of name_of dimension_of extents_of sides_of insets_of last_number weight_of across_of down_of one_across one_down with_word with_words gravity_of kids_of gravity_change_of color_of last_color change_of begins_line begins_edit asked_of unmade_of edit_of joined edits_of hook_of command_by command_in command_of after_word
-syntax_of_a_word_behind_range = refl
+syntax_of_a_word_after_range = refl
 
-pub no_edit_behind_range : command_of (codes "hook v1 size v1 -1 1 ;") ≡ Err Syntax
+pub no_edit_after_range : command_of (codes "hook v1 size v1 -1 1 ;") ≡ Err Syntax
 unfolding is_utf8 chars encode words natural_of integer_of within_of pair_of natural_within hex_digit_of hex_of id_of name_of dimension_of extents_of sides_of insets_of last_number weight_of across_of down_of one_across one_down with_word with_words gravity_of kids_of gravity_change_of color_of last_color change_of begins_line begins_edit asked_of unmade_of edit_of joined edits_of hook_of command_by command_in command_of after_word
-no_edit_behind_range = refl
+no_edit_after_range = refl
 
-pub syntax_of_a_ninth_edit_behind_range : command_of (codes "hook v1 size v1 1 -1 ; size v1 1 1 ; size v1 1 2 ; size v1 1 3 ; size v1 1 4 ; size v1 1 5 ; size v1 1 6 ; size v1 1 7 ; size v1 1 8 ; in") ≡ Err Syntax
+pub syntax_of_a_ninth_edit_after_range : command_of (codes "hook v1 size v1 1 -1 ; size v1 1 1 ; size v1 1 2 ; size v1 1 3 ; size v1 1 4 ; size v1 1 5 ; size v1 1 6 ; size v1 1 7 ; size v1 1 8 ; in") ≡ Err Syntax
 unfolding is_utf8 chars encode words natural_of integer_of within_of pair_of natural_within hex_digit_of hex_of id_of name_of dimension_of extents_of sides_of insets_of last_number weight_of across_of down_of one_across one_down with_word with_words gravity_of kids_of gravity_change_of color_of last_color change_of begins_line begins_edit asked_of unmade_of edit_of joined edits_of hook_of command_by command_in command_of after_word
-syntax_of_a_ninth_edit_behind_range = refl
+syntax_of_a_ninth_edit_after_range = refl
 
 pub syntax_before_range : command_of (codes "hook v1 bg v1 red ; size v1 -1 1") ≡ Err Syntax
 unfolding is_utf8 chars encode words natural_of integer_of within_of pair_of natural_within hex_digit_of hex_of id_of name_of dimension_of extents_of sides_of insets_of last_number weight_of across_of down_of one_across one_down with_word with_words gravity_of kids_of gravity_change_of color_of last_color change_of begins_line begins_edit asked_of unmade_of edit_of joined edits_of hook_of command_by command_in command_of after_word
@@ -171,13 +171,13 @@ pub no_edit_in_between : command_of (codes "hook v1 frame ; ; frame") ≡ Err Sy
 unfolding is_utf8 chars encode words natural_of integer_of within_of pair_of natural_within hex_digit_of hex_of id_of name_of dimension_of extents_of sides_of insets_of last_number weight_of across_of down_of one_across one_down with_word with_words gravity_of kids_of gravity_change_of color_of last_color change_of begins_line begins_edit asked_of unmade_of edit_of joined edits_of hook_of command_by command_in command_of after_word
 no_edit_in_between = refl
 
-pub a_hook_of_nobody : command_of (codes "hook size v1 1 1") ≡ Err Syntax
+pub a_hook_of_no_view : command_of (codes "hook size v1 1 1") ≡ Err Syntax
 unfolding is_utf8 chars encode words natural_of integer_of within_of pair_of natural_within hex_digit_of hex_of id_of name_of dimension_of extents_of sides_of insets_of last_number weight_of across_of down_of one_across one_down with_word with_words gravity_of kids_of gravity_change_of color_of last_color change_of begins_line begins_edit asked_of unmade_of edit_of joined edits_of hook_of command_by command_in command_of after_word
-a_hook_of_nobody = refl
+a_hook_of_no_view = refl
 
-pub an_edit_of_nobody : command_of (codes "hook v1 size 1 1") ≡ Err Syntax
+pub an_edit_of_no_view : command_of (codes "hook v1 size 1 1") ≡ Err Syntax
 unfolding is_utf8 chars encode words natural_of integer_of within_of pair_of natural_within hex_digit_of hex_of id_of name_of dimension_of extents_of sides_of insets_of last_number weight_of across_of down_of one_across one_down with_word with_words gravity_of kids_of gravity_change_of color_of last_color change_of begins_line begins_edit asked_of unmade_of edit_of joined edits_of hook_of command_by command_in command_of after_word
-an_edit_of_nobody = refl
+an_edit_of_no_view = refl
 
 pub an_edit_with_a_word_too_many : command_of (codes "hook v1 size v1 1 1 1") ≡ Err Syntax
 unfolding is_utf8 chars encode words natural_of integer_of within_of pair_of natural_within hex_digit_of hex_of id_of name_of dimension_of extents_of sides_of insets_of last_number weight_of across_of down_of one_across one_down with_word with_words gravity_of kids_of gravity_change_of color_of last_color change_of begins_line begins_edit asked_of unmade_of edit_of joined edits_of hook_of command_by command_in command_of after_word

@@ -10,7 +10,7 @@ use Rattle.script_lines.specs.reading.Hooks.{parts_edits}
 use Rattle.script_lines.specs.cutting.Lines.{is_space}
 use Rattle.script_lines.specs.words.Words.{after_spaces, after_word, in_word, is_word, word_in, words}
 use Rattle.script_lines.specs.declared.fault.LineFault.{LineFault}
-use Rattle.script_lines.proofs.readings.ActionLaws.{behind, shorter}
+use Rattle.script_lines.proofs.readings.ActionLaws.{following, shorter}
 use Rattle.script_lines.proofs.texts.WordLaws.{one_add, word_space}
 
 onto_first-append : {X : Type 0} (x : X) (parts more : List (List X)) → 0 < length parts → onto_first x (parts ++ more) ≡ onto_first x parts ++ more
@@ -74,20 +74,20 @@ one_edit_start bytes = record {
   none = rw words_nil (λ k d short. absurd (omega (arith, short)));
 }
 
-pub one_edit_more : (bytes word : List ℕ) (at behind : ℕ) → IsOneEdit bytes at → words (drop at bytes) ≡ word ∷ words (drop behind bytes) → prefix_len in_word (drop behind bytes) ≡ 0 → parts_edits word ≡ false
-    → IsOneEdit bytes behind
-one_edit_more bytes word at behind i next ended other =
-    let parts = words-parted bytes behind ended in
-    let front : words (take behind bytes) ≡ words (take at bytes) ++ word ∷ [] =
-    append_cancel_right (words (take behind bytes)) (words (take at bytes) ++ word ∷ []) (words (drop behind bytes))
-    (sym parts ∙ i.whole ∙ ap (λ ws. words (take at bytes) ++ ws) next ∙ sym (append_assoc (words (take at bytes)) (word ∷ []) (words (drop behind bytes)))) in
+pub one_edit_more : (bytes word : List ℕ) (at following : ℕ) → IsOneEdit bytes at → words (drop at bytes) ≡ word ∷ words (drop following bytes) → prefix_len in_word (drop following bytes) ≡ 0 → parts_edits word ≡ false
+    → IsOneEdit bytes following
+one_edit_more bytes word at following i next ended other =
+    let parts = words-parted bytes following ended in
+    let front : words (take following bytes) ≡ words (take at bytes) ++ word ∷ [] =
+    append_cancel_right (words (take following bytes)) (words (take at bytes) ++ word ∷ []) (words (drop following bytes))
+    (sym parts ∙ i.whole ∙ ap (λ ws. words (take at bytes) ++ ws) next ∙ sym (append_assoc (words (take at bytes)) (word ∷ []) (words (drop following bytes)))) in
     record { whole = parts; none = rw front (All-push (λ word. parts_edits word ≡ false) (words (take at bytes)) word i.none other) }
 
 -- the edit ends before the word that separates it from the next
-pub edit_ends : (bytes word : List ℕ) (at behind : ℕ) → IsOneEdit bytes at → words (drop at bytes) ≡ word ∷ words (drop behind bytes) → parts_edits word ≡ true
-    → slice_split parts_edits (words bytes) ≡ words (take at bytes) ∷ slice_split parts_edits (words (drop behind bytes))
-edit_ends bytes word at behind i next parts =
-    ap (slice_split parts_edits) (i.whole ∙ ap (λ ws. words (take at bytes) ++ ws) next) ∙ slice_split_at parts_edits (words (take at bytes)) word (words (drop behind bytes)) i.none parts
+pub edit_ends : (bytes word : List ℕ) (at following : ℕ) → IsOneEdit bytes at → words (drop at bytes) ≡ word ∷ words (drop following bytes) → parts_edits word ≡ true
+    → slice_split parts_edits (words bytes) ≡ words (take at bytes) ∷ slice_split parts_edits (words (drop following bytes))
+edit_ends bytes word at following i next parts =
+    ap (slice_split parts_edits) (i.whole ∙ ap (λ ws. words (take at bytes) ++ ws) next) ∙ slice_split_at parts_edits (words (take at bytes)) word (words (drop following bytes)) i.none parts
 
 -- the last edit
 pub edit_last : (bytes : List ℕ) (at : ℕ) → IsOneEdit bytes at → words (drop at bytes) ≡ [] → slice_split parts_edits (words bytes) ≡ words bytes ∷ []
@@ -115,13 +115,13 @@ pub record IsNext (bytes : List ℕ) (at : ℕ) (word rest : List ℕ) : Type 0 
   pub within : length rest ≤ length bytes
 
 pub word_next : (bytes : List ℕ) (at : ℕ) (word rest : List ℕ) → at ≤ length bytes → word_in (words (drop at bytes)) ≡ Ok (word, words rest) → rest ≡ after_word (drop at bytes) → IsNext bytes at word rest
-word_next bytes at word rest h is behind_is =
-    let same : drop (length bytes - length rest) bytes ≡ rest = ap (λ rest. drop (length bytes - length rest) bytes) behind_is ∙ behind bytes at ∙ sym behind_is in
+word_next bytes at word rest h is after_is =
+    let same : drop (length bytes - length rest) bytes ≡ rest = ap (λ rest. drop (length bytes - length rest) bytes) after_is ∙ following bytes at ∙ sym after_is in
     let less = shorter (drop at bytes) word (words rest) is in
-    let long : length rest ≡ length (after_word (drop at bytes)) = ap length behind_is in
+    let long : length rest ≡ length (after_word (drop at bytes)) = ap length after_is in
     record {
       next = word_in-is (words (drop at bytes)) word (words rest) is ∙ ap (λ more. word ∷ words more) (sym same);
-      ended = ap (prefix_len in_word) (same ∙ behind_is) ∙ after_word-ended (drop at bytes);
+      ended = ap (prefix_len in_word) (same ∙ after_is) ∙ after_word-ended (drop at bytes);
       forward = omega (arith, h, less, long, length-drop at bytes);
       within = omega (arith, less, long, length-drop at bytes);
     }
@@ -129,6 +129,6 @@ word_next bytes at word rest h is behind_is =
 -- the same if the word was read from what comes after the place
 pub word_read : (bytes : List ℕ) (at : ℕ) (word rest : List ℕ) → at ≤ length bytes → Ok (word, words rest) ≡ word_in (words (take (length bytes - at) (drop at bytes)))
     → rest ≡ after_word (take (length bytes - at) (drop at bytes)) → IsNext bytes at word rest
-word_read bytes at word rest h is behind_is =
+word_read bytes at word rest h is after_is =
     let same : take (length bytes - at) (drop at bytes) ≡ drop at bytes = take_all (length bytes - at) (drop at bytes) (omega (arith, length-drop at bytes)) in
-    word_next bytes at word rest h (cc (same, is)) (cc (same, behind_is))
+    word_next bytes at word rest h (cc (same, is)) (cc (same, after_is))

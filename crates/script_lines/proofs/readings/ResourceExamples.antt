@@ -35,9 +35,9 @@ pub a_density_below_0 : command_of (codes "dpi -160") ≡ Err Range
 unfolding is_utf8 chars encode words natural_of integer_of within_of natural_within hex_digit_of hex_of id_of name_of command_by command_in command_of after_word dpi_of
 a_density_below_0 = refl
 
-pub a_word_behind_a_density : command_of (codes "dpi 160 dpi") ≡ Err Syntax
+pub a_word_after_a_density : command_of (codes "dpi 160 dpi") ≡ Err Syntax
 unfolding is_utf8 chars encode words natural_of integer_of within_of natural_within hex_digit_of hex_of id_of name_of command_by command_in command_of after_word dpi_of
-a_word_behind_a_density = refl
+a_word_after_a_density = refl
 
 pub a_dimension : command_of (codes "res @7f050001 dimen 16 dp") ≡ Ok (Res 2131034113 (Dimen 4097))
 unfolding is_utf8 chars encode words natural_of integer_of within_of natural_within hex_digit_of hex_of id_of name_of command_by command_in command_of after_word res_of resource_id given_of given_by last_color color_of dimen_given dimen_word unit_of rest_of escaped_text_of text_of
@@ -71,9 +71,9 @@ pub the_id_0 : command_of (codes "res @0 dimen 1 px") ≡ Err Range
 unfolding is_utf8 chars encode words natural_of integer_of within_of natural_within hex_digit_of hex_of id_of name_of command_by command_in command_of after_word res_of resource_id given_of given_by last_color color_of dimen_given dimen_word unit_of rest_of escaped_text_of text_of
 the_id_0 = refl
 
-pub a_fault_behind_the_id_0 : command_of (codes "res @0 dimen 1 x") ≡ Err Syntax
+pub a_fault_after_the_id_0 : command_of (codes "res @0 dimen 1 x") ≡ Err Syntax
 unfolding is_utf8 chars encode words natural_of integer_of within_of natural_within hex_digit_of hex_of id_of name_of command_by command_in command_of after_word res_of resource_id given_of given_by last_color color_of dimen_given dimen_word unit_of rest_of escaped_text_of text_of
-a_fault_behind_the_id_0 = refl
+a_fault_after_the_id_0 = refl
 
 pub a_color : command_of (codes "res @1 color #80fF0000") ≡ Ok (Res 1 (Color (record { 0 = 2164195328 })))
 unfolding is_utf8 chars encode words natural_of integer_of within_of natural_within hex_digit_of hex_of id_of name_of command_by command_in command_of after_word res_of resource_id given_of given_by last_color color_of dimen_given dimen_word unit_of rest_of escaped_text_of text_of
@@ -107,9 +107,9 @@ pub a_text_without_its_space : command_of (codes "res @1 text") ≡ Err Syntax
 unfolding is_utf8 chars encode words natural_of integer_of within_of natural_within hex_digit_of hex_of id_of name_of command_by command_in command_of after_word res_of resource_id given_of given_by last_color color_of dimen_given dimen_word unit_of rest_of escaped_text_of text_of
 a_text_without_its_space = refl
 
-pub escapes_stand_as_written : command_of (codes "res @1 text a\\nb\\\\") ≡ Ok (Res 1 (Text (codes "a\\nb\\\\")))
+pub escapes_are_as_written : command_of (codes "res @1 text a\\nb\\\\") ≡ Ok (Res 1 (Text (codes "a\\nb\\\\")))
 unfolding is_utf8 chars encode words natural_of integer_of within_of natural_within hex_digit_of hex_of id_of name_of command_by command_in command_of after_word res_of resource_id given_of given_by last_color color_of dimen_given dimen_word unit_of rest_of escaped_text_of text_of
-escapes_stand_as_written = refl
+escapes_are_as_written = refl
 
 pub an_unknown_escape : command_of (codes "res @0 text \\q") ≡ Err Syntax
 unfolding is_utf8 chars encode words natural_of integer_of within_of natural_within hex_digit_of hex_of id_of name_of command_by command_in command_of after_word res_of resource_id given_of given_by last_color color_of dimen_given dimen_word unit_of rest_of escaped_text_of text_of

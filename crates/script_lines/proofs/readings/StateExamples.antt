@@ -17,9 +17,9 @@ pub spaces_around_a_word : command_of (codes " save  ") ≡ Ok Save
 unfolding is_utf8 chars encode words is_state_text state_text_of save_of restore_of set_of command_by command_in command_of after_word
 spaces_around_a_word = refl
 
-pub a_word_behind_save : command_of (codes "save 00") ≡ Err Syntax
+pub a_word_after_save : command_of (codes "save 00") ≡ Err Syntax
 unfolding is_utf8 chars encode words is_state_text state_text_of save_of restore_of set_of command_by command_in command_of after_word
-a_word_behind_save = refl
+a_word_after_save = refl
 
 pub the_state_that_is_kept : command_of (codes "restore") ≡ Ok (Restore None)
 unfolding is_utf8 chars encode words is_state_text state_text_of save_of restore_of set_of command_by command_in command_of after_word
@@ -37,9 +37,9 @@ pub a_state_of_one_byte : command_of (codes "restore 56") ≡ Ok (Restore (Some 
 unfolding is_utf8 chars encode words is_state_text state_text_of save_of restore_of set_of command_by command_in command_of after_word
 a_state_of_one_byte = refl
 
-pub digits_stand_as_written : command_of (codes "restore aBCdEF") ≡ Ok (Restore (Some (codes "aBCdEF")))
+pub digits_are_as_written : command_of (codes "restore aBCdEF") ≡ Ok (Restore (Some (codes "aBCdEF")))
 unfolding is_utf8 chars encode words is_state_text state_text_of save_of restore_of set_of command_by command_in command_of after_word
-digits_stand_as_written = refl
+digits_are_as_written = refl
 
 pub one_digit : command_of (codes "restore 5") ≡ Err Syntax
 unfolding is_utf8 chars encode words is_state_text state_text_of save_of restore_of set_of command_by command_in command_of after_word

@@ -41,9 +41,9 @@ pub two_answers : command_of (codes "answer v3 yes click") ≡ Err Syntax
 unfolding is_utf8 chars encode words natural_of integer_of within_of natural_within hex_digit_of hex_of id_of name_of on_of flag_named flag_of answer_named answer_of action_of with_actions actions_of pointer_of touch_of up_of cancel_of disallow_of set_of act_of change_of command_by command_in command_of after_word
 two_answers = refl
 
-pub an_answer_of_nobody : command_of (codes "answer yes") ≡ Err Syntax
+pub an_answer_of_no_view : command_of (codes "answer yes") ≡ Err Syntax
 unfolding is_utf8 chars encode words natural_of integer_of within_of natural_within hex_digit_of hex_of id_of name_of on_of flag_named flag_of answer_named answer_of action_of with_actions actions_of pointer_of touch_of up_of cancel_of disallow_of set_of act_of change_of command_by command_in command_of after_word
-an_answer_of_nobody = refl
+an_answer_of_no_view = refl
 
 pub no_action : command_of (codes "intercept v1 none") ≡ Ok (Act (Number 1) (act.Intercept 0))
 unfolding is_utf8 chars encode words natural_of integer_of within_of natural_within hex_digit_of hex_of id_of name_of on_of flag_named flag_of answer_named answer_of action_of with_actions actions_of pointer_of touch_of up_of cancel_of disallow_of set_of act_of change_of command_by command_in command_of after_word
@@ -89,9 +89,9 @@ pub none_beside_an_action : command_of (codes "intercept v1 none down") ≡ Err 
 unfolding is_utf8 chars encode words natural_of integer_of within_of natural_within hex_digit_of hex_of id_of name_of on_of flag_named flag_of answer_named answer_of action_of with_actions actions_of pointer_of touch_of up_of cancel_of disallow_of set_of act_of change_of command_by command_in command_of after_word
 none_beside_an_action = refl
 
-pub none_behind_an_action : command_of (codes "intercept v1 down none") ≡ Err Syntax
+pub none_after_an_action : command_of (codes "intercept v1 down none") ≡ Err Syntax
 unfolding is_utf8 chars encode words natural_of integer_of within_of natural_within hex_digit_of hex_of id_of name_of on_of flag_named flag_of answer_named answer_of action_of with_actions actions_of pointer_of touch_of up_of cancel_of disallow_of set_of act_of change_of command_by command_in command_of after_word
-none_behind_an_action = refl
+none_after_an_action = refl
 
 pub none_twice : command_of (codes "intercept v1 none none") ≡ Err Syntax
 unfolding is_utf8 chars encode words natural_of integer_of within_of natural_within hex_digit_of hex_of id_of name_of on_of flag_named flag_of answer_named answer_of action_of with_actions actions_of pointer_of touch_of up_of cancel_of disallow_of set_of act_of change_of command_by command_in command_of after_word
@@ -101,9 +101,9 @@ pub an_action_that_is_not_there : command_of (codes "intercept v1 left") ≡ Err
 unfolding is_utf8 chars encode words natural_of integer_of within_of natural_within hex_digit_of hex_of id_of name_of on_of flag_named flag_of answer_named answer_of action_of with_actions actions_of pointer_of touch_of up_of cancel_of disallow_of set_of act_of change_of command_by command_in command_of after_word
 an_action_that_is_not_there = refl
 
-pub an_unknown_action_behind_another : command_of (codes "intercept v1 up Down") ≡ Err Syntax
+pub an_unknown_action_after_another : command_of (codes "intercept v1 up Down") ≡ Err Syntax
 unfolding is_utf8 chars encode words natural_of integer_of within_of natural_within hex_digit_of hex_of id_of name_of on_of flag_named flag_of answer_named answer_of action_of with_actions actions_of pointer_of touch_of up_of cancel_of disallow_of set_of act_of change_of command_by command_in command_of after_word
-an_unknown_action_behind_another = refl
+an_unknown_action_after_another = refl
 
 pub actions_that_a_bar_parts : command_of (codes "intercept v1 down|up") ≡ Err Syntax
 unfolding is_utf8 chars encode words natural_of integer_of within_of natural_within hex_digit_of hex_of id_of name_of on_of flag_named flag_of answer_named answer_of action_of with_actions actions_of pointer_of touch_of up_of cancel_of disallow_of set_of act_of change_of command_by command_in command_of after_word
@@ -113,9 +113,9 @@ pub an_action_too_few : command_of (codes "intercept v1") ≡ Err Syntax
 unfolding is_utf8 chars encode words natural_of integer_of within_of natural_within hex_digit_of hex_of id_of name_of on_of flag_named flag_of answer_named answer_of action_of with_actions actions_of pointer_of touch_of up_of cancel_of disallow_of set_of act_of change_of command_by command_in command_of after_word
 an_action_too_few = refl
 
-pub actions_of_nobody : command_of (codes "intercept down") ≡ Err Syntax
+pub actions_of_no_view : command_of (codes "intercept down") ≡ Err Syntax
 unfolding is_utf8 chars encode words natural_of integer_of within_of natural_within hex_digit_of hex_of id_of name_of on_of flag_named flag_of answer_named answer_of action_of with_actions actions_of pointer_of touch_of up_of cancel_of disallow_of set_of act_of change_of command_by command_in command_of after_word
-actions_of_nobody = refl
+actions_of_no_view = refl
 
 pub pointers_are_not_taken_away : command_of (codes "disallow v1 yes") ≡ Ok (Disallow (Number 1) true)
 unfolding is_utf8 chars encode words natural_of integer_of within_of natural_within hex_digit_of hex_of id_of name_of on_of flag_named flag_of answer_named answer_of action_of with_actions actions_of pointer_of touch_of up_of cancel_of disallow_of set_of act_of change_of command_by command_in command_of after_word
@@ -137,9 +137,9 @@ pub both_yes_and_no : command_of (codes "disallow v1 yes no") ≡ Err Syntax
 unfolding is_utf8 chars encode words natural_of integer_of within_of natural_within hex_digit_of hex_of id_of name_of on_of flag_named flag_of answer_named answer_of action_of with_actions actions_of pointer_of touch_of up_of cancel_of disallow_of set_of act_of change_of command_by command_in command_of after_word
 both_yes_and_no = refl
 
-pub nobody_is_disallowed : command_of (codes "disallow yes") ≡ Err Syntax
+pub no_view_is_disallowed : command_of (codes "disallow yes") ≡ Err Syntax
 unfolding is_utf8 chars encode words natural_of integer_of within_of natural_within hex_digit_of hex_of id_of name_of on_of flag_named flag_of answer_named answer_of action_of with_actions actions_of pointer_of touch_of up_of cancel_of disallow_of set_of act_of change_of command_by command_in command_of after_word
-nobody_is_disallowed = refl
+no_view_is_disallowed = refl
 
 pub pointers_one_by_one : command_of (codes "flag v1 split yes") ≡ Ok (Act (Number 1) (act.Flag flag.Split true))
 unfolding is_utf8 chars encode words natural_of integer_of within_of natural_within hex_digit_of hex_of id_of name_of on_of flag_named flag_of answer_named answer_of action_of with_actions actions_of pointer_of touch_of up_of cancel_of disallow_of set_of act_of change_of command_by command_in command_of after_word
@@ -157,9 +157,9 @@ pub a_split_without_an_answer : command_of (codes "flag v1 split") ≡ Err Synta
 unfolding is_utf8 chars encode words natural_of integer_of within_of natural_within hex_digit_of hex_of id_of name_of on_of flag_named flag_of answer_named answer_of action_of with_actions actions_of pointer_of touch_of up_of cancel_of disallow_of set_of act_of change_of command_by command_in command_of after_word
 a_split_without_an_answer = refl
 
-pub a_word_behind_a_split : command_of (codes "flag v1 split yes no") ≡ Err Syntax
+pub a_word_after_a_split : command_of (codes "flag v1 split yes no") ≡ Err Syntax
 unfolding is_utf8 chars encode words natural_of integer_of within_of natural_within hex_digit_of hex_of id_of name_of on_of flag_named flag_of answer_named answer_of action_of with_actions actions_of pointer_of touch_of up_of cancel_of disallow_of set_of act_of change_of command_by command_in command_of after_word
-a_word_behind_a_split = refl
+a_word_after_a_split = refl
 
 pub a_pointer_goes_down : command_of (codes "down 0 5 30") ≡ Ok (Down 0 (pos 5) (pos 30))
 unfolding is_utf8 chars encode words natural_of integer_of within_of natural_within hex_digit_of hex_of id_of name_of on_of flag_named flag_of answer_named answer_of action_of with_actions actions_of pointer_of touch_of up_of cancel_of disallow_of set_of act_of change_of command_by command_in command_of after_word
@@ -197,13 +197,13 @@ pub a_point_too_far_up : command_of (codes "down 0 0 -1048577") ≡ Err Range
 unfolding is_utf8 chars encode words natural_of integer_of within_of natural_within hex_digit_of hex_of id_of name_of on_of flag_named flag_of answer_named answer_of action_of with_actions actions_of pointer_of touch_of up_of cancel_of disallow_of set_of act_of change_of command_by command_in command_of after_word
 a_point_too_far_up = refl
 
-pub a_fault_behind_pointer_32 : command_of (codes "down 32 0 y") ≡ Err Syntax
+pub a_fault_after_pointer_32 : command_of (codes "down 32 0 y") ≡ Err Syntax
 unfolding is_utf8 chars encode words natural_of integer_of within_of natural_within hex_digit_of hex_of id_of name_of on_of flag_named flag_of answer_named answer_of action_of with_actions actions_of pointer_of touch_of up_of cancel_of disallow_of set_of act_of change_of command_by command_in command_of after_word
-a_fault_behind_pointer_32 = refl
+a_fault_after_pointer_32 = refl
 
-pub a_fault_behind_a_point_too_far_right : command_of (codes "down 0 1048577") ≡ Err Syntax
+pub a_fault_after_a_point_too_far_right : command_of (codes "down 0 1048577") ≡ Err Syntax
 unfolding is_utf8 chars encode words natural_of integer_of within_of natural_within hex_digit_of hex_of id_of name_of on_of flag_named flag_of answer_named answer_of action_of with_actions actions_of pointer_of touch_of up_of cancel_of disallow_of set_of act_of change_of command_by command_in command_of after_word
-a_fault_behind_a_point_too_far_right = refl
+a_fault_after_a_point_too_far_right = refl
 
 pub a_pointer_is_no_view : command_of (codes "down v0 5 5") ≡ Err Syntax
 unfolding is_utf8 chars encode words natural_of integer_of within_of natural_within hex_digit_of hex_of id_of name_of on_of flag_named flag_of answer_named answer_of action_of with_actions actions_of pointer_of touch_of up_of cancel_of disallow_of set_of act_of change_of command_by command_in command_of after_word

@@ -16,7 +16,7 @@ use Rattle.view_model.specs.declared.limits.TheConstants.{MAX_EDITS}
 use Rattle.view_model.specs.declared.placing.Gravity.{Gravity}
 use Rattle.script_lines.specs.reading.Changes.{IsChangeInBounds}
 use Rattle.script_lines.specs.words.Dimensions.{IsExtent, dimension_of}
-use Rattle.script_lines.specs.reading.Gathered.{joined_behind, reading_of}
+use Rattle.script_lines.specs.reading.Gathered.{joined_after, reading_of}
 use Rattle.script_lines.specs.words.Gravities.{across_of, down_of, gravity_of, with_word, with_words}
 use Rattle.script_lines.specs.reading.Hooks.{asked_of, begins_edit, begins_line, edit_of, edits_of, joined, parts_edits, readings_of, unmade_of}
 use Rattle.script_lines.specs.words.Names.{id_of, name_of}
@@ -154,7 +154,7 @@ unmade (suc left) = let some : nat_lt 0 (suc left) ≡ true = grind (arith, nat_
 
 -- edits that are read one by one, and those after them
 reads-then : (edits : List Asked) (asked : List Asked) (left : ℕ) (more : List (List (List ℕ))) → length edits ≤ left → All EditReads edits
-    → joined_behind asked false false (readings_of left (map edit_words edits ++ more)) ≡ joined_behind (asked ++ edits) false false (readings_of (left - length edits) more)
+    → joined_after asked false false (readings_of left (map edit_words edits ++ more)) ≡ joined_after (asked ++ edits) false false (readings_of (left - length edits) more)
 unfolding reading_of
 reads-then [] asked left more most h = let e : left - 0 ≡ left = omega arith in rw (append-nil asked, e) refl
 reads-then (edit ∷ edits) asked left more most h =
@@ -179,7 +179,7 @@ hook_edits-some [] false h = absurd (cc)
 hook_edits-some (edit ∷ edits) bad h = omega arith
 
 -- the edit that no hook can make, if there is to be one
-reads-last : (edits : List Asked) (bad : Bool) (left : ℕ) → joined_behind edits false false (readings_of left (unmade_edits bad)) ≡ Ok (edits, bad)
+reads-last : (edits : List Asked) (bad : Bool) (left : ℕ) → joined_after edits false false (readings_of left (unmade_edits bad)) ≡ Ok (edits, bad)
 reads-last edits false left = edits_end edits left false false
 reads-last edits true left = edits_unmade edits left false false (codes "frame" ∷ []) [] (unmade left) ∙ edits_end edits (left - 1) true false
 

@@ -57,9 +57,9 @@ fn named_actions(bytes: &[u8]) -> Result<u8, LineFault>
     let mut actions = 0u8;
     let mut at = 0;
     while end(&bytes[at..]).is_err() {
-        let (action, behind) = next_action(bytes, at)?;
+        let (action, following) = next_action(bytes, at)?;
         actions |= action;
-        at = behind;
+        at = following;
     }
     Ok(actions)
 }

@@ -6,7 +6,7 @@ ghost use Rattle.std.specs.Str.{bytes_eq};
 ghost use Rattle.arrayvec.specs.ArrayVec.{array_vec_len};
 ghost use Rattle.script_lines.specs.reading.Changes.{IsChangeInBounds};
 ghost use Rattle.script_lines.specs.reading.Commands.{IsInBounds};
-ghost use Rattle.script_lines.specs.reading.Gathered.{behind, edits_after, edits_in, reading_of};
+ghost use Rattle.script_lines.specs.reading.Gathered.{following, edits_after, edits_in, reading_of};
 ghost use Rattle.script_lines.specs.reading.Hooks.{asked_of, begins_edit, begins_line, edit_of, edits_of, hook_of, unmade_of};
 ghost use Rattle.script_lines.specs.commands.PlainCommands.{plain_command};
 ghost use Rattle.script_lines.specs.words.Words.{map_ok, words};
@@ -178,7 +178,7 @@ impl Gathered {
         ensures bounds { All (λ asked. IsChangeInBounds asked.change) self.old.edits.items
             → All (λ asked. IsChangeInBounds asked.change) self.new.edits.items }
         ensures edits { (more : List (List (List ℕ)))
-            → edits_after self.old (words bytes.now ∷ more) ≡ behind result (edits_after self.new more) }
+            → edits_after self.old (words bytes.now ∷ more) ≡ following result (edits_after self.new more) }
     {
         let reading = read_next(self.left, bytes);
         self.left = self.left.saturating_sub(1);
@@ -200,9 +200,9 @@ fn gather(bytes: &[u8]) -> Result<Gathered, LineFault>
 {
     let mut gathered = Gathered::new();
     let mut at = 0;
-    while let Some((end, behind)) = first_edit(&bytes[at..]) {
+    while let Some((end, following)) = first_edit(&bytes[at..]) {
         gathered.add(&bytes[at..at + end])?;
-        at += behind;
+        at += following;
     }
     gathered.add(&bytes[at..])?;
     Ok(gathered)

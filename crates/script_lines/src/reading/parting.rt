@@ -14,15 +14,15 @@ pub fn first_edit(bytes: &[u8]) -> Option<(usize, usize)>
         ≡ words (take r.0 bytes.now) ∷ slice_split parts_edits (words (drop r.1 bytes.now))) }
     ensures within { IfSome result (λ r. r.0 ≤ length bytes.now) }
     ensures forward { IfSome result (λ r. 0 < r.1) }
-    ensures behind { IfSome result (λ r. r.1 ≤ length bytes.now) }
+    ensures following { IfSome result (λ r. r.1 ≤ length bytes.now) }
 {
     let mut at = 0;
     while let Ok((word, rest)) = word(&bytes[at..]) {
-        let behind = bytes.len() - rest.len();
+        let following = bytes.len() - rest.len();
         if is(word, b";") {
-            return Some((at, behind));
+            return Some((at, following));
         }
-        at = behind;
+        at = following;
     }
     None
 }

@@ -34,7 +34,7 @@ pub fn offer(
     ensures kept { KeepsScene tree.old tree.new gesture.old gesture.new log.old log.new }
 {
     if intercepted || !is_offered(delivery.event.action, tree.facts(delivery.view).split) {
-        return Taker::Nobody;
+        return Taker::NoChild;
     }
     let taker = try_children(tree, gesture, log, delivery);
     settle(gesture, tree.number(delivery.view), delivery.event, taker);
@@ -64,7 +64,7 @@ fn try_children(
         }
         next = tree.previous(kid);
     }
-    Taker::Nobody
+    Taker::NoChild
 }
 
 /// Tries one child: it gets the event if the pointer is in it, unless it is a target already.
@@ -91,7 +91,7 @@ fn try_child(
     let child = tree.number(kid);
     let rect = tree.state(kid).bounds;
     if !is_tried(own, tree.facts(kid), rect, delivery.event) {
-        return Taker::Nobody;
+        return Taker::NoChild;
     }
     if is_target(gesture, group, child) {
         gesture.put(group, child, id_bit(delivery.event.pointer));
@@ -104,10 +104,10 @@ fn try_child(
         limits: delivery.limits,
     };
     if !reach(tree, gesture, log, &to_kid) {
-        return Taker::Nobody;
+        return Taker::NoChild;
     }
     gesture.put(group, child, tried_ids(split, delivery.event));
-    Taker::Handed(child)
+    Taker::Sent(child)
 }
 
 /// Whether a child has the pointer.
@@ -115,7 +115,7 @@ fn is_taken(taker: Taker) -> bool
     ensures { result ≡ is_taken taker }
 {
     match taker {
-        Taker::Nobody => false,
-        Taker::Earlier | Taker::Handed(_) => true,
+        Taker::NoChild => false,
+        Taker::Earlier | Taker::Sent(_) => true,
     }
 }

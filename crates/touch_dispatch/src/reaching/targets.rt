@@ -1,7 +1,7 @@
 //! What the targets of a group get.
 ghost use Rattle.std.specs.Prelude.{◌≡◌, ◌≤◌, ◌||◌, true, false};
 ghost use Rattle.touch_dispatch.specs.Delivery.{delivered_target, delivered_targets, own_targets};
-ghost use Rattle.touch_dispatch.specs.Dispatch.{is_handed};
+ghost use Rattle.touch_dispatch.specs.Dispatch.{is_sent};
 ghost use Rattle.touch_dispatch.specs.Handling.{many};
 ghost use Rattle.touch_dispatch.specs.TreeEvents.{KeepsScene, MayReach, progress_of, room_of};
 ghost use Rattle.touch_targets.specs.Captures.{is_target};
@@ -63,7 +63,7 @@ fn deliver_to(
         intercepted,
         taker,
     } = *shared;
-    if is_handed(taker, child) {
+    if is_sent(taker, child) {
         return true;
     }
     let Some(kid) = tree.find(child) else {
@@ -92,11 +92,11 @@ fn either(first: bool, second: bool) -> bool
 }
 
 /// Whether this child got the event when it was captured.
-fn is_handed(taker: Taker, child: u64) -> bool
-    ensures { result ≡ is_handed taker child }
+fn is_sent(taker: Taker, child: u64) -> bool
+    ensures { result ≡ is_sent taker child }
 {
     match taker {
-        Taker::Nobody | Taker::Earlier => false,
-        Taker::Handed(handed) => handed == child,
+        Taker::NoChild | Taker::Earlier => false,
+        Taker::Sent(forwarded) => forwarded == child,
     }
 }

@@ -152,7 +152,7 @@ above_outside outer k x (Branch row below after) once live is = elim (cases_eq r
 -- the parent of a view is live and not below it
 pub parent_outside : (views : Views) (key parent : ℕ) → IsTree views → IsLive views key → parent_of views key ≡ Some parent
     → (0 < count_of_key parent views.tree) × (count_of_key parent (first_tree (part_from key views.tree)) ≡ 0)
-parent_outside views key parent is live told = elim (above_outside [] key parent views.tree is.keys live told) [
+parent_outside views key parent is live reported = elim (above_outside [] key parent views.tree is.keys live reported) [
   | inl none ↦ absurd (let e : None ≡ Some parent = none in cc)
   | inr there ↦ there
 ]
@@ -210,8 +210,8 @@ module _ (start now new : Views) (key kid : ℕ) (is : IsTree now) (live : IsLiv
   below_kid number = rw (low.is, at.is, kids_are) (omega arith)
 
   apart : (number : ℕ) → count_of_number number (first_tree (part_from key start.tree)) ≡ 0 → group_number now (parent_of now kid) ≢ Some number
-  apart number none told =
-      let mine : group_number now (Some key) ≡ Some number = ap (group_number now) (sym above) ∙ told in
+  apart number none reported =
+      let mine : group_number now (Some key) ≡ Some number = ap (group_number now) (sym above) ∙ reported in
       let same : number_of now key ≡ number = (group_number-is now key number mine).1 in
       let less = before.numbers number in
       let some : 0 < count_of_number number (first_tree (part_from key now.tree)) = subst (λ n. 0 < count_of_number n (first_tree (part_from key now.tree))) same (number_own now key live) in
@@ -249,19 +249,19 @@ module _ (start now new : Views) (key : ℕ) (is : IsTree start) (live : IsLive 
   parent_same = ap (λ (path : List ℕ). slice_get path 0) before.path
 
   slot : (parent : ℕ) → parent_of start key ≡ Some parent → SameSlot parent start.tree now.tree
-  slot parent told = let out = parent_outside start key parent is live told in before.slots parent out.0 out.1
+  slot parent reported = let out = parent_outside start key parent is live reported in before.slots parent out.0 out.1
 
   group_same : (parent : Option ℕ) → parent_of start key ≡ parent → group_number now parent ≡ group_number start parent
-  group_same None told = refl
-  group_same (Some parent) told = ap (λ (view : PlainView). if is_relative view.class then Some view.number else None) (slot parent told).head
+  group_same None reported = refl
+  group_same (Some parent) reported = ap (λ (view : PlainView). if is_relative view.class then Some view.number else None) (slot parent reported).head
 
   pub detached_whole : Detached start new key
   detached_whole = record {
     kept = λ number apart none.
         let less = before.numbers number in
-        cut.kept number (λ told. apart (sym (group_same (parent_of start key) refl) ∙ ap (group_number now) (sym parent_same) ∙ told)) (omega arith) ∙ before.orders number none;
-    lowered = λ parent told relative.
-        let out = parent_outside start key parent is live told in
+        cut.kept number (λ reported. apart (sym (group_same (parent_of start key) refl) ∙ ap (group_number now) (sym parent_same) ∙ reported)) (omega arith) ∙ before.orders number none;
+    lowered = λ parent reported relative.
+        let out = parent_outside start key parent is live reported in
         let same = before.slots parent out.0 out.1 in
         let number : number_of now parent ≡ number_of start parent = ap (λ (view : PlainView). view.number) same.head in
         let class : is_relative (class_of now parent) ≡ true = ap (λ (view : PlainView). is_relative view.class) same.head ∙ relative in
@@ -272,6 +272,6 @@ module _ (start now new : Views) (key : ℕ) (is : IsTree start) (live : IsLive 
         ∙ ap (λ found. unwrap_or found no_orders) (before.orders (number_of start parent) (number_outside start key parent is live out.0 out.1)) in
         subst (λ n. AreLowered (place_below start parent key) (orders_of start parent) (orders_under new n)) number
         (subst (λ old. AreLowered (place_below start parent key) old (orders_under new (number_of now parent))) orders
-        (subst (λ place. AreLowered place (orders_of now parent) (orders_under new (number_of now parent))) place (cut.lowered parent (parent_same ∙ told) class)));
+        (subst (λ place. AreLowered place (orders_of now parent) (orders_under new (number_of now parent))) place (cut.lowered parent (parent_same ∙ reported) class)));
     only = cut.only;
   }

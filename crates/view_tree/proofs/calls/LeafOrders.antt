@@ -19,8 +19,8 @@ use Rattle.view_tree.proofs.forest.KeyLaws.{from_within}
 use Rattle.view_tree.proofs.nodes.NodeReads.{is_tree}
 use Rattle.view_tree.proofs.orders.ListLaws.{IsAmong, place_within}
 use Rattle.view_tree.proofs.orders.OnlyLayouts.{none_taken, only-pruned}
-use Rattle.view_tree.proofs.orders.RowLaws.{group_number-own, group_there, nearest_told, numbers-plain, orders_none, orders_or, orders_same, orders_under-is}
-use Rattle.view_tree.proofs.orders.ToldParents.{told_child}
+use Rattle.view_tree.proofs.orders.RowLaws.{group_number-own, group_there, nearest_reported, numbers-plain, orders_none, orders_or, orders_same, orders_under-is}
+use Rattle.view_tree.proofs.orders.ReportedParents.{reported_child}
 
 -- the orders of a group that has lost a child
 lowered_at : (number : ℕ) (kids : Forest PlainView) (old new : Option PlainGroup) → IsAmong number kids → IsKeptOf kids old → IsTakenAt number old new
@@ -35,10 +35,10 @@ lowered_at number kids (Some old) (Some new) among kept taken =
       down = subst (λ place. IsLowered place old.orders.down new.orders.down) same one.down;
     }
 
-module _ (a b : Inside) (v : Views) (key number : ℕ) (told group : Option ℕ) (sound : IsSoundTree a) (e : value_of a ≡ v) (live : IsLive v key)
+module _ (a b : Inside) (v : Views) (key number : ℕ) (reported group : Option ℕ) (sound : IsSoundTree a) (e : value_of a ≡ v) (live : IsLive v key)
     (leaf : children_of_first (part_from key v.tree) ≡ Nothing) (tree : tree_of b ≡ pruned_at_key key v.tree)
-    (path : MatchOption told (ancestors key v.tree ≡ []) (λ parent. ancestors key v.tree ≡ parent ∷ ancestors parent v.tree)) (alive : IfSome told (λ parent. IsLive v parent))
-    (group_is : group ≡ group_number v told) (number_is : number ≡ number_of v key)
+    (path : MatchOption reported (ancestors key v.tree ≡ []) (λ parent. ancestors key v.tree ≡ parent ∷ ancestors parent v.tree)) (alive : IfSome reported (λ parent. IsLive v parent))
+    (group_is : group ≡ group_number v reported) (number_is : number ≡ number_of v key)
     (own : (k : ℕ) → group ≡ Some k → k ≢ number → IsTakenAt number (group_at a.groups k) (group_at b.groups k))
     (others : (k : ℕ) → group ≢ Some k → k ≢ number → group_at b.groups k ≡ group_at a.groups k) (unused : group_at b.groups number ≡ None) where
   is : IsTree v
@@ -50,8 +50,8 @@ module _ (a b : Inside) (v : Views) (key number : ℕ) (told group : Option ℕ)
       (λ k other. none_taken number k group (group_at a.groups) (group_at b.groups) (λ is. own k is (λ same. other (same ∙ number_is))) (λ apart. others k apart (λ same. other (same ∙ number_is))))
       (subst (λ (v : Views). HasNoOther (group_at a.groups) v.tree) e sound.only)
 
-  nearest : parent_of v key ≡ told
-  nearest = nearest_told told (ancestors key v.tree) (λ parent. ancestors parent v.tree) path
+  nearest : parent_of v key ≡ reported
+  nearest = nearest_reported reported (ancestors key v.tree) (λ parent. ancestors parent v.tree) path
 
   was : (k : ℕ) → orders_under v k ≡ orders_or (group_at a.groups k)
   was k = ap (λ (v : Views). orders_under v k) (sym e) ∙ orders_under-is a.groups.entries k
@@ -59,9 +59,9 @@ module _ (a b : Inside) (v : Views) (key number : ℕ) (told group : Option ℕ)
   lowered : (parent : ℕ) → parent_of v key ≡ Some parent → is_relative (class_of v parent) ≡ true
       → AreLowered (place_below v parent key) (orders_of v parent) (orders_under (value_of b) (number_of v parent))
   lowered parent above relative =
-      let said : told ≡ Some parent = sym nearest ∙ above in
+      let said : reported ≡ Some parent = sym nearest ∙ above in
       let out = parent_outside v key parent is live above in
-      let child = told_child a v key told sound.planted e live path parent said in
+      let child = reported_child a v key reported sound.planted e live path parent said in
       let same : child.row.key ≡ parent = sym (some_is child.is) in
       let part : part_from parent v.tree ≡ Branch child.row child.kids child.siblings =
       ap (λ x. part_from x v.tree) (sym same) ∙ from_within child.row child.kids child.siblings child.within (is.keys child.row.key) in

@@ -77,9 +77,9 @@ pub record Up (o : Option ℕ) (k : ℕ) (t : Forest Row) : Type 0 where
 
 pub up_is : (at : ℕ → Option PlainNode) (root : Option ℕ) (next : ℕ) (t : Forest Row) (k : ℕ) (n : PlainNode) → RepresentsTree at root next t → 0 < count_of_key k t → at k ≡ Some n
     → Up n.parent k t
-up_is at root next t k n stands live says =
-    let e : n.parent ≡ head (ancestors k t) = parent_is at k n says t [] None stands.stand live in
-    elim (nearest k t [] stands.distinct live) [
+up_is at root next t k n represents live says =
+    let e : n.parent ≡ head (ancestors k t) = parent_is at k n says t [] None represents.represented live in
+    elim (nearest k t [] represents.distinct live) [
       | inl outermost ↦ rw (e, outermost) (record { path = outermost; live = tt })
       | inr g ↦ let h : n.parent ≡ Some g.x = e ∙ ap head g.is in rw h (record { path = g.is; live = g.live })
     ]

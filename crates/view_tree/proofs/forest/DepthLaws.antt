@@ -113,12 +113,12 @@ pub around-joined : (outer : List ℕ) (other : ℕ) (list more : Forest Row) �
 around-joined outer other Nothing more none = around_absent outer other more none
 around-joined outer other (Branch row kids siblings) more none = rw (around-joined outer other siblings more none)
 
-pub around-behind : (outer : List ℕ) (other : ℕ) (list more : Forest Row) → count_of_key other list ≡ 0 → around outer other (joined list more) ≡ around outer other more
-around-behind outer other Nothing more none = refl
-around-behind outer other (Branch row kids siblings) more none =
+pub around-following : (outer : List ℕ) (other : ℕ) (list more : Forest Row) → count_of_key other list ≡ 0 → around outer other (joined list more) ≡ around outer other more
+around-following outer other Nothing more none = refl
+around-following outer other (Branch row kids siblings) more none =
     elim (cases_Bool (row.key == other)) [
       | inl e ↦ absurd (let none = rw e at none in omega arith)
-      | inr e ↦ let z : count_of_key other kids ≡ 0 = omega arith in rw (e, z) (around-behind outer other siblings more (omega arith))
+      | inr e ↦ let z : count_of_key other kids ≡ 0 = omega arith in rw (e, z) (around-following outer other siblings more (omega arith))
     ]
 
 -- a view keeps its ancestors if another gets children that it is not among
@@ -154,7 +154,7 @@ around-new outer other parent new (Branch row kids siblings) live none there =
             | inl e ↦
                 let here : row.key ≡ parent = eqb-true _ _ e in
                 let some : 0 < count_of_key other (joined kids new) = let j = count_of_key-joined other kids new in omega arith in
-                rw (e, f, positive (count_of_key other (joined kids new)) some, around-behind (row.key ∷ outer) other kids new z)
+                rw (e, f, positive (count_of_key other (joined kids new)) some, around-following (row.key ∷ outer) other kids new z)
                 (ap (λ k. around (k ∷ outer) other new) here)
             | inr e ↦
                 let live = rw e at live in

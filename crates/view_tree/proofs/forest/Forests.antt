@@ -20,13 +20,13 @@ forest_is (suc n) at p q (Branch row kids siblings) s few =
     ∙ ap (λ t. Branch row kids t) (forest_is n at p (Some row.key) siblings s.2 (omega arith))
 
 -- a part is represented too
-pub record Stood (at : ℕ → Option PlainNode) (u : Forest Row) : Type 0 where
+pub record WasRepresented (at : ℕ → Option PlainNode) (u : Forest Row) : Type 0 where
   pub parent : Option ℕ
   pub before : Option ℕ
-  pub stand : RepresentsPart at parent before u
+  pub represented : RepresentsPart at parent before u
 
-pub RepresentsPart-within : {u t : Forest Row} (at : ℕ → Option PlainNode) (p q : Option ℕ) → Within u t → RepresentsPart at p q t → Stood at u
-RepresentsPart-within at p q here s = record { parent = p; before = q; stand = s }
+pub RepresentsPart-within : {u t : Forest Row} (at : ℕ → Option PlainNode) (p q : Option ℕ) → Within u t → RepresentsPart at p q t → WasRepresented at u
+RepresentsPart-within at p q here s = record { parent = p; before = q; represented = s }
 RepresentsPart-within at p q (in_below {row} w) s = RepresentsPart-within at (Some row.key) None w s.1
 RepresentsPart-within at p q (in_after {row} w) s = RepresentsPart-within at p (Some row.key) w s.2
 
@@ -47,7 +47,7 @@ Within-later_siblings (in_after w) = in_after (Within-later_siblings w)
 
 -- the forest that the nodes give is the one that they represent
 pub tree_is : (at : ℕ → Option PlainNode) (root : Option ℕ) (next : ℕ) (t : Forest Row) → RepresentsTree at root next t → forest next at root ≡ t
-tree_is at root next t s = ap (forest next at) (sym s.outer) ∙ forest_is next at None None t s.stand s.few
+tree_is at root next t s = ap (forest next at) (sym s.outer) ∙ forest_is next at None None t s.represented s.few
 
 -- what the node of a view holds
 pub record Seen (at : ℕ → Option PlainNode) (k : ℕ) (t : Forest Row) : Type 0 where
@@ -60,7 +60,7 @@ pub seen : (at : ℕ → Option PlainNode) (k : ℕ) (p q : Option ℕ) (t : For
 seen at k p q t s h =
     let f = located k t h in
     let w = RepresentsPart-within at p q f.within s in
-    record { found = f; parent = w.parent; before = w.before; is = ap at (sym f.key_is) ∙ w.stand.0 }
+    record { found = f; parent = w.parent; before = w.before; is = ap at (sym f.key_is) ∙ w.represented.0 }
 
 -- the part that begins at the first view of a part
 pub record IsRestFrom (o : Option ℕ) (t u : Forest Row) : Type 0 where

@@ -25,12 +25,12 @@ count_of_key-with_child_more other (Some parent) new tree empty = count_of_key-g
 
 -- what is read of the part from a view on stays if others are added after the view, or below another one
 module _ {A : Type 0} (read : Forest Row → A) (key : ℕ) (new : Forest Row) (none : count_of_key key new ≡ 0)
-    (behind : (row : Row) (kids siblings : Forest Row) → read (Branch row kids (joined siblings new)) ≡ read (Branch row kids siblings)) where
+    (following : (row : Row) (kids siblings : Forest Row) → read (Branch row kids (joined siblings new)) ≡ read (Branch row kids siblings)) where
   pub read-joined : (list : Forest Row) → read (part_from key (joined list new)) ≡ read (part_from key list)
   read-joined Nothing = ap read (absent key new none)
   read-joined (Branch row kids siblings) =
       elim (cases_Bool (row.key == key)) [
-        | inl e ↦ rw e (behind row kids siblings)
+        | inl e ↦ rw e (following row kids siblings)
         | inr e ↦ rw e (elim (zero_or_more (count_of_key key kids)) [
           | inl z ↦ rw (absent key kids z) (read-joined siblings)
           | inr l ↦ ap read (or_else_live key kids (part_from key (joined siblings new)) l ∙ sym (or_else_live key kids (part_from key siblings) l))
@@ -78,12 +78,12 @@ head_view-grown key parent new tree none =
     read-grown head_view key new none (λ row kids siblings. refl) parent (λ row kids siblings. refl) (λ row kids siblings f e. refl) tree
 
 -- a new view is what it is among the new ones
-part_from-behind : (key : ℕ) (list more : Forest Row) → count_of_key key list ≡ 0 → part_from key (joined list more) ≡ part_from key more
-part_from-behind key Nothing more none = refl
-part_from-behind key (Branch row kids siblings) more none =
+part_from-following : (key : ℕ) (list more : Forest Row) → count_of_key key list ≡ 0 → part_from key (joined list more) ≡ part_from key more
+part_from-following key Nothing more none = refl
+part_from-following key (Branch row kids siblings) more none =
     elim (cases_Bool (row.key == key)) [
       | inl e ↦ absurd (let none = rw e at none in omega arith)
-      | inr e ↦ rw (e, absent key kids (omega arith)) (part_from-behind key siblings more (omega arith))
+      | inr e ↦ rw (e, absent key kids (omega arith)) (part_from-following key siblings more (omega arith))
     ]
 
 pub part_from-new : (key parent : ℕ) (new tree : Forest Row) → 0 < count_of_key parent tree → count_of_key key tree ≡ 0 → 0 < count_of_key key new
@@ -97,7 +97,7 @@ part_from-new key parent new (Branch row kids siblings) live none there =
           elim (cases_Bool (row.key == parent)) [
             | inl e ↦
                 let m : 0 < count_of_key key (joined kids new) = let j = count_of_key-joined key kids new in omega arith in
-                rw (e, f) (or_else_live key (joined kids new) (part_from key siblings) m ∙ part_from-behind key kids new (omega arith))
+                rw (e, f) (or_else_live key (joined kids new) (part_from key siblings) m ∙ part_from-following key kids new (omega arith))
             | inr e ↦
                 let live = rw e at live in
                 elim (zero_or_more (count_of_key parent kids)) [

@@ -4,7 +4,7 @@ use Rattle.std.proofs.lemmas.Bool.{eq-eqb, ne_eqb, cases_eq}
 use Rattle.std.proofs.lemmas.List.{append-nil}
 use Rattle.std.specs.Prelude.{◌==◌, if◌then◌else◌, MatchOption}
 use Rattle.view_model.specs.Forest.{Forest, Nothing, Branch, rows}
-use Rattle.view_tree.specs.Preorder.{first_row_key, from_key, rows_behind, rows_from, views_from}
+use Rattle.view_tree.specs.Preorder.{first_row_key, from_key, rows_following, rows_from, views_from}
 use Rattle.view_model.specs.PlainTree.{PlainView}
 use Rattle.view_tree.specs.Views.{IsLive, Views, held_of, offset_of, plain_of, scrolled, view_at}
 use Rattle.view_tree.specs.Rows.{Row, ancestors, around, children_of_first, count_of_key, first_key, first_tree, head_view, later_siblings, part_from}
@@ -68,24 +68,24 @@ from_other first list (row ∷ later) once fewer =
     ]
 
 -- the list from the key after another on
-from_behind : (key : ℕ) (list : List Row) → ((other : ℕ) → key_count other list ≤ 1)
+from_after : (key : ℕ) (list : List Row) → ((other : ℕ) → key_count other list ≤ 1)
     → from_option (first_row_key (drop 1 (from_key key list))) list ≡ drop 1 (from_key key list)
-from_behind key [] once = refl
-from_behind key (row ∷ list) once = elim (cases_eq row.key key) [
+from_after key [] once = refl
+from_after key (row ∷ list) once = elim (cases_eq row.key key) [
   | inl e ↦ rw (eq-eqb row.key key e) (from_other row list list once (λ other. omega arith) ∙ from_head list)
   | inr ne ↦
       rw (ne_eqb row.key key ne)
       (from_other row list (drop 1 (from_key key list)) once
       (λ other. let a = key_count-drop other (from_key key list) in let b = key_count-from key other list in omega arith)
-      ∙ from_behind key list (λ other. let o = once other in omega arith))
+      ∙ from_after key list (λ other. let o = once other in omega arith))
 ]
 
-pub rows_behind_first : (key : ℕ) (next : Option ℕ) (tree : Forest Row) → ((other : ℕ) → count_of_key other tree ≤ 1)
+pub rows_following_first : (key : ℕ) (next : Option ℕ) (tree : Forest Row) → ((other : ℕ) → count_of_key other tree ≤ 1)
     → next ≡ first_row_key (drop 1 (rows_from (Some key) tree)) → rows_from next tree ≡ drop 1 (rows_from (Some key) tree)
-rows_behind_first key next tree once is =
+rows_following_first key next tree once is =
     ap (λ (next : Option ℕ). rows_from next tree) is
     ∙ as_option (first_row_key (drop 1 (rows_from (Some key) tree)))
-    ∙ from_behind key (rows tree) (λ other. let a = key_count-rows other tree in let o = once other in omega arith)
+    ∙ from_after key (rows tree) (λ other. let a = key_count-rows other tree in let o = once other in omega arith)
   where
     as_option : (o : Option ℕ) → rows_from o tree ≡ from_option o (rows tree)
     as_option None = refl
@@ -104,7 +104,7 @@ from_absent key tree more none = passed (rows tree) (key_count-rows key tree ∙
 
 -- from a view on, there are it, all below it, and what is after these
 pub from_parts : (key : ℕ) (tree : Forest Row) (later : List Row) → 0 < count_of_key key tree
-    → from_key key (rows tree ++ later) ≡ rows (first_tree (part_from key tree)) ++ rows_behind later key tree
+    → from_key key (rows tree ++ later) ≡ rows (first_tree (part_from key tree)) ++ rows_following later key tree
 from_parts key Nothing later live = absurd (omega arith)
 from_parts key (Branch row kids siblings) later live =
     elim (cases_eq row.key key) [
@@ -122,7 +122,7 @@ from_parts key (Branch row kids siblings) later live =
       ]
     ]
 
-pub rows_from_parts : (key : ℕ) (tree : Forest Row) → 0 < count_of_key key tree → rows_from (Some key) tree ≡ rows (first_tree (part_from key tree)) ++ rows_behind [] key tree
+pub rows_from_parts : (key : ℕ) (tree : Forest Row) → 0 < count_of_key key tree → rows_from (Some key) tree ≡ rows (first_tree (part_from key tree)) ++ rows_following [] key tree
 rows_from_parts key tree live = ap (from_key key) (sym (append-nil (rows tree))) ∙ from_parts key tree [] live
 
 -- what is after a view and all below it: its later siblings, and what is after its parent
@@ -130,23 +130,23 @@ pub record Outside (acc : List ℕ) (later : List Row) (key : ℕ) (tree : Fores
   pub parent : ℕ
   pub live : 0 < count_of_key parent tree
   pub path : around acc key tree ≡ parent ∷ around acc parent tree
-  pub behind : rows_behind later key tree ≡ rows (later_siblings (part_from key tree)) ++ rows_behind later parent tree
+  pub following : rows_following later key tree ≡ rows (later_siblings (part_from key tree)) ++ rows_following later parent tree
 
 -- the same of a view that has no parent
 pub record Outermost (acc : List ℕ) (later : List Row) (key : ℕ) (tree : Forest Row) : Type 0 where
   pub path : around acc key tree ≡ acc
-  pub behind : rows_behind later key tree ≡ rows (later_siblings (part_from key tree)) ++ later
+  pub following : rows_following later key tree ≡ rows (later_siblings (part_from key tree)) ++ later
 
-behind_here : (later : List Row) (key : ℕ) (row : Row) (kids siblings : Forest Row) → row.key ≡ key → rows_behind later key (Branch row kids siblings) ≡ rows siblings ++ later
-behind_here later key row kids siblings e = rw (eq-eqb row.key key e) refl
+after_here : (later : List Row) (key : ℕ) (row : Row) (kids siblings : Forest Row) → row.key ≡ key → rows_following later key (Branch row kids siblings) ≡ rows siblings ++ later
+after_here later key row kids siblings e = rw (eq-eqb row.key key e) refl
 
-behind_after : (later : List Row) (key : ℕ) (row : Row) (kids siblings : Forest Row) → (row.key ≡ key → ⊥) → count_of_key key kids ≡ 0
-    → rows_behind later key (Branch row kids siblings) ≡ rows_behind later key siblings
-behind_after later key row kids siblings ne none = rw (ne_eqb row.key key ne, eq-eqb (count_of_key key kids) 0 none) refl
+after_later : (later : List Row) (key : ℕ) (row : Row) (kids siblings : Forest Row) → (row.key ≡ key → ⊥) → count_of_key key kids ≡ 0
+    → rows_following later key (Branch row kids siblings) ≡ rows_following later key siblings
+after_later later key row kids siblings ne none = rw (ne_eqb row.key key ne, eq-eqb (count_of_key key kids) 0 none) refl
 
-behind_below : (later : List Row) (key : ℕ) (row : Row) (kids siblings : Forest Row) → (row.key ≡ key → ⊥) → (count_of_key key kids ≡ 0 → ⊥)
-    → rows_behind later key (Branch row kids siblings) ≡ rows_behind (rows siblings ++ later) key kids
-behind_below later key row kids siblings ne some = rw (ne_eqb row.key key ne, ne_eqb (count_of_key key kids) 0 some) refl
+after_below : (later : List Row) (key : ℕ) (row : Row) (kids siblings : Forest Row) → (row.key ≡ key → ⊥) → (count_of_key key kids ≡ 0 → ⊥)
+    → rows_following later key (Branch row kids siblings) ≡ rows_following (rows siblings ++ later) key kids
+after_below later key row kids siblings ne some = rw (ne_eqb row.key key ne, ne_eqb (count_of_key key kids) 0 some) refl
 
 part_here : (key : ℕ) (row : Row) (kids siblings : Forest Row) → row.key ≡ key → part_from key (Branch row kids siblings) ≡ Branch row kids siblings
 part_here key row kids siblings e = rw (eq-eqb row.key key e) refl
@@ -163,7 +163,7 @@ module _ (acc : List ℕ) (later : List Row) (key : ℕ) (row : Row) (kids sibli
       → Outermost acc later key (Branch row kids siblings) ⊎ Outside acc later key (Branch row kids siblings)
   outside_after ne none live (inl o) = inl (record {
     path = around_after acc key row kids siblings ne none ∙ o.path;
-    behind = behind_after later key row kids siblings ne none ∙ o.behind ∙ ap (λ (part : Forest Row). rows (later_siblings part) ++ later) (sym (part_after key row kids siblings ne none));
+    following = after_later later key row kids siblings ne none ∙ o.following ∙ ap (λ (part : Forest Row). rows (later_siblings part) ++ later) (sym (part_after key row kids siblings ne none));
   })
   outside_after ne none live (inr o) =
       let there : 0 < count_of_key o.parent siblings = o.live in
@@ -173,10 +173,10 @@ module _ (acc : List ℕ) (later : List Row) (key : ℕ) (row : Row) (kids sibli
         parent = o.parent;
         live = omega arith;
         path = around_after acc key row kids siblings ne none ∙ o.path ∙ ap (λ l. o.parent ∷ l) (sym (around_after acc o.parent row kids siblings ne' none'));
-        behind =
-            behind_after later key row kids siblings ne none ∙ o.behind
-            ∙ ap (λ (part : Forest Row). rows (later_siblings part) ++ rows_behind later o.parent siblings) (sym (part_after key row kids siblings ne none))
-            ∙ ap (λ (list : List Row). rows (later_siblings (part_from key (Branch row kids siblings))) ++ list) (sym (behind_after later o.parent row kids siblings ne' none'));
+        following =
+            after_later later key row kids siblings ne none ∙ o.following
+            ∙ ap (λ (part : Forest Row). rows (later_siblings part) ++ rows_following later o.parent siblings) (sym (part_after key row kids siblings ne none))
+            ∙ ap (λ (list : List Row). rows (later_siblings (part_from key (Branch row kids siblings))) ++ list) (sym (after_later later o.parent row kids siblings ne' none'));
       })
 
   -- outside of a view below
@@ -188,10 +188,10 @@ module _ (acc : List ℕ) (later : List Row) (key : ℕ) (row : Row) (kids sibli
         parent = row.key;
         live = times_self row kids siblings;
         path = around_below acc key row kids siblings ne some ∙ o.path ∙ ap (λ l. row.key ∷ l) (sym (around_here acc row.key row kids siblings refl));
-        behind =
-            behind_below later key row kids siblings ne some ∙ o.behind
+        following =
+            after_below later key row kids siblings ne some ∙ o.following
             ∙ ap (λ (part : Forest Row). rows (later_siblings part) ++ (rows siblings ++ later)) (sym (part_below key row kids siblings ne live))
-            ∙ ap (λ (list : List Row). rows (later_siblings (part_from key (Branch row kids siblings))) ++ list) (sym (behind_here later row.key row kids siblings refl));
+            ∙ ap (λ (list : List Row). rows (later_siblings (part_from key (Branch row kids siblings))) ++ list) (sym (after_here later row.key row kids siblings refl));
       }
   outside_below ne live (inr o) =
       let some : count_of_key key kids ≡ 0 → ⊥ = λ none. absurd (omega arith) in
@@ -202,10 +202,10 @@ module _ (acc : List ℕ) (later : List Row) (key : ℕ) (row : Row) (kids sibli
         parent = o.parent;
         live = omega arith;
         path = around_below acc key row kids siblings ne some ∙ o.path ∙ ap (λ l. o.parent ∷ l) (sym (around_below acc o.parent row kids siblings ne' some'));
-        behind =
-            behind_below later key row kids siblings ne some ∙ o.behind
-            ∙ ap (λ (part : Forest Row). rows (later_siblings part) ++ rows_behind (rows siblings ++ later) o.parent kids) (sym (part_below key row kids siblings ne live))
-            ∙ ap (λ (list : List Row). rows (later_siblings (part_from key (Branch row kids siblings))) ++ list) (sym (behind_below later o.parent row kids siblings ne' some'));
+        following =
+            after_below later key row kids siblings ne some ∙ o.following
+            ∙ ap (λ (part : Forest Row). rows (later_siblings part) ++ rows_following (rows siblings ++ later) o.parent kids) (sym (part_below key row kids siblings ne live))
+            ∙ ap (λ (list : List Row). rows (later_siblings (part_from key (Branch row kids siblings))) ++ list) (sym (after_below later o.parent row kids siblings ne' some'));
       }
 
 pub outside : (acc : List ℕ) (later : List Row) (key : ℕ) (tree : Forest Row) → ((other : ℕ) → count_of_key other tree ≤ 1) → 0 < count_of_key key tree
@@ -214,7 +214,7 @@ outside acc later key Nothing once live = absurd (omega arith)
 outside acc later key (Branch row kids siblings) once live = elim (cases_eq row.key key) [
   | inl e ↦ inl (record {
     path = around_here acc key row kids siblings e;
-    behind = behind_here later key row kids siblings e ∙ ap (λ (part : Forest Row). rows (later_siblings part) ++ later) (sym (part_here key row kids siblings e));
+    following = after_here later key row kids siblings e ∙ ap (λ (part : Forest Row). rows (later_siblings part) ++ later) (sym (part_here key row kids siblings e));
   })
   | inr ne ↦ elim (cases_eq (count_of_key key kids) 0) [
     | inl none ↦
@@ -232,25 +232,25 @@ none_first Nothing is = refl
 none_first (Branch row kids siblings) is = absurd (cc)
 
 -- what is after a view without a later sibling is what is after its parent
-pub behind_last : (key : ℕ) (parent : Option ℕ) (tree : Forest Row) → ((other : ℕ) → count_of_key other tree ≤ 1) → 0 < count_of_key key tree
+pub after_last : (key : ℕ) (parent : Option ℕ) (tree : Forest Row) → ((other : ℕ) → count_of_key other tree ≤ 1) → 0 < count_of_key key tree
     → None ≡ first_key (later_siblings (part_from key tree))
     → MatchOption parent (ancestors key tree ≡ []) (λ parent. ancestors key tree ≡ parent ∷ ancestors parent tree)
-    → MatchOption parent (rows_behind [] key tree ≡ []) (λ parent. rows_behind [] key tree ≡ rows_behind [] parent tree)
-behind_last key None tree once live last path = elim (outside [] [] key tree once live) [
-  | inl o ↦ o.behind ∙ rw (none_first (later_siblings (part_from key tree)) last) refl
+    → MatchOption parent (rows_following [] key tree ≡ []) (λ parent. rows_following [] key tree ≡ rows_following [] parent tree)
+after_last key None tree once live last path = elim (outside [] [] key tree once live) [
+  | inl o ↦ o.following ∙ rw (none_first (later_siblings (part_from key tree)) last) refl
   | inr o ↦ absurd (let e = sym path ∙ o.path in cc)
 ]
-behind_last key (Some parent) tree once live last path = elim (outside [] [] key tree once live) [
+after_last key (Some parent) tree once live last path = elim (outside [] [] key tree once live) [
   | inl o ↦ absurd (let e = sym path ∙ o.path in cc)
-  | inr o ↦ o.behind ∙ rw (none_first (later_siblings (part_from key tree)) last) (ap (λ k. rows_behind [] k tree) (same_parent (sym o.path ∙ path)))
+  | inr o ↦ o.following ∙ rw (none_first (later_siblings (part_from key tree)) last) (ap (λ k. rows_following [] k tree) (same_parent (sym o.path ∙ path)))
 ]
 
 -- the first view after one that has a later sibling
-pub behind_sibling : (key : ℕ) (sibling : ℕ) (tree : Forest Row) → ((other : ℕ) → count_of_key other tree ≤ 1) → 0 < count_of_key key tree
-    → Some sibling ≡ first_key (later_siblings (part_from key tree)) → Some sibling ≡ first_row_key (rows_behind [] key tree)
-behind_sibling key sibling tree once live is = elim (outside [] [] key tree once live) [
-  | inl o ↦ is ∙ first_of (later_siblings (part_from key tree)) [] (sym is) ∙ ap first_row_key (sym o.behind)
-  | inr o ↦ is ∙ first_of (later_siblings (part_from key tree)) (rows_behind [] o.parent tree) (sym is) ∙ ap first_row_key (sym o.behind)
+pub after_sibling : (key : ℕ) (sibling : ℕ) (tree : Forest Row) → ((other : ℕ) → count_of_key other tree ≤ 1) → 0 < count_of_key key tree
+    → Some sibling ≡ first_key (later_siblings (part_from key tree)) → Some sibling ≡ first_row_key (rows_following [] key tree)
+after_sibling key sibling tree once live is = elim (outside [] [] key tree once live) [
+  | inl o ↦ is ∙ first_of (later_siblings (part_from key tree)) [] (sym is) ∙ ap first_row_key (sym o.following)
+  | inr o ↦ is ∙ first_of (later_siblings (part_from key tree)) (rows_following [] o.parent tree) (sym is) ∙ ap first_row_key (sym o.following)
 ]
   where
     first_of : (list : Forest Row) (more : List Row) → first_key list ≡ Some sibling → first_key list ≡ first_row_key (rows list ++ more)
@@ -258,27 +258,27 @@ behind_sibling key sibling tree once live is = elim (outside [] [] key tree once
     first_of (Branch row kids siblings) more is = refl
 
 -- the first view after one that has children, and after one that has none
-pub behind_kid : (key kid : ℕ) (tree : Forest Row) → 0 < count_of_key key tree → Some kid ≡ first_key (children_of_first (part_from key tree))
+pub after_kid : (key kid : ℕ) (tree : Forest Row) → 0 < count_of_key key tree → Some kid ≡ first_key (children_of_first (part_from key tree))
     → Some kid ≡ first_row_key (drop 1 (rows_from (Some key) tree))
-behind_kid key kid tree live is =
+after_kid key kid tree live is =
     let f = located key tree live in
-    let parts : rows_from (Some key) tree ≡ f.row ∷ ((rows f.kids ++ []) ++ rows_behind [] key tree) = rows_from_parts key tree live ∙ rw f.is refl in
+    let parts : rows_from (Some key) tree ≡ f.row ∷ ((rows f.kids ++ []) ++ rows_following [] key tree) = rows_from_parts key tree live ∙ rw f.is refl in
     let from : Some kid ≡ first_key f.kids = rw f.is at is in
     from ∙ first_of f.kids (sym from) ∙ ap (λ (list : List Row). first_row_key (drop 1 list)) (sym parts)
   where
-    first_of : (list : Forest Row) → first_key list ≡ Some kid → first_key list ≡ first_row_key ((rows list ++ []) ++ rows_behind [] key tree)
+    first_of : (list : Forest Row) → first_key list ≡ Some kid → first_key list ≡ first_row_key ((rows list ++ []) ++ rows_following [] key tree)
     first_of Nothing is = absurd (cc)
     first_of (Branch row kids siblings) is = refl
 
-pub behind_leaf : (key : ℕ) (tree : Forest Row) → 0 < count_of_key key tree → None ≡ first_key (children_of_first (part_from key tree))
-    → drop 1 (rows_from (Some key) tree) ≡ rows_behind [] key tree
-behind_leaf key tree live is =
+pub after_leaf : (key : ℕ) (tree : Forest Row) → 0 < count_of_key key tree → None ≡ first_key (children_of_first (part_from key tree))
+    → drop 1 (rows_from (Some key) tree) ≡ rows_following [] key tree
+after_leaf key tree live is =
     let f = located key tree live in
-    let parts : rows_from (Some key) tree ≡ f.row ∷ ((rows f.kids ++ []) ++ rows_behind [] key tree) = rows_from_parts key tree live ∙ rw f.is refl in
+    let parts : rows_from (Some key) tree ≡ f.row ∷ ((rows f.kids ++ []) ++ rows_following [] key tree) = rows_from_parts key tree live ∙ rw f.is refl in
     let from : None ≡ first_key f.kids = rw f.is at is in
     ap (drop 1) parts ∙ none_of f.kids (sym from)
   where
-    none_of : (list : Forest Row) → first_key list ≡ None → (rows list ++ []) ++ rows_behind [] key tree ≡ rows_behind [] key tree
+    none_of : (list : Forest Row) → first_key list ≡ None → (rows list ++ []) ++ rows_following [] key tree ≡ rows_following [] key tree
     none_of Nothing is = refl
     none_of (Branch row kids siblings) is = absurd (cc)
 
@@ -288,16 +288,16 @@ rows_from_root Nothing = refl
 rows_from_root (Branch row kids siblings) = from_first row (rows kids ++ rows siblings)
 
 -- the view at which a walk is, and those that are left
-pub record Standing (key : ℕ) (tree : Forest Row) : Type 0 where
+pub record Status (key : ℕ) (tree : Forest Row) : Type 0 where
   pub row : Row
   pub is : rows_from (Some key) tree ≡ row ∷ drop 1 (rows_from (Some key) tree)
   pub key_is : row.key ≡ key
   pub view_is : head_view (part_from key tree) ≡ row.view
 
-pub standing : (key : ℕ) (tree : Forest Row) → 0 < count_of_key key tree → Standing key tree
-standing key tree live =
+pub status : (key : ℕ) (tree : Forest Row) → 0 < count_of_key key tree → Status key tree
+status key tree live =
     let f = located key tree live in
-    let parts : rows_from (Some key) tree ≡ f.row ∷ ((rows f.kids ++ []) ++ rows_behind [] key tree) = rows_from_parts key tree live ∙ rw f.is refl in
+    let parts : rows_from (Some key) tree ≡ f.row ∷ ((rows f.kids ++ []) ++ rows_following [] key tree) = rows_from_parts key tree live ∙ rw f.is refl in
     record {
       row = f.row;
       is = parts ∙ ap (λ (list : List Row). f.row ∷ list) (ap (drop 1) (sym parts));
@@ -309,7 +309,7 @@ standing key tree live =
 pub views_on : (views : Views) (key : ℕ) (next : Option ℕ) → IsLive views key → rows_from next views.tree ≡ drop 1 (rows_from (Some key) views.tree)
     → views_from views (Some key) ≡ view_at views key ∷ views_from views next
 views_on views key next live is =
-    let f = standing key views.tree live in
+    let f = status key views.tree live in
     let row : scrolled (held_of views) f.row ≡ view_at views key =
     ap (λ (k : ℕ). record f.row.view { facts = record f.row.view.facts { offset = offset_of views k } }) f.key_is
     ∙ ap (λ (view : PlainView). record view { facts = record view.facts { offset = offset_of views key } }) (sym f.view_is) in
@@ -319,7 +319,7 @@ views_on views key next live is =
 pub rows_fewer : (key : ℕ) (next : Option ℕ) (tree : Forest Row) → 0 < count_of_key key tree → rows_from next tree ≡ drop 1 (rows_from (Some key) tree)
     → length (rows_from next tree) < length (rows_from (Some key) tree)
 rows_fewer key next tree live is =
-    let a = ap length (standing key tree live).is in
+    let a = ap length (status key tree live).is in
     let b = ap length is in
     omega arith
 

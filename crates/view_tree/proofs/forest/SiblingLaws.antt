@@ -28,8 +28,8 @@ if_some (Some x) P h = h x refl
 
 pub previous_live : (at : ℕ → Option PlainNode) (root : Option ℕ) (next : ℕ) (t : Forest Row) (k : ℕ) (n : PlainNode) → RepresentsTree at root next t → 0 < count_of_key k t
     → at k ≡ Some n → IfSome n.previous (λ x. 0 < count_of_key x t)
-previous_live at root next t k n stands live says =
-    if_some n.previous (λ x. 0 < count_of_key x t) (λ x e. (gone_around at root next t k n stands live says).live x (inr (inl e)))
+previous_live at root next t k n represents live says =
+    if_some n.previous (λ x. 0 < count_of_key x t) (λ x e. (gone_around at root next t k n represents live says).live x (inr (inl e)))
 
 pub last_in : (q : Option ℕ) (row : Row) (kids siblings : Forest Row) (x : ℕ) → last_key_or q (Branch row kids siblings) ≡ Some x
     → 0 < count_of_key x (Branch row kids siblings)
@@ -42,8 +42,8 @@ last_there (Branch row kids siblings) x e = last_in None row kids siblings x e
 
 pub last_live : (at : ℕ → Option PlainNode) (root : Option ℕ) (next : ℕ) (t : Forest Row) (k : ℕ) (n : PlainNode) → RepresentsTree at root next t → 0 < count_of_key k t → at k ≡ Some n
     → IfSome n.last (λ x. 0 < count_of_key x t)
-last_live at root next t k n stands live says =
-    let there = seen at k None None t stands.stand live in
+last_live at root next t k n represents live says =
+    let there = seen at k None None t represents.represented live in
     let f = there.found in
     let last : n.last ≡ last_key f.kids = ap (λ (n : PlainNode). n.last) (some_is (sym says ∙ there.is)) in
     if_some n.last (λ x. 0 < count_of_key x t) (λ x e. let p = last_there f.kids x (sym last ∙ e) in let w = count_of_key-within x f.within in omega arith)

@@ -50,10 +50,10 @@ module _ (depth : ℕ) (total : Option PlainRefusal) (before : ℕ) (classes : L
   above = left.read (sprout.depth - 2) (let n = next.next in let d = next.deep in omega arith)
 
   -- it is refused
-  pub left_out : (told : PlainRefusal)
-      → at_element element (growth_refusal (slice_index_or classes (sprout.depth - 2) class.View) (nat_le sprout.depth before) (depth + (sprout.depth - 2)) count) ≡ Some told
-      → total ≡ Some told
-  left_out told is = let here = rw above at is in sym left.same ∙ rw here
+  pub left_out : (reported : PlainRefusal)
+      → at_element element (growth_refusal (slice_index_or classes (sprout.depth - 2) class.View) (nat_le sprout.depth before) (depth + (sprout.depth - 2)) count) ≡ Some reported
+      → total ≡ Some reported
+  left_out reported is = let here = rw above at is in sym left.same ∙ rw here
 
   -- it may be added
   module _ (taken : at_element element (growth_refusal (slice_index_or classes (sprout.depth - 2) class.View) (nat_le sprout.depth before) (depth + (sprout.depth - 2)) count) ≡ None) where

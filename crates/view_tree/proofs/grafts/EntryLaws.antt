@@ -17,7 +17,7 @@ use Rattle.view_model.specs.declared.fault.Fault.{Fault}
 use Rattle.view_model.specs.declared.fault.Fault.TheVariants as fault
 use Rattle.view_tree.specs.declared.groups.Group.{Group}
 use Rattle.view_tree.specs.Faults.{IsRefusedOrCyclic}
-use Rattle.view_tree.specs.Grafting.{AreEntries, HasAdded, IsBehind, IsGroupOrCycle, IsMadeUnless, IsOwnFor, IsParentEntry, behind, cycle_of, links_behind, links_then, numbers_behind, numbers_then, parent_cycle, sprout_link}
+use Rattle.view_tree.specs.Grafting.{AreEntries, HasAdded, IsFollowing, IsGroupOrCycle, IsMadeUnless, IsOwnFor, IsParentEntry, following, cycle_of, links_following, links_then, numbers_following, numbers_then, parent_cycle, sprout_link}
 use Rattle.view_tree.specs.Rows.{Row, children_of_first, count_of_key, head_view, later_siblings, part_from, views_of}
 use Rattle.view_tree.specs.Views.{IsLive, IsTree, Views, class_of, number_of}
 use Rattle.view_tree.proofs.forest.KeyLaws.{located}
@@ -36,10 +36,10 @@ each_step f own tree key xs live is =
 
 -- how many children there are, and what their numbers are
 module _ {X : Type 0} (f : ℕ → Sprout → X) where
-  pub behind-few : (depth number : ℕ) (sprouts : List Sprout) → length (behind f depth number sprouts) ≤ length sprouts
-  behind-few depth number [] = omega arith
-  behind-few depth number (sprout ∷ more) =
-      let rest = behind-few depth (suc number) more in
+  pub following-few : (depth number : ℕ) (sprouts : List Sprout) → length (following f depth number sprouts) ≤ length sprouts
+  following-few depth number [] = omega arith
+  following-few depth number (sprout ∷ more) =
+      let rest = following-few depth (suc number) more in
       elim (cases_Bool (nat_lt depth sprout.depth)) [
         | inr past ↦ rw past (omega arith)
         | inl inner ↦ elim (cases_Bool (sprout.depth == suc depth)) [
@@ -48,10 +48,10 @@ module _ {X : Type 0} (f : ℕ → Sprout → X) where
         ]
       ]
 
-pub behind-alike : (depth number : ℕ) (sprouts : List Sprout) → length (numbers_behind depth number sprouts) ≡ length (links_behind depth number sprouts)
-behind-alike depth number [] = refl
-behind-alike depth number (sprout ∷ more) =
-    let rest = behind-alike depth (suc number) more in
+pub following-alike : (depth number : ℕ) (sprouts : List Sprout) → length (numbers_following depth number sprouts) ≡ length (links_following depth number sprouts)
+following-alike depth number [] = refl
+following-alike depth number (sprout ∷ more) =
+    let rest = following-alike depth (suc number) more in
     elim (cases_Bool (nat_lt depth sprout.depth)) [
       | inr past ↦ rw past refl
       | inl inner ↦ elim (cases_Bool (sprout.depth == suc depth)) [
@@ -67,18 +67,18 @@ all_on : (most first : ℕ) (numbers : List ℕ) → first < most → AllBelow m
 all_on most first numbers less all zero small = less
 all_on most first numbers less all (suc p) small = all p (omega arith)
 
-pub behind-near : (most depth number : ℕ) (sprouts : List Sprout) → number + length sprouts ≤ most → (p : ℕ) → p < length (numbers_behind depth number sprouts)
-    → slice_index (numbers_behind depth number sprouts) p < most
-behind-near most depth number sprouts le = near sprouts number le
+pub following-near : (most depth number : ℕ) (sprouts : List Sprout) → number + length sprouts ≤ most → (p : ℕ) → p < length (numbers_following depth number sprouts)
+    → slice_index (numbers_following depth number sprouts) p < most
+following-near most depth number sprouts le = near sprouts number le
   where
-    near : (sprouts : List Sprout) (number : ℕ) → number + length sprouts ≤ most → AllBelow most (numbers_behind depth number sprouts)
+    near : (sprouts : List Sprout) (number : ℕ) → number + length sprouts ≤ most → AllBelow most (numbers_following depth number sprouts)
     near [] number le = λ p small. absurd (omega arith)
     near (sprout ∷ more) number le =
         let rest = near more (suc number) (omega arith) in
         elim (cases_Bool (nat_lt depth sprout.depth)) [
           | inr past ↦ rw past (λ p small. absurd (omega arith))
           | inl inner ↦ elim (cases_Bool (sprout.depth == suc depth)) [
-            | inl is ↦ rw (inner, is) (all_on most number (numbers_behind depth (suc number) more) (omega arith) rest)
+            | inl is ↦ rw (inner, is) (all_on most number (numbers_following depth (suc number) more) (omega arith) rest)
             | inr isnt ↦ rw (inner, isnt) rest
           ]
         ]
@@ -130,7 +130,7 @@ parent_added views parent sprout group (Err fault.NoMemory) is made push = tt
 -- one more view of a sapling is handled
 pub entries_on : (number start : ℕ) (first : List (ℕ × Group)) (sprout : Sprout) (more all : List Sprout) (old new : List (ℕ × Group))
     → ((tail : List (ℕ × Group)) → AreEntries number (sprout ∷ more) tail → HasAdded first (old ++ tail) (AreEntries start all))
-    → HasAdded old new (IsBehind number sprout more)
+    → HasAdded old new (IsFollowing number sprout more)
     → (tail : List (ℕ × Group)) → AreEntries (suc number) more tail → HasAdded first (new ++ tail) (AreEntries start all)
 entries_on number start first sprout more all old new made own tail are =
     subst (λ entries. HasAdded first entries (AreEntries start all)) (sym (append_assoc old own.added tail) ∙ ap (λ entries. entries ++ tail) (sym own.is))
@@ -141,7 +141,7 @@ pub entries_end : (number start : ℕ) (first : List (ℕ × Group)) (all : List
 entries_end number start first all old made = subst (λ entries. HasAdded first entries (AreEntries start all)) (append-nil old) (made [] refl)
 
 -- why a sapling is refused
-pub refused_or : (A B : Type 0) (reason cycle told : Option PlainRefusal) (fault : Fault) (Made : B → Type 0) → reason ≡ None → cycle ≡ told → IsMadeUnless {A = B} told Made (Err fault)
+pub refused_or : (A B : Type 0) (reason cycle reported : Option PlainRefusal) (fault : Fault) (Made : B → Type 0) → reason ≡ None → cycle ≡ reported → IsMadeUnless {A = B} reported Made (Err fault)
     → IsRefusedOrCyclic {A = A} reason cycle (Err fault)
-refused_or A B reason cycle told (fault.Refused refusal) Made none same is = rw none (same ∙ is)
-refused_or A B reason cycle told fault.NoMemory Made none same is = none
+refused_or A B reason cycle reported (fault.Refused refusal) Made none same is = rw none (same ∙ is)
+refused_or A B reason cycle reported fault.NoMemory Made none same is = none

@@ -15,7 +15,7 @@ use Rattle.view_model.specs.PlainTree.{PlainView, grown}
 use Rattle.view_model.specs.Sprouts.{IsPreorder, Seed, numbered, preorder, seeds_of, view_of}
 use Rattle.view_tree.specs.declared.groups.Group.{Group}
 use Rattle.view_tree.specs.Directions.{is_rtl_at}
-use Rattle.view_tree.specs.Grafting.{AreEntries, AreGrafted, links_behind, links_then, noted, numbers_behind, numbers_then, sprout_link}
+use Rattle.view_tree.specs.Grafting.{AreEntries, AreGrafted, links_following, links_then, noted, numbers_following, numbers_then, sprout_link}
 use Rattle.view_tree.specs.Ordering.{HasNoOther, PlainGroup, is_layout}
 use Rattle.view_tree.specs.Rows.{Row, count_where, head_view}
 use Rattle.view_tree.specs.Views.{Held, IsLive, Views, class_of, held_of, number_of, plain_of, plain_rows}
@@ -79,7 +79,7 @@ noted_unused k number (sprout ∷ more) entries before (own, rest, is, mine, lat
     ap (λ entries. noted entries k before) is
     ∙ noted-append own rest k before
     ∙ noted_unused k (suc number) more rest (noted own k before) later none.1
-    ∙ own_apart (is_relative sprout.class) number k (links_behind sprout.depth (suc number) more) (numbers_behind sprout.depth (suc number) more) own before mine
+    ∙ own_apart (is_relative sprout.class) number k (links_following sprout.depth (suc number) more) (numbers_following sprout.depth (suc number) more) own before mine
     (apart_if (is_relative sprout.class) k number none.0)
 
 none-forest : (k depth number : ℕ) (list : Forest Seed) (rest : List Sprout) → sum_of (counted k) (numbered number list) ≡ 0 → NoneIs k (number + count_of list) rest → NoneIs k number (preorder depth list ++ rest)

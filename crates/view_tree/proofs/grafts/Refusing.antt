@@ -16,11 +16,11 @@ use Rattle.view_tree.proofs.grafts.Paths.{last_earlier, last_own, with_last}
 -- an element that has no reason
 pub at_none : (element : ℕ) (reason : Option PlainRefusal) → at_element element reason ≡ None → reason ≡ None
 at_none element None is = refl
-at_none element (Some told) is = absurd (cc)
+at_none element (Some reported) is = absurd (cc)
 
 pub first_none : (element : ℕ) (reason later : Option PlainRefusal) → option_or (at_element element reason) later ≡ None → (reason ≡ None) × (later ≡ None)
 first_none element None later is = (refl, is)
-first_none element (Some told) later is = absurd (cc)
+first_none element (Some reported) later is = absurd (cc)
 
 -- the first reason: `path` has the class of the last view of each depth, the first of which is `depth` deep; the view
 -- right before has the depth `before`, and so the parent of the next one has a child if that is no deeper
@@ -64,8 +64,8 @@ passed depth place before count element class occupied path (Branch seed kids si
     let here : suc (suc place) - 2 ≡ place = omega arith in
     let there : suc (suc place) - 1 ≡ suc place = omega arith in
     let inner = with_last path (suc place) seed.class in
-    let behind = preorder (suc (suc place)) siblings ++ rest in
-    let one = passed depth (suc place) (suc (suc place)) (suc count) (suc element) seed.class false inner kids behind (last_own path (suc place) seed.class)
+    let following = preorder (suc (suc place)) siblings ++ rest in
+    let one = passed depth (suc place) (suc (suc place)) (suc count) (suc element) seed.class false inner kids following (last_own path (suc place) seed.class)
     (omega arith) (lt-leb (suc (suc (suc place))) (suc (suc place)) (omega arith)) in
     let back : (other : ℕ) → other ≤ place → one.ends other ≡ path other =
     λ other le. one.outer other (omega arith) ∙ last_earlier path (suc place) other seed.class (omega arith) in
@@ -89,7 +89,7 @@ passed depth place before count element class occupied path (Branch seed kids si
       same = first
           ∙ ap (λ list. option_or own (refusal_along depth (suc (suc place)) inner (suc count) (suc element) list)) (append_assoc (preorder (suc (suc (suc place))) kids) (preorder (suc (suc place)) siblings) rest)
           ∙ ap (option_or own) (one.same
-          ∙ ap (λ deep. option_or (refusal_below seed.class false deep (suc count) (suc element) kids) (refusal_along depth one.last one.ends (suc count + count_of kids) (suc element + count_of kids) behind)) deeper
+          ∙ ap (λ deep. option_or (refusal_below seed.class false deep (suc count) (suc element) kids) (refusal_along depth one.last one.ends (suc count + count_of kids) (suc element + count_of kids) following)) deeper
           ∙ ap (option_or below) two.same
           ∙ sym (or_assoc below after last))
           ∙ sym (or_assoc own (option_or below after) last)

@@ -102,12 +102,12 @@ sown_list number place parent way path ways tree (Branch seed kids siblings) res
     let view = running own plain in
     let inner = with_last path (suc place) number in
     let turns = with_last ways (suc place) own in
-    let behind = preorder (suc (suc place)) siblings ++ rest in
+    let following = preorder (suc (suc place)) siblings ++ rest in
     let all = (preorder (suc (suc (suc place))) kids ++ preorder (suc (suc place)) siblings) ++ rest in
     let with_view = grown parent (single view) tree in
     let early_view : Earlier (suc number) with_view =
     earlier-grown (suc number) parent (single view) tree (earlier_more number (suc number) tree (omega arith) early) (omega arith, tt, tt) in
-    let one = sown_list (suc number) (suc place) number own inner turns with_view kids behind (last_own path (suc place) number) (last_own ways (suc place) own) (omega arith) early_view in
+    let one = sown_list (suc number) (suc place) number own inner turns with_view kids following (last_own path (suc place) number) (last_own ways (suc place) own) (omega arith) early_view in
     let below = directed own (numbered (suc number) kids) in
     let with_kids = grown number below with_view in
     let early_kids : Earlier (suc number + count_of kids) with_kids =

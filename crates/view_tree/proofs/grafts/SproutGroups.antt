@@ -14,7 +14,7 @@ use Rattle.view_model.specs.PlainTree.{PlainView}
 use Rattle.view_model.specs.Refusals.{PlainRefusal}
 use Rattle.view_model.specs.Sprouts.{Seed, numbered, preorder, sprout_of, view_of}
 use Rattle.view_tree.specs.declared.groups.Group.{Group}
-use Rattle.view_tree.specs.Grafting.{AreEntries, IsOwnFor, behind, cycle_behind, cycle_in, cycle_of, links_behind, noted, numbers_behind, sprout_link}
+use Rattle.view_tree.specs.Grafting.{AreEntries, IsOwnFor, following, cycle_after, cycle_in, cycle_of, links_following, noted, numbers_following, sprout_link}
 use Rattle.view_tree.specs.Ordering.{IsGrouped, IsKeptFor, PlainGroup, plain_group}
 use Rattle.view_tree.proofs.orders.TreeLaws.{Groups}
 
@@ -33,50 +33,50 @@ ends_before depth (Branch seed below after) rest ends = omega arith
 
 module _ {X : Type 0} (f : ℕ → Sprout → X) where
   -- if the views are no deeper there are no more children
-  behind-end : (depth number : ℕ) (rest : List Sprout) → Ends depth rest → behind f depth number rest ≡ []
-  behind-end depth number [] ends = refl
-  behind-end depth number (sprout ∷ more) ends = rw (le-ltb depth sprout.depth ends)
+  following-end : (depth number : ℕ) (rest : List Sprout) → Ends depth rest → following f depth number rest ≡ []
+  following-end depth number [] ends = refl
+  following-end depth number (sprout ∷ more) ends = rw (le-ltb depth sprout.depth ends)
 
   -- what is below children is no child
-  behind-below : (depth number deeper : ℕ) (list : Forest Seed) (rest : List Sprout) → suc depth < deeper
-      → behind f depth number (preorder deeper list ++ rest) ≡ behind f depth (number + count_of list) rest
-  behind-below depth number deeper Nothing rest deep = let same : number ≡ number + 0 = omega arith in ap (λ n. behind f depth n rest) same
-  behind-below depth number deeper (Branch seed below after) rest deep =
+  following-below : (depth number deeper : ℕ) (list : Forest Seed) (rest : List Sprout) → suc depth < deeper
+      → following f depth number (preorder deeper list ++ rest) ≡ following f depth (number + count_of list) rest
+  following-below depth number deeper Nothing rest deep = let same : number ≡ number + 0 = omega arith in ap (λ n. following f depth n rest) same
+  following-below depth number deeper (Branch seed below after) rest deep =
       let same : suc number + count_of below + count_of after ≡ number + count_of (Branch seed below after) = omega arith in
       let lower : depth < deeper = omega arith in
       let other : deeper ≢ suc depth = λ e. absurd (omega arith) in
       rw (lt-ltb depth deeper lower, ne_eqb deeper (suc depth) other)
-      (ap (behind f depth (suc number)) (append_assoc (preorder (suc deeper) below) (preorder deeper after) rest)
-      ∙ behind-below depth (suc number) (suc deeper) below (preorder deeper after ++ rest) (omega arith)
-      ∙ behind-below depth (suc number + count_of below) deeper after rest deep
-      ∙ ap (λ n. behind f depth n rest) same)
+      (ap (following f depth (suc number)) (append_assoc (preorder (suc deeper) below) (preorder deeper after) rest)
+      ∙ following-below depth (suc number) (suc deeper) below (preorder deeper after ++ rest) (omega arith)
+      ∙ following-below depth (suc number + count_of below) deeper after rest deep
+      ∙ ap (λ n. following f depth n rest) same)
 
   module _ (g : PlainView → X) (same : (number depth : ℕ) (seed : Seed) → f number (sprout_of depth seed) ≡ g (view_of number seed)) where
-    behind-each : (depth number : ℕ) (list : Forest Seed) (rest : List Sprout)
-        → behind f depth number (preorder (suc depth) list ++ rest) ≡ each g (numbered number list) ++ behind f depth (number + count_of list) rest
-    behind-each depth number Nothing rest = let same : number ≡ number + 0 = omega arith in ap (λ n. behind f depth n rest) same
-    behind-each depth number (Branch seed below after) rest =
+    following-each : (depth number : ℕ) (list : Forest Seed) (rest : List Sprout)
+        → following f depth number (preorder (suc depth) list ++ rest) ≡ each g (numbered number list) ++ following f depth (number + count_of list) rest
+    following-each depth number Nothing rest = let same : number ≡ number + 0 = omega arith in ap (λ n. following f depth n rest) same
+    following-each depth number (Branch seed below after) rest =
         let count : suc number + count_of below + count_of after ≡ number + count_of (Branch seed below after) = omega arith in
         let lower : depth < suc depth = omega arith in
         rw (lt-ltb depth (suc depth) lower, eq-eqb (suc depth) (suc depth) refl)
-        (ap (λ first. first ∷ behind f depth (suc number) ((preorder (suc (suc depth)) below ++ preorder (suc depth) after) ++ rest)) (same number (suc depth) seed)
+        (ap (λ first. first ∷ following f depth (suc number) ((preorder (suc (suc depth)) below ++ preorder (suc depth) after) ++ rest)) (same number (suc depth) seed)
         ∙ ap (λ (more : List X). g (view_of number seed) ∷ more)
-        (ap (behind f depth (suc number)) (append_assoc (preorder (suc (suc depth)) below) (preorder (suc depth) after) rest)
-        ∙ behind-below depth (suc number) (suc (suc depth)) below (preorder (suc depth) after ++ rest) (omega arith)
-        ∙ behind-each depth (suc number + count_of below) after rest
-        ∙ ap (λ n. each g (numbered (suc number + count_of below) after) ++ behind f depth n rest) count))
+        (ap (following f depth (suc number)) (append_assoc (preorder (suc (suc depth)) below) (preorder (suc depth) after) rest)
+        ∙ following-below depth (suc number) (suc (suc depth)) below (preorder (suc depth) after ++ rest) (omega arith)
+        ∙ following-each depth (suc number + count_of below) after rest
+        ∙ ap (λ n. each g (numbered (suc number + count_of below) after) ++ following f depth n rest) count))
 
-    behind-kids : (depth number : ℕ) (list : Forest Seed) (rest : List Sprout) → Ends depth rest → behind f depth number (preorder (suc depth) list ++ rest) ≡ each g (numbered number list)
-    behind-kids depth number list rest ends =
-        behind-each depth number list rest
-        ∙ ap (λ more. each g (numbered number list) ++ more) (behind-end depth (number + count_of list) rest ends)
+    following-kids : (depth number : ℕ) (list : Forest Seed) (rest : List Sprout) → Ends depth rest → following f depth number (preorder (suc depth) list ++ rest) ≡ each g (numbered number list)
+    following-kids depth number list rest ends =
+        following-each depth number list rest
+        ∙ ap (λ more. each g (numbered number list) ++ more) (following-end depth (number + count_of list) rest ends)
         ∙ append-nil (each g (numbered number list))
 
-links-kids : (depth number : ℕ) (list : Forest Seed) (rest : List Sprout) → Ends depth rest → links_behind depth number (preorder (suc depth) list ++ rest) ≡ links_in (numbered number list)
-links-kids depth number list rest ends = behind-kids (λ number sprout. sprout_link sprout) link_of (λ number depth seed. refl) depth number list rest ends
+links-kids : (depth number : ℕ) (list : Forest Seed) (rest : List Sprout) → Ends depth rest → links_following depth number (preorder (suc depth) list ++ rest) ≡ links_in (numbered number list)
+links-kids depth number list rest ends = following-kids (λ number sprout. sprout_link sprout) link_of (λ number depth seed. refl) depth number list rest ends
 
-numbers-kids : (depth number : ℕ) (list : Forest Seed) (rest : List Sprout) → Ends depth rest → numbers_behind depth number (preorder (suc depth) list ++ rest) ≡ numbers_in (numbered number list)
-numbers-kids depth number list rest ends = behind-kids (λ number sprout. number) (λ (view : PlainView). view.number) (λ number depth seed. refl) depth number list rest ends
+numbers-kids : (depth number : ℕ) (list : Forest Seed) (rest : List Sprout) → Ends depth rest → numbers_following depth number (preorder (suc depth) list ++ rest) ≡ numbers_in (numbered number list)
+numbers-kids depth number list rest ends = following-kids (λ number sprout. number) (λ (view : PlainView). view.number) (λ number depth seed. refl) depth number list rest ends
 
 -- the cycles that are reported are those of the trees
 or_assoc : (a b c : Option PlainRefusal) → option_or a (option_or b c) ≡ option_or (option_or a b) c
@@ -93,8 +93,8 @@ cycle-forest name depth number (Branch seed below after) rest ends =
     let numbers = numbers-kids depth (suc number) below (preorder depth after ++ rest) ends' in
     let first = first_cycle name (numbered (suc number) below) in
     let own : Option PlainRefusal = if is_relative seed.class then cycle_of name (links_in (numbered (suc number) below)) (numbers_in (numbered (suc number) below)) else None in
-    ap (λ more. option_or (cycle_behind name number (sprout_of depth seed) more) (cycle_in name (suc number) more)) (append_assoc (preorder (suc depth) below) (preorder depth after) rest)
-    ∙ ap (λ links. option_or (if is_relative seed.class then cycle_of name links (numbers_behind depth (suc number) (preorder (suc depth) below ++ (preorder depth after ++ rest))) else None) (cycle_in name (suc number) (preorder (suc depth) below ++ (preorder depth after ++ rest)))) links
+    ap (λ more. option_or (cycle_after name number (sprout_of depth seed) more) (cycle_in name (suc number) more)) (append_assoc (preorder (suc depth) below) (preorder depth after) rest)
+    ∙ ap (λ links. option_or (if is_relative seed.class then cycle_of name links (numbers_following depth (suc number) (preorder (suc depth) below ++ (preorder depth after ++ rest))) else None) (cycle_in name (suc number) (preorder (suc depth) below ++ (preorder depth after ++ rest)))) links
     ∙ ap (λ numbers. option_or (if is_relative seed.class then cycle_of name (links_in (numbered (suc number) below)) numbers else None) (cycle_in name (suc number) (preorder (suc depth) below ++ (preorder depth after ++ rest)))) numbers
     ∙ ap (option_or own)
     (cycle-forest name (suc depth) (suc number) below (preorder depth after ++ rest) (ends_deeper depth (preorder depth after ++ rest) ends')
@@ -126,7 +126,7 @@ noted-early (sprout ∷ more) start number entries before (own, rest, is, mine, 
 abbrev pub AllKept : Groups → ℕ → List Sprout → Type 0
 AllKept groups number [] = Unit {0}
 AllKept groups number (sprout ∷ more) =
-    (is_relative sprout.class ≡ true → IsKeptFor (links_behind sprout.depth (suc number) more) (numbers_behind sprout.depth (suc number) more) (groups number))
+    (is_relative sprout.class ≡ true → IsKeptFor (links_following sprout.depth (suc number) more) (numbers_following sprout.depth (suc number) more) (groups number))
     × AllKept groups (suc number) more
 
 pub own_kept : (relative : Bool) (number : ℕ) (links : List Link) (numbers : List ℕ) (entries : List (ℕ × Group)) (before : Option PlainGroup) → IsOwnFor relative number links numbers entries → relative ≡ true
@@ -160,7 +160,7 @@ grouped-forest groups depth number (Branch seed below after) rest ends all =
       (
         λ relative.
             subst (λ numbers. IsKeptFor (links_in (numbered (suc number) below)) numbers (groups number)) (numbers-kids depth (suc number) below (preorder depth after ++ rest) ends')
-            (subst (λ links. IsKeptFor links (numbers_behind depth (suc number) (preorder (suc depth) below ++ (preorder depth after ++ rest))) (groups number)) (links-kids depth (suc number) below (preorder depth after ++ rest) ends')
+            (subst (λ links. IsKeptFor links (numbers_following depth (suc number) (preorder (suc depth) below ++ (preorder depth after ++ rest))) (groups number)) (links-kids depth (suc number) below (preorder depth after ++ rest) ends')
             (all'.0 relative)),
         lower.0,
         later.0,

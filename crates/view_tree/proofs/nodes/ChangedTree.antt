@@ -49,11 +49,11 @@ module _ (k : ℕ) (f : PlainView → PlainView) where
           )
     ]
 
-    pub put_stands : (root : Option ℕ) (next : ℕ) (t : Forest Row) → RepresentsTree at root next t → RepresentsTree new root next (changed_at_key k f t)
-    put_stands root next t s = record {
+    pub put_represents : (root : Option ℕ) (next : ℕ) (t : Forest Row) → RepresentsTree at root next t → RepresentsTree new root next (changed_at_key k f t)
+    put_represents root next t s = record {
       outer = first_key-put t ∙ s.outer;
       single = later_siblings-put k f t s.single;
-      stand = RepresentsPart-put t None None s.distinct s.stand;
+      represented = RepresentsPart-put t None None s.distinct s.represented;
       distinct = λ x. rw (count_of_key-put x k f t) (s.distinct x);
       few = rw (count-put k f t) s.few;
     }

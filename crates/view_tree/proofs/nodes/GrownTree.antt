@@ -53,16 +53,16 @@ last_out row (Branch row' kids' siblings') x e z = let p = last_in None row' kid
 
 -- a key without a node is that of no view
 pub vacant_unused : (at : ℕ → Option PlainNode) (key : ℕ) (t : Forest Row) (p q : Option ℕ) → RepresentsPart at p q t → at key ≡ None → count_of_key key t ≡ 0
-vacant_unused at key t p q stand vacant = elim (zero_or_more (count_of_key key t)) [
+vacant_unused at key t p q represented vacant = elim (zero_or_more (count_of_key key t)) [
   | inl z ↦ z
-  | inr live ↦ let s = seen at key p q t stand live in absurd (let e = s.is in cc)
+  | inr live ↦ let s = seen at key p q t represented live in absurd (let e = s.is in cc)
 ]
 
 module _ (at new : ℕ → Option PlainNode) (root : Option ℕ) (next : ℕ) (t : Forest Row) (above key : ℕ) (view : PlainView)
-    (stands : RepresentsTree at root next t) (live : 0 < count_of_key above t) (vacant : at key ≡ None)
+    (represents : RepresentsTree at root next t) (live : 0 < count_of_key above t) (vacant : at key ≡ None)
     (becomes : (x : ℕ) → new x ≡ linked at (Some above) key view (last_child at (Some above)) x) where
   there : Seen at above t
-  there = seen at above None None t stands.stand live
+  there = seen at above None None t represents.represented live
 
   abbrev kids : Forest Row
   kids = there.found.kids
@@ -72,7 +72,7 @@ module _ (at new : ℕ → Option PlainNode) (root : Option ℕ) (next : ℕ) (t
 
   -- no view has the new key
   key_unused : count_of_key key t ≡ 0
-  key_unused = vacant_unused at key t None None stands.stand vacant
+  key_unused = vacant_unused at key t None None represents.represented vacant
 
   in_t : (x : ℕ) → count_of_key x (Branch there.found.row kids there.found.siblings) ≤ count_of_key x t
   in_t x = count_of_key-within x there.found.within
@@ -85,7 +85,7 @@ module _ (at new : ℕ → Option PlainNode) (root : Option ℕ) (next : ℕ) (t
 
   last_not_above : last_key kids ≢ Some above
   last_not_above e =
-      let p = last_there kids above e in let i = in_t above in let o = stands.distinct above in
+      let p = last_there kids above e in let i = in_t above in let o = represents.distinct above in
       let w = own_more there.found.row kids there.found.siblings above there.found.key_is in omega arith
 
   becomes_hung : (x : ℕ) → new x ≡ linked at (Some above) key view (last_key kids) x
@@ -95,8 +95,8 @@ module _ (at new : ℕ → Option PlainNode) (root : Option ℕ) (next : ℕ) (t
   abbrev own_node : PlainNode
   own_node = record { view = unscrolled view; parent = Some above; first = None; last = None; previous = last_key kids; next = None }
 
-  abbrev behind : PlainNode → PlainNode
-  behind n = record n { next = Some key }
+  abbrev following : PlainNode → PlainNode
+  following n = record n { next = Some key }
 
   abbrev ended : PlainNode → PlainNode
   ended n = record n { first = key_or n.first key; last = Some key }
@@ -105,32 +105,32 @@ module _ (at new : ℕ → Option PlainNode) (root : Option ℕ) (next : ℕ) (t
   one = with_node at key own_node
 
   abbrev two : ℕ → Option PlainNode
-  two = changed_at one (last_key kids) behind
+  two = changed_at one (last_key kids) following
 
   made : new key ≡ Some own_node
   made =
       becomes_hung key
       ∙ changed_not two (Some above) ended key (λ e. above_not_key (some_is e))
-      ∙ changed_not one (last_key kids) behind key last_not_key
+      ∙ changed_not one (last_key kids) following key last_not_key
       ∙ with_node_is at key own_node
 
   parent : new above ≡ Some (ended node)
   parent =
       becomes_hung above
       ∙ changed_is two (Some above) ended above node refl
-      (changed_not one (last_key kids) behind above last_not_above ∙ with_node_not at key own_node above above_not_key ∙ there.is)
+      (changed_not one (last_key kids) following above last_not_above ∙ with_node_not at key own_node above above_not_key ∙ there.is)
 
-  last : (l : ℕ) (m : PlainNode) → last_key kids ≡ Some l → at l ≡ Some m → new l ≡ Some (behind m)
+  last : (l : ℕ) (m : PlainNode) → last_key kids ≡ Some l → at l ≡ Some m → new l ≡ Some (following m)
   last l m e at_l =
       becomes_hung l
       ∙ changed_not two (Some above) ended l (λ i. last_not_above (e ∙ sym i))
-      ∙ changed_is one (last_key kids) behind l m e (with_node_not at key own_node l (λ i. last_not_key (e ∙ ap (λ k. Some k) i)) ∙ at_l)
+      ∙ changed_is one (last_key kids) following l m e (with_node_not at key own_node l (λ i. last_not_key (e ∙ ap (λ k. Some k) i)) ∙ at_l)
 
   apart : (x : ℕ) → x ≢ key → x ≢ above → last_key kids ≢ Some x → new x ≡ at x
   apart x not_key not_above not_last =
       becomes_hung x
       ∙ changed_not two (Some above) ended x (λ i. not_above (sym (some_is i)))
-      ∙ changed_not one (last_key kids) behind x not_last
+      ∙ changed_not one (last_key kids) following x not_last
       ∙ with_node_not at key own_node x not_key
 
   own : (p q : Option ℕ) → at above ≡ Some (links_for there.found.row p q kids there.found.siblings)
@@ -144,10 +144,10 @@ module _ (at new : ℕ → Option PlainNode) (root : Option ℕ) (next : ℕ) (t
       RepresentsPart-join at new above key view None kids made last
       (λ x p ne. apart x
       (λ e. let z = key_unused in let i = in_t key in let p' : 0 < count_of_key key kids = rw e at p in absurd (omega arith))
-      (λ e. let o = stands.distinct above in let i = in_t above in let p' : 0 < count_of_key above kids = rw e at p in
+      (λ e. let o = represents.distinct above in let i = in_t above in let p' : 0 < count_of_key above kids = rw e at p in
       let w = own_more there.found.row kids there.found.siblings above there.found.key_is in absurd (omega arith))
       ne)
-      (λ x. let o = stands.distinct x in let i = in_t x in omega arith)
+      (λ x. let o = represents.distinct x in let i = in_t x in omega arith)
       s
 
   others : (x : ℕ) → 0 < count_of_key x t → count_of_key x (Branch there.found.row kids Nothing) ≡ 0 → new x ≡ at x
@@ -159,30 +159,30 @@ module _ (at new : ℕ → Option PlainNode) (root : Option ℕ) (next : ℕ) (t
       absurd (omega arith))
       (λ e. last_out there.found.row kids x e z)
 
-  pub grown_stands : RepresentsTree new root (next + 1) (grown_at_key above (leaf key view) t)
-  grown_stands =
+  pub grown_represents : RepresentsTree new root (next + 1) (grown_at_key above (leaf key view) t)
+  grown_represents =
       let edit : grown_at_key above (leaf key view) t ≡ edit_kids above (λ kids. joined kids (leaf key view)) t = grown_edit above (leaf key view) t in
       record {
-        outer = ap first_key edit ∙ first_key-edit above (λ kids. joined kids (leaf key view)) t ∙ stands.outer;
-        single = ap later_siblings edit ∙ later_siblings-edit above (λ kids. joined kids (leaf key view)) t stands.single;
-        stand = rw edit (RepresentsPart-edit at new above (λ kids. joined kids (leaf key view)) there.found.row kids there.found.siblings there.found.key_is own inner t None None there.found.within stands.distinct others stands.stand);
+        outer = ap first_key edit ∙ first_key-edit above (λ kids. joined kids (leaf key view)) t ∙ represents.outer;
+        single = ap later_siblings edit ∙ later_siblings-edit above (λ kids. joined kids (leaf key view)) t represents.single;
+        represented = rw edit (RepresentsPart-edit at new above (λ kids. joined kids (leaf key view)) there.found.row kids there.found.siblings there.found.key_is own inner t None None there.found.within represents.distinct others represents.represented);
         distinct = λ x.
-            let e = count_of_key-grown x above (leaf key view) t live (stands.distinct above) in
-            let o = stands.distinct x in
+            let e = count_of_key-grown x above (leaf key view) t live (represents.distinct above) in
+            let o = represents.distinct x in
             elim (cases_eq key x) [
               | inl same ↦ let z : count_of_key x t ≡ 0 = subst (λ x. count_of_key x t ≡ 0) same key_unused in let one = leaf_once x key view in omega arith
               | inr ne ↦ let other : count_of_key x (leaf key view) ≡ 0 = rw (ne_eqb key x ne) in omega arith
             ];
-        few = let e = count-grown above (leaf key view) t live (stands.distinct above) in let f = stands.few in omega arith;
+        few = let e = count-grown above (leaf key view) t live (represents.distinct above) in let f = represents.few in omega arith;
       }
 
 -- the tree after its root was added
-pub root_stands : (at new : ℕ → Option PlainNode) (next key : ℕ) (view : PlainView) → 0 < next → ((x : ℕ) → new x ≡ linked at None key view None x)
+pub root_represents : (at new : ℕ → Option PlainNode) (next key : ℕ) (view : PlainView) → 0 < next → ((x : ℕ) → new x ≡ linked at None key view None x)
     → RepresentsTree new (Some key) (next + 1) (leaf key view)
-root_stands at new next key view some becomes = record {
+root_represents at new next key view some becomes = record {
   outer = refl;
   single = refl;
-  stand = (becomes key ∙ with_node_is at key _, tt, tt);
+  represented = (becomes key ∙ with_node_is at key _, tt, tt);
   distinct = λ x. leaf_once x key view;
   few = omega arith;
 }

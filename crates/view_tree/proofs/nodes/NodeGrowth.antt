@@ -21,10 +21,10 @@ use Rattle.view_tree.specs.declared.node.Node.{Node}
 use Rattle.view_tree.specs.declared.tree.ViewTree.TheInside.{Inside}
 use Rattle.view_tree.proofs.forest.Forests.{seen, some_is, tree_is}
 use Rattle.view_tree.proofs.forest.SiblingLaws.{last_live}
-use Rattle.view_tree.proofs.nodes.GrownTree.{grown_stands, root_stands, vacant_unused}
+use Rattle.view_tree.proofs.nodes.GrownTree.{grown_represents, root_represents, vacant_unused}
 use Rattle.view_tree.proofs.forest.IdLaws.{holders_of-with_child}
 use Rattle.view_tree.proofs.values.KeptLaws.{is_tree-with_child}
-use Rattle.view_tree.proofs.nodes.NodeReads.{contains_live, held_view, is_tree, link_for, named_for, stands_for}
+use Rattle.view_tree.proofs.nodes.NodeReads.{contains_live, held_view, is_tree, link_for, named_for, represents_for}
 use Rattle.view_tree.proofs.forest.NumberLaws.{count-with_child, count_of_key-leaf_other, count_of_key-with_child}
 use Rattle.view_tree.proofs.forest.PlainLaws.{plain-with_child}
 use Rattle.view_tree.proofs.forest.SearchLaws.{search_new}
@@ -48,7 +48,7 @@ last_there_at : (a : Inside) (v : Views) (k l : ℕ) (o : Option PlainNode) → 
     → IsLive v l
 last_there_at a v k l None sound e live says is = absurd (cc)
 last_there_at a v k l (Some n) sound e live says is =
-    if_some_at n.last (λ x. IsLive v x) l is (last_live (links_at a.nodes) a.root a.next v.tree k n (stands_for a v sound e) live says)
+    if_some_at n.last (λ x. IsLive v x) l is (last_live (links_at a.nodes) a.root a.next v.tree k n (represents_for a v sound e) live says)
 
 pub last_child_there : (a : Inside) (v : Views) (parent : Option ℕ) → IsPlanted a → value_of a ≡ v → IfSome parent (λ parent. IsLive v parent)
     → (l : ℕ) → last_child (links_at a.nodes) parent ≡ Some l → ContainsKey a.nodes l
@@ -60,21 +60,21 @@ pub runs_is : (a : Inside) (v : Views) (parent : Option ℕ) → IsPlanted a →
     → runs_at (links_at a.nodes) parent ≡ is_rtl_at parent v.tree
 runs_is a v None sound e live = refl
 runs_is a v (Some k) sound e live =
-    let s = seen (links_at a.nodes) k None None v.tree (stands_for a v sound e).stand live in
+    let s = seen (links_at a.nodes) k None None v.tree (represents_for a v sound e).represented live in
     ap node_runs s.is ∙ sym (ap (λ part. (head_view part).facts.rtl) s.found.is)
 
 -- the nodes represent the tree with the view
-pub stands-with_child : (at new : ℕ → Option PlainNode) (root : Option ℕ) (next : ℕ) (t : Forest Row) (parent : Option ℕ) (key : ℕ) (view : PlainView)
+pub represents-with_child : (at new : ℕ → Option PlainNode) (root : Option ℕ) (next : ℕ) (t : Forest Row) (parent : Option ℕ) (key : ℕ) (view : PlainView)
     → RepresentsTree at root next t → IfSome parent (λ parent. 0 < count_of_key parent t) → (parent ≡ None → t ≡ Nothing) → at key ≡ None
     → ((x : ℕ) → new x ≡ linked at parent key view (last_child at parent) x)
     → RepresentsTree new (replaced_if_none parent (Some key) root) (next + 1) (with_child parent (leaf key view) t)
-stands-with_child at new root next t None key view stands live empty vacant becomes =
-    let few = stands.few in root_stands at new next key view (omega arith) becomes
-stands-with_child at new root next t (Some parent) key view stands live empty vacant becomes = grown_stands at new root next t parent key view stands live vacant becomes
+represents-with_child at new root next t None key view represents live empty vacant becomes =
+    let few = represents.few in root_represents at new next key view (omega arith) becomes
+represents-with_child at new root next t (Some parent) key view represents live empty vacant becomes = grown_represents at new root next t parent key view represents live vacant becomes
 
 -- no view has the new key
 pub unused : (at : ℕ → Option PlainNode) (root : Option ℕ) (next : ℕ) (t : Forest Row) (key : ℕ) → RepresentsTree at root next t → at key ≡ None → count_of_key key t ≡ 0
-unused at root next t key stands vacant = vacant_unused at key t None None stands.stand vacant
+unused at root next t key represents vacant = vacant_unused at key t None None represents.represented vacant
 
 -- the fields after room was made
 module _ (a b : Inside) (nodes : b.nodes ≡ record a.nodes { capacity = b.nodes.capacity }) (keys : b.keys.entries ≡ a.keys.entries) (ids : b.ids.entries ≡ a.ids.entries)
@@ -95,7 +95,7 @@ module _ (a b : Inside) (nodes : b.nodes ≡ record a.nodes { capacity = b.nodes
 
   pub sound-room : IsPlanted a → IsPlanted b
   sound-room sound = record {
-    stands = rw (root, next) (subst (λ (at : ℕ → Option PlainNode). RepresentsTree at a.root a.next (forest a.next at a.root)) (sym said-room) sound.stands);
+    represents = rw (root, next) (subst (λ (at : ℕ → Option PlainNode). RepresentsTree at a.root a.next (forest a.next at a.root)) (sym said-room) sound.represents);
     kept = subst IsTree (sym value-room) sound.kept;
     full = ap slab_len nodes ∙ sound.full ∙ ap count_of (sym tree-room);
     found = λ n. rw keys (sound.found n) ∙ ap (key_where (λ (w : PlainView). w.number == n)) (sym tree-room);
@@ -114,16 +114,16 @@ module _ (a b : Inside) (v : Views) (parent : Option ℕ) (key : ℕ) (view : Pl
     (len : slab_len b.nodes ≡ slab_len a.nodes + 1)
     (listed : (n : ℕ) → get_key nat_eq b.keys n ≡ (if nat_eq view.number n then Some key else get_key nat_eq a.keys n))
     (ids : (id : ℕ) → get_key nat_eq b.ids id ≡ noted (get_key nat_eq a.ids id) view.facts.id key id) (fits : key < LINKS_END) where
-  stands-attach : RepresentsTree (links_at b.nodes) b.root b.next (with_child parent (leaf key view) v.tree)
-  stands-attach =
+  represents-attach : RepresentsTree (links_at b.nodes) b.root b.next (with_child parent (leaf key view) v.tree)
+  represents-attach =
       rw (root, next)
-      (stands-with_child (links_at a.nodes) (links_at b.nodes) a.root a.next v.tree parent key view (stands_for a v sound e) live empty (ap links_in vacant) becomes)
+      (represents-with_child (links_at a.nodes) (links_at b.nodes) a.root a.next v.tree parent key view (represents_for a v sound e) live empty (ap links_in vacant) becomes)
 
   pub tree-attach : tree_of b ≡ with_child parent (leaf key view) v.tree
-  tree-attach = tree_is (links_at b.nodes) b.root b.next _ stands-attach
+  tree-attach = tree_is (links_at b.nodes) b.root b.next _ represents-attach
 
   pub unused-attach : count_of_key key v.tree ≡ 0
-  unused-attach = unused (links_at a.nodes) a.root a.next v.tree key (stands_for a v sound e) (ap links_in vacant)
+  unused-attach = unused (links_at a.nodes) a.root a.next v.tree key (represents_for a v sound e) (ap links_in vacant)
 
   next-attach : b.next ≡ v.next + 1
   next-attach = next ∙ ap (λ (v : Views). v.next + 1) e
@@ -136,7 +136,7 @@ module _ (a b : Inside) (v : Views) (parent : Option ℕ) (key : ℕ) (view : Pl
 
   pub sound-attach : IsPlanted b
   sound-attach = record {
-    stands = subst (RepresentsTree (links_at b.nodes) b.root b.next) (sym tree-attach) stands-attach;
+    represents = subst (RepresentsTree (links_at b.nodes) b.root b.next) (sym tree-attach) represents-attach;
     kept = kept-attach;
     full =
         let all = count-with_child parent (leaf key view) v.tree live empty (is_tree a v sound e).keys in

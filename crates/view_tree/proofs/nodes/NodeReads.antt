@@ -33,12 +33,12 @@ pub record NodeOf (a : Inside) (k : ℕ) (t : Forest Row) : Type 0 where
   pub before : Option ℕ
   pub says : Says (get a.nodes k) (links_for found.row parent before found.kids found.siblings)
 
-pub stands_for : (a : Inside) (v : Views) → IsPlanted a → value_of a ≡ v → RepresentsTree (links_at a.nodes) a.root a.next v.tree
-stands_for a v sound e = subst (λ (v : Views). RepresentsTree (links_at a.nodes) a.root a.next v.tree) e sound.stands
+pub represents_for : (a : Inside) (v : Views) → IsPlanted a → value_of a ≡ v → RepresentsTree (links_at a.nodes) a.root a.next v.tree
+represents_for a v sound e = subst (λ (v : Views). RepresentsTree (links_at a.nodes) a.root a.next v.tree) e sound.represents
 
 pub node_of : (a : Inside) (v : Views) (k : ℕ) → IsPlanted a → value_of a ≡ v → IsLive v k → NodeOf a k v.tree
 node_of a v k sound e live =
-    let s = seen (links_at a.nodes) k None None v.tree (stands_for a v sound e).stand live in
+    let s = seen (links_at a.nodes) k None None v.tree (represents_for a v sound e).represented live in
     record { found = s.found; parent = s.parent; before = s.before; says = says (get a.nodes k) _ s.is }
 
 -- so its key is in the slab
@@ -123,20 +123,20 @@ next_is a v k sound e live n at =
 
 -- the parent of a view
 pub parent_of : (a : Inside) (v : Views) (k : ℕ) → IsPlanted a → value_of a ≡ v → IsLive v k → (n : Node) → get a.nodes k ≡ Some n → Up n.links.parent k v.tree
-parent_of a v k sound e live n at = up_is (links_at a.nodes) a.root a.next v.tree k _ (stands_for a v sound e) live (ap links_in at)
+parent_of a v k sound e live n at = up_is (links_at a.nodes) a.root a.next v.tree k _ (represents_for a v sound e) live (ap links_in at)
 
 -- the root
 pub root_is : (a : Inside) (v : Views) → IsPlanted a → value_of a ≡ v → (a.root ≡ first_key v.tree) × IsRestFrom a.root v.tree v.tree
 root_is a v sound e =
-    let s = stands_for a v sound e in
+    let s = represents_for a v sound e in
     (sym s.outer, subst (λ o. IsRestFrom o v.tree v.tree) s.outer (part v.tree s.distinct v.tree here))
 
 -- the sibling before a view
 pub previous_of : (a : Inside) (v : Views) (k : ℕ) → IsPlanted a → value_of a ≡ v → IsLive v k → (n : Node) → get a.nodes k ≡ Some n
     → (n.links.previous ≡ previous_key None k v.tree) × IfSome n.links.previous (λ x. IsLive v x)
 previous_of a v k sound e live n at =
-    let s = stands_for a v sound e in
-    (previous_is (links_at a.nodes) k _ (ap links_in at) v.tree None None s.stand live, previous_live (links_at a.nodes) a.root a.next v.tree k _ s live (ap links_in at))
+    let s = represents_for a v sound e in
+    (previous_is (links_at a.nodes) k _ (ap links_in at) v.tree None None s.represented live, previous_live (links_at a.nodes) a.root a.next v.tree k _ s live (ap links_in at))
 
 pub last_of : (a : Inside) (v : Views) (k : ℕ) → IsPlanted a → value_of a ≡ v → IsLive v k → (n : Node) → get a.nodes k ≡ Some n → IfSome n.links.last (λ x. IsLive v x)
-last_of a v k sound e live n at = last_live (links_at a.nodes) a.root a.next v.tree k _ (stands_for a v sound e) live (ap links_in at)
+last_of a v k sound e live n at = last_live (links_at a.nodes) a.root a.next v.tree k _ (represents_for a v sound e) live (ap links_in at)

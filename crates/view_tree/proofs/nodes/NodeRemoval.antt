@@ -13,10 +13,10 @@ use Rattle.view_tree.specs.declared.node.Node.{Node}
 use Rattle.view_tree.specs.declared.tree.ViewTree.TheInside.{Inside}
 use Rattle.view_tree.proofs.nodes.PrunedPart.{count-cut_leaf}
 use Rattle.view_tree.proofs.forest.Forests.{tree_is}
-use Rattle.view_tree.proofs.nodes.PrunedTree.{gone_around, gone_stands}
+use Rattle.view_tree.proofs.nodes.PrunedTree.{gone_around, gone_represents}
 use Rattle.view_tree.proofs.forest.IdLaws.{holders_of-pruned_at_key}
 use Rattle.view_tree.proofs.values.KeptLaws.{is_tree-pruned_at_key}
-use Rattle.view_tree.proofs.nodes.NodeReads.{contains_live, held_view, is_tree, link_for, named_for, small_for, stands_for, view_is}
+use Rattle.view_tree.proofs.nodes.NodeReads.{contains_live, held_view, is_tree, link_for, named_for, small_for, represents_for, view_is}
 use Rattle.view_tree.proofs.forest.NumberLaws.{count_of_key-cut_le}
 use Rattle.view_tree.proofs.forest.PlainLaws.{agree_live}
 use Rattle.view_tree.proofs.forest.SearchLaws.{search-pruned_at_key}
@@ -25,7 +25,7 @@ use Rattle.view_tree.proofs.forest.SearchLaws.{search-pruned_at_key}
 pub around_there : (a : Inside) (v : Views) (k : ℕ) → IsPlanted a → value_of a ≡ v → IsLive v k
     → (n : PlainNode) (x : ℕ) → links_at a.nodes k ≡ Some n → IsAround n x → ContainsKey a.nodes x × (x ≢ k)
 around_there a v k sound e live n x says i =
-    let h = gone_around (links_at a.nodes) a.root a.next v.tree k n (stands_for a v sound e) live says in
+    let h = gone_around (links_at a.nodes) a.root a.next v.tree k n (represents_for a v sound e) live says in
     (contains_live a v x sound e (h.live x i), h.apart.not_k x i)
 
 module _ (a b : Inside) (v : Views) (k : ℕ) (n : Node) (sound : IsPlanted a) (e : value_of a ≡ v) (live : IsLive v k) (leaf : children_of_first (part_from k v.tree) ≡ Nothing)
@@ -33,11 +33,11 @@ module _ (a b : Inside) (v : Views) (k : ℕ) (n : Node) (sound : IsPlanted a) (
     (root : b.root ≡ replaced_if_none n.links.parent None a.root) (next : b.next ≡ a.next) (len : slab_len b.nodes + 1 ≡ slab_len a.nodes)
     (unlisted : (x : ℕ) → get_key nat_eq b.keys x ≡ (if nat_eq n.number x then None else get_key nat_eq a.keys x))
     (ids : (id : ℕ) → get_key nat_eq b.ids id ≡ dropped (get_key nat_eq a.ids id) n.facts.id k id) where
-  stands-removal : RepresentsTree (links_at b.nodes) b.root b.next (pruned_at_key k v.tree)
-  stands-removal = rw (root, next) (gone_stands (links_at a.nodes) a.root a.next v.tree k _ (stands_for a v sound e) live (ap links_in node) (links_at b.nodes) (gone _ (ap links_in node)))
+  represents-removal : RepresentsTree (links_at b.nodes) b.root b.next (pruned_at_key k v.tree)
+  represents-removal = rw (root, next) (gone_represents (links_at a.nodes) a.root a.next v.tree k _ (represents_for a v sound e) live (ap links_in node) (links_at b.nodes) (gone _ (ap links_in node)))
 
   pub tree-removal : tree_of b ≡ pruned_at_key k v.tree
-  tree-removal = tree_is (links_at b.nodes) b.root b.next _ stands-removal
+  tree-removal = tree_is (links_at b.nodes) b.root b.next _ represents-removal
 
   pub next-removal : b.next ≡ v.next
   next-removal = next ∙ ap (λ (v : Views). v.next) e
@@ -49,7 +49,7 @@ module _ (a b : Inside) (v : Views) (k : ℕ) (n : Node) (sound : IsPlanted a) (
   sound-removal =
       let is = is_tree a v sound e in
       record {
-        stands = subst (RepresentsTree (links_at b.nodes) b.root b.next) (sym tree-removal) stands-removal;
+        represents = subst (RepresentsTree (links_at b.nodes) b.root b.next) (sym tree-removal) represents-removal;
         kept = is_tree-pruned_at_key v (value_of b) k is tree-removal next-removal;
         full =
             let was : slab_len a.nodes ≡ count_of v.tree = sound.full ∙ ap (λ (v : Views). count_of v.tree) e in

@@ -24,9 +24,9 @@ use Rattle.view_tree.proofs.forest.DirectedLaws.{KeepsRun}
 use Rattle.view_tree.proofs.forest.Forests.{tree_is, some_is}
 use Rattle.view_tree.proofs.forest.IdLaws.{holders_of-put}
 use Rattle.view_tree.proofs.values.KeptLaws.{is_tree-put, is_tree-same}
-use Rattle.view_tree.proofs.nodes.NodeReads.{held_view, held_at, is_tree, link_for, named_for, small_for, stands_for, view_is}
+use Rattle.view_tree.proofs.nodes.NodeReads.{held_view, held_at, is_tree, link_for, named_for, small_for, represents_for, view_is}
 use Rattle.view_tree.proofs.forest.NumberLaws.{count-put, count_of_key-put}
-use Rattle.view_tree.proofs.nodes.ChangedTree.{put_stands}
+use Rattle.view_tree.proofs.nodes.ChangedTree.{put_represents}
 use Rattle.view_tree.proofs.forest.SearchLaws.{search-put}
 
 len_write : (slots : List (Option Node)) (k : ℕ) (m : Node) → IsSome (slice_index_or slots k None)
@@ -77,7 +77,7 @@ module _ (a : Inside) (k : ℕ) (n m : Node) (at : get a.nodes k ≡ Some n) (sa
 
   pub sound-write : IsPlanted a → IsPlanted (written a k m)
   sound-write sound = record {
-    stands = subst (λ (at : ℕ → Option PlainNode). RepresentsTree at a.root a.next (forest a.next at a.root)) (sym all_same) sound.stands;
+    represents = subst (λ (at : ℕ → Option PlainNode). RepresentsTree at a.root a.next (forest a.next at a.root)) (sym all_same) sound.represents;
     kept = is_tree-same (value_of a) (value_of (written a k m)) sound.kept tree-write refl;
     full = len_write a.nodes.slots k m (rw at) ∙ sound.full ∙ ap count_of (sym tree-write);
     found = λ number. sound.found number ∙ ap (key_where (λ (view : PlainView). view.number == number)) (sym tree-write);
@@ -100,7 +100,7 @@ module _ (a : Inside) (k : ℕ) (n m : Node) (at : get a.nodes k ≡ Some n) (sa
 pub sound-counts : (a : Inside) (counts : Counts) → IsSoundTree a → IsSoundTree (record a { counts = counts })
 sound-counts a counts sound = record {
   planted = record {
-    stands = sound.planted.stands;
+    represents = sound.planted.represents;
     kept = is_tree-same (value_of a) (value_of (record a { counts = counts })) sound.planted.kept refl refl;
     full = sound.planted.full;
     found = sound.planted.found;
@@ -131,25 +131,25 @@ module _ (a : Inside) (v : Views) (k : ℕ) (n m : Node) (f : PlainView → Plai
   u : Updates a.nodes (with_value a.nodes k m) k (Some m)
   u = Updates-with_value a.nodes k m (rw at)
 
-  stands-put : RepresentsTree (links_at (with_value a.nodes k m)) a.root a.next (changed_at_key k f v.tree)
-  stands-put =
-      put_stands k f (links_at a.nodes) (links_at (with_value a.nodes k m))
+  represents-put : RepresentsTree (links_at (with_value a.nodes k m)) a.root a.next (changed_at_key k f v.tree)
+  represents-put =
+      put_represents k f (links_at a.nodes) (links_at (with_value a.nodes k m))
       (λ s says.
       ap links_in u.changed
       ∙ ap (λ (s : PlainNode). Some s) changes
       ∙ ap (λ (s : PlainNode). Some (record s { view = f s.view })) (some_is (ap links_in (sym at) ∙ says)))
       (λ x ne. ap links_in (u.others x ne))
-      a.root a.next v.tree (stands_for a v sound e)
+      a.root a.next v.tree (represents_for a v sound e)
 
   head : view_of_node n ≡ head_view (part_from k v.tree)
   head = view_is a v k sound e live n at
 
   tree-put : tree_of (written a k m) ≡ changed_at_key k f v.tree
-  tree-put = tree_is (links_at (with_value a.nodes k m)) a.root a.next _ stands-put
+  tree-put = tree_is (links_at (with_value a.nodes k m)) a.root a.next _ represents-put
 
   sound-put : IsPlanted (rewritten a other k m)
   sound-put = record {
-    stands = subst (RepresentsTree (links_at (with_value a.nodes k m)) a.root a.next) (sym tree-put) stands-put;
+    represents = subst (RepresentsTree (links_at (with_value a.nodes k m)) a.root a.next) (sym tree-put) represents-put;
     kept = is_tree-put v (value_of (written a k m)) k f (subst IsTree e sound.kept) numbers classes offsets runs tree-put (ap (λ (v : Views). v.next) e);
     full =
         len_write a.nodes.slots k m (rw at) ∙ sound.full ∙ ap (λ (v : Views). count_of v.tree) e

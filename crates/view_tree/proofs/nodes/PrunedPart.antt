@@ -38,10 +38,10 @@ count_of_key-later x (Later_on l) = let h = count_of_key-later x l in omega arit
 
 pub record Beside (at : ℕ → Option PlainNode) (p : Option ℕ) (u : Forest Row) : Type 0 where
   pub before : Option ℕ
-  pub stand : RepresentsPart at p before u
+  pub represented : RepresentsPart at p before u
 
 pub RepresentsPart-later : {u t : Forest Row} (at : ℕ → Option PlainNode) (p q : Option ℕ) → Later u t → RepresentsPart at p q t → Beside at p u
-RepresentsPart-later at p q At_first s = record { before = q; stand = s }
+RepresentsPart-later at p q At_first s = record { before = q; represented = s }
 RepresentsPart-later at p q (Later_on {row = row} l) s = RepresentsPart-later at p (Some row.key) l s.2
 
 pub cut_here : (k : ℕ) (row : Row) (kids siblings : Forest Row) → row.key ≡ k → pruned_at_key k (Branch row kids siblings) ≡ siblings
@@ -59,11 +59,11 @@ tail_ok : (at new : ℕ → Option PlainNode) (p q q0 : Option ℕ) (n : PlainNo
     → ((x : ℕ) (m : PlainNode) → n.next ≡ Some x → at x ≡ Some m → new x ≡ Some (record m { previous = n.previous }))
     → ((x : ℕ) → 0 < count_of_key x siblings → n.next ≢ Some x → new x ≡ at x)
     → ((x : ℕ) → count_of_key x siblings ≤ 1) → RepresentsPart at p q0 siblings → RepresentsPart new p q siblings
-tail_ok at new p q q0 n Nothing next before behind_new others_same once s = tt
-tail_ok at new p q q0 n (Branch row kids siblings) next before behind_new others_same once s =
+tail_ok at new p q q0 n Nothing next before after_new others_same once s = tt
+tail_ok at new p q q0 n (Branch row kids siblings) next before after_new others_same once s =
     let apart : (x : ℕ) → 0 < count_of_key x kids + count_of_key x siblings → n.next ≢ Some x = λ x h e. let o = once x in
     let w = own_more row kids siblings x (some_is (sym next ∙ e)) in absurd (omega arith) in (
-      behind_new row.key (links_for row p q0 kids siblings) next s.0 ∙ ap (λ (o : Option ℕ). Some (links_for row p o kids siblings)) before,
+      after_new row.key (links_for row p q0 kids siblings) next s.0 ∙ ap (λ (o : Option ℕ). Some (links_for row p o kids siblings)) before,
       RepresentsPart-along at new (Some row.key) None kids (λ x h. others_same x (omega arith) (apart x (omega arith))) s.1,
       RepresentsPart-along at new p (Some row.key) siblings (λ x h. others_same x (omega arith) (apart x (omega arith))) s.2,
     )
@@ -93,7 +93,7 @@ module _ (at : ℕ → Option PlainNode) (p : Option ℕ) (k : ℕ) (row : Row) 
   next_in : (q : Option ℕ) (kids : Forest Row) (x : ℕ) → Later u kids → RepresentsPart at p q kids → n.next ≡ Some x → 0 < count_of_key x siblings
   next_in q kids x l s e =
       let t = RepresentsPart-later at p q l s in
-      first_in siblings x (ap (λ (n : PlainNode). n.next) (sym (node_is t.before t.stand)) ∙ e)
+      first_in siblings x (ap (λ (n : PlainNode). n.next) (sym (node_is t.before t.represented)) ∙ e)
 
   pub a_in : (x : ℕ) (kids : Forest Row) → Later u kids → count_of_key x siblings ≤ count_of_key x kids
   a_in x kids l = let h = count_of_key-later x l in omega arith
@@ -140,14 +140,14 @@ module _ (at : ℕ → Option PlainNode) (p : Option ℕ) (k : ℕ) (row : Row) 
 
   module _ (new : ℕ → Option PlainNode)
       (before_new : (x : ℕ) (m : PlainNode) → n.previous ≡ Some x → at x ≡ Some m → new x ≡ Some (record m { next = n.next }))
-      (behind_new : (x : ℕ) (m : PlainNode) → n.next ≡ Some x → at x ≡ Some m → new x ≡ Some (record m { previous = n.previous })) where
+      (after_new : (x : ℕ) (m : PlainNode) → n.next ≡ Some x → at x ≡ Some m → new x ≡ Some (record m { previous = n.previous })) where
     pub RepresentsPart-pruned_at_key : (kids : Forest Row) (q : Option ℕ) → Later u kids → ((x : ℕ) → count_of_key x kids ≤ 1) → ((x : ℕ) → q ≡ Some x → count_of_key x kids ≡ 0)
         → ((x : ℕ) → 0 < count_of_key x kids → x ≢ k → n.previous ≢ Some x → n.next ≢ Some x → new x ≡ at x)
         → RepresentsPart at p q kids → RepresentsPart new p q (pruned_at_key k kids)
     RepresentsPart-pruned_at_key _ q At_first once apart others_same s =
         let e = node_is q s in
         rw (cut_here k row c siblings is) (
-        tail_ok at new p q (Some row.key) n siblings (ap (λ (n : PlainNode). n.next) e) (ap (λ (n : PlainNode). n.previous) e) behind_new
+        tail_ok at new p q (Some row.key) n siblings (ap (λ (n : PlainNode). n.next) e) (ap (λ (n : PlainNode). n.previous) e) after_new
         (λ x h ne. others_same x (omega arith)
         (λ i. let o = once x in let w = own_more row c siblings x (is ∙ sym i) in absurd (omega arith))
         (λ i. let z = apart x (ap (λ (n : PlainNode). n.previous) (sym e) ∙ i) in absurd (omega arith))
@@ -169,7 +169,7 @@ module _ (at : ℕ → Option PlainNode) (p : Option ℕ) (k : ℕ) (row : Row) 
               (λ i. let o = once x in let w = own_more row1 kids1 u x (some_is (sym before ∙ i)) in absurd (omega arith))
               (λ i. let o = once x in let f = first_in siblings x (sym next ∙ i) in absurd (omega arith)))
               s.1,
-          tail_ok at new p (Some row1.key) (Some row.key) n siblings next before behind_new
+          tail_ok at new p (Some row1.key) (Some row.key) n siblings next before after_new
               (λ x h ne. others_same x (omega arith)
               (λ i. let o = once x in let w = own_more row c siblings x (is ∙ sym i) in absurd (omega arith))
               (λ i. let o = once x in let w = own_more row1 kids1 u x (some_is (sym before ∙ i)) in absurd (omega arith))

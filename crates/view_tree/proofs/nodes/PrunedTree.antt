@@ -25,8 +25,8 @@ module _ (at new : ℕ → Option PlainNode) (k : ℕ) (n : PlainNode) (eq : (x 
       ∙ changed_not _ n.next _ x (apart.siblings x e)
       ∙ changed_is _ n.previous _ x m e (without_not at k x (apart.not_k x (inr (inl e))) ∙ at_x)
 
-  pub behind_new : (x : ℕ) (m : PlainNode) → n.next ≡ Some x → at x ≡ Some m → new x ≡ Some (record m { previous = n.previous })
-  behind_new x m e at_x =
+  pub after_new : (x : ℕ) (m : PlainNode) → n.next ≡ Some x → at x ≡ Some m → new x ≡ Some (record m { previous = n.previous })
+  after_new x m e at_x =
       eq x
       ∙ changed_not _ n.parent _ x (apart.next_parent x e)
       ∙ changed_is _ n.next _ x m e (changed_not _ n.previous _ x (λ i. apart.siblings x i e) ∙ without_not at k x (apart.not_k x (inr (inr e))) ∙ at_x)
@@ -39,10 +39,10 @@ module _ (at new : ℕ → Option PlainNode) (k : ℕ) (n : PlainNode) (eq : (x 
       (changed_not _ n.next _ x (λ i. apart.next_parent x i e) ∙ changed_not _ n.previous _ x (λ i. apart.before_parent x i e) ∙ without_not at k x (apart.not_k x (inl e)) ∙ at_x)
 
   pub others_same : (x : ℕ) → x ≢ k → n.previous ≢ Some x → n.next ≢ Some x → n.parent ≢ Some x → new x ≡ at x
-  others_same x ne not_before not_behind not_parent =
+  others_same x ne not_before not_after not_parent =
       eq x
       ∙ changed_not _ n.parent _ x not_parent
-      ∙ changed_not _ n.next _ x not_behind
+      ∙ changed_not _ n.next _ x not_after
       ∙ changed_not _ n.previous _ x not_before
       ∙ without_not at k x ne
 
@@ -59,16 +59,16 @@ top_only row kids siblings _ (Later_on {row = row'} {kids = kids'} {siblings = s
     absurd (omega arith)
 
 module _ (at : ℕ → Option PlainNode) (root : Option ℕ) (next : ℕ) (t : Forest Row) (k : ℕ) (n : PlainNode)
-    (stands : RepresentsTree at root next t) (live : 0 < count_of_key k t) (says : at k ≡ Some n) where
+    (represents : RepresentsTree at root next t) (live : 0 < count_of_key k t) (says : at k ≡ Some n) where
   abbrev pub f : Located k t
   f = located k t live
 
   module _ (h : Home (Branch f.row f.kids f.siblings) t) where
     home : RepresentsPart at (Some h.row.key) None h.kids
-    home = (RepresentsPart-within at None None h.within stands.stand).stand.1
+    home = (RepresentsPart-within at None None h.within represents.represented).represented.1
 
     once_b : (x : ℕ) → count_of_key x h.kids ≤ 1
-    once_b x = let w = count_of_key-within x h.within in let o = stands.distinct x in omega arith
+    once_b x = let w = count_of_key-within x h.within in let o = represents.distinct x in omega arith
 
     no_before : (x : ℕ) → None ≡ Some x → count_of_key x h.kids ≡ 0
     no_before x e = absurd (cc)
@@ -77,13 +77,13 @@ module _ (at : ℕ → Option PlainNode) (root : Option ℕ) (next : ℕ) (t : F
     beside = RepresentsPart-later at (Some h.row.key) None h.later home
 
     pub is_node : n ≡ links_for f.row (Some h.row.key) beside.before f.kids f.siblings
-    is_node = some_is (sym says ∙ ap at (sym f.key_is) ∙ beside.stand.0)
+    is_node = some_is (sym says ∙ ap at (sym f.key_is) ∙ beside.represented.0)
 
     parent_is : n.parent ≡ Some h.row.key
     parent_is = ap (λ (n : PlainNode). n.parent) is_node
 
     row_out : (x : ℕ) → h.row.key ≡ x → count_of_key x h.kids ≡ 0
-    row_out x e = let w = own_more h.row h.kids h.siblings x e in let i = count_of_key-within x h.within in let o = stands.distinct x in omega arith
+    row_out x e = let w = own_more h.row h.kids h.siblings x e in let i = count_of_key-within x h.within in let o = represents.distinct x in omega arith
 
     k_u : 0 < count_of_key k (Branch f.row f.kids f.siblings)
     k_u = subst (λ k. 0 < count_of_key k (Branch f.row f.kids f.siblings)) f.key_is (times_self f.row f.kids f.siblings)
@@ -133,7 +133,7 @@ module _ (at : ℕ → Option PlainNode) (root : Option ℕ) (next : ℕ) (t : F
     module _ (new : ℕ → Option PlainNode) (eq : (x : ℕ) → new x ≡ unlinked at k n x) where
       inner : RepresentsPart at (Some h.row.key) None h.kids → RepresentsPart new (Some h.row.key) None (pruned_at_key k h.kids)
       inner s =
-          RepresentsPart-pruned_at_key at (Some h.row.key) k f.row f.kids f.siblings n f.key_is says new (before_new at new k n eq around.apart) (behind_new at new k n eq around.apart) h.kids None h.later once_b no_before
+          RepresentsPart-pruned_at_key at (Some h.row.key) k f.row f.kids f.siblings n f.key_is says new (before_new at new k n eq around.apart) (after_new at new k n eq around.apart) h.kids None h.later once_b no_before
           (λ x p ne kids siblings. others_same at new k n eq around.apart x ne kids siblings (λ e. let z = row_out x (some_is (sym parent_is ∙ e)) in absurd (omega arith)))
           s
 
@@ -152,28 +152,28 @@ module _ (at : ℕ → Option PlainNode) (root : Option ℕ) (next : ℕ) (t : F
           let l = count_of_key-later x h.later in absurd (omega arith))
           (λ e. let w = own_more h.row h.kids Nothing x (some_is (sym parent_is ∙ e)) in absurd (omega arith))
 
-      pub home_stands : RepresentsTree new (replaced_if_none n.parent None root) next (pruned_at_key k t)
-      home_stands =
+      pub home_represents : RepresentsTree new (replaced_if_none n.parent None root) next (pruned_at_key k t)
+      home_represents =
           let kh = count_of_key-later k h.later in let ku = k_u in
-          let edit : pruned_at_key k t ≡ edit_kids h.row.key (pruned_at_key k) t = cut_edit k h.row.key h.row h.kids h.siblings refl (omega arith) h.within stands.distinct in
+          let edit : pruned_at_key k t ≡ edit_kids h.row.key (pruned_at_key k) t = cut_edit k h.row.key h.row h.kids h.siblings refl (omega arith) h.within represents.distinct in
           rw parent_is (record {
-            outer = ap first_key edit ∙ first_key-edit h.row.key (pruned_at_key k) t ∙ stands.outer;
-            single = ap later_siblings edit ∙ later_siblings-edit h.row.key (pruned_at_key k) t stands.single;
-            stand = rw edit (RepresentsPart-edit at new h.row.key (pruned_at_key k) h.row h.kids h.siblings refl own inner t None None h.within stands.distinct others stands.stand);
-            distinct = λ x. let o = stands.distinct x in omega (arith, count_of_key-cut_le x k t);
-            few = let o = stands.few in omega (arith, count-cut_le k t);
+            outer = ap first_key edit ∙ first_key-edit h.row.key (pruned_at_key k) t ∙ represents.outer;
+            single = ap later_siblings edit ∙ later_siblings-edit h.row.key (pruned_at_key k) t represents.single;
+            represented = rw edit (RepresentsPart-edit at new h.row.key (pruned_at_key k) h.row h.kids h.siblings refl own inner t None None h.within represents.distinct others represents.represented);
+            distinct = λ x. let o = represents.distinct x in omega (arith, count_of_key-cut_le x k t);
+            few = let o = represents.few in omega (arith, count-cut_le k t);
           })
 
   module _ (l : Later (Branch f.row f.kids f.siblings) t) where
     whole : t ≡ Branch f.row f.kids f.siblings
-    whole = top_only f.row f.kids f.siblings t l stands.single
+    whole = top_only f.row f.kids f.siblings t l represents.single
 
     no_more : f.siblings ≡ Nothing
-    no_more = ap later_siblings (sym whole) ∙ stands.single
+    no_more = ap later_siblings (sym whole) ∙ represents.single
 
     is_root : n ≡ links_for f.row None None f.kids Nothing
     is_root =
-        let s : RepresentsPart at None None (Branch f.row f.kids f.siblings) = subst (λ t. RepresentsPart at None None t) whole stands.stand in
+        let s : RepresentsPart at None None (Branch f.row f.kids f.siblings) = subst (λ t. RepresentsPart at None None t) whole represents.represented in
         some_is (sym says ∙ ap at (sym f.key_is) ∙ s.0) ∙ ap (λ siblings. links_for f.row None None f.kids siblings) no_more
 
     pub around_top : HasLiveNeighbours k n t
@@ -197,15 +197,15 @@ module _ (at : ℕ → Option PlainNode) (root : Option ℕ) (next : ℕ) (t : F
           live = λ x i. absurd (none_around x i);
         }
 
-    pub top_stands : (new : ℕ → Option PlainNode) → RepresentsTree new (replaced_if_none n.parent None root) next (pruned_at_key k t)
-    top_stands new =
+    pub top_represents : (new : ℕ → Option PlainNode) → RepresentsTree new (replaced_if_none n.parent None root) next (pruned_at_key k t)
+    top_represents new =
         let parent : n.parent ≡ None = ap (λ (n : PlainNode). n.parent) is_root in
         let gone : pruned_at_key k t ≡ Nothing = ap (pruned_at_key k) whole ∙ cut_here k f.row f.kids f.siblings f.key_is ∙ no_more in
-        let few = stands.few in
-        rw (parent, gone) (record { outer = refl; single = refl; stand = tt; distinct = λ x. omega arith; few = omega arith })
+        let few = represents.few in
+        rw (parent, gone) (record { outer = refl; single = refl; represented = tt; distinct = λ x. omega arith; few = omega arith })
 
   pub gone_around : HasLiveNeighbours k n t
   gone_around = elim (up f.within) [ inl l ↦ around_top l | inr h ↦ around h ]
 
-  pub gone_stands : (new : ℕ → Option PlainNode) → ((x : ℕ) → new x ≡ unlinked at k n x) → RepresentsTree new (replaced_if_none n.parent None root) next (pruned_at_key k t)
-  gone_stands new eq = elim (up f.within) [ inl l ↦ top_stands l new | inr h ↦ home_stands h new eq ]
+  pub gone_represents : (new : ℕ → Option PlainNode) → ((x : ℕ) → new x ≡ unlinked at k n x) → RepresentsTree new (replaced_if_none n.parent None root) next (pruned_at_key k t)
+  gone_represents new eq = elim (up f.within) [ inl l ↦ top_represents l new | inr h ↦ home_represents h new eq ]

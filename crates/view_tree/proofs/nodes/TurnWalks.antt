@@ -43,7 +43,7 @@ pub record TurnWalk (old now : ℕ → Option Node) (rtl : Bool) (view : ℕ) (k
   pub first : first_key rest ≡ next
   pub done : TurnedUntil old now rtl rest kids
   pub before : Option ℕ
-  pub stand : RepresentsPart (λ key. links_in (now key)) (Some view) before rest
+  pub represented : RepresentsPart (λ key. links_in (now key)) (Some view) before rest
   pub still : (key : ℕ) → 0 < count_of_key key rest → now key ≡ old key
   pub out : (key : ℕ) → count_of_key key kids ≡ 0 → key ≢ view → now key ≡ old key
   pub own : now view ≡ option_map (running_node rtl) (old view)
@@ -62,12 +62,12 @@ module _ (nodes : Slab Node) (view : ℕ) (is : IsPart (links_at nodes) view (pa
   once_at : (key : ℕ) → count_of_key key (Branch at.row at.kids at.siblings) ≤ 1
   once_at key = subst (λ part. count_of_key key part ≤ 1) at.is (is.once key)
 
-  stand_at : RepresentsPart (links_at nodes) is.parent is.before (Branch at.row at.kids at.siblings)
-  stand_at = subst (RepresentsPart (links_at nodes) is.parent is.before) at.is is.stand
+  represented_at : RepresentsPart (links_at nodes) is.parent is.before (Branch at.row at.kids at.siblings)
+  represented_at = subst (RepresentsPart (links_at nodes) is.parent is.before) at.is is.represented
 
   pub node : Says (get nodes view) (links_for at.row is.parent is.before at.kids at.siblings)
   node = subst (λ k. Says (get nodes k) (links_for at.row is.parent is.before at.kids at.siblings)) at.key_is
-      (says (get nodes at.row.key) (links_for at.row is.parent is.before at.kids at.siblings) stand_at.0)
+      (says (get nodes at.row.key) (links_for at.row is.parent is.before at.kids at.siblings) represented_at.0)
 
   pub there : ContainsKey nodes view
   there = rw node.at
@@ -117,7 +117,7 @@ module _ (nodes : Slab Node) (view : ℕ) (is : IsPart (links_at nodes) view (pa
       found ∙ ap (λ (n : Node). Some n) (sym (turned_still (dir above at.row.view.facts.direction) n (runs ∙ facts_way n above found)))
       ∙ ap (option_map (turned_node (dir above at.row.view.facts.direction))) (sym found) in
       let below : HaveTurned (get nodes) (get nodes) (dir above at.row.view.facts.direction) at.kids =
-      still_turned (get nodes) (get nodes) (dir above at.row.view.facts.direction) (Some at.row.key) None at.kids stand_at.1
+      still_turned (get nodes) (get nodes) (dir above at.row.view.facts.direction) (Some at.row.key) None at.kids represented_at.1
       (subst (λ (way : Bool). AreDirected way at.kids) way (subst (AreDirected at.row.view.facts.rtl) kids_is directed_at)) (λ key h. refl) in
       rw at.is (subst (λ k. get nodes k ≡ option_map (turned_node (dir above at.row.view.facts.direction)) (get nodes k)) (sym at.key_is) own, below, tt)
 
@@ -129,8 +129,8 @@ module _ (nodes : Slab Node) (view : ℕ) (is : IsPart (links_at nodes) view (pa
     first = refl;
     done = At_rest;
     before = None;
-    stand = RepresentsPart-along (links_at nodes) (links_at now) (Some view) None kids (λ key live. ap links_in (others key (not_view key live)))
-        (subst (λ list. RepresentsPart (links_at nodes) (Some view) None list) (sym kids_is) (subst (λ k. RepresentsPart (links_at nodes) (Some k) None at.kids) at.key_is stand_at.1));
+    represented = RepresentsPart-along (links_at nodes) (links_at now) (Some view) None kids (λ key live. ap links_in (others key (not_view key live)))
+        (subst (λ list. RepresentsPart (links_at nodes) (Some view) None list) (sym kids_is) (subst (λ k. RepresentsPart (links_at nodes) (Some k) None at.kids) at.key_is represented_at.1));
     still = λ key live. others key (not_view key live);
     out = λ key none ne. others key ne;
     own = own;
@@ -141,12 +141,12 @@ module _ (nodes : Slab Node) (view : ℕ) (is : IsPart (links_at nodes) view (pa
     pub kid_at : First w.rest kid
     kid_at = first_of w.rest kid w.first
 
-    kid_stand : RepresentsPart (links_at now) (Some view) w.before (Branch kid_at.row kid_at.kids kid_at.siblings)
-    kid_stand = subst (RepresentsPart (links_at now) (Some view) w.before) kid_at.is w.stand
+    kid_represented : RepresentsPart (links_at now) (Some view) w.before (Branch kid_at.row kid_at.kids kid_at.siblings)
+    kid_represented = subst (RepresentsPart (links_at now) (Some view) w.before) kid_at.is w.represented
 
     kid_node : Says (get now kid) (links_for kid_at.row (Some view) w.before kid_at.kids kid_at.siblings)
     kid_node = subst (λ k. Says (get now k) (links_for kid_at.row (Some view) w.before kid_at.kids kid_at.siblings)) kid_at.key_is
-        (says (get now kid_at.row.key) (links_for kid_at.row (Some view) w.before kid_at.kids kid_at.siblings) kid_stand.0)
+        (says (get now kid_at.row.key) (links_for kid_at.row (Some view) w.before kid_at.kids kid_at.siblings) kid_represented.0)
 
     pub kid_there : ContainsKey now kid
     kid_there = rw kid_node.at
@@ -161,7 +161,7 @@ module _ (nodes : Slab Node) (view : ℕ) (is : IsPart (links_at nodes) view (pa
     kid_part =
         let few = rest_few in
         ap (forest (suc MAX_VIEWS) (links_at now)) (sym w.first)
-        ∙ forest_is (suc MAX_VIEWS) (links_at now) (Some view) w.before w.rest w.stand (omega arith)
+        ∙ forest_is (suc MAX_VIEWS) (links_at now) (Some view) w.before w.rest w.represented (omega arith)
 
     rest_directed : {rest list : Forest Row} (above : Bool) → TurnedUntil (get nodes) (get now) rtl rest list → AreDirected above list → AreDirected above rest
     rest_directed above At_rest are = are
@@ -174,7 +174,7 @@ module _ (nodes : Slab Node) (view : ℕ) (is : IsPart (links_at nodes) view (pa
         subst (IsPart (links_at now) kid) (sym kid_part) (record {
           parent = Some view;
           before = w.before;
-          stand = w.stand;
+          represented = w.represented;
           first = w.first;
           once = λ key. let one = once_kids key in let less = count_of_key-within key rest_within in omega arith;
           few = rest_few;
@@ -231,8 +231,8 @@ module _ (nodes : Slab Node) (view : ℕ) (is : IsPart (links_at nodes) view (pa
           done = until_on (get nodes) (get now) (get end) rtl kid_at.row kid_at.kids kid_at.siblings once_kids done
               (from_now (Branch kid_at.row kid_at.kids Nothing) (λ key live. same key (omega arith)) rtl has) out;
           before = Some kid_at.row.key;
-          stand = RepresentsPart-along (links_at now) (links_at end) (Some view) (Some kid_at.row.key) kid_at.siblings
-              (λ key live. ap links_in (out key (let one = whole key in omega arith))) kid_stand.2;
+          represented = RepresentsPart-along (links_at now) (links_at end) (Some view) (Some kid_at.row.key) kid_at.siblings
+              (λ key live. ap links_in (out key (let one = whole key in omega arith))) kid_represented.2;
           still = λ key live. out key (let one = whole key in omega arith) ∙ same key (omega arith);
           out = λ key none ne. out key (away key none) ∙ w.out key none ne;
           own = out view (let none : count_of_key view kids ≡ 0 = view_apart in away view none) ∙ w.own;

@@ -27,8 +27,8 @@ use Rattle.view_tree.proofs.forest.Forests.{RepresentsPart-within, count-within,
 use Rattle.view_tree.proofs.forest.KeyLaws.{Located, count_of_key-within, here, located, zero_or_more}
 use Rattle.view_tree.proofs.forest.NumberLaws.{count_of_key-put}
 use Rattle.view_tree.proofs.forest.PlainLaws.{agree_live, plain-change_facts, plain_along}
-use Rattle.view_tree.proofs.nodes.ChangedTree.{put_stands}
-use Rattle.view_tree.proofs.nodes.NodeReads.{held_view, is_tree, link_for, named_for, stands_for}
+use Rattle.view_tree.proofs.nodes.ChangedTree.{put_represents}
+use Rattle.view_tree.proofs.nodes.NodeReads.{held_view, is_tree, link_for, named_for, represents_for}
 use Rattle.view_tree.proofs.nodes.TurnedHeld.{among_absent, forced_if, held_turned, turned_keys}
 use Rattle.view_tree.proofs.nodes.TurnedNodes.{first_key-directed, represents_turned}
 use Rattle.view_tree.proofs.nodes.TurnedTree.{Alike, alike_directed, alike_put, count-alike, count_of_key-alike, grouped-alike, holders_of-alike, is_tree-alike, key_where-alike, later_siblings-alike, only-alike}
@@ -58,14 +58,14 @@ module _ (a : Inside) (v : Views) (view : ℕ) (direction : Direction) (n : Node
   u : Updates a.nodes first_nodes view (Some (node_with direction n))
   u = Updates-with_value a.nodes view (node_with direction n) (rw at)
 
-  first_stands : RepresentsTree (links_at first_nodes) a.root a.next first_tree_of
-  first_stands =
-      put_stands view (with_direction direction) (links_at a.nodes) (links_at first_nodes)
+  first_represented : RepresentsTree (links_at first_nodes) a.root a.next first_tree_of
+  first_represented =
+      put_represents view (with_direction direction) (links_at a.nodes) (links_at first_nodes)
       (λ s says.
       ap links_in u.changed
       ∙ ap (λ (s : PlainNode). Some (record s { view = with_direction direction s.view })) (some_is (ap links_in (sym at) ∙ says)))
       (λ x ne. ap links_in (u.others x ne))
-      a.root a.next v.tree (stands_for a v planted e)
+      a.root a.next v.tree (represents_for a v planted e)
 
   alike : Alike v.tree last_tree
   alike = alike_directed false (alike_put view direction v.tree)
@@ -92,15 +92,15 @@ module _ (a : Inside) (v : Views) (view : ℕ) (direction : Direction) (n : Node
   first_part : IsPart (links_at first_nodes) view part
   first_part =
       let f = located view first_tree_of live_first in
-      let w = RepresentsPart-within (links_at first_nodes) None None f.within first_stands.stand in
+      let w = RepresentsPart-within (links_at first_nodes) None None f.within first_represented.represented in
       let few = count-within f.within in
       let all = few_first in
       let whole : IsPart (links_at first_nodes) view (Branch f.row f.kids f.siblings) = record {
         parent = w.parent;
         before = w.before;
-        stand = w.stand;
+        represented = w.represented;
         first = ap (λ k. Some k) f.key_is;
-        once = λ key. let one = first_stands.distinct key in let less = count_of_key-within key f.within in omega arith;
+        once = λ key. let one = first_represented.distinct key in let less = count_of_key-within key f.within in omega arith;
         few = omega arith;
         below = subst RunsBelow f.is below;
       } in
@@ -111,7 +111,7 @@ module _ (a : Inside) (v : Views) (view : ℕ) (direction : Direction) (n : Node
       let p = first_part in
       let few = p.few in
       ap (forest (suc MAX_VIEWS) (links_at first_nodes)) (sym p.first)
-      ∙ forest_is (suc MAX_VIEWS) (links_at first_nodes) p.parent p.before part p.stand (omega arith)
+      ∙ forest_is (suc MAX_VIEWS) (links_at first_nodes) p.parent p.before part p.represented (omega arith)
 
   -- what a turn wants
   pub can_turn : IsPart (links_at first_nodes) view (part_at first_nodes view)
@@ -124,7 +124,7 @@ module _ (a : Inside) (v : Views) (view : ℕ) (direction : Direction) (n : Node
     whole : HaveTurned (get first_nodes) (get nodes) false first_tree_of
     whole =
         let way : above ≡ above_in false view v.tree = runs ∙ above_is v.tree is.keys [] view v.tree here in
-        whole_turned (get first_nodes) (get nodes) view direction false None None v.tree is.keys live is.directed first_stands.stand
+        whole_turned (get first_nodes) (get nodes) view direction false None None v.tree is.keys live is.directed first_represented.represented
         (subst (λ above. HaveTurned (get first_nodes) (get nodes) above (first_tree (part_with direction (part_from view v.tree)))) way
         (subst (λ part. HaveTurned (get first_nodes) (get nodes) above (first_tree part)) (part_same ∙ part_is) turned))
         (λ key none. others key (ap (λ part. count_of_key key (first_tree part)) (part_same ∙ part_is) ∙ same key (part_from view v.tree) ∙ none))
@@ -133,26 +133,26 @@ module _ (a : Inside) (v : Views) (view : ℕ) (direction : Direction) (n : Node
         same key Nothing = refl
         same key (Branch row kids siblings) = refl
 
-    last_stands : RepresentsTree (links_at nodes) a.root a.next last_tree
-    last_stands = record {
-      outer = first_key-directed false first_tree_of ∙ first_stands.outer;
+    last_represents : RepresentsTree (links_at nodes) a.root a.next last_tree
+    last_represents = record {
+      outer = first_key-directed false first_tree_of ∙ first_represented.outer;
       single = later_siblings-alike (alike_directed false (alike_put view direction v.tree)) is.root;
-      stand = represents_turned (get first_nodes) (get nodes) false None None first_tree_of first_stands.stand whole;
+      represented = represents_turned (get first_nodes) (get nodes) false None None first_tree_of first_represented.represented whole;
       distinct = λ key. rw (count_of_key-alike key alike) (is.keys key);
-      few = rw (count-alike alike) (stands_for a v planted e).few;
+      few = rw (count-alike alike) (represents_for a v planted e).few;
     }
 
     abbrev pub turned_inside : Inside
     turned_inside = record a { nodes = nodes }
 
     pub tree-turned : tree_of turned_inside ≡ last_tree
-    tree-turned = tree_is (links_at nodes) a.root a.next _ last_stands
+    tree-turned = tree_is (links_at nodes) a.root a.next _ last_represents
 
     pub planted-turned : IsPlanted turned_inside
     planted-turned =
         let now : Alike v.tree (tree_of turned_inside) = subst (Alike v.tree) (sym tree-turned) alike in
         record {
-          stands = subst (RepresentsTree (links_at nodes) a.root a.next) (sym tree-turned) last_stands;
+          represents = subst (RepresentsTree (links_at nodes) a.root a.next) (sym tree-turned) last_represents;
           kept = is_tree-alike v (value_of turned_inside) is now (subst (AreDirected false) (sym tree-turned) (directed-rows false first_tree_of)) (ap (λ (v : Views). v.next) e);
           full = len ∙ len_write a.nodes.slots view (node_with direction n) (rw at) ∙ planted.full ∙ ap (λ (v : Views). count_of v.tree) e ∙ sym (count-alike now);
           found = λ number.
@@ -182,7 +182,7 @@ module _ (a : Inside) (v : Views) (view : ℕ) (direction : Direction) (n : Node
           ∙ ap (λ (v : Views). held_of v key) e)
       | inr there ↦
           held_view turned_inside key
-          ∙ ap held_or (held_turned (get first_nodes) (get nodes) false None None first_tree_of (λ key. rw (count_of_key-put key view (with_direction direction) v.tree) (is.keys key)) first_stands.stand whole key there)
+          ∙ ap held_or (held_turned (get first_nodes) (get nodes) false None None first_tree_of (λ key. rw (count_of_key-put key view (with_direction direction) v.tree) (is.keys key)) first_represented.represented whole key there)
           ∙ ap (λ (o : Option Held). held_or (forced_if (among key (turned_keys false first_tree_of)) o)) (first_held key)
           ∙ forced_or (among key (turned_keys false first_tree_of)) (held_in (get a.nodes key))
           ∙ ap (λ (h : Held). if among key (turned_keys false first_tree_of) then forced_one h else h) (sym (held_view a key) ∙ ap (λ (v : Views). held_of v key) e)

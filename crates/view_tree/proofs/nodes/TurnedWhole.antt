@@ -71,9 +71,9 @@ module _ (old new : ℕ → Option Node) (view : ℕ) (direction : Direction) wh
   own_still : (above : Bool) (p q : Option ℕ) (row : Row) (kids siblings : Forest Row)
       → links_in (old row.key) ≡ Some (links_for row p q kids siblings) → row.view.facts.rtl ≡ dir above row.view.facts.direction → new row.key ≡ old row.key
       → new row.key ≡ option_map (turned_node (dir above row.view.facts.direction)) (old row.key)
-  own_still above p q row kids siblings stands runs same =
+  own_still above p q row kids siblings represents runs same =
       let rtl = dir above row.view.facts.direction in
-      let node = says (old row.key) (links_for row p q kids siblings) stands in
+      let node = says (old row.key) (links_for row p q kids siblings) represents in
       let way : node.node.facts.rtl ≡ rtl = ap (λ (n : PlainNode). n.view.facts.rtl) node.all ∙ runs in
       same ∙ node.at ∙ ap (λ (n : Node). Some n) (sym (turned_still rtl node.node way)) ∙ ap (option_map (turned_node rtl)) (sym node.at)
 
@@ -86,12 +86,12 @@ module _ (old new : ℕ → Option Node) (view : ℕ) (direction : Direction) wh
   whole_turned above p q (Branch row kids siblings) once live are s turned out =
       elim (cases_Bool (row.key == view)) [
         | inl e ↦
-            let stands = rw e at s in
+            let represents = rw e at s in
             let own = rw e at turned in
             let rest = rw e at out in
-            rw e (own.0, own.1, still_turned old new above p (Some row.key) siblings stands.2 are.2 (λ key h. rest key (let one = once key in omega arith)))
+            rw e (own.0, own.1, still_turned old new above p (Some row.key) siblings represents.2 are.2 (λ key h. rest key (let one = once key in omega arith)))
         | inr e ↦
-            let stands = rw e at s in
+            let represents = rw e at s in
             let live = rw e at live in
             elim (zero_or_more (count_of_key view kids)) [
               | inl z ↦
@@ -99,27 +99,27 @@ module _ (old new : ℕ → Option Node) (view : ℕ) (direction : Direction) wh
                   let apart : (row.key == view) ≡ false = e in
                   let own = rw (e, absent view kids z, z) at turned in
                   let rest = rw (e, absent view kids z) at out in
-                  let below = rw (put_absent view (with_direction direction) kids z) at stands.1 in
+                  let below = rw (put_absent view (with_direction direction) kids z) at represents.1 in
                   rw (e, put_absent view (with_direction direction) kids z) (
-                    own_still above p q row (changed_at_key view (with_direction direction) kids) (changed_at_key view (with_direction direction) siblings) stands.0 are.0
+                    own_still above p q row (changed_at_key view (with_direction direction) kids) (changed_at_key view (with_direction direction) siblings) represents.0 are.0
                         (rest row.key (let one = once row.key in let self = times_self row kids siblings in let few = part_few view row.key siblings there in let own = times_own row kids siblings in omega arith)),
                     still_turned old new (dir above row.view.facts.direction) (Some row.key) None kids below (subst (λ (way : Bool). AreDirected way kids) are.0 are.1)
                         (λ key h. rest key (let one = once key in let few = part_few view key siblings there in omega arith)),
-                    whole_turned above p (Some row.key) siblings (λ key. let one = once key in omega arith) there are.2 stands.2 own rest,
+                    whole_turned above p (Some row.key) siblings (λ key. let one = once key in omega arith) there are.2 represents.2 own rest,
                   )
               | inr there ↦
                   let none : count_of_key view siblings ≡ 0 = let one = once view in omega arith in
                   let some : (count_of_key view kids == 0) ≡ false = ne_eqb (count_of_key view kids) 0 (λ is. absurd (omega arith)) in
                   let own = rw (e, or_else_live view kids (part_from view siblings) there, some) at turned in
                   let rest = rw (e, or_else_live view kids (part_from view siblings) there) at out in
-                  let after = rw (put_absent view (with_direction direction) siblings none) at stands.2 in
+                  let after = rw (put_absent view (with_direction direction) siblings none) at represents.2 in
                   let way : AreDirected (dir above row.view.facts.direction) kids = subst (λ (way : Bool). AreDirected way kids) are.0 are.1 in
                   let moved : HaveTurned old new (above_in (dir above row.view.facts.direction) view kids) (first_tree (part_with direction (part_from view kids))) =
                   subst (λ (way : Bool). HaveTurned old new (above_in way view kids) (first_tree (part_with direction (part_from view kids)))) are.0 own in
                   rw (e, put_absent view (with_direction direction) siblings none) (
-                    own_still above p q row (changed_at_key view (with_direction direction) kids) (changed_at_key view (with_direction direction) siblings) stands.0 are.0
+                    own_still above p q row (changed_at_key view (with_direction direction) kids) (changed_at_key view (with_direction direction) siblings) represents.0 are.0
                         (rest row.key (let one = once row.key in let few = part_few view row.key kids there in let own = times_own row kids siblings in omega arith)),
-                    whole_turned (dir above row.view.facts.direction) (Some row.key) None kids (λ key. let one = once key in omega arith) there way stands.1 moved rest,
+                    whole_turned (dir above row.view.facts.direction) (Some row.key) None kids (λ key. let one = once key in omega arith) there way represents.1 moved rest,
                     still_turned old new above p (Some row.key) siblings after are.2 (λ key h. rest key (let one = once key in let few = part_few view key kids there in omega arith)),
                   )
             ]

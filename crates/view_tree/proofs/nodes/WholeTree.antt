@@ -17,7 +17,7 @@ use Rattle.view_tree.proofs.values.KeptLaws.{is_tree-same}
 
 pub planted-fields : (a : Inside) → IsPlanted a → IsPlanted (fields a.nodes a.keys a.ids a.root a.next)
 planted-fields a is = record {
-  stands = is.stands;
+  represents = is.represents;
   kept = is_tree-same (value_of a) (value_of (fields a.nodes a.keys a.ids a.root a.next)) is.kept refl refl;
   full = is.full;
   found = is.found;
@@ -27,7 +27,7 @@ planted-fields a is = record {
 
 pub planted-whole : (a : Inside) → IsPlanted (fields a.nodes a.keys a.ids a.root a.next) → IsPlanted a
 planted-whole a is = record {
-  stands = is.stands;
+  represents = is.represents;
   kept = is_tree-same (value_of (fields a.nodes a.keys a.ids a.root a.next)) (value_of a) is.kept refl refl;
   full = is.full;
   found = is.found;
@@ -54,8 +54,8 @@ pub groups_along : (at now : ℕ → Option PlainGroup) (views : Views) → ((k 
 groups_along at now views same grouped = subst (λ (groups : ℕ → Option PlainGroup). IsGrouped groups (plain_of views)) (sym (fun_ext same)) grouped
 
 -- the parent of a view, by look-up and by what its node holds
-pub same_parent : (told said : Option ℕ) (path : List ℕ) (above : ℕ → List ℕ) → MatchOption told (path ≡ []) (λ parent. path ≡ parent ∷ above parent)
-    → MatchOption said (path ≡ []) (λ parent. path ≡ parent ∷ above parent) → told ≡ said
+pub same_parent : (reported said : Option ℕ) (path : List ℕ) (above : ℕ → List ℕ) → MatchOption reported (path ≡ []) (λ parent. path ≡ parent ∷ above parent)
+    → MatchOption said (path ≡ []) (λ parent. path ≡ parent ∷ above parent) → reported ≡ said
 same_parent None None path above first second = refl
 same_parent None (Some parent) path above first second = absurd (let e : [] ≡ parent ∷ above parent = sym first ∙ second in cc)
 same_parent (Some parent) None path above first second = absurd (let e : [] ≡ parent ∷ above parent = sym second ∙ first in cc)

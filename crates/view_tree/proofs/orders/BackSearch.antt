@@ -6,7 +6,7 @@ use Rattle.std.specs.Prelude.{IfSome, ◌==◌, ◌≢◌, if◌then◌else◌}
 use Rattle.view_model.specs.Cycles.{links_in}
 use Rattle.view_model.specs.Forest.{Forest, Nothing, Branch, count_of}
 use Rattle.view_model.specs.PlainTree.{PlainView}
-use Rattle.view_model.specs.SiblingRules.{last_below, last_with_id, nobody}
+use Rattle.view_model.specs.SiblingRules.{last_below, last_with_id, no_link}
 use Rattle.view_tree.specs.Nodes.{has_id}
 use Rattle.view_tree.specs.Rows.{At_first, Later, Later_on, Row, children_of_first, count_of_key, first_key, head_view, last_key, later_siblings, part_from, previous_key, siblings_from, views_of}
 use Rattle.view_tree.proofs.forest.Backwards.{count-later, count_of_key-later, from_later, kids-within, last_is, last_none, later-within, previous_in, previous_within, within_within}
@@ -30,11 +30,11 @@ last_below-first passes (suc count) = elim (cases_Bool (passes (suc count))) [
 ]
 
 last_place-is : (id : ℕ) (list : Forest Row)
-    → last_place (has_id id) list ≡ last_below (λ place. (get_or (links_in (views_of list)) place nobody).id == id) (length (links_in (views_of list)))
+    → last_place (has_id id) list ≡ last_below (λ place. (get_or (links_in (views_of list)) place no_link).id == id) (length (links_in (views_of list)))
 last_place-is id Nothing = refl
 last_place-is id (Branch row kids siblings) =
     ap (one_before (has_id id row.view)) (last_place-is id siblings)
-    ∙ sym (last_below-first (λ place. (get_or (links_in (views_of (Branch row kids siblings))) place nobody).id == id) (length (links_in (views_of siblings))))
+    ∙ sym (last_below-first (λ place. (get_or (links_in (views_of (Branch row kids siblings))) place no_link).id == id) (length (links_in (views_of siblings))))
 
 last_with_id-is : (id : ℕ) (list : Forest Row) → id ≢ 0 → last_with_id (links_in (views_of list)) id ≡ last_place (has_id id) list
 last_with_id-is id list some = rw (ne_eqb id 0 some) (sym (last_place-is id list))
@@ -53,9 +53,9 @@ found_from passes row kids siblings (Later_on l) is none =
     record { place = suc more.place; last = rw more.last refl; first = more.first }
 
 -- the children after the next one, and how many views there are up to it
-abbrev pub behind : Option ℕ → Forest Row → Forest Row → Forest Row
-behind None list tree = list
-behind (Some kid) list tree = later_siblings (part_from kid tree)
+abbrev pub following : Option ℕ → Forest Row → Forest Row → Forest Row
+following None list tree = list
+following (Some kid) list tree = later_siblings (part_from kid tree)
 
 abbrev pub before : Option ℕ → Forest Row → Forest Row → ℕ
 before None list tree = 0
@@ -68,7 +68,7 @@ pub record IsChildOf (tree list : Forest Row) (kid : ℕ) : Type 0 where
 -- so far, no child after `next` passes
 pub record BackSearch (passes : PlainView → Bool) (tree list : Forest Row) (next : Option ℕ) : Type 0 where
   pub kid : IfSome next (IsChildOf tree list)
-  pub none : last_place passes (behind next list tree) ≡ None
+  pub none : last_place passes (following next list tree) ≡ None
 
 pub search_start : (passes : PlainView → Bool) (tree : Forest Row) (view : ℕ) (last : Option ℕ) → ((key : ℕ) → count_of_key key tree ≤ 1) → 0 < count_of_key view tree
     → last ≡ last_key (children_of_first (part_from view tree)) → BackSearch passes tree (children_of_first (part_from view tree)) last

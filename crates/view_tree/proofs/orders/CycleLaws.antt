@@ -18,7 +18,7 @@ use Rattle.view_model.specs.declared.relative.Link.{Link}
 use Rattle.view_model.specs.Forest.{Forest, Nothing, Branch, EveryBranch, changed_where, count_of}
 use Rattle.view_model.specs.PlainTree.{PlainView}
 use Rattle.view_model.specs.Refusals.{PlainRefusal, plain_refusal}
-use Rattle.view_tree.specs.Cycles.{AreNewOrders, HasNoCycle, IsCycleTold, IsFree, links_below, view_member}
+use Rattle.view_tree.specs.Cycles.{AreNewOrders, HasNoCycle, IsCycleReported, IsFree, links_below, view_member}
 use Rattle.view_tree.specs.Faults.{IsRefusedOrCyclic}
 use Rattle.view_tree.specs.Nodes.{PlainNode, RepresentsPart, RepresentsTree}
 use Rattle.view_model.specs.Classes.{is_relative}
@@ -29,7 +29,7 @@ use Rattle.view_tree.specs.Views.{Held, IsLive, IsTree, Views, class_of, group_n
 use Rattle.view_tree.proofs.forest.Forests.{some_is}
 use Rattle.view_tree.proofs.forest.KeyLaws.{Agree, Within, from_within, here, in_after, in_below, located, number-within, zero_or_more}
 use Rattle.view_tree.proofs.forest.PlainLaws.{agree_live}
-use Rattle.view_tree.proofs.orders.FirstCycles.{HaveCyclesAt, first_at, told_is}
+use Rattle.view_tree.proofs.orders.FirstCycles.{HaveCyclesAt, first_at, reported_is}
 use Rattle.view_tree.proofs.orders.ListLaws.{IsAmong, among_or_not, among_times, edited_nowhere, each-changed_below, every_by, length-each, times_in}
 use Rattle.view_tree.proofs.orders.RowLaws.{at_within, count_within, each-plain, every_within, few_numbers, group_number-own, numbered_at, numbers-plain, times-plain}
 use Rattle.view_tree.proofs.orders.TreeLaws.{Groups, HasParent, Owes, grouped-edited, kept_along}
@@ -100,18 +100,18 @@ number_at key number row same is = eqb-true row.view.number number (same ∙ eq-
 
 find_child : (at : ℕ → Option PlainNode) (held : ℕ → Held) (key number : ℕ) (node : PlainNode) (parent before : Option ℕ) (list : Forest Row) → at key ≡ Some node → RepresentsPart at parent before list
     → Agree key number list → 0 < count_of_key key list → (IsAmong number (plain_rows held list) × (node.parent ≡ parent)) ⊎ FoundChild held list number node.parent
-find_child at held key number node parent before Nothing says stand agree live = absurd (omega arith)
-find_child at held key number node parent before (Branch row kids siblings) says stand agree live =
+find_child at held key number node parent before Nothing says represented agree live = absurd (omega arith)
+find_child at held key number node parent before (Branch row kids siblings) says represented agree live =
     elim (cases_eq row.key key) [
-      | inl is ↦ inl (inl (number_at key number row agree.0 is), ap (λ (n : PlainNode). n.parent) (some_is (sym says ∙ ap at (sym is) ∙ stand.0)))
+      | inl is ↦ inl (inl (number_at key number row agree.0 is), ap (λ (n : PlainNode). n.parent) (some_is (sym says ∙ ap at (sym is) ∙ represented.0)))
       | inr isnt ↦
           let live : 0 < 0 + (count_of_key key kids + count_of_key key siblings) = rw (ne_eqb row.key key isnt) at live in
           elim (zero_or_more (count_of_key key kids)) [
-            | inr there ↦ elim (find_child at held key number node (Some row.key) None kids says stand.1 agree.1 there) [
+            | inr there ↦ elim (find_child at held key number node (Some row.key) None kids says represented.1 agree.1 there) [
               | inl top ↦ inr (record { row = row; kids = kids; siblings = siblings; within = here; is = top.1; among = top.0 })
               | inr deep ↦ inr (record { row = deep.row; kids = deep.kids; siblings = deep.siblings; within = in_below deep.within; is = deep.is; among = deep.among })
             ]
-            | inl none ↦ elim (find_child at held key number node parent (Some row.key) siblings says stand.2 agree.2 (omega arith)) [
+            | inl none ↦ elim (find_child at held key number node parent (Some row.key) siblings says represented.2 agree.2 (omega arith)) [
               | inl top ↦ inl (inr top.0, top.1)
               | inr deep ↦ inr (record { row = deep.row; kids = deep.kids; siblings = deep.siblings; within = in_after deep.within; is = deep.is; among = deep.among })
             ]
@@ -120,8 +120,8 @@ find_child at held key number node parent before (Branch row kids siblings) says
 
 pub found_child : (at : ℕ → Option PlainNode) (root : Option ℕ) (next : ℕ) (views : Views) (key parent : ℕ) (node : PlainNode) → IsTree views → RepresentsTree at root next views.tree → IsLive views key
     → at key ≡ Some node → node.parent ≡ Some parent → FoundChild (held_of views) views.tree (number_of views key) (Some parent)
-found_child at root next views key parent node is stands live says above =
-    elim (find_child at (held_of views) key (number_of views key) node None None views.tree says stands.stand (agree_live views key is live) live) [
+found_child at root next views key parent node is represents live says above =
+    elim (find_child at (held_of views) key (number_of views key) node None None views.tree says represents.represented (agree_live views key is live) live) [
       | inl top ↦ absurd (let none : None ≡ Some parent = sym top.1 ∙ above in cc)
       | inr found ↦ subst (FoundChild (held_of views) views.tree (number_of views key)) above found
     ]
@@ -242,9 +242,9 @@ first_with : (views : Views) (key : ℕ) (link : Link) (change : PlainView → P
     (class : (view : PlainView) → (change view).class ≡ view.class) (same : (view : PlainView) → (change view).number ≡ view.number) (reads : (view : PlainView) → link_of (change view) ≡ link)
     (parent : ℕ) (refusal : PlainRefusal) → HasNoCycle (plain_of views) → IsLive views parent → FoundChild (held_of views) views.tree (number_of views key) (Some parent) → is_relative (class_of views parent) ≡ true
     → EveryBranch (λ (view : PlainView) (kids : Forest PlainView). HasParent (number_of views key) (Some (number_of views parent)) view kids) (plain_of views)
-    → IsCycleTold (view_member (views_of (children_of_first (part_from parent views.tree)))) (links_below views parent (number_of views key) link) refusal
+    → IsCycleReported (view_member (views_of (children_of_first (part_from parent views.tree)))) (links_below views parent (number_of views key) link) refusal
     → first_cycle member.View (changed (number_of views key) change (plain_of views)) ≡ Some refusal
-first_with views key link change is class same reads parent refusal none above found relative has told =
+first_with views key link change is class same reads parent refusal none above found relative has reported =
     first_at member.View (number_of views parent) (Some refusal) (changed (number_of views key) change (plain_of views))
     (cycles_changed member.View (number_of views key) (number_of views parent) (Some refusal) change class same (not_parent views key parent is found) (plain_of views) (once views key is) has none
     (every_within (λ (view : PlainView) (kids : Forest PlainView). view.number ≡ number_of views parent → cycle_below member.View view.class (changed (number_of views key) change kids) ≡ Some refusal)
@@ -258,9 +258,9 @@ first_with views key link change is class same reads parent refusal none above f
         let numbers : numbers_in (views_of (children_of_first (part_from parent views.tree))) ≡ numbers_in now =
         ap (λ part. numbers_in (views_of (children_of_first part))) part ∙ sym (numbers-plain (held_of views) kids) ∙ sym (numbers-changed (number_of views key) change (plain_rows (held_of views) kids) same) in
         let class : is_relative row.view.class ≡ true = ap (λ part. is_relative (head_view part).class) (sym part) ∙ relative in
-        rw class (told_is member.View now refusal
-        (subst (λ (numbers : List ℕ). IsCycleTold (λ place. member.View (slice_index numbers place)) (links_in now) refusal) numbers
-        (subst (λ links. IsCycleTold (view_member (views_of (children_of_first (part_from parent views.tree)))) links refusal) (sym (links_then views key link change is reads parent row kids siblings within part)) told)))
+        rw class (reported_is member.View now refusal
+        (subst (λ (numbers : List ℕ). IsCycleReported (λ place. member.View (slice_index numbers place)) (links_in now) refusal) numbers
+        (subst (λ links. IsCycleReported (view_member (views_of (children_of_first (part_from parent views.tree)))) links refusal) (sym (links_then views key link change is reads parent row kids siblings within part)) reported)))
 
 module _ (at now : Groups) (views new : Views) (key : ℕ) (link : Link) (change : PlainView → PlainView) (is : IsTree views) (live : IsLive views key)
     (class : (view : PlainView) → (change view).class ≡ view.class) (same : (view : PlainView) → (change view).number ≡ view.number) (reads : (view : PlainView) → link_of (change view) ≡ link)
@@ -316,16 +316,16 @@ pub grouped-ruled : (at now : Groups) (views new : Views) (key : ℕ) (link : Li
     → AreNewOrders views key link above (Ok orders)
     → ((k : ℕ) (new : Orders) → group_number views above ≡ Some k → orders ≡ Some new → now k ≡ option_map (with_orders (plain_orders new)) (at k))
     → ((k : ℕ) → group_number views above ≢ Some k → now k ≡ at k) → (orders ≡ None → (k : ℕ) → now k ≡ at k) → IsGrouped now (plain_of new)
-grouped-ruled at now views new key link change is live class same reads plain grouped None None up found has told own others none =
+grouped-ruled at now views new key link change is live class same reads plain grouped None None up found has reported own others none =
     grouped-alone at now views new key link change is live class same reads plain grouped (none refl) has
-grouped-ruled at now views new key link change is live class same reads plain grouped None (Some orders) up found has told own others none = absurd told
-grouped-ruled at now views new key link change is live class same reads plain grouped (Some parent) None up found has told own others none =
-    let apart : group_number views (Some parent) ≡ None = rw told refl in
+grouped-ruled at now views new key link change is live class same reads plain grouped None (Some orders) up found has reported own others none = absurd reported
+grouped-ruled at now views new key link change is live class same reads plain grouped (Some parent) None up found has reported own others none =
+    let apart : group_number views (Some parent) ≡ None = rw reported refl in
     grouped-alone at now views new key link change is live class same reads plain grouped (none refl)
     (subst (λ (group : Option ℕ). EveryBranch (λ (view : PlainView) (kids : Forest PlainView). HasParent (number_of views key) group view kids) (plain_of views)) apart has)
-grouped-ruled at now views new key link change is live class same reads plain grouped (Some parent) (Some orders) up found has told own others none =
-    let mine = group_number-own views parent told.0 in
-    grouped-with at now views new key link change is live class same reads plain grouped parent (plain_orders orders) up (found parent refl) told.1
+grouped-ruled at now views new key link change is live class same reads plain grouped (Some parent) (Some orders) up found has reported own others none =
+    let mine = group_number-own views parent reported.0 in
+    grouped-with at now views new key link change is live class same reads plain grouped parent (plain_orders orders) up (found parent refl) reported.1
     (own (number_of views parent) orders mine refl) (λ k ne. others k (λ e. ne (some_is (sym mine ∙ e))))
     (subst (λ (group : Option ℕ). EveryBranch (λ (view : PlainView) (kids : Forest PlainView). HasParent (number_of views key) group view kids) (plain_of views)) mine has)
 
@@ -336,11 +336,11 @@ pub refused_for : (A : Type 0) (views : Views) (key : ℕ) (link : Link) (change
     → ((parent : ℕ) → above ≡ Some parent → FoundChild (held_of views) views.tree (number_of views key) (Some parent))
     → EveryBranch (λ (view : PlainView) (kids : Forest PlainView). HasParent (number_of views key) (group_number views above) view kids) (plain_of views)
     → AreNewOrders views key link above (Err fault) → IsRefusedOrCyclic {A = A} None (first_cycle member.View (changed (number_of views key) change (plain_of views))) (Err fault)
-refused_for A views key link change is class same reads none None fault up found has told = absurd told
-refused_for A views key link change is class same reads none (Some parent) (fault.Refused refusal) up found has told =
-    first_with views key link change is class same reads parent (plain_refusal refusal) none up (found parent refl) told.0
-    (subst (λ (group : Option ℕ). EveryBranch (λ (view : PlainView) (kids : Forest PlainView). HasParent (number_of views key) group view kids) (plain_of views)) (group_number-own views parent told.0) has) told.1
-refused_for A views key link change is class same reads none (Some parent) fault.NoMemory up found has told = refl
+refused_for A views key link change is class same reads none None fault up found has reported = absurd reported
+refused_for A views key link change is class same reads none (Some parent) (fault.Refused refusal) up found has reported =
+    first_with views key link change is class same reads parent (plain_refusal refusal) none up (found parent refl) reported.0
+    (subst (λ (group : Option ℕ). EveryBranch (λ (view : PlainView) (kids : Forest PlainView). HasParent (number_of views key) group view kids) (plain_of views)) (group_number-own views parent reported.0) has) reported.1
+refused_for A views key link change is class same reads none (Some parent) fault.NoMemory up found has reported = refl
 
 pub views-count : (list : Forest Row) → count_of (views_of list) ≡ count_of list
 views-count Nothing = refl

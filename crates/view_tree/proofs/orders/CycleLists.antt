@@ -14,7 +14,7 @@ use Rattle.view_model.specs.Orders.{IsAcyclic, IsCycle, members_of}
 use Rattle.view_model.specs.Refusals.{Cycle, PlainRefusal}
 use Rattle.view_model.specs.SiblingRules.{leads}
 use Rattle.view_model.proofs.MemberLaws.{leads_inside, members_are, no_members}
-use Rattle.view_tree.specs.Cycles.{AreCyclic, IsFree, IsToldOf}
+use Rattle.view_tree.specs.Cycles.{AreCyclic, IsFree, IsReportedFrom}
 use Rattle.view_model.specs.declared.fault.Fault.{Fault}
 use Rattle.view_model.specs.declared.fault.Fault.TheVariants as fault
 use Rattle.view_tree.specs.Grafting.{IsGroupOrCycle, cycle_of}
@@ -27,24 +27,24 @@ module _ (name : ℕ → Member) (links : List Link) (numbers : List ℕ) where
   pub none_of : IsFree links → cycle_of name links numbers ≡ None
   none_of free = rw (none_on Horizontal false free.across) (none_on Vertical true free.down)
 
-  told_with : (down : Bool) (members : List ℕ) → 0 < length members
+  reported_with : (down : Bool) (members : List ℕ) → 0 < length members
       → cycle_with name down (map (slice_index numbers) members) ≡ Some (record { number = CYCLE; reason = Cycle down (map name (map (slice_index numbers) members)) })
-  told_with down [] some = absurd (omega arith)
-  told_with down (first ∷ members) some = refl
+  reported_with down [] some = absurd (omega arith)
+  reported_with down (first ∷ members) some = refl
 
   -- an axis with cycles has their members to report
-  told_on : (axis : Axis) (down : Bool) (members : List ℕ) → IsCycle (leads axis links) (length links) members
+  reported_on : (axis : Axis) (down : Bool) (members : List ℕ) → IsCycle (leads axis links) (length links) members
       → cycle_with name down (map (slice_index numbers) (members_of (leads axis links) (length links)))
       ≡ Some (record { number = CYCLE; reason = Cycle down (map name (map (slice_index numbers) members)) })
-  told_on axis down members cycle =
+  reported_on axis down members cycle =
       ap (λ (members : List ℕ). cycle_with name down (map (slice_index numbers) members))
       (sym (members_are (leads axis links) (length links) (leads_inside axis links) members cycle.exact))
-      ∙ told_with down members cycle.some
+      ∙ reported_with down members cycle.some
 
-  pub told_of : (down : Bool) (members : List ℕ) → AreCyclic links down members
+  pub reported_of : (down : Bool) (members : List ℕ) → AreCyclic links down members
       → cycle_of name links numbers ≡ Some (record { number = CYCLE; reason = Cycle down (map name (map (slice_index numbers) members)) })
-  told_of false members cyclic = rw (told_on Horizontal false members cyclic) refl
-  told_of true members cyclic = rw (none_on Horizontal false cyclic.0) (told_on Vertical true members cyclic.1)
+  reported_of false members cyclic = rw (reported_on Horizontal false members cyclic) refl
+  reported_of true members cyclic = rw (none_on Horizontal false cyclic.0) (reported_on Vertical true members cyclic.1)
 
   pub map_twice : (members : List ℕ) → map (λ place. name (slice_index numbers place)) members ≡ map name (map (slice_index numbers) members)
   map_twice [] = refl
@@ -55,10 +55,10 @@ module _ (name : ℕ → Member) (links : List Link) (numbers : List ℕ) where
   cyclic_of false members is = is
 
   -- what is reported of a fault is what is computed
-  pub told_is : (down : Bool) (members : Vec ℕ Global) (fault : Fault) → IsFaultOf links (order.Cycle down members)
-      → IsToldOf (λ place. name (slice_index numbers place)) down members.items fault → IsGroupOrCycle name links numbers (Err fault)
-  told_is down members (fault.Refused refusal) is told =
-      told_of down members.items (cyclic_of down members is)
+  pub reported_is : (down : Bool) (members : Vec ℕ Global) (fault : Fault) → IsFaultOf links (order.Cycle down members)
+      → IsReportedFrom (λ place. name (slice_index numbers place)) down members.items fault → IsGroupOrCycle name links numbers (Err fault)
+  reported_is down members (fault.Refused refusal) is reported =
+      reported_of down members.items (cyclic_of down members is)
       ∙ ap (λ (members : List Member). let refusal : PlainRefusal = record { number = CYCLE; reason = Cycle down members } in Some refusal) (sym (map_twice members.items))
-      ∙ ap (λ (refusal : PlainRefusal). Some refusal) (sym told)
-  told_is down members fault.NoMemory is told = tt
+      ∙ ap (λ (refusal : PlainRefusal). Some refusal) (sym reported)
+  reported_is down members fault.NoMemory is reported = tt

@@ -11,24 +11,24 @@ use Rattle.view_model.specs.Cycles.{cycle_among, cycle_below, first_cycle, links
 use Rattle.view_model.specs.Forest.{Forest, Nothing, Branch, EveryBranch}
 use Rattle.view_model.specs.PlainTree.{PlainView}
 use Rattle.view_model.specs.Refusals.{Cycle, PlainRefusal}
-use Rattle.view_tree.specs.Cycles.{AreCyclic, HasNoCycle, IsCycleTold, IsFree}
-use Rattle.view_tree.proofs.orders.CycleLists.{map_twice, none_of, told_of}
+use Rattle.view_tree.specs.Cycles.{AreCyclic, HasNoCycle, IsCycleReported, IsFree}
+use Rattle.view_tree.proofs.orders.CycleLists.{map_twice, none_of, reported_of}
 use Rattle.view_tree.proofs.orders.ListLaws.{among_times, times_in}
 
 module _ (name : ℕ → Member) (kids : Forest PlainView) where
   pub none_among : IsFree (links_in kids) → cycle_among name kids ≡ None
   none_among free = none_of name (links_in kids) (numbers_in kids) free
 
-  pub told_among : (down : Bool) (members : List ℕ) → AreCyclic (links_in kids) down members
+  pub reported_among : (down : Bool) (members : List ℕ) → AreCyclic (links_in kids) down members
       → cycle_among name kids ≡ Some (record { number = CYCLE; reason = Cycle down (map name (map (slice_index (numbers_in kids)) members)) })
-  told_among down members cyclic = told_of name (links_in kids) (numbers_in kids) down members cyclic
+  reported_among down members cyclic = reported_of name (links_in kids) (numbers_in kids) down members cyclic
 
   -- the same by the places of the members
-  pub told_is : (refusal : PlainRefusal) → IsCycleTold (λ place. name (slice_index (numbers_in kids) place)) (links_in kids) refusal → cycle_among name kids ≡ Some refusal
-  told_is refusal told =
-      told_among told.down told.members told.cyclic
-      ∙ ap (λ (members : List Member). let refusal : PlainRefusal = record { number = CYCLE; reason = Cycle told.down members } in Some refusal) (sym (map_twice name (links_in kids) (numbers_in kids) told.members))
-      ∙ ap (λ (refusal : PlainRefusal). Some refusal) (sym told.told)
+  pub reported_is : (refusal : PlainRefusal) → IsCycleReported (λ place. name (slice_index (numbers_in kids) place)) (links_in kids) refusal → cycle_among name kids ≡ Some refusal
+  reported_is refusal reported =
+      reported_among reported.down reported.members reported.cyclic
+      ∙ ap (λ (members : List Member). let refusal : PlainRefusal = record { number = CYCLE; reason = Cycle reported.down members } in Some refusal) (sym (map_twice name (links_in kids) (numbers_in kids) reported.members))
+      ∙ ap (λ (refusal : PlainRefusal). Some refusal) (sym reported.reported)
 
 none_below : (name : ℕ → Member) (class : Class) (kids : Forest PlainView) → (is_relative class ≡ true → IsFree (links_in kids)) → cycle_below name class kids ≡ None
 none_below name class kids free = elim (cases_Bool (is_relative class)) [

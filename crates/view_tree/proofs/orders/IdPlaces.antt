@@ -6,7 +6,7 @@ use Rattle.std.specs.Prelude.{◌==◌, if◌then◌else◌}
 use Rattle.view_model.specs.Forest.{Forest, Nothing, Branch}
 use Rattle.view_model.specs.PlainTree.{PlainView}
 use Rattle.view_model.specs.declared.relative.Link.{Link}
-use Rattle.view_model.specs.SiblingRules.{last_below, last_with_id, nobody}
+use Rattle.view_model.specs.SiblingRules.{last_below, last_with_id, no_link}
 use Rattle.view_tree.specs.declared.ids.Holders.{Holders}
 use Rattle.view_tree.specs.declared.tree.ViewTree.TheInside.{Inside}
 use Rattle.view_tree.specs.Nodes.{IsPlanted, has_id, holders_of, links_at, links_in, links_of, value_of}
@@ -19,10 +19,10 @@ use Rattle.view_tree.proofs.forest.IdLaws.{keys_where-none, search_one}
 use Rattle.view_tree.proofs.forest.KeyLaws.{Within, from_within, here, in_after, in_below, located}
 use Rattle.view_tree.proofs.forest.PlainLaws.{agree_live, key_where_live, key_where_passes}
 use Rattle.view_tree.proofs.nodes.HolderLaws.{held_none, held_one}
-use Rattle.view_tree.proofs.nodes.NodeReads.{is_tree, node_of, stands_for}
+use Rattle.view_tree.proofs.nodes.NodeReads.{is_tree, node_of, represents_for}
 use Rattle.view_tree.proofs.orders.ListLaws.{IsAmong, length-each}
 use Rattle.view_tree.proofs.orders.RowLaws.{ChildAt, agree_within, child_there, link_there, numbered_key, parent_among, within_children}
-use Rattle.view_tree.proofs.orders.ToldParents.{said, told_child}
+use Rattle.view_tree.proofs.orders.ReportedParents.{said, reported_child}
 
 -- a view that passes a test is counted
 pub count_there : (passes : PlainView → Bool) (row : Row) (kids siblings : Forest Row) {tree : Forest Row} → Within (Branch row kids siblings) tree → passes row.view ≡ true → 0 < count_where passes tree
@@ -110,8 +110,8 @@ kid_among held number Nothing place small is = absurd (omega arith)
 kid_among held number (Branch row kids siblings) zero small is = inl is
 kid_among held number (Branch row kids siblings) (suc place) small is = inr (kid_among held number siblings place (omega arith) is)
 
-module _ (a : Inside) (views : Views) (view only id : ℕ) (told : Option ℕ) (planted : IsPlanted a) (e : value_of a ≡ views) (live : IsLive views view) (holder : IsOnlyHolder views only id)
-    (path : MatchOption told (ancestors only views.tree ≡ []) (λ parent. ancestors only views.tree ≡ parent ∷ ancestors parent views.tree)) where
+module _ (a : Inside) (views : Views) (view only id : ℕ) (reported : Option ℕ) (planted : IsPlanted a) (e : value_of a ≡ views) (live : IsLive views view) (holder : IsOnlyHolder views only id)
+    (path : MatchOption reported (ancestors only views.tree ≡ []) (λ parent. ancestors only views.tree ≡ parent ∷ ancestors parent views.tree)) where
   abbrev kids : Forest Row
   kids = children_of_first (part_from view views.tree)
 
@@ -119,7 +119,7 @@ module _ (a : Inside) (views : Views) (view only id : ℕ) (told : Option ℕ) (
   links = links_read (views_of kids)
 
   abbrev passes : ℕ → Bool
-  passes place = (get_or links place nobody).id == id
+  passes place = (get_or links place no_link).id == id
 
   is : IsTree views
   is = is_tree a views planted e
@@ -127,23 +127,23 @@ module _ (a : Inside) (views : Views) (view only id : ℕ) (told : Option ℕ) (
   child : (place : ℕ) → place < length links → ChildAt views kids place
   child place small = child_there views kids place is (within_children views view live) (let size = length-each link_of (views_of kids) in omega arith)
 
-  id_at : (place : ℕ) (small : place < length links) → (get_or links place nobody).id ≡ (head_view (part_from (child place small).key views.tree)).facts.id
+  id_at : (place : ℕ) (small : place < length links) → (get_or links place no_link).id ≡ (head_view (part_from (child place small).key views.tree)).facts.id
   id_at place small = ap (λ (link : Link). link.id) (link_there kids place small) ∙ ap (λ part. (head_view part).facts.id) (sym (child place small).part)
 
   -- a child that has the id is the only view that does
   same_key : (place : ℕ) (small : place < length links) → passes place ≡ true → (child place small).key ≡ only
-  same_key place small has = holder.alone (child place small).key (child place small).live (sym (id_at place small) ∙ eqb-true (get_or links place nobody).id id has)
+  same_key place small has = holder.alone (child place small).key (child place small).live (sym (id_at place small) ∙ eqb-true (get_or links place no_link).id id has)
 
   last_is : last_with_id links id ≡ last_below passes (length links)
   last_is = rw (ne_eqb id 0 holder.named) refl
 
-  pub when_child : told ≡ Some view → option_and_then (λ place. first_key (siblings_from place kids)) (last_with_id links id) ≡ Some only
+  pub when_child : reported ≡ Some view → option_and_then (λ place. first_key (siblings_from place kids)) (last_with_id links id) ≡ Some only
   when_child parent = elim (last_cases passes (length links)) [
     | inr some ↦
         let first : first_key (siblings_from some.0 kids) ≡ Some only = (child some.0 some.1).first ∙ ap (λ k. Some k) (same_key some.0 some.1 some.2) in
         rw (last_is, some.3) first
     | inl none ↦ absurd (
-        let found = told_child a views only told planted e holder.live path view parent in
+        let found = reported_child a views only reported planted e holder.live path view parent in
         let own : found.row.key ≡ view = sym (some_is found.is) in
         let below : kids ≡ found.kids = ap children_of_first (subst (λ k. part_from k views.tree ≡ Branch found.row found.kids found.siblings) own
         (from_within found.row found.kids found.siblings found.within (is.keys found.row.key))) in
@@ -152,11 +152,11 @@ module _ (a : Inside) (views : Views) (view only id : ℕ) (told : Option ℕ) (
         let f = located there.key views.tree there.live in
         let number : f.row.view.number ≡ number_of views only = ap (λ part. (head_view part).number) (sym f.is ∙ there.part) ∙ place.2 in
         let key : there.key ≡ only = sym f.key_is ∙ numbered_key views only f.row f.kids f.siblings is holder.live f.within number in
-        let has : passes place.0 ≡ true = eq-eqb (get_or links place.0 nobody).id id (id_at place.0 place.1 ∙ ap (λ k. (head_view (part_from k views.tree)).facts.id) key ∙ holder.own) in
+        let has : passes place.0 ≡ true = eq-eqb (get_or links place.0 no_link).id id (id_at place.0 place.1 ∙ ap (λ k. (head_view (part_from k views.tree)).facts.id) key ∙ holder.own) in
         true≢false (sym has ∙ none.1 place.0 place.1))
   ]
 
-  pub when_not : (told ≡ Some view → ⊥) → option_and_then (λ place. first_key (siblings_from place kids)) (last_with_id links id) ≡ None
+  pub when_not : (reported ≡ Some view → ⊥) → option_and_then (λ place. first_key (siblings_from place kids)) (last_with_id links id) ≡ None
   when_not away = elim (last_cases passes (length links)) [
     | inl none ↦ rw (last_is, none.0) refl
     | inr some ↦ absurd (
@@ -166,11 +166,11 @@ module _ (a : Inside) (views : Views) (view only id : ℕ) (told : Option ℕ) (
         let among = kid_among (held_of views) (number_of views only) kids some.0 some.1 number in
         let f = located view views.tree live in
         let o = node_of a views only planted e holder.live in
-        let stood = (RepresentsPart-within (links_at a.nodes) None None f.within (stands_for a views planted e).stand).stand in
+        let was_represented = (RepresentsPart-within (links_at a.nodes) None None f.within (represents_for a views planted e).represented).represented in
         let agree = agree_within only (number_of views only) f.row f.kids f.siblings f.within (agree_live views only is holder.live) in
         let above : o.says.node.links.parent ≡ Some f.row.key = parent_among (links_at a.nodes) (held_of views) only (number_of views only) (links_of o.says.node) (Some f.row.key) None f.kids
-        (ap links_in o.says.at) stood.1 agree.1 (subst (λ part. IsAmong (number_of views only) (plain_rows (held_of views) (children_of_first part))) f.is among) in
-        away (said a views only told planted e holder.live path ∙ above ∙ ap (λ k. Some k) f.key_is))
+        (ap links_in o.says.at) was_represented.1 agree.1 (subst (λ part. IsAmong (number_of views only) (plain_rows (held_of views) (children_of_first part))) f.is among) in
+        away (said a views only reported planted e holder.live path ∙ above ∙ ap (λ k. Some k) f.key_is))
   ]
 
 -- no view has an id of which the table has nothing
@@ -189,11 +189,11 @@ no_child views view id tree live nobodys =
     let links = links_read (views_of kids) in
     elim (cases_eq id 0) [
       | inl same ↦ rw same refl
-      | inr named ↦ elim (last_cases (λ place. (get_or links place nobody).id == id) (length links)) [
+      | inr named ↦ elim (last_cases (λ place. (get_or links place no_link).id == id) (length links)) [
         | inl none ↦ rw (ne_eqb id 0 named, none.0) refl
         | inr some ↦
             let there = child_there views kids some.0 tree (within_children views view live) (let size = length-each link_of (views_of kids) in let less = some.1 in omega arith) in
             let own = ap (λ (link : Link). link.id) (link_there kids some.0 some.1) ∙ ap (λ part. (head_view part).facts.id) (sym there.part) in
-            absurd (nobodys named there.key there.live (sym own ∙ eqb-true (get_or links some.0 nobody).id id some.2))
+            absurd (nobodys named there.key there.live (sym own ∙ eqb-true (get_or links some.0 no_link).id id some.2))
       ]
     ]

@@ -8,7 +8,7 @@ use Rattle.view_model.specs.declared.limits.TheConstants.{MAX_VIEWS}
 use Rattle.view_model.specs.Forest.{Forest, Nothing, Branch, EveryBranch, EveryRow, changed_where, count_of, joined}
 use Rattle.view_model.specs.Growth.{grown_at}
 use Rattle.view_model.specs.Orders.{IsOrder}
-use Rattle.view_model.specs.SiblingRules.{nobody}
+use Rattle.view_model.specs.SiblingRules.{no_link}
 use Rattle.view_model.specs.PlainTree.{PlainView, pruned, single}
 use Rattle.view_tree.specs.declared.groups.Group.{Group}
 use Rattle.view_tree.specs.Nodes.{PlainNode, RepresentsPart, RepresentsTree}
@@ -182,7 +182,7 @@ module _ (old new : Views) (view : PlainView) (at now : Groups) (is : IsTree old
   vacant = times-plain (held_of old) view.number old.tree ∙ is.earlier view.number (omega arith)
 
   module _ (parent : ℕ) (live : IsLive old parent)
-      (told : (k : ℕ) → group_number old (Some parent) ≡ Some k → k ≢ view.number → now k ≡ option_map (with_kid view.number) (at k))
+      (reported : (k : ℕ) → group_number old (Some parent) ≡ Some k → k ≢ view.number → now k ≡ option_map (with_kid view.number) (at k))
       (others : (k : ℕ) → group_number old (Some parent) ≢ Some k → k ≢ view.number → now k ≡ at k) (grouped : IsGrouped at (plain_of old)) where
     once : times_in (number_of old parent) (plain_of old) ≤ 1
     once = let n = is.numbers (number_of old parent) in rw (times-plain (held_of old) (number_of old parent) old.tree) n
@@ -199,7 +199,7 @@ module _ (old new : Views) (view : PlainView) (at now : Groups) (is : IsTree old
         let mine : group_number old (Some parent) ≡ Some row.view.number = group_number-own old parent class ∙ ap (λ k. Some k) (sym same) in
         let fresh : row.view.number ≢ view.number = λ e. let one = number_row row kids siblings within in let none = times-plain (held_of old) view.number old.tree in
         let zero = vacant in absurd (let there : 0 < count_of_number view.number old.tree = subst (λ n. 0 < count_of_number n old.tree) e one in omega arith) in
-        subst (IsKeptOf (joined (plain_rows (held_of old) kids) (single view))) (sym (told row.view.number mine fresh))
+        subst (IsKeptOf (joined (plain_rows (held_of old) kids) (single view))) (sym (reported row.view.number mine fresh))
         (kept-with (plain_rows (held_of old) kids) view (at row.view.number) id rules (kept relative)))
 
     pub grouped-child : plain_of new ≡ grown_at (Some (number_of old parent)) (single view) (plain_of old) → IsGrouped now (plain_of new)
@@ -211,27 +211,27 @@ pub grouped-attached : (old new : Views) (parent : Option ℕ) (view : PlainView
     → ((k : ℕ) → group_number old parent ≡ Some k → k ≢ view.number → now k ≡ option_map (with_kid view.number) (at k))
     → ((k : ℕ) → group_number old parent ≢ Some k → k ≢ view.number → now k ≡ at k)
     → plain_of new ≡ grown_at (option_map (number_of old) parent) (single view) (plain_of old) → IsGrouped at (plain_of old) → IsGrouped now (plain_of new)
-grouped-attached old new None view at now is live number id rules own told others plain grouped = subst (IsGrouped now) (sym plain) (grouped_single now view own)
-grouped-attached old new (Some parent) view at now is live number id rules own told others plain grouped =
-    grouped-child old new view at now is number id rules own parent live told others grouped plain
+grouped-attached old new None view at now is live number id rules own reported others plain grouped = subst (IsGrouped now) (sym plain) (grouped_single now view own)
+grouped-attached old new (Some parent) view at now is live number id rules own reported others plain grouped =
+    grouped-child old new view at now is number id rules own parent live reported others grouped plain
 
 -- a view was removed: the node of a child names its parent
 pub parent_among : (at : ℕ → Option PlainNode) (held : ℕ → Held) (key number : ℕ) (node : PlainNode) (parent before : Option ℕ) (kids : Forest Row) → at key ≡ Some node → RepresentsPart at parent before kids
     → Agree key number kids → IsAmong number (plain_rows held kids) → node.parent ≡ parent
-parent_among at held key number node parent before Nothing says stand agree none = absurd none
-parent_among at held key number node parent before (Branch row kids siblings) says stand agree (inl is) =
+parent_among at held key number node parent before Nothing says represented agree none = absurd none
+parent_among at held key number node parent before (Branch row kids siblings) says represented agree (inl is) =
     let own = own_key key number row agree.0 is in
-    ap (λ (n : PlainNode). n.parent) (some_is (sym says ∙ ap at (sym own) ∙ stand.0))
-parent_among at held key number node parent before (Branch row kids siblings) says stand agree (inr more) =
-    parent_among at held key number node parent (Some row.key) siblings says stand.2 agree.2 more
+    ap (λ (n : PlainNode). n.parent) (some_is (sym says ∙ ap at (sym own) ∙ represented.0))
+parent_among at held key number node parent before (Branch row kids siblings) says represented agree (inr more) =
+    parent_among at held key number node parent (Some row.key) siblings says represented.2 agree.2 more
 
 pub has_parent : (at : ℕ → Option PlainNode) (root : Option ℕ) (next : ℕ) (views : Views) (key : ℕ) (node : PlainNode) → IsTree views → RepresentsTree at root next views.tree → IsLive views key
     → at key ≡ Some node → EveryBranch (HasParent (number_of views key) (group_number views node.parent)) (plain_of views)
-has_parent at root next views key node is stands live says =
+has_parent at root next views key node is represents live says =
     every_within (HasParent (number_of views key) (group_number views node.parent)) (held_of views) views.tree (λ row kids siblings within relative among.
-    let stood = (RepresentsPart-within at None None within stands.stand).stand in
+    let was_represented = (RepresentsPart-within at None None within represents.represented).represented in
     let agree = agree_within key (number_of views key) row kids siblings within (agree_live views key is live) in
-    let above : node.parent ≡ Some row.key = parent_among at (held_of views) key (number_of views key) node (Some row.key) None kids says stood.1 agree.1 among in
+    let above : node.parent ≡ Some row.key = parent_among at (held_of views) key (number_of views key) node (Some row.key) None kids says was_represented.1 agree.1 among in
     let part = from_within row kids siblings within (is.keys row.key) in
     ap (group_number views) above
     ∙ group_number-own views row.key (ap (λ part. is_relative (head_view part).class) part ∙ relative)
@@ -271,9 +271,9 @@ pub orders_under-is : (groups : List (ℕ × Group)) (k : ℕ) → unwrap_or (lo
 orders_under-is groups k = ap (λ found. unwrap_or found no_orders) (lookup-orders (nat_eq k) groups)
 
 -- the parent of a view by look-up is the first of its ancestors
-pub nearest_told : (told : Option ℕ) (path : List ℕ) (above : ℕ → List ℕ) → MatchOption told (path ≡ []) (λ parent. path ≡ parent ∷ above parent) → slice_get path 0 ≡ told
-nearest_told None path above is = rw is refl
-nearest_told (Some parent) path above is = rw is refl
+pub nearest_reported : (reported : Option ℕ) (path : List ℕ) (above : ℕ → List ℕ) → MatchOption reported (path ≡ []) (λ parent. path ≡ parent ∷ above parent) → slice_get path 0 ≡ reported
+nearest_reported None path above is = rw is refl
+nearest_reported (Some parent) path above is = rw is refl
 
 pub orders_are : (views : Views) (key : ℕ) (groups : List (ℕ × Group)) (group : PlainGroup) → views.orders ≡ orders_in groups
     → option_map plain_group (lookup (nat_eq (number_of views key)) groups) ≡ Some group → unwrap_or (lookup (nat_eq (number_of views key)) views.orders) no_orders ≡ group.orders
@@ -291,9 +291,9 @@ fewer (Some group) few = omega arith
 
 pub few_at : (groups : Groups) (views : Views) (parent : Option ℕ) → IsTree views → IfSome parent (λ parent. IsLive views parent) → IsGrouped groups (plain_of views)
     → (k : ℕ) → group_number views parent ≡ Some k → IfSome (groups k) (λ group. length group.kids < 2 ^ 32)
-few_at groups views None is live grouped k told = absurd (cc)
-few_at groups views (Some parent) is live grouped k told =
-    let own = group_number-is views parent k told in
+few_at groups views None is live grouped k reported = absurd (cc)
+few_at groups views (Some parent) is live grouped k reported =
+    let own = group_number-is views parent k reported in
     fewer (groups k) (subst (λ n. IfSome (groups n) (λ group. length group.kids ≤ MAX_VIEWS)) own.1
     (few_kids views parent (groups (number_of views parent)) is live (group_there groups views parent live grouped own.0)))
 
@@ -326,7 +326,7 @@ within_children views key live =
     subst (λ part. Within (children_of_first part) views.tree) (sym f.is) (Within-children_of_first f.within)
 
 -- the link of the child at a place
-pub link_there : (list : Forest Row) (place : ℕ) → place < length (links_in (views_of list)) → get_or (links_in (views_of list)) place nobody ≡ link_of (head_view (siblings_from place list))
+pub link_there : (list : Forest Row) (place : ℕ) → place < length (links_in (views_of list)) → get_or (links_in (views_of list)) place no_link ≡ link_of (head_view (siblings_from place list))
 link_there Nothing place small = absurd (omega arith)
 link_there (Branch row kids siblings) zero small = refl
 link_there (Branch row kids siblings) (suc place) small = link_there siblings place (omega arith)

@@ -9,7 +9,7 @@ use Rattle.view_model.specs.Cycles.{each, link_of, links_in, numbers_in}
 use Rattle.view_model.specs.Forest.{Forest, Nothing, Branch}
 use Rattle.view_model.specs.Orders.{IsOrder}
 use Rattle.view_model.specs.PlainTree.{PlainView}
-use Rattle.view_model.specs.SiblingRules.{leads, names, nobody}
+use Rattle.view_model.specs.SiblingRules.{leads, names, no_link}
 use Rattle.view_model.specs.declared.facts.Rules.{Rules}
 use Rattle.view_model.specs.declared.relative.Axis.{Axis}
 use Rattle.view_model.specs.declared.relative.Axis.TheVariants.{Horizontal, Vertical}
@@ -75,7 +75,7 @@ names_none_here Horizontal rules id across down = across
 names_none_here Vertical rules id across down = down
 
 names_none_at : (axis : Axis) (id : ℕ) (list : Forest Row) (place : ℕ) → NamesNone id list → place < length (links_in (views_of list))
-    → names axis (get_or (links_in (views_of list)) place nobody).rules id ≡ false
+    → names axis (get_or (links_in (views_of list)) place no_link).rules id ≡ false
 names_none_at axis id Nothing place none small = absurd (omega arith)
 names_none_at axis id (Branch row kids siblings) zero none small = names_none_here axis row.view.facts.rules id none.0 none.1
 names_none_at axis id (Branch row kids siblings) (suc place) none small = names_none_at axis id siblings place none.2 (omega arith)
@@ -90,7 +90,7 @@ none_more id tree key live across down rest =
     subst (NamesNone id) (sym f.is) (first, second, more)
 
 -- one of the list by its place
-each_there : (f : PlainView → Link) (list : Forest Row) (place : ℕ) → place < length (each f (views_of list)) → get_or (each f (views_of list)) place nobody ≡ f (head_view (siblings_from place list))
+each_there : (f : PlainView → Link) (list : Forest Row) (place : ℕ) → place < length (each f (views_of list)) → get_or (each f (views_of list)) place no_link ≡ f (head_view (siblings_from place list))
 each_there f Nothing place small = absurd (omega arith)
 each_there f (Branch row kids siblings) zero small = refl
 each_there f (Branch row kids siblings) (suc place) small = each_there f siblings place (omega arith)
@@ -147,11 +147,11 @@ module _ (views : Views) (parent view : ℕ) (link : Link) (is : IsTree views) (
 
   -- a place of another child, or the place of the view
   record IsViewAt (place : ℕ) : Type 0 where
-    after : get_or new place nobody ≡ link
-    before : get_or old place nobody ≡ own
+    after : get_or new place no_link ≡ link
+    before : get_or old place no_link ≡ own
     number : get_or numbers place 0 ≡ number_of views view
 
-  at_place : (place : ℕ) → place < length numbers → (get_or new place nobody ≡ get_or old place nobody) ⊎ IsViewAt place
+  at_place : (place : ℕ) → place < length numbers → (get_or new place no_link ≡ get_or old place no_link) ⊎ IsViewAt place
   at_place place small =
       let there = child place small in
       let here = head_view (siblings_from place kids) in
@@ -171,14 +171,14 @@ module _ (views : Views) (parent view : ℕ) (link : Link) (is : IsTree views) (
   module _ (named : (link.id ≡ own.id) ⊎ NamesNone link.id kids) (axis : Axis) (order : List ℕ) (sorted : IsOrder (leads axis old) (length old) order)
       (follows : IsLastIn (number_of views view) numbers order ⊎ AddsNone (padded_ids axis own.rules) (padded_ids axis link.rules)) where
     -- what is named is named by the id of before
-    named_before : (a b : ℕ) → a ≢ b → a < length numbers → b < length numbers → names axis (get_or new a nobody).rules (get_or new b nobody).id ≡ true
-        → names axis (get_or new a nobody).rules (get_or old b nobody).id ≡ true
+    named_before : (a b : ℕ) → a ≢ b → a < length numbers → b < length numbers → names axis (get_or new a no_link).rules (get_or new b no_link).id ≡ true
+        → names axis (get_or new a no_link).rules (get_or old b no_link).id ≡ true
     named_before a b ne a_in b_in names_new = elim (at_place b b_in) [
-      | inl same ↦ subst (λ (l : Link). names axis (get_or new a nobody).rules l.id ≡ true) same names_new
+      | inl same ↦ subst (λ (l : Link). names axis (get_or new a no_link).rules l.id ≡ true) same names_new
       | inr v ↦
-          let names_link : names axis (get_or new a nobody).rules link.id ≡ true = subst (λ (l : Link). names axis (get_or new a nobody).rules l.id ≡ true) v.after names_new in
+          let names_link : names axis (get_or new a no_link).rules link.id ≡ true = subst (λ (l : Link). names axis (get_or new a no_link).rules l.id ≡ true) v.after names_new in
           elim named [
-            | inl same ↦ subst (λ id. names axis (get_or new a nobody).rules id ≡ true) (same ∙ ap (λ (l : Link). l.id) (sym v.before)) names_link
+            | inl same ↦ subst (λ id. names axis (get_or new a no_link).rules id ≡ true) (same ∙ ap (λ (l : Link). l.id) (sym v.before)) names_link
             | inr none ↦ elim (at_place a a_in) [
               | inl same ↦
                   let never = names_none_at axis link.id kids a none (let size = old_size in omega arith) in
@@ -199,9 +199,9 @@ module _ (views : Views) (parent view : ℕ) (link : Link) (is : IsTree views) (
         let b_in : b < length numbers = omega arith in
         let named_old = named_before a b parts.0 a_in b_in parts.1 in
         elim (at_place a a_in) [
-          | inl same ↦ inl (leads_whole axis old a b parts.0 (subst (λ (l : Link). names axis l.rules (get_or old b nobody).id ≡ true) same named_old))
+          | inl same ↦ inl (leads_whole axis old a b parts.0 (subst (λ (l : Link). names axis l.rules (get_or old b no_link).id ≡ true) same named_old))
           | inr v ↦
-              let names_link : names axis link.rules (get_or old b nobody).id ≡ true = subst (λ (l : Link). names axis l.rules (get_or old b nobody).id ≡ true) v.after named_old in
+              let names_link : names axis link.rules (get_or old b no_link).id ≡ true = subst (λ (l : Link). names axis l.rules (get_or old b no_link).id ≡ true) v.after named_old in
               elim follows [
                 | inl last ↦
                     let all = sorted.size in
@@ -210,8 +210,8 @@ module _ (views : Views) (parent view : ℕ) (link : Link) (is : IsTree views) (
                     let end : a ≡ get_or order (length order - 1) 0 = same_place a (get_or order (length order - 1) 0) a_in (omega arith) v.number last.1 in
                     inr (omega arith, parts.0, end ∙ ap (λ count. get_or order (count - 1) 0) all)
                 | inr fewer ↦ inl (leads_whole axis old a b parts.0
-                    (subst (λ (l : Link). names axis l.rules (get_or old b nobody).id ≡ true) (sym v.before)
-                    (names_fewer axis own.rules link.rules fewer (get_or old b nobody).id names_link)))
+                    (subst (λ (l : Link). names axis l.rules (get_or old b no_link).id ≡ true) (sym v.before)
+                    (names_fewer axis own.rules link.rules fewer (get_or old b no_link).id names_link)))
               ]
         ]
 

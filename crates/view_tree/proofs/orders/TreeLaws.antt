@@ -14,7 +14,7 @@ use Rattle.view_model.specs.declared.relative.Link.{Link}
 use Rattle.view_model.specs.Forest.{Forest, Nothing, Branch, EveryBranch, EveryRow, edited_where, changed_where, joined}
 use Rattle.view_model.specs.Orders.{IsOrder}
 use Rattle.view_model.specs.PlainTree.{PlainView, grown, pruned, single}
-use Rattle.view_model.specs.SiblingRules.{leads, names, nobody}
+use Rattle.view_model.specs.SiblingRules.{leads, names, no_link}
 use Rattle.view_model.specs.Classes.{is_relative}
 use Rattle.view_model.specs.Cycles.{link_of, links_in, numbers_in}
 use Rattle.view_tree.specs.Ordering.{AreOrders, IsGroupOf, IsGrouped, IsGroupedAt, IsKeptOf, IsTakenAt, IsWithoutKid, PlainGroup, place_in, with_kid}
@@ -68,13 +68,13 @@ grouped-edited at new number edit (Branch view kids siblings) once owes grouped 
     ]
 
 -- a view is removed: the child is taken out of its parent's group
-at_passing : (kids : List Link) (i a : ℕ) → i < length kids → get_or (remove kids i) a nobody ≡ get_or kids (passing i a) nobody
+at_passing : (kids : List Link) (i a : ℕ) → i < length kids → get_or (remove kids i) a no_link ≡ get_or kids (passing i a) no_link
 at_passing kids i a h = elim (passes i a) [
-  | inl w ↦ get_or-remove_below kids i nobody a w.0 h ∙ ap (λ k. get_or kids k nobody) (sym w.1)
-  | inr w ↦ get_or-remove_above kids i nobody a w.0 h ∙ ap (λ k. get_or kids k nobody) (sym w.1)
+  | inl w ↦ get_or-remove_below kids i no_link a w.0 h ∙ ap (λ k. get_or kids k no_link) (sym w.1)
+  | inr w ↦ get_or-remove_above kids i no_link a w.0 h ∙ ap (λ k. get_or kids k no_link) (sym w.1)
 ]
 
-leads_whole : (axis : Axis) (kids : List Link) (a b : ℕ) → a ≢ b → names axis (get_or kids a nobody).rules (get_or kids b nobody).id ≡ true → leads axis kids a b ≡ true
+leads_whole : (axis : Axis) (kids : List Link) (a b : ℕ) → a ≢ b → names axis (get_or kids a no_link).rules (get_or kids b no_link).id ≡ true → leads axis kids a b ≡ true
 unfolding leads
 leads_whole axis kids a b ne says = grind (arith, nat_tests)
 
@@ -196,11 +196,11 @@ module _ (axis : Axis) (links : List Link) (link : Link) (id : link.id ≡ 0) (r
   size : length all ≡ length links + 1
   size = length-append links (link ∷ [])
 
-  last : get_or all (length links) nobody ≡ link
-  last = get_or_push links link nobody (length links) refl
+  last : get_or all (length links) no_link ≡ link
+  last = get_or_push links link no_link (length links) refl
 
-  early : (a : ℕ) → a < length links → get_or all a nobody ≡ get_or links a nobody
-  early a small = get_or_append_left links (link ∷ []) nobody a small
+  early : (a : ℕ) → a < length links → get_or all a no_link ≡ get_or links a no_link
+  early a small = get_or_append_left links (link ∷ []) no_link a small
 
   ties : (a b : ℕ) → leads axis all a b ≡ true → (a < length links) × (leads axis links a b ≡ true)
   ties a b e =
@@ -210,15 +210,15 @@ module _ (axis : Axis) (links : List Link) (link : Link) (id : link.id ≡ 0) (r
       elim (cases_lt a (length links)) [
         | inr le ↦
             let at : a ≡ length links = omega (arith, size) in
-            let none : names axis (get_or all a nobody).rules (get_or all b nobody).id ≡ false =
-            ap (λ place. names axis (get_or all place nobody).rules (get_or all b nobody).id) at
-            ∙ ap (λ (own : Link). names axis own.rules (get_or all b nobody).id) last
-            ∙ names_none axis link.rules (get_or all b nobody).id rules in
+            let none : names axis (get_or all a no_link).rules (get_or all b no_link).id ≡ false =
+            ap (λ place. names axis (get_or all place no_link).rules (get_or all b no_link).id) at
+            ∙ ap (λ (own : Link). names axis own.rules (get_or all b no_link).id) last
+            ∙ names_none axis link.rules (get_or all b no_link).id rules in
             absurd (let says = parts.1 in cc)
         | inl lt ↦ elim (cases_lt b (length links)) [
           | inr le ↦
               let at : b ≡ length links = omega (arith, size) in
-              absurd (unnamed axis (get_or all a nobody).rules (get_or all b nobody).id (ap (λ place. (get_or all place nobody).id) at ∙ ap (λ (own : Link). own.id) last ∙ id) parts.1)
+              absurd (unnamed axis (get_or all a no_link).rules (get_or all b no_link).id (ap (λ place. (get_or all place no_link).id) at ∙ ap (λ (own : Link). own.id) last ∙ id) parts.1)
           | inl small ↦ (lt, leads_whole axis links a b parts.0 (rw (← early a lt, ← early b small) parts.1))
         ]
       ]

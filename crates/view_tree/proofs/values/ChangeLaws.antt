@@ -23,7 +23,7 @@ same_rows held key number f g (Branch row kids siblings) agree once same =
       | inr e ↦
           let once = rw e at once in
           let later = λ (kid : Row) (b a : Forest Row) (is : part_from key kids ≡ Branch kid b a). same kid b a (rw (e, is)) in
-          let behind : (sibling : Row) (b a : Forest Row) → part_from key siblings ≡ Branch sibling b a → f (scrolled held sibling).facts ≡ g (scrolled held sibling).facts =
+          let following : (sibling : Row) (b a : Forest Row) → part_from key siblings ≡ Branch sibling b a → f (scrolled held sibling).facts ≡ g (scrolled held sibling).facts =
           λ sibling b a is. elim (zero_or_more (count_of_key key siblings)) [
             | inl z ↦ absurd (let gone = absent key siblings z in cc)
             | inr l ↦ same sibling b a (let z : count_of_key key kids ≡ 0 = omega arith in rw (e, absent key kids z, is))
@@ -32,7 +32,7 @@ same_rows held key number f g (Branch row kids siblings) agree once same =
             agree.0,
             e,
             same_rows held key number f g kids agree.1 (omega arith) later,
-            same_rows held key number f g siblings agree.2 (omega arith) behind,
+            same_rows held key number f g siblings agree.2 (omega arith) following,
           )
     ]
 

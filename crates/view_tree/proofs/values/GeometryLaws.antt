@@ -83,7 +83,7 @@ geometry-with_child old new (Some parent) key view root none bounds others =
 
 -- and so with views that were added without bounds
 pub geometry-gained : (old new : Views) (parent : Option ℕ) (added : Forest Row) → (parent ≡ None → old.tree ≡ Nothing) → Gained old parent added new → geometry_of new ≡ geometry_of old
-geometry-gained old new parent added root gained = ap (laid_rows (held_of new)) gained.tree ∙ behind parent root
+geometry-gained old new parent added root gained = ap (laid_rows (held_of new)) gained.tree ∙ following parent root
   where
     none : laid_rows (held_of new) added ≡ []
     none = laid_nowhere (held_of new) added (no_bounds (held_of new) added (λ key live. ap (λ (s : State). s.bounds) (gained.made key live)))
@@ -94,9 +94,9 @@ geometry-gained old new parent added root gained = ap (laid_rows (held_of new)) 
       | inr came ↦ absurd (let unused = gained.unused other came in omega arith)
     ]
 
-    behind : (parent : Option ℕ) → (parent ≡ None → old.tree ≡ Nothing) → laid_rows (held_of new) (with_child parent added old.tree) ≡ geometry_of old
-    behind None root = none ∙ sym (ap (laid_rows (held_of old)) (root refl))
-    behind (Some key) root =
+    following : (parent : Option ℕ) → (parent ≡ None → old.tree ≡ Nothing) → laid_rows (held_of new) (with_child parent added old.tree) ≡ geometry_of old
+    following None root = none ∙ sym (ap (laid_rows (held_of old)) (root refl))
+    following (Some key) root =
         laid-grown (held_of new) key added old.tree none
         ∙ laid_along (held_of old) (held_of new) old.tree
         (λ other live. ap (λ (h : Held). h.state.bounds) (gained.others other (elsewhere other live)))

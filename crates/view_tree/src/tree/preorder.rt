@@ -1,6 +1,6 @@
 //! The views in preorder, one after the other.
 ghost use Rattle.std.specs.Prelude.{◌≡◌, ◌<◌, [], ◌∷◌, Some, IfSome, drop, length};
-ghost use Rattle.view_tree.specs.Preorder.{first_row_key, rows_behind, rows_from, views_from};
+ghost use Rattle.view_tree.specs.Preorder.{first_row_key, rows_following, rows_from, views_from};
 ghost use Rattle.view_tree.specs.Views.{IsLive, IsTree, view_at};
 
 use super::{Key, ViewTree};
@@ -24,7 +24,7 @@ impl ViewTree {
     fn next_outside(&self, view: Key) -> Option<Key>
         requires live { IsLive self.now view }
         requires is_tree { IsTree self.now }
-        ensures key { result ≡ first_row_key (rows_behind [] view self.now.tree) }
+        ensures key { result ≡ first_row_key (rows_following [] view self.now.tree) }
         ensures live { IfSome result (λ next. IsLive self.now next) }
     {
         if let Some(sibling) = self.next(view) {

@@ -2,7 +2,7 @@
 ghost use Rattle.std.specs.Prelude.{◌≡◌, ◌<◌, ◌≤◌, ◌+◌, ◌^◌, ◌++◌, ◌∷◌, [], None, suc, length, IfOk};
 ghost use Rattle.view_model.specs.Cycles.{member_from};
 ghost use Rattle.view_model.specs.declared.limits.TheConstants.{MAX_VIEWS};
-ghost use Rattle.view_tree.specs.Grafting.{AreEntries, HasAdded, IsBehind, IsGroupOrCycle, IsMadeUnless, cycle_behind, cycle_in, links_behind, numbers_behind, sprout_link};
+ghost use Rattle.view_tree.specs.Grafting.{AreEntries, HasAdded, IsFollowing, IsGroupOrCycle, IsMadeUnless, cycle_after, cycle_in, links_following, numbers_following, sprout_link};
 
 use crate::fault::AttachFault;
 use crate::groups::Group;
@@ -21,15 +21,15 @@ pub fn sprout_link(sprout: &Sprout) -> Link
 }
 
 /// The children of a view of this depth, by the views after it in preorder, the first of which gets this number.
-fn kids_behind(
+fn kids_after(
     alloc: Global,
     depth: u32,
     number: u64,
     sprouts: &[Sprout],
 ) -> Result<Kids, AllocError>
     requires { number + length sprouts.now < 2 ^ 64 }
-    ensures links { IfOk result (λ kids. kids.links.items ≡ links_behind depth number sprouts.now) }
-    ensures numbers { IfOk result (λ kids. kids.numbers.items ≡ numbers_behind depth number sprouts.now) }
+    ensures links { IfOk result (λ kids. kids.links.items ≡ links_following depth number sprouts.now) }
+    ensures numbers { IfOk result (λ kids. kids.numbers.items ≡ numbers_following depth number sprouts.now) }
 {
     let mut kids = Kids::new(alloc);
     let mut number = number;
@@ -49,7 +49,7 @@ fn kids_behind(
 
 /// What is kept of a relative layout of this depth and number, by the views after it in preorder; the views of the
 /// sapling have the numbers from `next` on.
-fn group_behind(
+fn group_after(
     alloc: Global,
     next: u64,
     depth: u32,
@@ -59,10 +59,10 @@ fn group_behind(
     requires few { number + 1 + length sprouts.now ≤ next + MAX_VIEWS }
     requires numbers { next + MAX_VIEWS < 2 ^ 64 }
     requires late { next ≤ number }
-    ensures { IsGroupOrCycle (member_from next) (links_behind depth (suc number) sprouts.now)
-        (numbers_behind depth (suc number) sprouts.now) result }
+    ensures { IsGroupOrCycle (member_from next) (links_following depth (suc number) sprouts.now)
+        (numbers_following depth (suc number) sprouts.now) result }
 {
-    match kids_behind(alloc, depth, number + 1, sprouts) {
+    match kids_after(alloc, depth, number + 1, sprouts) {
         Ok(kids) => group_of(alloc, kids, next),
         Err(_) => Err(AttachFault::NoMemory),
     }
@@ -79,13 +79,13 @@ fn add_entry(
     requires few { number + 1 + length more.now ≤ next + MAX_VIEWS }
     requires numbers { next + MAX_VIEWS < 2 ^ 64 }
     requires late { next ≤ number }
-    ensures { IsMadeUnless (cycle_behind (member_from next) number sprout.now more.now)
-        (λ _. HasAdded entries.old.items entries.new.items (IsBehind number sprout.now more.now)) result }
+    ensures { IsMadeUnless (cycle_after (member_from next) number sprout.now more.now)
+        (λ _. HasAdded entries.old.items entries.new.items (IsFollowing number sprout.now more.now)) result }
 {
     if !sprout.class.is_relative() {
         return Ok(());
     }
-    match group_behind(*entries.allocator(), next, sprout.depth, number, more) {
+    match group_after(*entries.allocator(), next, sprout.depth, number, more) {
         Err(fault) => Err(fault),
         Ok(group) => push_entry(entries, number, group),
     }

@@ -1,7 +1,7 @@
 //! The ids and the rules of views, and the orders that depend on them.
 ghost use Rattle.std.specs.Prelude.{◌≡◌, ◌≢◌, ◌<◌, ℕ, true, length, map, slice_get, slice_index, None, Some, IfOk, IfSome, OnOk, OnErr};
 ghost use Rattle.view_model.specs.PlainTree.{with_facts};
-ghost use Rattle.view_tree.specs.Cycles.{AreNewOrders, IsToldOf, view_member};
+ghost use Rattle.view_tree.specs.Cycles.{AreNewOrders, IsReportedFrom, view_member};
 ghost use Rattle.view_tree.specs.Staying.{AreSameOrders};
 ghost use Rattle.view_tree.specs.Faults.{IsRefusedOrCyclic};
 ghost use Rattle.view_model.specs.Classes.{is_relative};
@@ -81,7 +81,7 @@ impl ViewTree {
         match order(*self.groups.allocator(), &links) {
             Ok(orders) => Ok(Some(orders)),
             Err(OrderFault::NoMemory) => Err(AttachFault::NoMemory),
-            Err(OrderFault::Cycle { down, members }) => Err(self.told(parent, down, &members)),
+            Err(OrderFault::Cycle { down, members }) => Err(self.reported(parent, down, &members)),
         }
     }
 
@@ -136,14 +136,14 @@ impl ViewTree {
     }
 
     /// The refusal for a cycle among the children of a relative layout, with members at these places.
-    fn told(&self, parent: Key, down: bool, members: &[u32]) -> AttachFault
+    fn reported(&self, parent: Key, down: bool, members: &[u32]) -> AttachFault
         requires live { IsLive self.now parent }
         requires relative { is_relative (class_of self.now parent) ≡ true }
         requires inside { (p : ℕ)
             → p < length members.now
             → slice_index members.now p < length
             (numbers_in (views_of (children_of_first (part_from parent self.now.tree)))) }
-        ensures { IsToldOf
+        ensures { IsReportedFrom
             (view_member (views_of (children_of_first (part_from parent self.now.tree)))) down members.now result }
     {
         match self.groups.get(&self.number(parent)) {

@@ -169,10 +169,10 @@ stay first count old new opened number was =
     ]
 
 -- the fault of a graft is the reply
-pub graft_told : (world : World) (number : Option ℕ) (plan : Plan) (new : KeyedScreen) (reason cycle : Option PlainRefusal) (why : Fault)
+pub graft_reported : (world : World) (number : Option ℕ) (plan : Plan) (new : KeyedScreen) (reason cycle : Option PlainRefusal) (why : Fault)
     → IsRefusedOrCyclic reason cycle (let r : Result ℕ Fault = Err why in r) → CarriesOut (grafted world number plan (option_or reason cycle)) new (Err (step_fault_of why))
-graft_told world number plan new reason cycle (fault.Refused refusal) told = rw told refl
-graft_told world number plan new reason cycle fault.NoMemory told = tt
+graft_reported world number plan new reason cycle (fault.Refused refusal) reported = rw reported refl
+graft_reported world number plan new reason cycle fault.NoMemory reported = tt
 
 -- the views of a file are in the tree, and have places
 pub sound_grafted : (inside : Inside) (new : Views) (gesture : Kept) (log : Log) (place : Option ℕ) (sprouts : List Sprout) → IsSound inside → IsTree inside.tree → IfSome place (λ (view : ℕ). IsLive inside.tree view)

@@ -59,37 +59,37 @@ made_well P (Err error) result ok is = absurd (cc)
 
 -- a refusal is one whatever the world is then
 refused_any : (reply : Reply) (world other : KeyedScreen) (result : Result Response StepFault) → is_err result ≡ true → CarriesOut reply world result → CarriesOut reply other result
-refused_any reply world other (Ok response) err told = absurd (cc)
-refused_any reply world other (Err (fault.Refused refusal)) err told = told
-refused_any reply world other (Err fault.NoMemory) err told = told
-refused_any reply world other (Err fault.Sink) err told = told
-refused_any reply world other (Err fault.Shelf) err told = told
+refused_any reply world other (Ok response) err reported = absurd (cc)
+refused_any reply world other (Err (fault.Refused refusal)) err reported = reported
+refused_any reply world other (Err fault.NoMemory) err reported = reported
+refused_any reply world other (Err fault.Sink) err reported = reported
+refused_any reply world other (Err fault.Shelf) err reported = reported
 
 pub refused_still : (reply : Reply) (world other : KeyedScreen) (made : Result (Option ℕ) Fault) → true ≡ is_err made → CarriesOut reply world (response_of made) → CarriesOut reply other (response_of made)
-refused_still reply world other (Ok number) err told = absurd (cc)
-refused_still reply world other (Err error) err told = refused_any reply world other (response_of (Err error)) refl told
+refused_still reply world other (Ok number) err reported = absurd (cc)
+refused_still reply world other (Err error) err reported = refused_any reply world other (response_of (Err error)) refl reported
 
 -- places of views are not seen in the plain world
-pub carried_with : (reply : Reply) (world : KeyedScreen) (gesture : Kept) (told : List Entry) (result : Result Response StepFault) → gesture_of gesture ≡ gesture_of world.gesture → told ≡ world.told
-    → CarriesOut reply world result → CarriesOut reply (record world { gesture = gesture; told = told }) result
-carried_with reply world gesture told result same entries carried =
-    subst (λ (t : List Entry). CarriesOut reply (record world { gesture = gesture; told = t }) result) (sym entries) (with_gesture result carried)
+pub carried_with : (reply : Reply) (world : KeyedScreen) (gesture : Kept) (reported : List Entry) (result : Result Response StepFault) → gesture_of gesture ≡ gesture_of world.gesture → reported ≡ world.reported
+    → CarriesOut reply world result → CarriesOut reply (record world { gesture = gesture; reported = reported }) result
+carried_with reply world gesture reported result same entries carried =
+    subst (λ (t : List Entry). CarriesOut reply (record world { gesture = gesture; reported = t }) result) (sym entries) (with_gesture result carried)
   where
     with_gesture : (result : Result Response StepFault) → CarriesOut reply world result → CarriesOut reply (record world { gesture = gesture }) result
     with_gesture (Ok response) h =
-        (h.0 ∙ ap (λ g. Done (record (world_of world) { gesture = g }) (response_text world.views world.surface world.told world.saved response)) (sym same), h.1)
+        (h.0 ∙ ap (λ g. Done (record (world_of world) { gesture = g }) (response_text world.views world.surface world.reported world.saved response)) (sym same), h.1)
     with_gesture (Err (fault.Refused refusal)) h = h
     with_gesture (Err fault.NoMemory) h = h
     with_gesture (Err fault.Sink) h = h
     with_gesture (Err fault.Shelf) h = h
 
 -- nothing has changed
-pub same_world : (world : KeyedScreen) (views : Views) (gesture : Kept) (told : List Entry) → views ≡ world.views → gesture ≡ world.gesture → told ≡ world.told
-    → record world { views = views; gesture = gesture; told = told } ≡ world
-same_world world views gesture told one two three =
-    ap (λ (v : Views). let w : KeyedScreen = record world { views = v; gesture = gesture; told = told } in w) one
-    ∙ ap (λ (g : Kept). let w : KeyedScreen = record world { gesture = g; told = told } in w) two
-    ∙ ap (λ (t : List Entry). let w : KeyedScreen = record world { told = t } in w) three
+pub same_world : (world : KeyedScreen) (views : Views) (gesture : Kept) (reported : List Entry) → views ≡ world.views → gesture ≡ world.gesture → reported ≡ world.reported
+    → record world { views = views; gesture = gesture; reported = reported } ≡ world
+same_world world views gesture reported one two three =
+    ap (λ (v : Views). let w : KeyedScreen = record world { views = v; gesture = gesture; reported = reported } in w) one
+    ∙ ap (λ (g : Kept). let w : KeyedScreen = record world { gesture = g; reported = reported } in w) two
+    ∙ ap (λ (t : List Entry). let w : KeyedScreen = record world { reported = t } in w) three
 
 pub sound_same : (inside : Inside) (views : Views) (gesture : Kept) (log : Log) → views ≡ inside.tree → gesture ≡ inside.gesture → 3 * count_of inside.tree.tree ≤ room_of log
     → IsSound inside → IsSound (record inside { tree = views; gesture = gesture; log = log })

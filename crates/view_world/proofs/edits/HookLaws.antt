@@ -22,8 +22,8 @@ use Rattle.view_world.specs.world.Step.{Done, Refused, hook_asked, hooked, is_fu
 use Rattle.view_world.specs.world.World.{World}
 
 -- the edits of a hook, after those that have their numbers already
-abbrev pub behind_edits : List NumEdit → Option (List NumEdit) → Option (List NumEdit)
-behind_edits edits more = option_map (λ (more : List NumEdit). edits ++ more) more
+abbrev pub after_edits : List NumEdit → Option (List NumEdit) → Option (List NumEdit)
+after_edits edits more = option_map (λ (more : List NumEdit). edits ++ more) more
 
 -- whether all edits may be made
 abbrev pub are_made : Forest PlainView → List NumEdit → Bool

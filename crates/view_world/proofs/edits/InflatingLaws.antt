@@ -36,10 +36,10 @@ place_number views number None p = p.0
 place_number views number (Some key) p = p.1
 
 -- a tree that has a place asks for its file, and then the shelf gives the files at hand
-pub told_where_asked : (files : Files) (told : Option Files) (tree : Forest PlainView) (name : List ℕ) (into : Option Name) (place : Option ℕ) → place_in tree into ≡ Ok place
-    → AreAtHand files told (asked_for tree (Some (name, into))) → told ≡ Some files
-told_where_asked files told tree name into place e (inl told_so) = told_so
-told_where_asked files told tree name into place e (inr none) = absurd (let clash = rw e at none in cc)
+pub reported_where_asked : (files : Files) (reported : Option Files) (tree : Forest PlainView) (name : List ℕ) (into : Option Name) (place : Option ℕ) → place_in tree into ≡ Ok place
+    → AreAtHand files reported (asked_for tree (Some (name, into))) → reported ≡ Some files
+reported_where_asked files reported tree name into place e (inl reported_so) = reported_so
+reported_where_asked files reported tree name into place e (inr none) = absurd (let clash = rw e at none in cc)
 
 -- the result of a line, step by step
 pub inflated_as : (files : Files) (world : World) (name : List ℕ) (into : Option Name) (place : Option ℕ) (plan : Plan) → place_in world.tree into ≡ Ok place
@@ -80,27 +80,27 @@ writes_fault reply new before after fault.Sink result e changed = absurd changed
 writes_fault reply new before after fault.Shelf result e changed = rw e tt
 
 -- printing it does not ask a shelf
-pub told_counts : (before now : ℕ) (result : Result (Unit {0}) StepFault) → IsDone result → now ≡ before → CountsShelf before now result
-told_counts before now (Ok _) done same = same
-told_counts before now (Err (fault.Refused refusal)) done same = absurd done
-told_counts before now (Err fault.NoMemory) done same = absurd done
-told_counts before now (Err fault.Sink) done same = same
-told_counts before now (Err fault.Shelf) done same = absurd done
+pub reported_counts : (before now : ℕ) (result : Result (Unit {0}) StepFault) → IsDone result → now ≡ before → CountsShelf before now result
+reported_counts before now (Ok _) done same = same
+reported_counts before now (Err (fault.Refused refusal)) done same = absurd done
+reported_counts before now (Err fault.NoMemory) done same = absurd done
+reported_counts before now (Err fault.Sink) done same = same
+reported_counts before now (Err fault.Shelf) done same = absurd done
 
 -- a line that inflates a file always prints something
-grafted_tells : (world after : World) (place : Option ℕ) (plan : Plan) (reason : Option PlainRefusal) → grafted world place plan reason ≢ Done after []
+grafted_recalls : (world after : World) (place : Option ℕ) (plan : Plan) (reason : Option PlainRefusal) → grafted world place plan reason ≢ Done after []
 unfolding inflated_text ◌⧺◌
-grafted_tells world after place plan (Some refusal) e = absurd cc
-grafted_tells world after place plan None e = absurd cc
+grafted_recalls world after place plan (Some refusal) e = absurd cc
+grafted_recalls world after place plan None e = absurd cc
 
-views_tell : (world after : World) (place : Option ℕ) (views : Result Plan PlainRefusal) → reply_with views (λ plan. grafted world place plan (graft_reason world.tree place world.next plan.seeds)) ≢ Done after []
-views_tell world after place (Ok plan) e = grafted_tells world after place plan (graft_reason world.tree place world.next plan.seeds) e
-views_tell world after place (Err refusal) e = absurd cc
+views_recall : (world after : World) (place : Option ℕ) (views : Result Plan PlainRefusal) → reply_with views (λ plan. grafted world place plan (graft_reason world.tree place world.next plan.seeds)) ≢ Done after []
+views_recall world after place (Ok plan) e = grafted_recalls world after place plan (graft_reason world.tree place world.next plan.seeds) e
+views_recall world after place (Err refusal) e = absurd cc
 
-pub inflation_tells : (files : Files) (world after : World) (name : List ℕ) (into : Option Name) → inflation files world name into ≢ Done after []
-inflation_tells files world after name into = placed (place_in world.tree into)
+pub inflation_recalls : (files : Files) (world after : World) (name : List ℕ) (into : Option Name) → inflation files world name into ≢ Done after []
+inflation_recalls files world after name into = placed (place_in world.tree into)
   where
     placed : (place : Result (Option ℕ) PlainRefusal)
         → reply_with place (λ at. reply_with (views_of files name world.resources world.dpi) (λ plan. grafted world at plan (graft_reason world.tree at world.next plan.seeds))) ≢ Done after []
-    placed (Ok place) e = views_tell world after place (views_of files name world.resources world.dpi) e
+    placed (Ok place) e = views_recall world after place (views_of files name world.resources world.dpi) e
     placed (Err refusal) e = absurd cc

@@ -38,9 +38,9 @@ use Rattle.view_world.proofs.worlds.WorldLaws.{Changed-edit}
 use Rattle.view_world.specs.screen.Changed.{CarriesOut}
 use Rattle.view_world.specs.replying.Deliveries.{entries_text}
 use Rattle.view_world.specs.screen.KeyedScreen.{KeyedScreen, world_of}
-use Rattle.view_world.specs.replying.Responses.{IsTellable, deliveries_only, response_text}
-use Rattle.view_world.specs.world.Step.{Reply, Done, acted, after_edit, all_disarmed, removed, told_behind, without_hooks}
-use Rattle.view_world.specs.touching.Touching.{after_progress, all_closed, is_told, leaving, parent_of, scene_in, scrolled_to, told_away, unscrolled_tree, without_part}
+use Rattle.view_world.specs.replying.Responses.{IsReportable, deliveries_only, response_text}
+use Rattle.view_world.specs.world.Step.{Reply, Done, acted, after_edit, all_disarmed, removed, reported_before, without_hooks}
+use Rattle.view_world.specs.touching.Touching.{after_progress, all_closed, is_reported, leaving, parent_of, scene_in, scrolled_to, reported_away, unscrolled_tree, without_part}
 use Rattle.view_world.specs.world.World.{World}
 
 -- no view got anything yet
@@ -53,58 +53,58 @@ cancel_of world key slop before =
     cancelled (scene_of world.views slop) (parent_number world.views key) (number_of world.views key) (part_at world.views key) (start_of world before)
 
 -- whether a view gets a cancel, by its key
-abbrev is_told_of : KeyedScreen → ℕ → Bool
-is_told_of world key = is_told (parent_number world.views key) (facts_of world.views key) world.pointers
+abbrev is_reported_of : KeyedScreen → ℕ → Bool
+is_reported_of world key = is_reported (parent_number world.views key) (facts_of world.views key) world.pointers
 
 leaving_plain : (world : KeyedScreen) (key : ℕ) (slop : ℤ) (before : List Entry) → IsTree world.views → IsLive world.views key → before ≡ []
-    → leaving (world_of world) (number_of world.views key) ≡ (if is_told_of world key then cancel_of world key slop before else start_of world before)
+    → leaving (world_of world) (number_of world.views key) ≡ (if is_reported_of world key then cancel_of world key slop before else start_of world before)
 leaving_plain world key slop before is live none =
     let number = number_of world.views key in
     let parent = parent_number world.views key in
     let part = unscrolled_tree (part_of number (plain_of world.views)) in
-    ap (λ (p : Option ℕ). told_away (world_of world) number p (view_in (plain_of world.views) number)) (parent_named world.views key is live)
-    ∙ ap (told_away (world_of world) number parent) (number_there world.views key is live)
-    ∙ ap (λ (p : Progress). if is_told_of world key then cancelled (scene_in (world_of world)) parent number part p else p) (progress_plain world before is none)
-    ∙ ap (λ (p : Progress). if is_told_of world key then p else start_of world before) (same_cancel (scene_in (world_of world)) (scene_of world.views slop) parent number part (start_of world before))
-    ∙ ap (λ (t : Forest PlainView). if is_told_of world key then cancelled (scene_of world.views slop) parent number t (start_of world before) else start_of world before)
+    ap (λ (p : Option ℕ). reported_away (world_of world) number p (view_in (plain_of world.views) number)) (parent_named world.views key is live)
+    ∙ ap (reported_away (world_of world) number parent) (number_there world.views key is live)
+    ∙ ap (λ (p : Progress). if is_reported_of world key then cancelled (scene_in (world_of world)) parent number part p else p) (progress_plain world before is none)
+    ∙ ap (λ (p : Progress). if is_reported_of world key then p else start_of world before) (same_cancel (scene_in (world_of world)) (scene_of world.views slop) parent number part (start_of world before))
+    ∙ ap (λ (t : Forest PlainView). if is_reported_of world key then cancelled (scene_of world.views slop) parent number t (start_of world before) else start_of world before)
     (sym (part_plain world.views key is live))
 
 -- whether a view gets a cancel, by its number
-abbrev is_told_in : KeyedScreen → ℕ → Bool
-is_told_in world key = is_told (parent_of (number_of world.views key) (plain_of world.views)) (facts_of world.views key) world.pointers
+abbrev is_reported_in : KeyedScreen → ℕ → Bool
+is_reported_in world key = is_reported (parent_of (number_of world.views key) (plain_of world.views)) (facts_of world.views key) world.pointers
 
-told_same : (world : KeyedScreen) (key : ℕ) (told : Bool) → IsTree world.views → IsLive world.views key → is_told_in world key ≡ told → is_told_of world key ≡ told
-told_same world key told is live same = ap (λ (p : Option ℕ). is_told p (facts_of world.views key) world.pointers) (sym (parent_named world.views key is live)) ∙ same
+reported_same : (world : KeyedScreen) (key : ℕ) (reported : Bool) → IsTree world.views → IsLive world.views key → is_reported_in world key ≡ reported → is_reported_of world key ≡ reported
+reported_same world key reported is live same = ap (λ (p : Option ℕ). is_reported p (facts_of world.views key) world.pointers) (sym (parent_named world.views key is live)) ∙ same
 
 -- a view that gets a cancel, and one that does not
-pub leaving_told : (world : KeyedScreen) (key : ℕ) (slop : ℤ) (new : Views) (kept : Kept) (before after : Log) → IsTree world.views → IsLive world.views key
-    → before.entries.items ≡ [] → is_told_in world key ≡ true
+pub leaving_reported : (world : KeyedScreen) (key : ℕ) (slop : ℤ) (new : Views) (kept : Kept) (before after : Log) → IsTree world.views → IsLive world.views key
+    → before.entries.items ≡ [] → is_reported_in world key ≡ true
     → progress_of new kept after
     ≡ cancelled (scene_of world.views slop) (parent_number world.views key) (number_of world.views key) (part_at world.views key) (progress_of world.views world.gesture before)
     → progress_of new kept after ≡ leaving (world_of world) (number_of world.views key)
-leaving_told world key slop new kept before after is live none told same =
-    same ∙ sym (leaving_plain world key slop before.entries.items is live none ∙ rw (told_same world key true is live told) refl)
+leaving_reported world key slop new kept before after is live none reported same =
+    same ∙ sym (leaving_plain world key slop before.entries.items is live none ∙ rw (reported_same world key true is live reported) refl)
 
-pub leaving_silent : (world : KeyedScreen) (key : ℕ) (before : Log) → IsTree world.views → IsLive world.views key → before.entries.items ≡ [] → is_told_in world key ≡ false
+pub leaving_silent : (world : KeyedScreen) (key : ℕ) (before : Log) → IsTree world.views → IsLive world.views key → before.entries.items ≡ [] → is_reported_in world key ≡ false
     → progress_of world.views world.gesture before ≡ leaving (world_of world) (number_of world.views key)
 leaving_silent world key before is live none silent =
-    sym (leaving_plain world key (pos 0) before.entries.items is live none ∙ rw (told_same world key false is live silent) refl)
+    sym (leaving_plain world key (pos 0) before.entries.items is live none ∙ rw (reported_same world key false is live silent) refl)
 
 -- a view with a parent gets a cancel, and a root if it is not gone and a pointer is down
 
-pub told_child : (views : Views) (key : ℕ) (above : Option ℕ) (facts : Facts) (pointers : List Point) → IsTree views → IsLive views key → is_some above ≡ true
+pub reported_child : (views : Views) (key : ℕ) (above : Option ℕ) (facts : Facts) (pointers : List Point) → IsTree views → IsLive views key → is_some above ≡ true
     → MatchOption above (ancestors key views.tree ≡ []) (λ parent. ancestors key views.tree ≡ parent ∷ ancestors parent views.tree)
-    → is_told (parent_of (number_of views key) (plain_of views)) facts pointers ≡ true
-told_child views key None facts pointers is live some path = absurd (cc)
-told_child views key (Some parent) facts pointers is live some path =
-    ap (λ (p : Option ℕ). is_told p facts pointers) (parent_named views key is live ∙ ap (first_number views) path)
+    → is_reported (parent_of (number_of views key) (plain_of views)) facts pointers ≡ true
+reported_child views key None facts pointers is live some path = absurd (cc)
+reported_child views key (Some parent) facts pointers is live some path =
+    ap (λ (p : Option ℕ). is_reported p facts pointers) (parent_named views key is live ∙ ap (first_number views) path)
 
-pub told_root : (views : Views) (key : ℕ) (above : Option ℕ) (facts : Facts) (pointers : List Point) → IsTree views → IsLive views key → is_some above ≡ false
+pub reported_root : (views : Views) (key : ℕ) (above : Option ℕ) (facts : Facts) (pointers : List Point) → IsTree views → IsLive views key → is_some above ≡ false
     → MatchOption above (ancestors key views.tree ≡ []) (λ parent. ancestors key views.tree ≡ parent ∷ ancestors parent views.tree)
-    → is_told (parent_of (number_of views key) (plain_of views)) facts pointers ≡ (is_shown facts && not (is_nil pointers))
-told_root views key None facts pointers is live none path =
-    ap (λ (p : Option ℕ). is_told p facts pointers) (parent_named views key is live ∙ ap (first_number views) path)
-told_root views key (Some parent) facts pointers is live none path = absurd (cc)
+    → is_reported (parent_of (number_of views key) (plain_of views)) facts pointers ≡ (is_shown facts && not (is_nil pointers))
+reported_root views key None facts pointers is live none path =
+    ap (λ (p : Option ℕ). is_reported p facts pointers) (parent_named views key is live ∙ ap (first_number views) path)
+reported_root views key (Some parent) facts pointers is live none path = absurd (cc)
 
 pub nil-length : (points : List Point) → (length points == 0) ≡ is_nil points
 nil-length [] = refl
@@ -125,10 +125,10 @@ plain_cancelled old new before after log new_log scene parent number part is scr
     plain_still old new is scrolls (ap (λ (progress : Progress). progress.offsets) done ∙ still_cancelled scene parent number part (progress_of old before log))
 
 -- the world once a view got a cancel, with the new gesture and offsets
-pub world_told : (old : KeyedScreen) (new : Views) (kept : Kept) (after : Log) (number : ℕ) → IsTree old.views → OnlyScrolls old.views new
+pub world_reported : (old : KeyedScreen) (new : Views) (kept : Kept) (after : Log) (number : ℕ) → IsTree old.views → OnlyScrolls old.views new
     → progress_of new kept after ≡ leaving (world_of old) number
-    → (let now : KeyedScreen = record old { views = new; gesture = kept; told = after.entries.items } in world_of now ≡ after_progress (world_of old) (leaving (world_of old) number))
-world_told old new kept after number is scrolls same =
+    → (let now : KeyedScreen = record old { views = new; gesture = kept; reported = after.entries.items } in world_of now ≡ after_progress (world_of old) (leaving (world_of old) number))
+world_reported old new kept after number is scrolls same =
     world_scrolled old new kept after.entries.items after.entries.items is scrolls ∙ ap (after_progress (world_of old)) same
 
 -- the text of deliveries
@@ -142,13 +142,13 @@ no_entries : entries_text [] ≡ []
 unfolding texts_of
 no_entries = refl
 
-told_text : (text : List ℕ) (world : World) (reply : Reply) → reply ≡ Done world [] → told_behind text reply ≡ Done world text
-told_text text world reply e = ap (told_behind text) e ∙ ap (Done world) (text_alone text)
+reported_text : (text : List ℕ) (world : World) (reply : Reply) → reply ≡ Done world [] → reported_before text reply ≡ Done world text
+reported_text text world reply e = ap (reported_before text) e ∙ ap (Done world) (text_alone text)
 
-deliveries : (views : Views) (surface : Raster) (told : List Entry) (saved : List ℕ) (world : World) (reply : Reply) → reply ≡ Done world []
-    → (told_behind (entries_text told) reply ≡ Done world (response_text views surface told saved (deliveries_only told))) × IsTellable views surface told saved (deliveries_only told)
-deliveries views surface [] saved world reply e = (told_text (entries_text []) world reply e ∙ ap (Done world) no_entries, tt)
-deliveries views surface (entry ∷ entries) saved world reply e = (told_text (entries_text (entry ∷ entries)) world reply e, λ none. absurd (cc))
+deliveries : (views : Views) (surface : Raster) (reported : List Entry) (saved : List ℕ) (world : World) (reply : Reply) → reply ≡ Done world []
+    → (reported_before (entries_text reported) reply ≡ Done world (response_text views surface reported saved (deliveries_only reported))) × IsReportable views surface reported saved (deliveries_only reported)
+deliveries views surface [] saved world reply e = (reported_text (entries_text []) world reply e ∙ ap (Done world) no_entries, tt)
+deliveries views surface (entry ∷ entries) saved world reply e = (reported_text (entries_text (entry ∷ entries)) world reply e, λ none. absurd (cc))
 
 -- edits that are never refused, and need no memory
 
@@ -203,30 +203,30 @@ same_number old mid key same = ap (λ tree. number_of (record mid { tree = tree 
 
 -- it was hidden
 pub Changed-hide : (old mid : KeyedScreen) (new : Views) (key : ℕ) (doing : Act) (result : Result (Option ℕ) Fault) → hides doing ≡ true → SameTree old.views mid.views
-    → world_of mid ≡ after_progress (world_of old) (leaving (world_of old) (number_of old.views key)) → mid.told ≡ (leaving (world_of old) (number_of old.views key)).entries
+    → world_of mid ≡ after_progress (world_of old) (leaving (world_of old) (number_of old.views key)) → mid.reported ≡ (leaving (world_of old) (number_of old.views key)).entries
     → result ≡ Ok None → AppliesEdit (outcome_of_edit (edited_of mid.views) (ActOn (number_of mid.views key) doing)) (edited_of new) result
-    → (let now : KeyedScreen = record mid { views = new } in CarriesOut (acted (world_of old) (number_of old.views key) doing) now (Ok (deliveries_only mid.told)))
-Changed-hide old mid new key doing result hiding same world told done applied =
+    → (let now : KeyedScreen = record mid { views = new } in CarriesOut (acted (world_of old) (number_of old.views key) doing) now (Ok (deliveries_only mid.reported)))
+Changed-hide old mid new key doing result hiding same world reported done applied =
     let number = number_of old.views key in
     let now : KeyedScreen = record mid { views = new } in
     let progress = leaving (world_of old) number in
     let made = subst (AppliesEdit (outcome_of_edit (edited_of mid.views) (ActOn (number_of mid.views key) doing)) (edited_of new)) done applied in
     let changed = Changed-edit mid mid.stage mid.views new (ActOn (number_of mid.views key) doing) (Ok None) made in
-    let reply : acted (world_of old) number doing ≡ told_behind (entries_text mid.told) (after_edit (world_of mid) (ActOn (number_of mid.views key) doing)) =
+    let reply : acted (world_of old) number doing ≡ reported_before (entries_text mid.reported) (after_edit (world_of mid) (ActOn (number_of mid.views key) doing)) =
     rw hiding refl
-    ∙ ap (λ (w : World). told_behind (entries_text progress.entries) (after_edit w (ActOn number doing))) (sym world)
-    ∙ ap (λ (entries : List Entry). told_behind (entries_text entries) (after_edit (world_of mid) (ActOn number doing))) (sym told)
-    ∙ ap (λ (n : ℕ). told_behind (entries_text mid.told) (after_edit (world_of mid) (ActOn n doing))) (sym (same_number old.views mid.views key same)) in
-    let all = deliveries new mid.surface mid.told mid.saved (world_of now) (after_edit (world_of mid) (ActOn (number_of mid.views key) doing)) changed.0 in
+    ∙ ap (λ (w : World). reported_before (entries_text progress.entries) (after_edit w (ActOn number doing))) (sym world)
+    ∙ ap (λ (entries : List Entry). reported_before (entries_text entries) (after_edit (world_of mid) (ActOn number doing))) (sym reported)
+    ∙ ap (λ (n : ℕ). reported_before (entries_text mid.reported) (after_edit (world_of mid) (ActOn n doing))) (sym (same_number old.views mid.views key same)) in
+    let all = deliveries new mid.surface mid.reported mid.saved (world_of now) (after_edit (world_of mid) (ActOn (number_of mid.views key) doing)) changed.0 in
     (reply ∙ all.0, all.1)
 
 -- it was removed, with all that was kept of it
 pub Changed-remove : (old mid : KeyedScreen) (new : Views) (kept : Kept) (hooks : List Hook) (key : ℕ) (result : Result (Option ℕ) Fault) → IsTree mid.views → IsLive mid.views key → SameTree old.views mid.views
-    → world_of mid ≡ after_progress (world_of old) (leaving (world_of old) (number_of old.views key)) → mid.told ≡ (leaving (world_of old) (number_of old.views key)).entries
+    → world_of mid ≡ after_progress (world_of old) (leaving (world_of old) (number_of old.views key)) → mid.reported ≡ (leaving (world_of old) (number_of old.views key)).entries
     → gesture_of kept ≡ all_closed (numbers_of (part_at mid.views key)) (gesture_of mid.gesture) → hooks ≡ all_disarmed (numbers_of (part_at mid.views key)) mid.hooks
     → result ≡ Ok None → AppliesEdit (outcome_of_edit (edited_of mid.views) (Remove (number_of mid.views key))) (edited_of new) result
-    → (let now : KeyedScreen = record mid { views = new; gesture = kept; hooks = hooks } in CarriesOut (removed (world_of old) (number_of old.views key)) now (Ok (deliveries_only mid.told)))
-Changed-remove old mid new kept hooks key result is live same world told cleared taken done applied =
+    → (let now : KeyedScreen = record mid { views = new; gesture = kept; hooks = hooks } in CarriesOut (removed (world_of old) (number_of old.views key)) now (Ok (deliveries_only mid.reported)))
+Changed-remove old mid new kept hooks key result is live same world reported cleared taken done applied =
     let number = number_of old.views key in
     let emptied : KeyedScreen = record mid { gesture = kept; hooks = hooks } in
     let now : KeyedScreen = record mid { views = new; gesture = kept; hooks = hooks } in
@@ -238,10 +238,10 @@ Changed-remove old mid new kept hooks key result is live same world told cleared
     let without : bare (world_of mid) ≡ world_of emptied =
     ap (λ gesture. without_hooks (number_of mid.views key) (record (world_of mid) { gesture = gesture })) (ap (λ (l : List ℕ). all_closed l (gesture_of mid.gesture)) numbers ∙ sym cleared)
     ∙ ap (λ hooks. let w : World = record (world_of (record mid { gesture = kept })) { hooks = hooks } in w) (ap (λ (l : List ℕ). all_disarmed l mid.hooks) numbers ∙ sym taken) in
-    let reply : removed (world_of old) number ≡ told_behind (entries_text mid.told) (after_edit (world_of emptied) (Remove (number_of mid.views key))) =
-    ap (λ (w : World). told_behind (entries_text progress.entries) (after_edit (without_hooks number (without_part number w)) (Remove number))) (sym world)
-    ∙ ap (λ (entries : List Entry). told_behind (entries_text entries) (after_edit (without_hooks number (without_part number (world_of mid))) (Remove number))) (sym told)
-    ∙ ap (λ (n : ℕ). told_behind (entries_text mid.told) (after_edit (without_hooks n (without_part n (world_of mid))) (Remove n))) (sym (same_number old.views mid.views key same))
-    ∙ ap (λ (w : World). told_behind (entries_text mid.told) (after_edit w (Remove (number_of mid.views key)))) without in
-    let all = deliveries new mid.surface mid.told mid.saved (world_of now) (after_edit (world_of emptied) (Remove (number_of mid.views key))) changed.0 in
+    let reply : removed (world_of old) number ≡ reported_before (entries_text mid.reported) (after_edit (world_of emptied) (Remove (number_of mid.views key))) =
+    ap (λ (w : World). reported_before (entries_text progress.entries) (after_edit (without_hooks number (without_part number w)) (Remove number))) (sym world)
+    ∙ ap (λ (entries : List Entry). reported_before (entries_text entries) (after_edit (without_hooks number (without_part number (world_of mid))) (Remove number))) (sym reported)
+    ∙ ap (λ (n : ℕ). reported_before (entries_text mid.reported) (after_edit (without_hooks n (without_part n (world_of mid))) (Remove n))) (sym (same_number old.views mid.views key same))
+    ∙ ap (λ (w : World). reported_before (entries_text mid.reported) (after_edit w (Remove (number_of mid.views key)))) without in
+    let all = deliveries new mid.surface mid.reported mid.saved (world_of now) (after_edit (world_of emptied) (Remove (number_of mid.views key))) changed.0 in
     (reply ∙ all.0, all.1)

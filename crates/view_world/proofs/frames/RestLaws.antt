@@ -85,7 +85,7 @@ scrolls_rest old new window scrolls rest =
 
 -- if views have only been scrolled
 pub scrolls_keep : (asked gone changed : List ℕ) (old new : KeyedScreen) → OnlyScrolls old.views new.views → new.stage ≡ old.stage → new.surface ≡ old.surface → new.hooks ≡ old.hooks
-    → ((box : Rect) → LiesIn old.damage box → AreSeenIn box changed old new → LiesIn new.damage box) → scrolled_in new.told ≡ changed → KeepsBut Touches asked gone changed old new
+    → ((box : Rect) → LiesIn old.damage box → AreSeenIn box changed old new → LiesIn new.damage box) → scrolled_in new.reported ≡ changed → KeepsBut Touches asked gone changed old new
 scrolls_keep asked gone changed old new scrolls stage surface hooks within scrolled = record {
   measures = ap (λ counts. counts.measures) scrolls.counts;
   rests = λ leaves rests. record {

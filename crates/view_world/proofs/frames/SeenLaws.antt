@@ -89,10 +89,10 @@ among_scrolled number (entry ∷ entries) there = elim (cases_Bool (is_scroll en
 ]
 
 -- what is seen of the views that have scrolled is within a known rectangle
-pub scrolled_seen : (old new : KeyedScreen) (box : Rect) → IsTree new.views → size_of new.surface ≡ size_of old.surface → AreSeenIn box (scrolled_in new.told) old new
-    → ScrolledIn (size_of old.surface) box new.views new.told
+pub scrolled_seen : (old new : KeyedScreen) (box : Rect) → IsTree new.views → size_of new.surface ≡ size_of old.surface → AreSeenIn box (scrolled_in new.reported) old new
+    → ScrolledIn (size_of old.surface) box new.views new.reported
 scrolled_seen old new box is size seen key live there =
-    let lies = (seen (number_of new.views key) (among_scrolled (number_of new.views key) new.told there)).1 in
+    let lies = (seen (number_of new.views key) (among_scrolled (number_of new.views key) new.reported there)).1 in
     subst (λ (window : Size). LiesIn (seen_of window new.views key) box) size (subst (λ (rect : Rect). LiesIn rect box) (seen_named new key is live) lies)
 
 -- the number of the first view of a list

@@ -14,7 +14,7 @@ use Rattle.view_tree.specs.Views.{Held, Views, class_of, geometry_of, held_of, n
 use Rattle.touch_dispatch.specs.declared.log.Entry.{Entry}
 use Rattle.view_world.specs.replying.Deliveries.{done_text, entries_text}
 use Rattle.view_world.specs.replying.Replies.{bounds_line, framed_text, inflated_text, pixel_text, pixels_text, row_text, separator, texts_below}
-use Rattle.view_world.specs.replying.Responses.{IsTellable, color_of, is_nothing, response_text}
+use Rattle.view_world.specs.replying.Responses.{IsReportable, color_of, is_nothing, response_text}
 use Rattle.view_world.specs.world.Step.{bounds_text, printed_offset}
 use Rattle.view_world.specs.declared.replying.response.Response.{Response}
 use Rattle.view_world.specs.declared.replying.response.Response.TheVariants as response
@@ -55,16 +55,16 @@ framed-some true fired e = absurd cc
 framed-some false fired e = absurd cc
 
 -- a response without a text prints nothing
-pub nothing_told : (views : Views) (surface : Raster) (told : List Entry) (saved : List ℕ) (response : Response) → IsTellable views surface told saved response → response_text views surface told saved response ≡ [] → is_nothing response ≡ true
+pub nothing_reported : (views : Views) (surface : Raster) (reported : List Entry) (saved : List ℕ) (response : Response) → IsReportable views surface reported saved response → response_text views surface reported saved response ≡ [] → is_nothing response ≡ true
 unfolding ◌⧺◌ inflated_text
-nothing_told views surface told saved response.Nothing tellable e = refl
-nothing_told views surface told saved (response.Made number) tellable e = absurd cc
-nothing_told views surface told saved (response.Inflated first last ignored) tellable e = absurd cc
-nothing_told views surface told saved (response.Framed settled fired) tellable e = absurd (framed-some settled fired e)
-nothing_told views surface told saved (response.Bounds None) tellable e = absurd (bounds-some (geometry_of views) (held_of views) views.tree tellable e)
-nothing_told views surface told saved (response.Bounds (Some view)) tellable e = absurd (line-some (number_of views view) (printed_offset (class_of views view) (offset_of views view)) (rect_in (geometry_of views) (number_of views view)) e)
-nothing_told views surface told saved (response.Pixels part) tellable e = absurd (pixels-some (color_of surface part) part.width part.height tellable.some e)
-nothing_told views surface told saved response.Digest tellable e = absurd (ends-some [] (encode_lower (digest_of surface.pixels)) e)
-nothing_told views surface told saved (response.Deliveries None) tellable e = absurd (entries-some told tellable e)
-nothing_told views surface told saved (response.Deliveries (Some yes_)) tellable e = absurd (done-some (entries_text told) yes_ e)
-nothing_told views surface told saved response.State tellable e = absurd cc
+nothing_reported views surface reported saved response.Nothing reportable e = refl
+nothing_reported views surface reported saved (response.Made number) reportable e = absurd cc
+nothing_reported views surface reported saved (response.Inflated first last ignored) reportable e = absurd cc
+nothing_reported views surface reported saved (response.Framed settled fired) reportable e = absurd (framed-some settled fired e)
+nothing_reported views surface reported saved (response.Bounds None) reportable e = absurd (bounds-some (geometry_of views) (held_of views) views.tree reportable e)
+nothing_reported views surface reported saved (response.Bounds (Some view)) reportable e = absurd (line-some (number_of views view) (printed_offset (class_of views view) (offset_of views view)) (rect_in (geometry_of views) (number_of views view)) e)
+nothing_reported views surface reported saved (response.Pixels part) reportable e = absurd (pixels-some (color_of surface part) part.width part.height reportable.some e)
+nothing_reported views surface reported saved response.Digest reportable e = absurd (ends-some [] (encode_lower (digest_of surface.pixels)) e)
+nothing_reported views surface reported saved (response.Deliveries None) reportable e = absurd (entries-some reported reportable e)
+nothing_reported views surface reported saved (response.Deliveries (Some yes_)) reportable e = absurd (done-some (entries_text reported) yes_ e)
+nothing_reported views surface reported saved response.State reportable e = absurd cc

@@ -37,9 +37,9 @@ rows_text-part_from views view live =
     let found = located view views.tree live in
     let seen : ℕ → Forest Row → PlainView = λ key list. record (head_view list) { facts = record (head_view list).facts { offset = offset_of views key } } in
     let P : Forest Row → Type 0 = λ list. rows_text views list ≡ bounds_of (geometry_of views) (seen view list) ⧺ (rows_text views (children_of_first list) ⧺ rows_text views (later_siblings list)) in
-    let told : P (Branch found.row found.kids found.siblings) =
+    let reported : P (Branch found.row found.kids found.siblings) =
     ap (λ (key : ℕ). bounds_of (geometry_of views) (seen key (Branch found.row found.kids found.siblings)) ⧺ (rows_text views found.kids ⧺ rows_text views found.siblings)) found.key_is in
-    subst P (sym found.is) told
+    subst P (sym found.is) reported
 
 pub sent_on : {old mid far new : SinkState} {before held further last : BufferedText} (views : Views) (list : Forest Row) (view : ℕ) (kid next : Option ℕ)
     → SentWalk views list (Some view) old mid before held

@@ -9,9 +9,9 @@ use Rattle.damage_rect.specs.Within.{LiesIn}
 use Rattle.geom_core.specs.declared.geometry.Rect.{Rect}
 use Rattle.geom_core.specs.declared.geometry.Size.{Size}
 use Rattle.pixel_raster.specs.Raster.{size_of}
-use Rattle.saved_state.proofs.RetoldLaws.{count-retold}
-use Rattle.saved_state.proofs.RetoldParts.{number-retold, wanted-retold}
-use Rattle.saved_state.specs.Restored.{Retells, given_keys, on_paths, set_by, wanted}
+use Rattle.saved_state.proofs.RestatedLaws.{count-restated}
+use Rattle.saved_state.proofs.RestatedParts.{number-restated, wanted-restated}
+use Rattle.saved_state.specs.Restored.{Restates, given_keys, on_paths, set_by, wanted}
 use Rattle.saved_state.specs.Restoring.{given}
 use Rattle.saved_state.specs.State.{StateEntry, decoded}
 use Rattle.seen_edits.specs.Scrolled.{GivenIn}
@@ -130,14 +130,14 @@ row_there key (Branch row kids siblings) live = elim (cases_Bool (row.key == key
 ]
 
 -- what is seen of the views that are given something lies where it is known to lie
-given_seen : (old new : KeyedScreen) (entries : List StateEntry) (box : Rect) → IsTree old.views → IsTree new.views → Retells entries old.views new.views → size_of new.surface ≡ size_of old.surface
+given_seen : (old new : KeyedScreen) (entries : List StateEntry) (box : Rect) → IsTree old.views → IsTree new.views → Restates entries old.views new.views → size_of new.surface ≡ size_of old.surface
     → AreSeenIn box (given_numbers entries (rows (plain_of old.views))) old new → GivenIn entries (size_of old.surface) box new.views
-given_seen old new entries box is was told size seen key live some =
-    let tree : wanted entries new.views.tree key ≡ wanted entries old.views.tree key = ap (λ (tree : Forest Row). wanted entries tree key) told.tree ∙ wanted-retold entries old.views.tree key in
-    let count : count_of_key key new.views.tree ≡ count_of_key key old.views.tree = ap (count_of_key key) told.tree ∙ count-retold entries key old.views.tree in
+given_seen old new entries box is was reported size seen key live some =
+    let tree : wanted entries new.views.tree key ≡ wanted entries old.views.tree key = ap (λ (tree : Forest Row). wanted entries tree key) reported.tree ∙ wanted-restated entries old.views.tree key in
+    let count : count_of_key key new.views.tree ≡ count_of_key key old.views.tree = ap (count_of_key key) reported.tree ∙ count-restated entries key old.views.tree in
     let there = among_given entries old.views.tree key (rows old.views.tree) (ap is_some (sym tree) ∙ some)
     (row_there key old.views.tree (omega arith)) in
-    let number : number_of new.views key ≡ number_of old.views key = ap (λ (tree : Forest Row). (head_view (part_from key tree)).number) told.tree ∙ number-retold entries old.views.tree key in
+    let number : number_of new.views key ≡ number_of old.views key = ap (λ (tree : Forest Row). (head_view (part_from key tree)).number) reported.tree ∙ number-restated entries old.views.tree key in
     let among : is_among (number_of old.views key) (given_numbers entries (rows (plain_of old.views))) ≡ true =
     ap (is_among (number_of old.views key)) (set_named old.views entries is) ∙ among_key (number_of old.views) key (set_by entries old.views.tree) there in
     let lies = (seen (number_of old.views key) among).1 in
@@ -147,14 +147,14 @@ given_seen old new entries box is was told size seen key live some =
 -- what is restored leaves all views that are on no path of those whose offset or text it sets
 restored_keeps : (old : KeyedScreen) (new : Views) (damage : Rect) (entries : List StateEntry) → IsTree old.views → new.counts ≡ old.views.counts
     → ((key : ℕ) → on_paths key (set_by entries old.views.tree) old.views.tree ≡ false → held_of new key ≡ held_of old.views key)
-    → IsTree new → Retells entries old.views new → ((box : Rect) → LiesIn old.damage box → GivenIn entries (size_of old.surface) box new → LiesIn damage box)
+    → IsTree new → Restates entries old.views new → ((box : Rect) → LiesIn old.damage box → GivenIn entries (size_of old.surface) box new → LiesIn damage box)
     → KeepsBut Asks (given_numbers entries (rows (plain_of old.views))) [] (given_numbers entries (rows (plain_of old.views))) old (record old { views = new; damage = damage })
-restored_keeps old new damage entries is counts leaves now told within =
+restored_keeps old new damage entries is counts leaves now reported within =
     let live = keys_live old.views entries (rows old.views.tree) (rows_live old.views old.views.tree (every_live old.views old.views.tree (λ key. omega arith))) in
     record {
       measures = ap (λ counts. counts.measures) counts;
       rests = λ quiet. absurd cc;
-      within = λ ne box lies seen. within box lies (given_seen old (record old { views = new; damage = damage }) entries box is now told refl seen);
+      within = λ ne box lies seen. within box lies (given_seen old (record old { views = new; damage = damage }) entries box is now reported refl seen);
       scrolled = λ touches. absurd cc;
       stage = λ ne. refl;
       surface = λ ne. refl;
@@ -169,15 +169,15 @@ restored_keeps old new damage entries is counts leaves now told within =
 -- the state of a text, or the saved one
 pub text_keeps : (old : KeyedScreen) (new : Views) (damage : Rect) (entries : List StateEntry) (text : List ℕ) → decoded (state_bytes text) ≡ Ok entries → IsTree old.views → new.counts ≡ old.views.counts
     → ((key : ℕ) → on_paths key (set_by entries old.views.tree) old.views.tree ≡ false → held_of new key ≡ held_of old.views key)
-    → IsTree new → Retells entries old.views new → ((box : Rect) → LiesIn old.damage box → GivenIn entries (size_of old.surface) box new → LiesIn damage box)
+    → IsTree new → Restates entries old.views new → ((box : Rect) → LiesIn old.damage box → GivenIn entries (size_of old.surface) box new → LiesIn damage box)
     → KeepsBut Asks (restored_numbers (world_of old) (Some text)) [] (restored_numbers (world_of old) (Some text)) old (record old { views = new; damage = damage })
-text_keeps old new damage entries text read is counts leaves now told within = rw read (restored_keeps old new damage entries is counts leaves now told within)
+text_keeps old new damage entries text read is counts leaves now reported within = rw read (restored_keeps old new damage entries is counts leaves now reported within)
 
 pub kept_keeps : (old : KeyedScreen) (new : Views) (damage : Rect) → IsTree old.views → new.counts ≡ old.views.counts
     → ((key : ℕ) → on_paths key (set_by old.kept old.views.tree) old.views.tree ≡ false → held_of new key ≡ held_of old.views key)
-    → IsTree new → Retells old.kept old.views new → ((box : Rect) → LiesIn old.damage box → GivenIn old.kept (size_of old.surface) box new → LiesIn damage box)
+    → IsTree new → Restates old.kept old.views new → ((box : Rect) → LiesIn old.damage box → GivenIn old.kept (size_of old.surface) box new → LiesIn damage box)
     → KeepsBut Asks (restored_numbers (world_of old) None) [] (restored_numbers (world_of old) None) old (record old { views = new; damage = damage })
-kept_keeps old new damage is counts leaves now told within = restored_keeps old new damage old.kept is counts leaves now told within
+kept_keeps old new damage is counts leaves now reported within = restored_keeps old new damage old.kept is counts leaves now reported within
 
 -- what follows from what holds where a result is one
 pub ok_follows : {A E P Q : Type 0} (result : Result A E) → (P → Q) → OnOk result P → OnOk result Q

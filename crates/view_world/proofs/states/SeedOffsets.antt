@@ -188,14 +188,14 @@ drafts_place : (pool : StringPool) (resources : Entries) (dpi : ℕ) (attr : Att
 drafts_place pool resources dpi attr None draft none = none
 drafts_place pool resources dpi attr (Some place) draft none = drafts_known pool resources dpi attr place draft none
 
-drafts_behind : (next : Draft → Result Draft PlainRefusal) → ((draft : Draft) → draft.facts.offset ≡ pos 0 → Drafts (next draft)) → (before : Result Draft PlainRefusal) → Drafts before → Drafts (before >>= next)
-drafts_behind next keeps (Ok draft) none = keeps draft none
-drafts_behind next keeps (Err refusal) none = tt
+drafts_after : (next : Draft → Result Draft PlainRefusal) → ((draft : Draft) → draft.facts.offset ≡ pos 0 → Drafts (next draft)) → (before : Result Draft PlainRefusal) → Drafts before → Drafts (before >>= next)
+drafts_after next keeps (Ok draft) none = keeps draft none
+drafts_after next keeps (Err refusal) none = tt
 
 drafts_attrs : (pool : StringPool) (resources : Entries) (dpi : ℕ) (attrs : List Attr) (draft : Draft) → draft.facts.offset ≡ pos 0 → Drafts (with_attrs pool resources dpi attrs draft)
 drafts_attrs pool resources dpi [] draft none = none
 drafts_attrs pool resources dpi (attr ∷ more) draft none =
-    drafts_behind (with_attrs pool resources dpi more) (λ next same. drafts_attrs pool resources dpi more next same)
+    drafts_after (with_attrs pool resources dpi more) (λ next same. drafts_attrs pool resources dpi more next same)
     (with_attr pool resources dpi attr draft) (drafts_place pool resources dpi attr (known_place pool attr) draft none)
 
 sets_finished : (draft : Draft) → draft.facts.offset ≡ pos 0 → Sets (finished draft)
@@ -205,13 +205,13 @@ sets_finished draft none = elim (cases_Bool (slice_index_or draft.came WIDTH fal
   | inr e ↦ rw e tt
 ]
 
-sets_behind : (draft : Result Draft PlainRefusal) → Drafts draft → Sets (draft >>= finished)
-sets_behind (Ok draft) none = sets_finished draft none
-sets_behind (Err refusal) none = tt
+sets_after : (draft : Result Draft PlainRefusal) → Drafts draft → Sets (draft >>= finished)
+sets_after (Ok draft) none = sets_finished draft none
+sets_after (Err refusal) none = tt
 
 sets_node : (doc : Document) (resources : Entries) (dpi : ℕ) (node : Node) → Sets (facets_of doc resources dpi node)
 unfolding facets_of
-sets_node doc resources dpi node = sets_behind (with_attrs doc.pool resources dpi (attrs_of doc node) empty_draft) (drafts_attrs doc.pool resources dpi (attrs_of doc node) empty_draft refl)
+sets_node doc resources dpi node = sets_after (with_attrs doc.pool resources dpi (attrs_of doc node) empty_draft) (drafts_attrs doc.pool resources dpi (attrs_of doc node) empty_draft refl)
 
 makes_with : (element : ℕ) (class : Option Class) (facets : Result Facets PlainRefusal) → Sets facets → Makes (view_with element class facets)
 unfolding view_with

@@ -1,7 +1,7 @@
 -- A world that saves a state, or restores one.
 use Rattle.std.proofs.Common.{◌≡◌, ◌≢◌, ℕ, true, List, [], Option, Some, None, Result, Ok, Err, refl, sym, ◌∙◌, ap}
 use Rattle.std.specs.Prelude.{OnErr, OnOk, is_some}
-use Rattle.saved_state.specs.Restored.{Retells}
+use Rattle.saved_state.specs.Restored.{Restates}
 use Rattle.saved_state.specs.Restoring.{is_for_other_class, restored}
 use Rattle.saved_state.specs.Saving.{saved_of}
 use Rattle.saved_state.specs.State.{StateEntry, decoded, encoded}
@@ -66,9 +66,9 @@ world_restored old new tree plain next geometry =
     ∙ ap (with (plain_of new) new.next) (sym (geometry_in-same old.stage old.views new geometry))
 
 pub values_taken : (old : KeyedScreen) (new : Views) (states : List StateEntry) (result : Result Response StepFault) → TakesUp (is_for_other_class states (rows (plain_of old.views))) result
-    → OnOk result (plain_of new ≡ restored states (plain_of old.views)) → OnErr result (new ≡ old.views) → OnOk result (Retells states old.views new) → geometry_of new ≡ geometry_of old.views
+    → OnOk result (plain_of new ≡ restored states (plain_of old.views)) → OnErr result (new ≡ old.views) → OnOk result (Restates states old.views new) → geometry_of new ≡ geometry_of old.views
     → CarriesOut (with_values (world_of old) states) (record old { views = new }) result
-values_taken old new states (Ok told) taken plain unchanged same geometry =
+values_taken old new states (Ok reported) taken plain unchanged same geometry =
     let reply : with_values (world_of old) states ≡ Done (world_of (record old { views = new })) [] =
     rw taken.0 (ap (λ (world : World). Done world []) (world_restored old new (restored states (plain_of old.views)) plain same.next geometry)) in
     rw taken.1 (reply, tt)

@@ -8,7 +8,7 @@ use Rattle.touch_dispatch.specs.Gestures.{without_target}
 use Rattle.touch_dispatch.specs.Handling.{Progress, Reached, asked, handled, is_nil, targets_at, with_gesture}
 use Rattle.touch_dispatch.specs.Points.{cancel_event}
 use Rattle.touch_dispatch.specs.declared.receiver.Receiver.{Receiver}
-use Rattle.touch_dispatch.specs.declared.taker.Taker.TheVariants.{Nobody}
+use Rattle.touch_dispatch.specs.declared.taker.Taker.TheVariants.{NoChild}
 use Rattle.touch_targets.specs.Captures.{Target, is_target}
 use Rattle.view_model.specs.Forest.{Forest, Nothing, Branch}
 use Rattle.view_model.specs.Classes.{is_group, scrolls}
@@ -65,7 +65,7 @@ asked_cancelled first second own kids others progress =
 
 -- no child is tried
 offered_cancel : (scene : Scene) (own : PlainView) (kids : List EventChild) (intercepted : Bool) (progress : Progress)
-    → offered scene own kids cancel_event intercepted progress ≡ (let tried : Tried = record { taker = Nobody; progress = progress } in tried)
+    → offered scene own kids cancel_event intercepted progress ≡ (let tried : Tried = record { taker = NoChild; progress = progress } in tried)
 offered_cancel scene own kids true progress = refl
 offered_cancel scene own kids false progress = refl
 
@@ -88,13 +88,13 @@ part_cancelled first second child (Branch view below after) progress alike =
 
 -- each target gets the whole cancel
 hand_to_cancel : (scene : Scene) (own : PlainView) (kids : List EventChild) (intercepted : Bool) (target : Target) (progress : Progress)
-    → hand_to scene own kids cancel_event intercepted Nobody target progress ≡ hand_part (Some cancel_event) (child_of target.child kids) progress
+    → hand_to scene own kids cancel_event intercepted NoChild target progress ≡ hand_part (Some cancel_event) (child_of target.child kids) progress
 hand_to_cancel scene own kids true target progress = refl
 hand_to_cancel scene own kids false target progress = refl
 
 hand_to_cancelled : (first second : Scene) (own : PlainView) (below : Forest PlainView) (intercepted : Bool) (target : Target) (progress : Progress) → CancelsAlike first second below
-    → hand_to first own (event_children first below) cancel_event intercepted Nobody target progress
-    ≡ hand_to second own (event_children second below) cancel_event intercepted Nobody target progress
+    → hand_to first own (event_children first below) cancel_event intercepted NoChild target progress
+    ≡ hand_to second own (event_children second below) cancel_event intercepted NoChild target progress
 hand_to_cancelled first second own below intercepted target progress alike =
     hand_to_cancel first own (event_children first below) intercepted target progress
     ∙ part_cancelled first second target.child below progress alike
@@ -102,18 +102,18 @@ hand_to_cancelled first second own below intercepted target progress alike =
 
 hand_out_cancelled : (first second : Scene) (own : PlainView) (below : Forest PlainView) (intercepted : Bool) (targets : List Target) (said : Bool) (progress : Progress)
     → CancelsAlike first second below
-    → hand_out first own (event_children first below) cancel_event intercepted Nobody targets said progress
-    ≡ hand_out second own (event_children second below) cancel_event intercepted Nobody targets said progress
+    → hand_out first own (event_children first below) cancel_event intercepted NoChild targets said progress
+    ≡ hand_out second own (event_children second below) cancel_event intercepted NoChild targets said progress
 hand_out_cancelled first second own below intercepted [] said progress alike = refl
 hand_out_cancelled first second own below intercepted (t ∷ targets) said progress alike =
-    ap (λ (r : Reached). hand_out first own (event_children first below) cancel_event intercepted Nobody targets (said || r.yes) r.progress)
+    ap (λ (r : Reached). hand_out first own (event_children first below) cancel_event intercepted NoChild targets (said || r.yes) r.progress)
     (hand_to_cancelled first second own below intercepted t progress alike)
-    ∙ (let r = hand_to second own (event_children second below) cancel_event intercepted Nobody t progress in
+    ∙ (let r = hand_to second own (event_children second below) cancel_event intercepted NoChild t progress in
     hand_out_cancelled first second own below intercepted targets (said || r.yes) r.progress alike)
 
 answered_cancelled : (first second : Scene) (own : PlainView) (below : Forest PlainView) (intercepted : Bool) (progress : Progress) → CancelsAlike first second below
-    → answered first own (event_children first below) cancel_event intercepted Nobody progress
-    ≡ answered second own (event_children second below) cancel_event intercepted Nobody progress
+    → answered first own (event_children first below) cancel_event intercepted NoChild progress
+    ≡ answered second own (event_children second below) cancel_event intercepted NoChild progress
 answered_cancelled first second own below intercepted progress alike =
     elim (cases_Bool (is_nil (targets_at progress own.number))) [
       | inl e ↦ rw e (handled_cancelled first second own (event_children first below) (event_children second below) progress)
@@ -123,7 +123,7 @@ answered_cancelled first second own below intercepted progress alike =
 -- the answer of a group that was asked in this way
 abbrev group_answered : Scene → PlainView → List EventChild → Reached → Reached
 group_answered scene own kids first =
-    let third = answered scene own kids cancel_event first.yes Nobody first.progress in
+    let third = answered scene own kids cancel_event first.yes NoChild first.progress in
     record { yes = third.yes; progress = ended own.number own.facts.split cancel_event first.yes third.progress }
 
 group_cancel : (scene : Scene) (own : PlainView) (kids : List EventChild) (progress : Progress)
@@ -213,16 +213,16 @@ part_still scene child (Branch view below after) progress still = elim (cases_Bo
 ]
 
 hand_out_still : (scene : Scene) (own : PlainView) (below : Forest PlainView) (intercepted : Bool) (targets : List Target) (said : Bool) (progress : Progress) → CancelsStill scene below
-    → (hand_out scene own (event_children scene below) cancel_event intercepted Nobody targets said progress).progress.offsets ≡ progress.offsets
+    → (hand_out scene own (event_children scene below) cancel_event intercepted NoChild targets said progress).progress.offsets ≡ progress.offsets
 hand_out_still scene own below intercepted [] said progress still = refl
 hand_out_still scene own below intercepted (t ∷ targets) said progress still =
-    let r = hand_to scene own (event_children scene below) cancel_event intercepted Nobody t progress in
+    let r = hand_to scene own (event_children scene below) cancel_event intercepted NoChild t progress in
     hand_out_still scene own below intercepted targets (said || r.yes) r.progress still
     ∙ ap (λ (r : Reached). r.progress.offsets) (hand_to_cancel scene own (event_children scene below) intercepted t progress)
     ∙ part_still scene t.child below progress still
 
 answered_still : (scene : Scene) (own : PlainView) (below : Forest PlainView) (intercepted : Bool) (progress : Progress) → CancelsStill scene below
-    → (answered scene own (event_children scene below) cancel_event intercepted Nobody progress).progress.offsets ≡ progress.offsets
+    → (answered scene own (event_children scene below) cancel_event intercepted NoChild progress).progress.offsets ≡ progress.offsets
 answered_still scene own below intercepted progress still = elim (cases_Bool (is_nil (targets_at progress own.number))) [
   | inl e ↦ rw e (own_still scene own (event_children scene below) progress)
   | inr e ↦ rw e (hand_out_still scene own below intercepted (targets_at progress own.number) false progress still)
@@ -236,7 +236,7 @@ group_still : (scene : Scene) (own : PlainView) (below : Forest PlainView) (prog
     → (group_reached scene own (event_children scene below) cancel_event progress).progress.offsets ≡ progress.offsets
 group_still scene own below progress still =
     let first = asked (receiver scene own (event_children scene below)) cancel_event progress in
-    let third = answered scene own (event_children scene below) cancel_event first.yes Nobody first.progress in
+    let third = answered scene own (event_children scene below) cancel_event first.yes NoChild first.progress in
     ap (λ (r : Reached). r.progress.offsets) (group_cancel scene own (event_children scene below) progress)
     ∙ ended_still own.number own.facts.split first.yes third.progress
     ∙ answered_still scene own below first.yes first.progress still

@@ -54,10 +54,10 @@ geometry_scrolled NoFrame old new scrolls = refl
 geometry_scrolled Unsettled old new scrolls = refl
 geometry_scrolled Settled old new scrolls = scrolls_geometry old new scrolls
 
-pub world_scrolled : (old : KeyedScreen) (new : Views) (kept : Kept) (told entries : List Entry) → IsTree old.views → OnlyScrolls old.views new
-    → (let after : KeyedScreen = record old { views = new; gesture = kept; told = told } in
+pub world_scrolled : (old : KeyedScreen) (new : Views) (kept : Kept) (reported entries : List Entry) → IsTree old.views → OnlyScrolls old.views new
+    → (let after : KeyedScreen = record old { views = new; gesture = kept; reported = reported } in
     world_of after ≡ after_progress (world_of old) (progress_by (offsets_kept new) (gesture_of kept) entries))
-world_scrolled old new kept told entries is scrolls =
+world_scrolled old new kept reported entries is scrolls =
     let world : World = world_of (record old { gesture = kept }) in
     let with : Forest PlainView → ℕ → List Laid → World = λ tree next geometry. record world { tree = tree; next = next; geometry = geometry } in
     ap (λ tree. with tree new.next (geometry_in old.stage new)) (scrolls_plain old.views new is scrolls)
@@ -73,14 +73,14 @@ reached_plain world log slop event is settled same none =
     ∙ ap (dispatched (scene_of world.views slop) (views_of world.views.tree) event) (progress_plain world log.entries.items is none)
 
 -- an event went to the root, and these pointers are down then
-pub handed : (old : KeyedScreen) (new : Views) (kept : Kept) (before after : Log) (slop : ℤ) (event : Event) (pointers : List Point) (yes_ : Bool)
+pub forwarded : (old : KeyedScreen) (new : Views) (kept : Kept) (before after : Log) (slop : ℤ) (event : Event) (pointers : List Point) (yes_ : Bool)
     → IsTree old.views → old.stage ≡ Settled → slop ≡ slop_at old.dpi → before.entries.items ≡ []
     → (let reached : Reached = record { yes = yes_; progress = progress_of new kept after } in
     dispatched (scene_of old.views slop) (views_of old.views.tree) event (progress_of old.views old.gesture before) ≡ reached)
     → OnlyScrolls old.views new
-    → (let now : KeyedScreen = record old { views = new; gesture = kept; pointers = pointers; told = after.entries.items } in
+    → (let now : KeyedScreen = record old { views = new; gesture = kept; pointers = pointers; reported = after.entries.items } in
     CarriesOut (after_event (world_of old) event pointers) now (Ok (response.Deliveries (Some yes_))))
-handed old new kept before after slop event pointers yes_ is settled same none reached scrolls =
+forwarded old new kept before after slop event pointers yes_ is settled same none reached scrolls =
     let reply : Reached → Reply = λ reached.
     let world : World = record (after_progress (world_of old) reached.progress) { pointers = pointers } in Done world (entries_text reached.progress.entries ⧺ done_text reached.yes) in (
       ap reply (reached_plain old before slop event is settled same none ∙ reached)

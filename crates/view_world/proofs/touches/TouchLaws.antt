@@ -21,7 +21,7 @@ use Rattle.view_world.specs.screen.Changed.{CarriesOut}
 use Rattle.view_world.specs.screen.KeyedScreen.{KeyedScreen, world_of}
 use Rattle.view_world.specs.touching.Pointers.{down_action, event_of, is_pressed, up_action, with_point, without_point}
 use Rattle.view_world.specs.screen.Sound.{HasNoneElse}
-use Rattle.view_world.specs.world.Step.{Reply, Done, Refused, after_event, disallow_told, lifted, moved, put_down, taken_away, touched}
+use Rattle.view_world.specs.world.Step.{Reply, Done, Refused, after_event, disallow_reported, lifted, moved, put_down, taken_away, touched}
 use Rattle.view_world.specs.touching.Touching.{all_disallowed, ancestors_of}
 use Rattle.view_world.specs.declared.replying.response.Response.{Response}
 use Rattle.view_world.specs.declared.replying.response.Response.TheVariants as response
@@ -73,12 +73,12 @@ Changed-cancel now new pointers event response touchable some are is changed =
 -- a group may not take events away from its children, nor may its ancestors, or they may again
 pub Changed-disallow : (now : KeyedScreen) (kept : Kept) (number : ℕ) (on : Bool) (view : PlainView) → view_in (plain_of now.views) number ≡ Some view → is_group view.class ≡ true
     → gesture_of kept ≡ all_disallowed on (number ∷ ancestors_of number (plain_of now.views)) (gesture_of now.gesture)
-    → CarriesOut (disallow_told (world_of now) number on (view_in (plain_of now.views) number)) (record now { gesture = kept }) (Ok response.Nothing)
+    → CarriesOut (disallow_reported (world_of now) number on (view_in (plain_of now.views) number)) (record now { gesture = kept }) (Ok response.Nothing)
 Changed-disallow now kept number on view there group is =
     (rw (there, group) (ap (λ (gesture : PlainGesture). let w : World = record (world_of now) { gesture = gesture } in Done w []) (sym is)), tt)
 
 pub Refused-disallow : (now : KeyedScreen) (number : ℕ) (on : Bool) (view : PlainView) → view_in (plain_of now.views) number ≡ Some view → is_group view.class ≡ false
-    → disallow_told (world_of now) number on (view_in (plain_of now.views) number) ≡ Refused (refusal_numbered WRONG_CLASS)
+    → disallow_reported (world_of now) number on (view_in (plain_of now.views) number) ≡ Refused (refusal_numbered WRONG_CLASS)
 Refused-disallow now number on view there no_group = rw (there, no_group) refl
 
 -- the targets do not depend on which groups may take events away

@@ -32,13 +32,13 @@ part_found number (Branch view below after) there =
       | inr e ↦
           let more : 0 < 0 + (times_in number below + times_in number after) = rw e at there in
           elim (zero_or_more (times_in number below)) [
-            | inl z ↦ behind view below after e z (part_found number after (omega arith))
+            | inl z ↦ following view below after e z (part_found number after (omega arith))
             | inr l ↦ under view below after e (part_found number below l)
           ]
     ]
   where
-    behind : (view : PlainView) (below after : Forest PlainView) → (view.number == number) ≡ false → times_in number below ≡ 0 → PartFound number after → PartFound number (Branch view below after)
-    behind view below after e none f = record { view = f.view; below = f.below; is = rw (e, part_none number below none) f.is }
+    following : (view : PlainView) (below after : Forest PlainView) → (view.number == number) ≡ false → times_in number below ≡ 0 → PartFound number after → PartFound number (Branch view below after)
+    following view below after e none f = record { view = f.view; below = f.below; is = rw (e, part_none number below none) f.is }
 
     under : (view : PlainView) (below after : Forest PlainView) → (view.number == number) ≡ false → PartFound number below → PartFound number (Branch view below after)
     under view below after e f = record { view = f.view; below = f.below; is = rw (e, f.is) refl }

@@ -17,7 +17,7 @@ use Rattle.view_world.specs.screen.Changed.{CarriesOut, Gives, IsPlace}
 use Rattle.view_world.specs.editing.Inflating.{asked_at, asked_for, place_in}
 use Rattle.view_world.specs.screen.KeyedScreen.{KeyedScreen, world_of}
 use Rattle.view_world.specs.world.KeyedWorld.{KeyedWorld}
-use Rattle.view_world.specs.replying.Responses.{IsTellable, response_text}
+use Rattle.view_world.specs.replying.Responses.{IsReportable, response_text}
 use Rattle.view_world.specs.world.Step.{Reply, Done}
 use Rattle.view_world.specs.frames.Watched.{HasBox, IsWatched, watched_in}
 
@@ -33,7 +33,7 @@ same_parts old new same = record {
   resources = ap (λ (w : KeyedWorld). w.screen.resources) same;
   gesture = ap (λ (w : KeyedWorld). w.screen.gesture) same;
   pointers = ap (λ (w : KeyedWorld). w.screen.pointers) same;
-  deliveries = ap (λ (w : KeyedWorld). w.screen.told) same;
+  deliveries = ap (λ (w : KeyedWorld). w.screen.reported) same;
   hooks = ap (λ (w : KeyedWorld). w.screen.hooks) same;
   kept = ap (λ (w : KeyedWorld). w.screen.kept) same;
   saved = ap (λ (w : KeyedWorld). w.screen.saved) same;
@@ -62,12 +62,12 @@ sinkless reply new line_fault carried e = subst (λ (f : StepFault). CarriesOut 
 
 -- a response that was written without a change of the screen
 pub reported : (old new : KeyedScreen) (before after : SinkState) (result : Result (Unit {0}) StepFault) (response : Response)
-    → IsTellable old.views old.surface old.told old.saved response → new ≡ old
-    → WritesReply (Done (world_of old) (response_text old.views old.surface old.told old.saved response)) (world_of new) before after result → Reports new before after result
+    → IsReportable old.views old.surface old.reported old.saved response → new ≡ old
+    → WritesReply (Done (world_of old) (response_text old.views old.surface old.reported old.saved response)) (world_of new) before after result → Reports new before after result
 reported old new before after result response there same written = record {
   response = response;
-  there = subst (λ (s : KeyedScreen). IsTellable s.views s.surface s.told s.saved response) (sym same) there;
-  written = subst (λ (s : KeyedScreen). WritesReply (Done (world_of s) (response_text s.views s.surface s.told s.saved response)) (world_of new) before after result) (sym same) written;
+  there = subst (λ (s : KeyedScreen). IsReportable s.views s.surface s.reported s.saved response) (sym same) there;
+  written = subst (λ (s : KeyedScreen). WritesReply (Done (world_of s) (response_text s.views s.surface s.reported s.saved response)) (world_of new) before after result) (sym same) written;
 }
 
 -- a tree that has a place asks for its file, and no other does

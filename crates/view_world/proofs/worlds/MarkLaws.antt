@@ -167,10 +167,10 @@ marked_by Touches marks settled one other same = ap (marked Touches marks settle
 marked_by Leaves marks settled one other same = refl
 
 pub marked_line : (line : PlainCommand) (marks : Marks) (old new : KeyedScreen) → (line ≢ command.Frame → KeepsLine line old new)
-    → marked (effect_of line) marks (has_settled (stage_of new.stage)) (has_any_scrolled new.told) ≡ marks_after (world_of old) line (world_of new) marks
+    → marked (effect_of line) marks (has_settled (stage_of new.stage)) (has_any_scrolled new.reported) ≡ marks_after (world_of old) line (world_of new) marks
 marked_line line marks old new keeps =
-    marked_by (effect_of line) marks (has_settled (stage_of new.stage)) (has_any_scrolled new.told) (has_any_scrolled (line_deliveries (world_of old) line)) λ touches.
-    any_scrolled new.told
+    marked_by (effect_of line) marks (has_settled (stage_of new.stage)) (has_any_scrolled new.reported) (has_any_scrolled (line_deliveries (world_of old) line)) λ touches.
+    any_scrolled new.reported
     ∙ ap (λ (numbers : List ℕ). not (is_nil numbers)) ((elim (frame_or_not line) [
       | inl e ↦ absurd (let clash = rw e at touches in cc)
       | inr ne ↦ (keeps ne).scrolled touches
@@ -179,7 +179,7 @@ marked_line line marks old new keeps =
 
 -- the same by what the code has found
 pub marks_are : (line : PlainCommand) (effect : Effect) (marks : Marks) (old new : KeyedScreen) (settled scrolled : Bool) → effect ≡ effect_of line → settled ≡ has_settled (stage_of new.stage)
-    → scrolled ≡ has_any_scrolled new.told → (line ≢ command.Frame → KeepsLine line old new) → marked effect marks settled scrolled ≡ marks_after (world_of old) line (world_of new) marks
+    → scrolled ≡ has_any_scrolled new.reported → (line ≢ command.Frame → KeepsLine line old new) → marked effect marks settled scrolled ≡ marks_after (world_of old) line (world_of new) marks
 marks_are line effect marks old new settled scrolled e s t keeps = rw (e, s, t) (marked_line line marks old new keeps)
 
 -- what was shown still is after a line that changes no view

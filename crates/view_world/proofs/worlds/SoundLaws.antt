@@ -3,7 +3,7 @@ use Rattle.std.proofs.Common.{◌≡◌, ◌∙◌, ℕ, arith, sym, subst}
 use Rattle.std.specs.Prelude.{List, OnErr, OnOk, Option, Result, Ok, Err}
 use Rattle.damage_rect.specs.declared.bounding.Damage.{Damage}
 use Rattle.pixel_raster.specs.Raster.{size_of}
-use Rattle.saved_state.specs.Restored.{Retells}
+use Rattle.saved_state.specs.Restored.{Restates}
 use Rattle.saved_state.specs.Saving.{OffsetsFit}
 use Rattle.saved_state.specs.State.{StateEntry}
 use Rattle.seen_edits.proofs.ShownLaws.{shows_on}
@@ -21,7 +21,7 @@ use Rattle.view_world.specs.declared.screen.Screen.TheInside.{Inside}
 use Rattle.view_world.specs.declared.fault.StepFault.{StepFault}
 use Rattle.view_world.specs.declared.replying.response.Response.{Response}
 use Rattle.view_world.proofs.touches.EditedCaught.{Stays, edit_stays, same_stays}
-use Rattle.view_world.proofs.touches.ToldCaught.{restored_stays}
+use Rattle.view_world.proofs.touches.GestureAfterReports.{restored_stays}
 
 pub sound_stays : (inside : Inside) (new : Views) (damage : Damage) → KeepsShown (size_of inside.surface) inside.damage.rect damage.rect inside.tree new → Stays inside.tree new inside.gesture → IsConsistent new
     → FitAll (geometry_of new) → OffsetsFit (plain_of new) → IsSound inside → IsSound (record inside { tree = new; damage = damage })
@@ -44,7 +44,7 @@ result_stays old new edit kept (Err fault) leaves keeps same = same_stays old ne
 
 -- a state was taken up, or it was not
 pub sound_restored : (inside : Inside) (new : Views) (damage : Damage) (entries : List StateEntry) (result : Result Response StepFault) → KeepsShown (size_of inside.surface) inside.damage.rect damage.rect inside.tree new
-    → OnOk result (Retells entries inside.tree new) → OnErr result (new ≡ inside.tree) → geometry_of new ≡ geometry_of inside.tree → IsConsistent new → OffsetsFit (plain_of new)
+    → OnOk result (Restates entries inside.tree new) → OnErr result (new ≡ inside.tree) → geometry_of new ≡ geometry_of inside.tree → IsConsistent new → OffsetsFit (plain_of new)
     → IsSound inside → IsSound (record inside { tree = new; damage = damage })
-sound_restored inside new damage entries result shown retells same geometry consistent offsets sound =
-    sound_stays inside new damage shown (restored_stays inside.tree new entries inside.gesture result retells same) consistent (subst FitAll (sym geometry) sound.narrow) offsets sound
+sound_restored inside new damage entries result shown restates same geometry consistent offsets sound =
+    sound_stays inside new damage shown (restored_stays inside.tree new entries inside.gesture result restates same) consistent (subst FitAll (sym geometry) sound.narrow) offsets sound

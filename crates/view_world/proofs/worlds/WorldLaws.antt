@@ -28,7 +28,7 @@ use Rattle.view_tree.specs.Views.{Held, Views, geometry_of, held_of, number_of, 
 use Rattle.view_world.specs.screen.Changed.{CarriesOut}
 use Rattle.view_world.specs.replying.Responses.{IsPartOf, made, part_of, response_of, response_text}
 use Rattle.view_world.specs.editing.Naming.{named}
-use Rattle.view_world.specs.world.Step.{Reply, Done, Refused, acted, after_edit, after_outcome, bounds_asked, bounds_in, bounds_of, bounds_told, on_view, lies_in, picture_asked, pixels_told, with_named, with_window}
+use Rattle.view_world.specs.world.Step.{Reply, Done, Refused, acted, after_edit, after_outcome, bounds_asked, bounds_in, bounds_of, bounds_reported, on_view, lies_in, picture_asked, pixels_reported, with_named, with_window}
 use Rattle.view_world.specs.screen.KeyedScreen.{KeyedScreen, geometry_in, stage_of, window_in, window_of, world_of}
 use Rattle.view_world.specs.declared.replying.pixels.Part.{Part}
 use Rattle.view_world.specs.declared.replying.response.Response.{Response}
@@ -184,7 +184,7 @@ unfolding from_zero
 black_opened size surface black = rw black refl
 
 bounds-some : (world : World) (window : Option Size) (rows : Forest Row) (held : ℕ → Held) (root : Option ℕ) (name : Option Name)
-    → is_some window ≡ true → root ≡ first_key rows → is_some root ≡ true → bounds_asked world window (plain_rows held rows) plain.Settled name ≡ bounds_told world name
+    → is_some window ≡ true → root ≡ first_key rows → is_some root ≡ true → bounds_asked world window (plain_rows held rows) plain.Settled name ≡ bounds_reported world name
 bounds-some world None rows held root name ew er some = absurd cc
 bounds-some world (Some size) Nothing held root name ew er some = absurd (let e = ap is_some er in cc)
 bounds-some world (Some size) (Branch row kids siblings) held root name ew er some = refl
@@ -211,10 +211,10 @@ pub Changed-no-bounds : (rest : KeyedScreen) (tree : Views) (now : KeyedScreen) 
 Changed-no-bounds rest tree now stage root asked name same settled er some en absent =
     let P : KeyedScreen → Option Name → Type 0 = λ now asked. bounds_asked (world_of now) (window_of now) (plain_of now.views) (stage_of now.stage) asked ≡ Refused (refusal_numbered NO_VIEW) in
     let world = world_of (at_stage rest tree Settled) in
-    let told : P (at_stage rest tree Settled) (Some name) =
+    let reported : P (at_stage rest tree Settled) (Some name) =
     bounds-some world (Some (size_of rest.surface)) tree.tree (held_of tree) root (Some name) refl er some
     ∙ ap (λ o. with_named o (λ number. bounds_in world (view_in (plain_of tree) number))) absent in
-    subst (λ (now : KeyedScreen). P now asked) (ap (at_stage rest tree) (sym settled) ∙ same) (subst (P (at_stage rest tree Settled)) (sym en) told)
+    subst (λ (now : KeyedScreen). P now asked) (ap (at_stage rest tree) (sym settled) ∙ same) (subst (P (at_stage rest tree Settled)) (sym en) reported)
 
 abs-pos : (n : ℤ) → pos 0 ≤ℤ n → pos (unsigned_abs n) ≡ n
 abs-pos (pos n) h = refl
@@ -249,18 +249,18 @@ part-lies surface x y w h bounds lies =
 
 pixels-settled : (now : KeyedScreen) (x y w h : ℤ) → lies_in (size_of now.surface) x y w h ≡ true
     → (let settled : KeyedScreen = record now { stage = Settled } in
-    picture_asked (window_of settled) (stage_of settled.stage) (pixels_told (world_of settled) x y w h)
-    ≡ Done (world_of settled) (response_text now.views now.surface now.told now.saved (response.Pixels (part_of x y w h))))
+    picture_asked (window_of settled) (stage_of settled.stage) (pixels_reported (world_of settled) x y w h)
+    ≡ Done (world_of settled) (response_text now.views now.surface now.reported now.saved (response.Pixels (part_of x y w h))))
 pixels-settled now x y w h lies = rw lies refl
 
 -- a part of the picture of a settled frame is asked for
 pub Changed-pixels : (now : KeyedScreen) (window : Size) (x y w h : ℤ) (part : Part) → now.stage ≡ Settled → window ≡ size_of now.surface → lies_in window x y w h ≡ true → part ≡ part_of x y w h
-    → picture_asked (window_of now) (stage_of now.stage) (pixels_told (world_of now) x y w h) ≡ Done (world_of now) (response_text now.views now.surface now.told now.saved (response.Pixels part))
+    → picture_asked (window_of now) (stage_of now.stage) (pixels_reported (world_of now) x y w h) ≡ Done (world_of now) (response_text now.views now.surface now.reported now.saved (response.Pixels part))
 Changed-pixels now window x y w h part settled size lies is =
     let P : Stage → Type 0 = λ stage. let at : KeyedScreen = record now { stage = stage } in
-    picture_asked (window_of at) (stage_of at.stage) (pixels_told (world_of at) x y w h) ≡ Done (world_of at) (response_text now.views now.surface now.told now.saved (response.Pixels (part_of x y w h))) in
-    let told = subst P (sym settled) (pixels-settled now x y w h (rw size at lies)) in
-    told ∙ ap (λ (part : Part). Done (world_of now) (response_text now.views now.surface now.told now.saved (response.Pixels part))) (sym is)
+    picture_asked (window_of at) (stage_of at.stage) (pixels_reported (world_of at) x y w h) ≡ Done (world_of at) (response_text now.views now.surface now.reported now.saved (response.Pixels (part_of x y w h))) in
+    let reported = subst P (sym settled) (pixels-settled now x y w h (rw size at lies)) in
+    reported ∙ ap (λ (part : Part). Done (world_of now) (response_text now.views now.surface now.reported now.saved (response.Pixels part))) (sym is)
 
 -- a view that keeps its bounds in the tree has the same bounds in the world
 pub geometry_in-same : (stage : Stage) (old new : Views) → geometry_of new ≡ geometry_of old → geometry_in stage new ≡ geometry_in stage old

@@ -57,7 +57,7 @@ pub record KeepsBut (effect : Effect) (asked gone changed : List ℕ) (old new :
   pub rests : leaves_layout effect ≡ true → IsResting old → IsResting new
   pub leaves : LeavesBut asked gone (plain_of old.views) old.views new.views
   pub within : effect ≢ Opens → (box : Rect) → LiesIn old.damage box → AreSeenIn box changed old new → LiesIn new.damage box
-  pub scrolled : effect ≡ Touches → scrolled_in new.told ≡ changed
+  pub scrolled : effect ≡ Touches → scrolled_in new.reported ≡ changed
   -- only a window takes another picture, a black one
   pub stage : effect ≢ Opens → new.stage ≡ old.stage
   pub surface : effect ≢ Opens → new.surface ≡ old.surface

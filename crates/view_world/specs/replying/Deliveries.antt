@@ -42,14 +42,14 @@ said_text true = codes " yes\n"
 said_text false = codes " no\n"
 
 -- what an entry prints after the name of its view
-abbrev pub told_text : Kind → Entry → List ℕ
-told_text Ask entry = codes " ask " ⧺ event_text entry.event ⧺ said_text entry.yes
-told_text Touch entry = codes " touch " ⧺ event_text entry.event ⧺ said_text entry.yes
-told_text Click entry = codes " click\n"
-told_text Scroll entry = scroll_text (Some entry.offset) ⧺ codes "\n"
+abbrev pub reported_text : Kind → Entry → List ℕ
+reported_text Ask entry = codes " ask " ⧺ event_text entry.event ⧺ said_text entry.yes
+reported_text Touch entry = codes " touch " ⧺ event_text entry.event ⧺ said_text entry.yes
+reported_text Click entry = codes " click\n"
+reported_text Scroll entry = scroll_text (Some entry.offset) ⧺ codes "\n"
 
 abbrev pub entry_text : Entry → List ℕ
-entry_text entry = view_name entry.view ⧺ told_text entry.kind entry
+entry_text entry = view_name entry.view ⧺ reported_text entry.kind entry
 
 -- the deliveries, a line each
 abbrev pub entries_text : List Entry → List ℕ

@@ -40,16 +40,16 @@ deliveries_text entries (Some yes_) = entries_text entries ⧺ done_text yes_
 
 -- the text of a response, if these are the views, the picture, the deliveries and the saved bytes after the line
 abbrev pub response_text : Views → Raster → List Entry → List ℕ → Response → List ℕ
-response_text views surface told saved response.Nothing = []
-response_text views surface told saved (response.Made number) = added_text number
-response_text views surface told saved (response.Inflated first last ignored) = inflated_text first last ignored
-response_text views surface told saved (response.Framed settled fired) = framed_text settled fired
-response_text views surface told saved (response.Bounds None) = bounds_text (geometry_of views) (plain_of views)
-response_text views surface told saved (response.Bounds (Some view)) = bounds_of (geometry_of views) (view_at views view)
-response_text views surface told saved (response.Pixels part) = pixels_text (color_of surface part) part.width part.height
-response_text views surface told saved (response.Deliveries said) = deliveries_text told said
-response_text views surface told saved response.Digest = digest_text (digest_of surface.pixels)
-response_text views surface told saved response.State = state_text saved
+response_text views surface reported saved response.Nothing = []
+response_text views surface reported saved (response.Made number) = added_text number
+response_text views surface reported saved (response.Inflated first last ignored) = inflated_text first last ignored
+response_text views surface reported saved (response.Framed settled fired) = framed_text settled fired
+response_text views surface reported saved (response.Bounds None) = bounds_text (geometry_of views) (plain_of views)
+response_text views surface reported saved (response.Bounds (Some view)) = bounds_of (geometry_of views) (view_at views view)
+response_text views surface reported saved (response.Pixels part) = pixels_text (color_of surface part) part.width part.height
+response_text views surface reported saved (response.Deliveries said) = deliveries_text reported said
+response_text views surface reported saved response.Digest = digest_text (digest_of surface.pixels)
+response_text views surface reported saved response.State = state_text saved
 
 -- the text of deliveries, if there are any
 abbrev pub deliveries_only : List Entry → Response
@@ -69,18 +69,18 @@ is_nothing (response.Deliveries said) = false
 is_nothing response.State = false
 
 -- what a response prints is there
-abbrev pub IsTellable : Views → Raster → List Entry → List ℕ → Response → Type 0
-IsTellable views surface told saved response.Nothing = Unit {0}
-IsTellable views surface told saved (response.Made number) = Unit {0}
-IsTellable views surface told saved (response.Inflated first last ignored) = Unit {0}
-IsTellable views surface told saved (response.Framed settled fired) = Unit {0}
-IsTellable views surface told saved (response.Bounds None) = views.tree ≢ Nothing
-IsTellable views surface told saved (response.Bounds (Some view)) = IsLive views view
-IsTellable views surface told saved (response.Pixels part) = IsPartOf surface part
-IsTellable views surface told saved response.Digest = Unit {0}
-IsTellable views surface told saved (response.Deliveries None) = told ≢ []
-IsTellable views surface told saved (response.Deliveries (Some yes_)) = Unit {0}
-IsTellable views surface told saved response.State = Unit {0}
+abbrev pub IsReportable : Views → Raster → List Entry → List ℕ → Response → Type 0
+IsReportable views surface reported saved response.Nothing = Unit {0}
+IsReportable views surface reported saved (response.Made number) = Unit {0}
+IsReportable views surface reported saved (response.Inflated first last ignored) = Unit {0}
+IsReportable views surface reported saved (response.Framed settled fired) = Unit {0}
+IsReportable views surface reported saved (response.Bounds None) = views.tree ≢ Nothing
+IsReportable views surface reported saved (response.Bounds (Some view)) = IsLive views view
+IsReportable views surface reported saved (response.Pixels part) = IsPartOf surface part
+IsReportable views surface reported saved response.Digest = Unit {0}
+IsReportable views surface reported saved (response.Deliveries None) = reported ≢ []
+IsReportable views surface reported saved (response.Deliveries (Some yes_)) = Unit {0}
+IsReportable views surface reported saved response.State = Unit {0}
 
 abbrev pub made : Option ℕ → Response
 made None = response.Nothing

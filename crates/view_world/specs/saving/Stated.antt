@@ -18,7 +18,7 @@ ReadsState decoded (Err fault.Shelf) = ⊥
 
 -- a state is taken up, without a reply, unless it is for views of other classes; only if it is not, memory may run out
 abbrev pub TakesUp : Bool → Result Response StepFault → Type 0
-TakesUp other (Ok told) = (other ≡ false) × (told ≡ response.Nothing)
+TakesUp other (Ok reported) = (other ≡ false) × (reported ≡ response.Nothing)
 TakesUp other (Err (fault.Refused refusal)) = (other ≡ true) × (plain_refusal refusal ≡ refusal_numbered STATE_CLASS)
 TakesUp other (Err fault.NoMemory) = other ≡ false
 TakesUp other (Err fault.Sink) = ⊥

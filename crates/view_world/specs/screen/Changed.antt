@@ -13,7 +13,7 @@ use Rattle.view_tree.specs.Views.{Views, IsLive, number_of, plain_of}
 use Rattle.view_world.specs.declared.fault.StepFault.{StepFault}
 use Rattle.view_world.specs.declared.fault.StepFault.TheVariants as fault
 use Rattle.view_world.specs.declared.replying.response.Response.{Response}
-use Rattle.view_world.specs.replying.Responses.{IsTellable, response_text}
+use Rattle.view_world.specs.replying.Responses.{IsReportable, response_text}
 use Rattle.view_world.specs.world.Step.{Reply, Done, Refused, on_view, picture_asked, touched}
 use Rattle.view_world.specs.screen.KeyedScreen.{KeyedScreen, stage_of, window_of, world_of}
 use Rattle.view_world.specs.declared.screen.stage.Stage.TheVariants.{Settled}
@@ -21,7 +21,7 @@ use Rattle.view_world.specs.declared.screen.stage.Stage.TheVariants.{Settled}
 -- Done: the world is the reply's, and the response has its text. Refused: as the reply says. If there was no memory,
 -- nothing is stated of the reply. No call on a sink or a shelf is made.
 abbrev pub CarriesOut : Reply → KeyedScreen → Result Response StepFault → Type 0
-CarriesOut reply new (Ok response) = (reply ≡ Done (world_of new) (response_text new.views new.surface new.told new.saved response)) × IsTellable new.views new.surface new.told new.saved response
+CarriesOut reply new (Ok response) = (reply ≡ Done (world_of new) (response_text new.views new.surface new.reported new.saved response)) × IsReportable new.views new.surface new.reported new.saved response
 CarriesOut reply new (Err (fault.Refused refusal)) = reply ≡ Refused (plain_refusal refusal)
 CarriesOut reply new (Err fault.NoMemory) = Unit {0}
 CarriesOut reply new (Err fault.Sink) = ⊥
@@ -37,11 +37,11 @@ Inflates reply new (Err fault.Shelf) = Unit {0}
 
 -- A step of a line gives what is defined, or its refusal is that of the line. There may be no memory, and a shelf may have failed.
 abbrev pub Gives : {A B : Type 0} → (A → B → Type 0) → Result A PlainRefusal → Result B StepFault → Type 0
-Gives {A} stands defined (Ok value) = (a : A) × (defined ≡ Ok a) × stands a value
-Gives stands defined (Err (fault.Refused refusal)) = defined ≡ Err (plain_refusal refusal)
-Gives stands defined (Err fault.NoMemory) = Unit {0}
-Gives stands defined (Err fault.Sink) = ⊥
-Gives stands defined (Err fault.Shelf) = Unit {0}
+Gives {A} represents defined (Ok value) = (a : A) × (defined ≡ Ok a) × represents a value
+Gives represents defined (Err (fault.Refused refusal)) = defined ≡ Err (plain_refusal refusal)
+Gives represents defined (Err fault.NoMemory) = Unit {0}
+Gives represents defined (Err fault.Sink) = ⊥
+Gives represents defined (Err fault.Shelf) = Unit {0}
 
 -- these are the bytes of a vector
 abbrev pub HasBytes : List ℕ → Vec ℕ Global → Type 0

@@ -41,7 +41,7 @@ pub record KeyedScreen : Type 0 where
   pub gesture : Kept
   pub pointers : List Point
   -- the deliveries of the last line that had any
-  pub told : List Entry
+  pub reported : List Entry
   pub hooks : List Hook
   -- the offsets and texts that were kept last, by the ids of views
   pub kept : List StateEntry
@@ -53,7 +53,7 @@ screen_code =
     code_by ((((Views × (Stage × (Raster × Rect))) × (ℕ × Entries)) × (Kept × (List Point × List Entry))) × ((List Hook × List StateEntry) × List ℕ))
     (coded× (coded× (coded× (coded× views_code (coded× stage_row.coded (coded× surface_row.coded rect_row.coded))) (coded× coded_ℕ resources_row.coded))
     (coded× kept_code (coded× (coded_list point_row.coded) (coded_list entry_row.coded)))) (coded× (coded× hooks_code states_row.coded) (coded_list coded_ℕ)))
-    (λ w. ((((w.views, (w.stage, (w.surface, w.damage))), (w.dpi, w.resources)), (w.gesture, (w.pointers, w.told))), ((w.hooks, w.kept), w.saved)))
+    (λ w. ((((w.views, (w.stage, (w.surface, w.damage))), (w.dpi, w.resources)), (w.gesture, (w.pointers, w.reported))), ((w.hooks, w.kept), w.saved)))
     (λ p. record {
       views = p.0.0.0.0;
       stage = p.0.0.0.1.0;
@@ -63,7 +63,7 @@ screen_code =
       resources = p.0.0.1.1;
       gesture = p.0.1.0;
       pointers = p.0.1.1.0;
-      told = p.0.1.1.1;
+      reported = p.0.1.1.1;
       hooks = p.1.0.0;
       kept = p.1.0.1;
       saved = p.1.1;
@@ -132,7 +132,7 @@ new_screen = record {
   resources = [];
   gesture = nothing_kept;
   pointers = [];
-  told = [];
+  reported = [];
   hooks = [];
   kept = [];
   saved = [];

@@ -74,20 +74,20 @@ abbrev pub parent_of : ℕ → Forest PlainView → Option ℕ
 parent_of number tree = nearest (ancestors_of number tree)
 
 -- a root gets a cancel when it goes away, if it is not gone and a pointer is down; for another view its parent decides
-abbrev pub is_told : Option ℕ → Facts → List Point → Bool
-is_told None facts pointers = is_shown facts && not (is_nil pointers)
-is_told (Some parent) facts pointers = true
+abbrev pub is_reported : Option ℕ → Facts → List Point → Bool
+is_reported None facts pointers = is_shown facts && not (is_nil pointers)
+is_reported (Some parent) facts pointers = true
 
-abbrev pub told_away : World → ℕ → Option ℕ → Option PlainView → Progress
-told_away world number parent None = progress_in world
-told_away world number parent (Some view) =
-    if is_told parent view.facts world.pointers
+abbrev pub reported_away : World → ℕ → Option ℕ → Option PlainView → Progress
+reported_away world number parent None = progress_in world
+reported_away world number parent (Some view) =
+    if is_reported parent view.facts world.pointers
     then cancelled (scene_in world) parent number (unscrolled_tree (part_of number world.tree)) (progress_in world)
     else progress_in world
 
 -- the view of this number gets a cancel since it goes away
 abbrev pub leaving : World → ℕ → Progress
-leaving world number = told_away world number (parent_of number world.tree) (view_in world.tree number)
+leaving world number = reported_away world number (parent_of number world.tree) (view_in world.tree number)
 
 -- a number is one of these
 abbrev pub is_among : ℕ → List ℕ → Bool

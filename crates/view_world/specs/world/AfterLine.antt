@@ -7,7 +7,7 @@ use Rattle.view_world.specs.declared.replying.response.Response.{Response}
 use Rattle.view_world.specs.world.Carried.{WritesReply}
 use Rattle.view_world.specs.screen.KeyedScreen.{KeyedScreen, world_of}
 use Rattle.view_world.specs.world.KeyedWorld.{KeyedWorld}
-use Rattle.view_world.specs.replying.Responses.{IsTellable, response_text}
+use Rattle.view_world.specs.replying.Responses.{IsReportable, response_text}
 use Rattle.view_world.specs.world.Step.{Done}
 use Rattle.view_world.specs.frames.Watched.{HasBox, IsWatched, watched_in}
 
@@ -23,7 +23,7 @@ pub record IsAsBefore (old new : KeyedWorld) : Type 0 where
   pub resources : new.screen.resources ≡ old.screen.resources
   pub gesture : new.screen.gesture ≡ old.screen.gesture
   pub pointers : new.screen.pointers ≡ old.screen.pointers
-  pub deliveries : new.screen.told ≡ old.screen.told
+  pub deliveries : new.screen.reported ≡ old.screen.reported
   pub hooks : new.screen.hooks ≡ old.screen.hooks
   pub kept : new.screen.kept ≡ old.screen.kept
   pub saved : new.screen.saved ≡ old.screen.saved
@@ -34,5 +34,5 @@ pub record IsAsBefore (old new : KeyedWorld) : Type 0 where
 -- call on the sink has failed. So nothing changes any more once the first byte is written, whether all are or not.
 pub record Reports (screen : KeyedScreen) (before after : SinkState) (result : Result (Unit {0}) StepFault) : Type 0 where
   pub response : Response
-  pub there : IsTellable screen.views screen.surface screen.told screen.saved response
-  pub written : WritesReply (Done (world_of screen) (response_text screen.views screen.surface screen.told screen.saved response)) (world_of screen) before after result
+  pub there : IsReportable screen.views screen.surface screen.reported screen.saved response
+  pub written : WritesReply (Done (world_of screen) (response_text screen.views screen.surface screen.reported screen.saved response)) (world_of screen) before after result

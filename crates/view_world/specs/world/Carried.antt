@@ -67,7 +67,7 @@ faults_after_line (Err fault.Shelf) faults = faults
 
 -- these files are at hand: the shelf makes them visible, or none is asked for
 abbrev pub AreAtHand : Files → Option Files → Option (List ℕ) → Type 0
-AreAtHand files told asked = (told ≡ Some files) ⊎ (asked ≡ None)
+AreAtHand files reported asked = (reported ≡ Some files) ⊎ (asked ≡ None)
 
 -- A shelf's count of failed calls after a command: a fetch that failed raised it by one. Running out of memory may
 -- count as a failed call.

@@ -146,9 +146,9 @@ bounds_in world None = Done world []
 bounds_in world (Some view) = Done world (bounds_of world.geometry view)
 
 -- the bounds of all views, or of the one that is named
-abbrev pub bounds_told : World → Option Name → Reply
-bounds_told world None = Done world (bounds_text world.geometry world.tree)
-bounds_told world (Some name) = with_named (named world.tree name) (λ number. bounds_in world (view_in world.tree number))
+abbrev pub bounds_reported : World → Option Name → Reply
+bounds_reported world None = Done world (bounds_text world.geometry world.tree)
+bounds_reported world (Some name) = with_named (named world.tree name) (λ number. bounds_in world (view_in world.tree number))
 
 abbrev pub bounds_asked : World → Option Size → Forest PlainView → Stage → Option Name → Reply
 bounds_asked world None tree stage name = Refused (refusal_numbered NO_WINDOW)
@@ -156,7 +156,7 @@ bounds_asked world (Some window) Nothing stage name = Refused (refusal_numbered 
 bounds_asked world (Some window) (Branch root below after) NoWindow name = Refused (refusal_numbered NO_FRAME)
 bounds_asked world (Some window) (Branch root below after) NoFrame name = Refused (refusal_numbered NO_FRAME)
 bounds_asked world (Some window) (Branch root below after) Unsettled name = Refused (refusal_numbered UNSETTLED)
-bounds_asked world (Some window) (Branch root below after) Settled name = bounds_told world name
+bounds_asked world (Some window) (Branch root below after) Settled name = bounds_reported world name
 
 -- what is done with the picture of the last frame, if that has settled; it is that of its window, with a tree or
 -- without
@@ -176,16 +176,16 @@ abbrev pub color_in : Size → List Argb → ℤ → ℤ → ℕ → ℕ → Arg
 color_in window picture x y column row = pixel_at (unsigned_abs window.w) picture (unsigned_abs x + column) (unsigned_abs y + row)
 
 -- the colours of a part of the picture
-abbrev pub pixels_told : World → ℤ → ℤ → ℤ → ℤ → Size → Reply
-pixels_told world x y w h window =
+abbrev pub pixels_reported : World → ℤ → ℤ → ℤ → ℤ → Size → Reply
+pixels_reported world x y w h window =
     if lies_in window x y w h
     then Done world (pixels_text (color_in window world.picture x y) (unsigned_abs w) (unsigned_abs h))
     else Refused (refusal_numbered OUT_OF_RANGE)
 
 -- the density of the screen, before there is a root
-abbrev pub dpi_told : World → ℕ → Forest PlainView → Reply
-dpi_told world dpi Nothing = Done (record world { dpi = dpi }) []
-dpi_told world dpi (Branch root below after) = Refused (refusal_numbered LATE_DPI)
+abbrev pub dpi_reported : World → ℕ → Forest PlainView → Reply
+dpi_reported world dpi Nothing = Done (record world { dpi = dpi }) []
+dpi_reported world dpi (Branch root below after) = Refused (refusal_numbered LATE_DPI)
 
 -- the resource that a line gives
 abbrev pub resource_given : PlainGiven → Resource
@@ -275,9 +275,9 @@ taken_away world =
     else after_event world (event_of Cancelled 0 []) []
 
 -- a reply after another text
-abbrev pub told_behind : List ℕ → Reply → Reply
-told_behind text (Done world more) = Done world (text ⧺ more)
-told_behind text (Refused refusal) = Refused refusal
+abbrev pub reported_before : List ℕ → Reply → Reply
+reported_before text (Done world more) = Done world (text ⧺ more)
+reported_before text (Refused refusal) = Refused refusal
 
 -- the hook of none of these views is armed
 abbrev pub all_disarmed : List ℕ → List Hook → List Hook
@@ -292,20 +292,20 @@ without_hooks number world = record world { hooks = all_disarmed (numbers_of (pa
 abbrev pub removed : World → ℕ → Reply
 removed world number =
     let progress = leaving world number in
-    told_behind (entries_text progress.entries) (after_edit (without_hooks number (without_part number (after_progress world progress))) (Remove number))
+    reported_before (entries_text progress.entries) (after_edit (without_hooks number (without_part number (after_progress world progress))) (Remove number))
 
 -- a view that is hidden by an act gets a cancel first
 abbrev pub acted : World → ℕ → Act → Reply
 acted world number act =
     let progress = leaving world number in
     if hides act
-    then told_behind (entries_text progress.entries) (after_edit (after_progress world progress) (ActOn number act))
+    then reported_before (entries_text progress.entries) (after_edit (after_progress world progress) (ActOn number act))
     else after_edit world (ActOn number act)
 
 -- only a group takes events away from its children
-abbrev pub disallow_told : World → ℕ → Bool → Option PlainView → Reply
-disallow_told world number on None = Done world []
-disallow_told world number on (Some view) =
+abbrev pub disallow_reported : World → ℕ → Bool → Option PlainView → Reply
+disallow_reported world number on None = Done world []
+disallow_reported world number on (Some view) =
     if is_group view.class
     then Done (disallowed world number on) []
     else Refused (refusal_numbered WRONG_CLASS)
@@ -374,7 +374,7 @@ taken_up world (Branch root below after) (Some text) = with_state world (decoded
 -- what a command does with these files at hand
 abbrev pub step : Files → World → PlainCommand → Reply
 step files world (command.Window w h) = Done (with_window world (record { w = w; h = h })) []
-step files world (command.Dpi dpi) = dpi_told world dpi world.tree
+step files world (command.Dpi dpi) = dpi_reported world dpi world.tree
 step files world (command.Res id value) = defined world id (resource_given value) (definition_refusal_of world.resources id)
 step files world (command.Inflate name into) = inflation files world name into
 step files world (command.Add None class width height) = root_added world world.tree (Add None class width height)
@@ -384,7 +384,7 @@ step files world (command.Remove view) = on_view world.tree view (λ number. rem
 step files world (command.Act view act) = on_view world.tree view (λ number. acted world number act)
 step files world (command.SetText view text) = on_view world.tree view (λ number. after_edit world (SetText number (unescaped (chars text))))
 step files world (command.Disallow view on) =
-    on_view world.tree view (λ number. disallow_told world number on (view_in world.tree number))
+    on_view world.tree view (λ number. disallow_reported world number on (view_in world.tree number))
 step files world (command.Down p x y) = touched world (put_down world (record { id = p; x = x; y = y }))
 step files world (command.Move p x y) = touched world (moved world (record { id = p; x = x; y = y }))
 step files world (command.Up p) = touched world (lifted world p)
@@ -395,5 +395,5 @@ step files world command.Save = saved world world.tree
 step files world (command.Restore text) = taken_up world world.tree text
 step files world command.Frame = framed world world.window world.tree
 step files world (command.Bounds view) = bounds_asked world world.window world.tree world.stage view
-step files world (command.Pixels x y w h) = picture_asked world.window world.stage (pixels_told world x y w h)
+step files world (command.Pixels x y w h) = picture_asked world.window world.stage (pixels_reported world x y w h)
 step files world command.Digest = picture_asked world.window world.stage (λ window. Done world (digest_text (digest_of world.picture)))

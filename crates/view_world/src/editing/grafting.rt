@@ -13,7 +13,7 @@ ghost use Rattle.view_tree.specs.Faults.{IsRefusedOrCyclic};
 ghost use Rattle.view_tree.specs.Views.{IsLive, SameTree, held_of, number_of, plain_of};
 ghost use Rattle.view_world.specs.editing.Places.{HasGained};
 
-use crate::editing::naming::tell_tree;
+use crate::editing::naming::recall_tree;
 use view_model::Sapling;
 use view_tree::{AttachFault, Key, ViewTree};
 
@@ -34,9 +34,9 @@ pub fn graft(tree: &mut ViewTree, place: Option<Key>, sapling: Sapling) -> Resul
     ensures asked { OnOk result ((key : ℕ) → IsLive tree.old key → is_on_paths (listed place) tree.old.tree key ≡ false
         → held_of tree.new key ≡ held_of tree.old key) }
 {
-    tell_tree(tree);
+    recall_tree(tree);
     let first = tree.graft(place, sapling)?;
-    tell_tree(tree);
+    recall_tree(tree);
     request_at(tree, place);
     Ok(first)
 }

@@ -60,7 +60,7 @@ pub fn place_of(tree: &ViewTree, into: Option<Name>) -> Result<Option<Key>, Step
 }
 
 /// The invariant of every tree, for contracts alone.
-pub fn tell_tree(tree: &ViewTree)
+pub fn recall_tree(tree: &ViewTree)
     ensures { IsTree tree.now }
 {
     let _root = tree.root();

@@ -3,7 +3,7 @@
 
 ghost use Rattle.std.specs.Fmt.{decimal, signed_decimal};
 ghost use Rattle.text_lines.specs.BufferedText.{Sends};
-ghost use Rattle.view_world.specs.replying.Deliveries.{action_text, done_text, entries_text, entry_text, event_text, place_text, point_text, pointer_text, points_text, said_text, told_text};
+ghost use Rattle.view_world.specs.replying.Deliveries.{action_text, done_text, entries_text, entry_text, event_text, place_text, point_text, pointer_text, points_text, said_text, reported_text};
 ghost use Rattle.view_world.specs.replying.Responses.{deliveries_text};
 
 use crate::replying::replies::{put_name, put_offset};
@@ -106,8 +106,8 @@ fn put_said<K: Sink>(text: &mut TextBuffer, sink: &mut K, yes: bool)
 }
 
 /// What an entry prints after the name of its view.
-fn put_told<K: Sink>(text: &mut TextBuffer, sink: &mut K, entry: &Entry)
-    ensures { Sends (K.state sink.old) (K.state sink.new) text.old text.new (told_text entry.now.kind entry.now) }
+fn put_reported<K: Sink>(text: &mut TextBuffer, sink: &mut K, entry: &Entry)
+    ensures { Sends (K.state sink.old) (K.state sink.new) text.old text.new (reported_text entry.now.kind entry.now) }
 {
     match entry.kind {
         Kind::Ask => {
@@ -132,7 +132,7 @@ fn put_entry<K: Sink>(text: &mut TextBuffer, sink: &mut K, entry: &Entry)
     ensures { Sends (K.state sink.old) (K.state sink.new) text.old text.new (entry_text entry.now) }
 {
     put_name(text, sink, entry.view);
-    put_told(text, sink, entry);
+    put_reported(text, sink, entry);
 }
 
 /// The deliveries, one line each.

@@ -3,7 +3,7 @@
 ghost use Rattle.std.specs.Prelude.{◌≡◌, []};
 ghost use Rattle.text_lines.specs.Delivered.{Delivered};
 ghost use Rattle.text_lines.specs.BufferedText.{Sends};
-ghost use Rattle.view_world.specs.replying.Responses.{IsTellable, response_of, response_text};
+ghost use Rattle.view_world.specs.replying.Responses.{IsReportable, response_of, response_text};
 
 use crate::fault::StepFault;
 use crate::replying::bounds::{put_all, put_view};
@@ -97,7 +97,7 @@ fn put_response<K: Sink>(
     text: &mut TextBuffer,
     sink: &mut K,
 )
-    requires { IsTellable source.now.tree.now source.now.surface.now source.now.log.now.entries.items
+    requires { IsReportable source.now.tree.now source.now.surface.now source.now.log.now.entries.items
         source.now.saved.now response }
     ensures { Sends (K.state sink.old) (K.state sink.new) text.old text.new
         (response_text source.now.tree.now source.now.surface.now source.now.log.now.entries.items
@@ -128,7 +128,7 @@ pub fn write_response<K: Sink>(
     text: &mut TextBuffer,
     sink: &mut K,
 ) -> Result<(), Failed>
-    requires { IsTellable source.now.tree.now source.now.surface.now source.now.log.now.entries.items
+    requires { IsReportable source.now.tree.now source.now.surface.now source.now.log.now.entries.items
         source.now.saved.now response }
     ensures delivered { Delivered (K.state sink.old) (K.state sink.new) result
         (response_text source.now.tree.now source.now.surface.now source.now.log.now.entries.items

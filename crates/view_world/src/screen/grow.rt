@@ -13,14 +13,14 @@ ghost use Rattle.view_world.specs.screen.KeyedScreen.{world_of};
 ghost use Rattle.view_model.specs.Sprouts.{seeds_of};
 ghost use Rattle.view_world.specs.saving.Offsets.{AreUnscrolled};
 ghost use Rattle.view_world.specs.frames.Asked.{listed};
-ghost use Rattle.view_world.specs.replying.Responses.{IsTellable};
+ghost use Rattle.view_world.specs.replying.Responses.{IsReportable};
 ghost use Rattle.view_world.specs.frames.Resting.{KeepsBut, KeepsEdit};
 ghost use Rattle.view_world.specs.declared.world.marks.Effect.TheVariants.{Asks};
 ghost use Rattle.view_world.specs.world.Step.{after_edit, graft_reason, grafted};
 
 use super::Screen;
 use crate::editing::grafting::graft;
-use crate::editing::naming::tell_tree;
+use crate::editing::naming::recall_tree;
 use crate::editing::opening::{close_all, open_all};
 use crate::fault::StepFault;
 use crate::replying::response::{Response, respond};
@@ -47,7 +47,7 @@ impl Screen {
         ensures numbers { self.new.views.next ≤ self.old.views.next + 1 }
         ensures keeps { OnOk result (KeepsEdit (Edit.Add parent class width height) self.old self.new) }
     {
-        tell_tree(&self.tree);
+        recall_tree(&self.tree);
         self.log.reserve(3 * (self.tree.len() + 1))?;
         let number = self.tree.next_number();
         self.gesture.open(number)?;
@@ -78,8 +78,8 @@ impl Screen {
             → IsGrown plan grown
             → CarriesOut (grafted (world_of self.old) number plan
             (graft_reason (plain_of self.old.views) number self.old.views.next plan.seeds)) self.new result }
-        ensures told { IfOk result
-            (λ response. IsTellable self.new.views self.new.surface self.new.told self.new.saved response) }
+        ensures reported { IfOk result
+            (λ response. IsReportable self.new.views self.new.surface self.new.reported self.new.saved response) }
         ensures unchanged { OnErr result (self.new ≡ self.old) }
         ensures numbers { self.new.views.next ≤ self.old.views.next + MAX_VIEWS }
         ensures keeps { OnOk result
@@ -87,7 +87,7 @@ impl Screen {
         ensures no_sink { result ≢ Err StepFault.Sink }
         ensures no_shelf { result ≢ Err StepFault.Shelf }
     {
-        tell_tree(&self.tree);
+        recall_tree(&self.tree);
         let first = self.tree.next_number();
         let ignored = grown.ignored;
         let count = grown.sapling.sprouts.len();
@@ -96,7 +96,7 @@ impl Screen {
         open_all(&mut self.gesture, first, count)?;
         match graft(&mut self.tree, place, grown.sapling) {
             Ok(_) => {
-                tell_tree(&self.tree);
+                recall_tree(&self.tree);
                 Ok(Response::Inflated {
                     first,
                     last: self.tree.next_number().saturating_sub(1),

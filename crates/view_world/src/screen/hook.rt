@@ -10,7 +10,7 @@ ghost use Rattle.view_world.specs.declared.world.marks.Effect.TheVariants.{Leave
 
 use super::Screen;
 use crate::editing::hooking::{may_change_all, numbered_edits, size_at};
-use crate::editing::naming::{resolve, tell_tree};
+use crate::editing::naming::{resolve, recall_tree};
 use crate::fault::StepFault;
 use crate::replying::response::Response;
 use arrayvec::ArrayVec;
@@ -61,7 +61,7 @@ impl Screen {
         ensures numbers { self.new.views.next ≡ self.old.views.next }
         ensures keeps { OnOk result (KeepsBut Leaves [] [] [] self.old self.new) }
     {
-        tell_tree(&self.tree);
+        recall_tree(&self.tree);
         let reported = size_at(&self.tree, self.stage, view);
         match self.hooks.arm(self.tree.number(view), reported, edits) {
             Ok(()) => Ok(Response::Nothing),

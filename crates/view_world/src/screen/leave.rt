@@ -9,11 +9,11 @@ ghost use Rattle.view_world.specs.screen.KeyedScreen.{world_of};
 ghost use Rattle.view_world.specs.replying.Responses.{deliveries_only};
 ghost use Rattle.view_world.specs.frames.Resting.{KeepsEdit};
 ghost use Rattle.view_world.specs.world.Step.{acted, removed};
-ghost use Rattle.view_world.specs.touching.Touching.{after_progress, leaving, is_told, parent_of};
+ghost use Rattle.view_world.specs.touching.Touching.{after_progress, leaving, is_reported, parent_of};
 
 use super::Screen;
 use crate::editing::forgetting::forget;
-use crate::editing::naming::tell_tree;
+use crate::editing::naming::recall_tree;
 use crate::fault::StepFault;
 use crate::replying::response::Response;
 use crate::touching::gesture::slop_at;
@@ -34,7 +34,7 @@ impl Screen {
         ensures numbers { self.new.views.next ≡ self.old.views.next }
         ensures keeps { OnOk result (KeepsEdit (Edit.Remove view) self.old self.new) }
     {
-        self.tell_leaving(view);
+        self.report_leaving(view);
         forget(&self.tree, &mut self.hooks, &mut self.gesture, view);
         let window = self.surface.size();
         match take(alloc, &mut self.tree, window, view, &mut self.damage) {
@@ -54,7 +54,7 @@ impl Screen {
         ensures numbers { self.new.views.next ≡ self.old.views.next }
         ensures keeps { OnOk result (KeepsEdit (Edit.Act view act) self.old self.new) }
     {
-        self.tell_leaving(view);
+        self.report_leaving(view);
         let window = self.surface.size();
         match change(
             alloc,
@@ -64,7 +64,7 @@ impl Screen {
             &mut self.damage,
         ) {
             Ok(_) => {
-                tell_tree(&self.tree);
+                recall_tree(&self.tree);
                 Ok(self.deliveries())
             }
             Err(_) => unreachable!(),
@@ -72,21 +72,21 @@ impl Screen {
     }
 
     /// Cancels the gesture of a view that goes away, if needed.
-    fn tell_leaving(&mut self, view: Key)
+    fn report_leaving(&mut self, view: Key)
         requires { IsLive self.old.views view }
         ensures world { world_of self.new
             ≡ after_progress (world_of self.old) (leaving (world_of self.old) (number_of self.old.views view)) }
-        ensures told { self.new.told ≡ (leaving (world_of self.old) (number_of self.old.views view)).entries }
+        ensures reported { self.new.reported ≡ (leaving (world_of self.old) (number_of self.old.views view)).entries }
         ensures same { SameTree self.old.views self.new.views }
         ensures is_tree { IsTree self.new.views }
         ensures live { IsLive self.new.views view }
         ensures scrolls { OnlyScrolls self.old.views self.new.views }
         ensures plain { plain_of self.new.views ≡ plain_of self.old.views }
         ensures rest { self.new
-            ≡ record self.old { views = self.new.views; gesture = self.new.gesture; told = self.new.told } }
+            ≡ record self.old { views = self.new.views; gesture = self.new.gesture; reported = self.new.reported } }
     {
         self.log.clear();
-        if self.is_told(view) {
+        if self.is_reported(view) {
             cancel_view(
                 &mut self.tree,
                 &mut self.gesture,
@@ -99,9 +99,9 @@ impl Screen {
 
     /// Whether the gesture of a view that goes away is cancelled: that of a root is if it is not gone and a pointer is
     /// down, and for another view its parent decides.
-    fn is_told(&self, view: Key) -> bool
+    fn is_reported(&self, view: Key) -> bool
         requires { IsLive self.now.views view }
-        ensures told { result ≡ is_told (parent_of (number_of self.now.views view) (world_of self.now).tree)
+        ensures reported { result ≡ is_reported (parent_of (number_of self.now.views view) (world_of self.now).tree)
             (facts_of self.now.views view) self.now.pointers }
         ensures is_tree { IsTree self.now.views }
     {
@@ -111,7 +111,7 @@ impl Screen {
 
     /// The reply of a line by which a view goes away.
     fn deliveries(&self) -> Response
-        ensures { result ≡ deliveries_only self.now.told }
+        ensures { result ≡ deliveries_only self.now.reported }
     {
         if self.log.entries().is_empty() {
             Response::Nothing

@@ -8,7 +8,7 @@ ghost use Rattle.view_world.specs.frames.Resting.{IsIdle, KeepsLine};
 ghost use Rattle.view_world.specs.world.Step.{step};
 
 use super::Screen;
-use crate::editing::naming::tell_tree;
+use crate::editing::naming::recall_tree;
 use crate::fault::StepFault;
 use crate::replying::response::Response;
 use crate::saving::{bytes_of, state_of, take_up};
@@ -50,7 +50,7 @@ impl Screen {
         if self.tree.root().is_none() {
             return Err(StepFault::Refused(Refusal::plain(NO_ROOT)));
         }
-        tell_tree(&self.tree);
+        recall_tree(&self.tree);
         let window = self.surface.size();
         let Some(digits) = text else {
             return take_up(

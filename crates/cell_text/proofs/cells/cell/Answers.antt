@@ -8,7 +8,7 @@ use Rattle.cell_text.proofs.cells.cell.Goals.{then-c-eq-NEWLINE+else-line-lines,
 pub loop-end-init : goal.loop-end-init
 loop-end-init c = record {
   value = ap (λ segments. cell_below c.args.n segments c.args.line c.args.place) (segments_from_start c.args.text.now);
-  behind = omega arith;
+  following = omega arith;
 }
 
 pub loop-end-preserved : goal.loop-end-preserved
@@ -19,10 +19,10 @@ loop-end-preserved c =
     elim c.if-c-eq-NEWLINE.branch [
       | then-c-eq-NEWLINE+else-line-lines w ↦ record {
         value = rw (w.line-is, w.begin-is) (cell_from-later c.args.n c.args.text.now c.loop-end.begin c.loop-end.end c.loop-end.line c.args.place c.index-characters-end.result w.lines_for-lines.result within here w.if-c-eq-NEWLINE.true (rw same at w.lines_for-lines.ensures.value) w.if-line-lines.false ∙ c.loop-end.invariant.value);
-        behind = omega (arith, w.begin-is);
+        following = omega (arith, w.begin-is);
       }
       | else-c-eq-NEWLINE w ↦ record {
-        value = rw (w.line-is, w.begin-is) (cell_from-other c.args.n c.args.text.now c.loop-end.begin c.loop-end.end c.loop-end.line c.args.place c.index-characters-end.result c.loop-end.invariant.behind within here w.if-c-eq-NEWLINE.false ∙ c.loop-end.invariant.value);
-        behind = omega (arith, w.begin-is, c.loop-end.invariant.behind);
+        value = rw (w.line-is, w.begin-is) (cell_from-other c.args.n c.args.text.now c.loop-end.begin c.loop-end.end c.loop-end.line c.args.place c.index-characters-end.result c.loop-end.invariant.following within here w.if-c-eq-NEWLINE.false ∙ c.loop-end.invariant.value);
+        following = omega (arith, w.begin-is, c.loop-end.invariant.following);
       }
     ]

@@ -3,11 +3,11 @@ use Rattle.std.proofs.lemmas.Int.{to_z-of_z}
 use Rattle.std.specs.Prelude.{pos, slice_index, take}
 use Rattle.measure_cache.specs.Entries.{found, put_in}
 use Rattle.kept_views.specs.Kept.{Ready}
-use Rattle.frame_layout.specs.FramePlan.{StandsFrame}
+use Rattle.frame_layout.specs.FramePlan.{RepresentsFrame}
 use Rattle.frame_layout.specs.declared.plan.FramePlan.{FramePlan}
-use Rattle.linear_layout.specs.LinearPlan.{StandsLinear}
+use Rattle.linear_layout.specs.LinearPlan.{RepresentsLinear}
 use Rattle.linear_layout.specs.declared.plan.LinearPlan.{LinearPlan}
-use Rattle.scroll_view.specs.ScrollPlan.{StandsScroll}
+use Rattle.scroll_view.specs.ScrollPlan.{RepresentsScroll}
 use Rattle.scroll_view.specs.declared.plan.ScrollPlan.{ScrollPlan}
 use Rattle.measure_pass.specs.Plans.{Frame, IsLeaf, IsPlanOf, Linear, Scroll}
 use Rattle.measure_pass.specs.Siblings.{AfterTurns, FirstHasSize, FirstIsKnown, IsSettled, TurnIsOver, kids_in, order_on, phase_of}
@@ -220,8 +220,8 @@ measure_below-returns-in-View-clause-rest t c = rest_none c.args.tree.now (kids_
 pub measure_below-returns-in-TextView-clause-rest : goal.measure_below-returns-in-TextView-clause-rest
 measure_below-returns-in-TextView-clause-rest t c = rest_none c.args.tree.now (kids_from c.args.view c.args.tree.now.tree) c.args.work.now c.requires.ready
 
-is_frame : (view : PlainView) (specs : Specs) (plan : FramePlan) → view.class ≡ FrameLayout → StandsFrame plan view.facts specs [] [] → IsPlanOf (manner_of view specs) (Frame plan) view specs
-is_frame view specs plan is stands = rw is (refl, stands)
+is_frame : (view : PlainView) (specs : Specs) (plan : FramePlan) → view.class ≡ FrameLayout → RepresentsFrame plan view.facts specs [] [] → IsPlanOf (manner_of view specs) (Frame plan) view specs
+is_frame view specs plan is represents = rw is (refl, represents)
 
 pub frame::measure_frame-returns-clause-measured : goal.frame::measure_frame-returns-clause-measured
 frame::measure_frame-returns-clause-measured t c =
@@ -321,8 +321,8 @@ frame::measure_kid-returns-clause-rest t c =
     let m = c.measure-size.ensures in
     rest_measured c.args.tree.now c.measure-size.new.tree c.args.kid _ c.args.work.now c.measure-size.new.work m.same m.measured m.keeps m.others m.counted
 
-is_linear : (view : PlainView) (specs : Specs) (plan : LinearPlan) → view.class ≡ LinearLayout → StandsLinear plan view.facts specs [] [] → IsPlanOf (manner_of view specs) (Linear plan) view specs
-is_linear view specs plan is stands = rw is (refl, stands)
+is_linear : (view : PlainView) (specs : Specs) (plan : LinearPlan) → view.class ≡ LinearLayout → RepresentsLinear plan view.facts specs [] [] → IsPlanOf (manner_of view specs) (Linear plan) view specs
+is_linear view specs plan is represents = rw is (refl, represents)
 
 pub linear::measure_linear-returns-clause-measured : goal.linear::measure_linear-returns-clause-measured
 linear::measure_linear-returns-clause-measured t c =
@@ -331,7 +331,7 @@ linear::measure_linear-returns-clause-measured t c =
     measured_planned c.args.tree.now c.args.view specs (Linear c.start-plan.result) (held_of c.args.tree.now) (held_of m.new.tree) m.result.size m.result.total
     c.args.work.now.measured m.new.work.measured m.ensures.is_tree c.requires.live
     (is_linear (for_layout (head_view (part_from c.args.view c.args.tree.now.tree))) specs c.start-plan.result c.requires.class
-    (subst (λ (facts : Facts). StandsLinear c.start-plan.result facts specs [] []) (ap layout_facts c.facts.ensures.value) c.start-plan.ensures))
+    (subst (λ (facts : Facts). RepresentsLinear c.start-plan.result facts specs [] []) (ap layout_facts c.facts.ensures.value) c.start-plan.ensures))
     m.ensures.phases
 
 pub linear::measure_phases-returns-then-left-eq0-clause-phases : goal.linear::measure_phases-returns-then-left-eq0-clause-phases
@@ -423,8 +423,8 @@ linear::measure_kid-returns-clause-rest t c =
     let m = c.measure-size.ensures in
     rest_measured c.args.tree.now c.measure-size.new.tree c.args.kid _ c.args.work.now c.measure-size.new.work m.same m.measured m.keeps m.others m.counted
 
-is_scroll : (view : PlainView) (specs : Specs) (plan : ScrollPlan) → view.class ≡ ScrollView → StandsScroll plan view.facts specs [] [] → IsPlanOf (manner_of view specs) (Scroll plan) view specs
-is_scroll view specs plan is stands = rw is (refl, stands)
+is_scroll : (view : PlainView) (specs : Specs) (plan : ScrollPlan) → view.class ≡ ScrollView → RepresentsScroll plan view.facts specs [] [] → IsPlanOf (manner_of view specs) (Scroll plan) view specs
+is_scroll view specs plan is represents = rw is (refl, represents)
 
 pub scroll::measure_scroll-returns-clause-measured : goal.scroll::measure_scroll-returns-clause-measured
 scroll::measure_scroll-returns-clause-measured t c =
@@ -563,7 +563,7 @@ relative::measure_siblings-returns-clause-measured t c =
     let facts_is : layout_facts c.facts.result.now ≡ own = ap layout_facts c.facts.ensures.value in
     let one = c.measure_turns.ensures in
     let across = one.turns own specs [] (rw facts_is at c.start-plan.ensures) refl (λ place. tt) in
-    let turned = c.turn.ensures own specs [] first across.plan_stands in
+    let turned = c.turn.ensures own specs [] first across.plan_represents in
     let two = c.measure_turns-2.ensures in
     let known = known_then own specs (held_of c.measure_turns.new.tree) list across.over in
     let known = subst (λ tree. (place : ℕ) → FirstIsKnown Vertical (held_of c.measure_turns.new.tree) ((phase_of Vertical own specs (kids_in (children_of_first (part_from c.args.view tree)))).before place)
@@ -575,14 +575,14 @@ relative::measure_siblings-returns-clause-measured t c =
     let down = subst (λ orders. AfterTurns c.measure_turns-2.new.plan own specs (first ∷ []) high (order_on Vertical orders) (held_of c.measure_turns.new.tree)
     (held_of c.measure_turns-2.new.tree) list c.measure_turns.new.work.measured c.measure_turns-2.new.work.measured)
     (orders_same c.args.tree.now c.measure_turns.new.tree c.args.view one.rest.same) down in
-    let size = c.finish.ensures.value own specs first (spanned_in kids high.spans orders.down) down.plan_stands in
+    let size = c.finish.ensures.value own specs first (spanned_in kids high.spans orders.down) down.plan_represents in
     let are = one.ordered in
     let second = spanned_in kids high.spans orders.down in
     let settled = subst (λ tree. let list = children_of_first (part_from c.args.view tree) in
     relative_size own specs first second ≡ (arranged own specs (kids_in list)).size
     → ((place : ℕ) → place < length (kids_in list) → TurnIsOver (phase_of Vertical own specs (kids_in list)) (held_of c.measure_turns-2.new.tree) list place)
     → (place : ℕ) → place < length (kids_in list) → IsSettled own specs (held_of c.settle.new.tree) list place) (two.rest.same.tree ∙ one.rest.same.tree)
-    (c.settle.ensures.settled own specs first second down.plan_stands) in
+    (c.settle.ensures.settled own specs first second down.plan_represents) in
     settled_at tree c.args.view specs orders (held_of c.args.tree.now) (held_of c.settle.new.tree) c.finish.result (pos 0) c.args.work.now.measured c.measure_turns-2.new.work.measured
     c.requires.live c.requires.siblings are (size ∙ size_as own specs list orders are) refl c.finish.ensures.width c.finish.ensures.height
     (settled (size_as own specs list orders are) down.over)
@@ -592,21 +592,21 @@ relative::measure_siblings-returns-clause-measured t c =
     (grown-edged _ (held_of c.measure_turns.new.tree) (held_of c.measure_turns-2.new.tree) (held_of c.settle.new.tree) list c.settle.ensures.edged down.caches))
 
 pub relative::measure_turns-returns-clause-turns : goal.relative::measure_turns-returns-clause-turns
-relative::measure_turns-returns-clause-turns t c = λ own specs past stands axis known.
+relative::measure_turns-returns-clause-turns t c = λ own specs past represents axis known.
     let list = children_of_first (part_from c.args.view c.args.tree.now.tree) in
     let orders = orders_of c.args.tree.now c.args.view in
     let order = order_on c.args.axis orders in
     let size = order_length c.args.axis list orders c.turns-turn-end.ensures.ordered in
     let is = orders_as c.args.axis list orders c.turns-turn-end.ensures.ordered in
     turning_end c.loop-turn.plan c.args.axis own specs past order c.loop-turn.turn (held_of c.args.tree.now) (held_of c.loop-turn.tree) list c.args.work.now.measured c.loop-turn.work.measured
-    (omega arith) (omega arith) (λ place small. is.each place (omega (arith, is.size, size))) (c.loop-turn.invariant.turning own specs past stands axis known)
+    (omega arith) (omega arith) (λ place small. is.each place (omega (arith, is.size, size))) (c.loop-turn.invariant.turning own specs past represents axis known)
 
 pub relative::measure_turns-loop-turn-init : goal.relative::measure_turns-loop-turn-init
 relative::measure_turns-loop-turn-init t c =
     let list = kids_from c.args.view c.args.tree.now.tree in
     let order = order_on c.args.axis (orders_of c.args.tree.now c.args.view) in
     record {
-      turning = λ own specs past stands is known. turning_start c.args.plan.now c.args.axis own specs past order (held_of c.args.tree.now) list c.args.work.now.measured stands known;
+      turning = λ own specs past represents is known. turning_start c.args.plan.now c.args.axis own specs past order (held_of c.args.tree.now) list c.args.work.now.measured represents known;
       sizes = λ q small. absurd (omega arith);
       rest = rest_none c.args.tree.now list c.args.work.now c.requires.ready;
     }
@@ -640,11 +640,11 @@ relative::measure_turns-loop-turn-preserved t c =
     rw part at (subst (λ (tree : Forest Row). KeepsRest c.loop-turn.tree c.measure_in_turn.new.tree (tree_from c.kid_in_turn-kid.result tree) c.loop-turn.work c.measure_in_turn.new.work) same.tree m.rest) in
     let others = rest.others in
     record {
-      turning = λ own specs past stands axis known.
+      turning = λ own specs past represents axis known.
           let phase = phase_of c.args.axis own specs (kids_in list) in
-          let so_far = i.turning own specs past stands axis known in
+          let so_far = i.turning own specs past represents axis known in
           let fixed = turn_fixed c.args.axis own specs old list orders turn c.turns-turn-end.ensures.ordered inside so_far.over in
-          let turned = rw same.tree at (m.turn own specs past (spanned_in (kids_in list) phase.spans (take turn order)) (get_or order turn 0) so_far.plan_stands axis) in
+          let turned = rw same.tree at (m.turn own specs past (spanned_in (kids_in list) phase.spans (take turn order)) (get_or order turn 0) so_far.plan_represents axis) in
           let after = rw part at (turned part fixed (rw part (so_far.ahead turn (omega arith) inside))) in
           turning_on c.loop-turn.plan c.measure_in_turn.new.plan c.args.axis own specs past order turn (held_of c.args.tree.now) old new list c.args.work.now.measured c.loop-turn.work.measured
           c.measure_in_turn.new.work.measured inside is.anchors.once once others so_far after;
@@ -693,15 +693,15 @@ relative::measure_in_turn-returns-clause-rest t c =
     }
 
 pub relative::measure_in_turn-returns-then-not-is_shown-clause-turn : goal.relative::measure_in_turn-returns-then-not-is_shown-clause-turn
-relative::measure_in_turn-returns-then-not-is_shown-clause-turn t c = λ own specs past taken place stands is part fixed known.
+relative::measure_in_turn-returns-then-not-is_shown-clause-turn t c = λ own specs past taken place represents is part fixed known.
     let tree = c.args.tree.now.tree in
     let list = children_of_first (part_from c.args.turn.view tree) in
     let x = located c.args.turn.kid tree c.requires.kid in
     let gone = sym (ap is_shown c.facts.ensures.value) ∙ sym c.is_shown.ensures ∙ c.if-not-is_shown.true in
-    rw x.is (turn_gone c.args.turn.axis own specs past taken list place x.row x.kids x.siblings (sym x.is ∙ part) c.args.plan.now (held_of c.args.tree.now) c.args.work.now.measured (rw x.is at gone) stands)
+    rw x.is (turn_gone c.args.turn.axis own specs past taken list place x.row x.kids x.siblings (sym x.is ∙ part) c.args.plan.now (held_of c.args.tree.now) c.args.work.now.measured (rw x.is at gone) represents)
 
 pub relative::measure_in_turn-returns-clause-turn : goal.relative::measure_in_turn-returns-clause-turn
-relative::measure_in_turn-returns-clause-turn t c = λ own specs past taken place stands is part fixed known.
+relative::measure_in_turn-returns-clause-turn t c = λ own specs past taken place represents is part fixed known.
     let tree = c.args.tree.now.tree in
     let list = children_of_first (part_from c.args.turn.view tree) in
     let kids = kids_in list in
@@ -721,9 +721,9 @@ relative::measure_in_turn-returns-clause-turn t c = λ own specs past taken plac
     (held_of c.args.tree.now) (held_of c.measure-got.new.tree) (held_of c.keep_edges.new.tree) (facts_in (part_from c.args.turn.kid tree)) c.edges_before-edges.result c.take-edges.result c.anchors_of.result asked
     c.measure-got.result c.args.work.now.measured c.measure-got.new.work.measured is fixed (rw x.is at shown) (rw x.is refl)
     (edges_known c.args.turn.axis own specs kids (held_of c.args.tree.now) c.args.turn.kid tree place c.edges_before-edges.result c.requires.kid shown c.edges_before-edges.ensures.first c.edges_before-edges.ensures.second known)
-    (rw (c.is_rtl.ensures own specs past taken stands) at (c.anchors_of.ensures place part)) (rw facts_is at (c.ask.ensures own specs past taken stands)) (rw x.is at m.size) (rw (m.same.tree, x.is) at m.measured.sized)
+    (rw (c.is_rtl.ensures own specs past taken represents) at (c.anchors_of.ensures place part)) (rw facts_is at (c.ask.ensures own specs past taken represents)) (rw x.is at m.size) (rw (m.same.tree, x.is) at m.measured.sized)
     (subst (λ key. specs_of (held_of c.measure-got.new.tree key).state ≡ asked) (sym x.key_is) m.measured.last)
-    (rw still at (c.take-edges.ensures.edges own specs past taken stands)) (rw still at (c.take-edges.ensures.taken own specs past taken stands)) wrote
+    (rw still at (c.take-edges.ensures.edges own specs past taken represents)) (rw still at (c.take-edges.ensures.taken own specs past taken represents)) wrote
     (let o = once x.row.key in omega arith)
     (rw x.is at m.costs) (rw x.is at m.caches))
 

@@ -5,7 +5,7 @@ use Rattle.measure_pass.specs.Plans.{Frame, Linear, Scroll}
 use Rattle.measure_pass.specs.Siblings.{FirstHasSize, FirstIsKnown, kids_in, order_on, phase_of}
 use Rattle.measure_pass.proofs.PlanWalk.{PlanWalk}
 use Rattle.measure_pass.proofs.SiblingTurns.{Turning}
-use Rattle.relative_layout.specs.RelativePlan.{StandsRelative}
+use Rattle.relative_layout.specs.RelativePlan.{RepresentsRelative}
 use Rattle.view_model.specs.declared.facts.Facts.{Facts}
 use Rattle.view_model.specs.Forest.{count_of}
 use Rattle.view_model.specs.Measuring.{Specs}
@@ -103,7 +103,7 @@ invariant-relative::measure_turns-loop-turn l =
     let now = held_of l.tree in
     let order = order_on l.axis (orders_of l.fn.tree l.view) in
     record {
-      turning : (own : Facts) (specs : Specs) (past : List (List Spanned)) → StandsRelative l.fn.plan own specs past [] → phase_axis past ≡ l.axis
+      turning : (own : Facts) (specs : Specs) (past : List (List Spanned)) → RepresentsRelative l.fn.plan own specs past [] → phase_axis past ≡ l.axis
           → ((place : ℕ) → FirstIsKnown l.axis start ((phase_of l.axis own specs (kids_in list)).before place) (siblings_from place list))
           → Turning l.plan l.axis own specs past order l.turn start now list l.fn.work.measured l.work.measured;
       sizes : (q : ℕ) → q < l.turn → FirstHasSize now (siblings_from (slice_index order q) list);

@@ -33,7 +33,7 @@ settle_kid-requires-clause-size c =
 pub loop-place-init : goal.loop-place-init
 loop-place-init c = record {
   same = record { tree = refl; orders = refl; next = refl };
-  settled = λ own specs first second stands size over place small. absurd (omega arith);
+  settled = λ own specs first second represents size over place small. absurd (omega arith);
   still = λ place ahead key here. refl;
   keeps = keeps_self (held_of c.args.tree.now);
   others = λ key none. refl;
@@ -60,10 +60,10 @@ loop-place-preserved c =
     let others : KeepsOutside old new (first_tree (siblings_from place list)) = rw part at apart in
     record {
       same = record { tree = s.same.tree ∙ i.same.tree; orders = s.same.orders ∙ i.same.orders; next = s.same.next ∙ i.same.next };
-      settled = λ own specs first second stands size over at small. elim (cases_lt at place) [
+      settled = λ own specs first second represents size over at small. elim (cases_lt at place) [
         | inl lt ↦
             FirstHasEdges-along old new ((phase_of Vertical own specs (kids_in list)).asks at) (edges_of (edges_at own specs (kids_in list) (arranged own specs (kids_in list)) at))
-            (siblings_from at list) (still_there old new list at place once (λ same. omega arith) others) (i.settled own specs first second stands size over at lt)
+            (siblings_from at list) (still_there old new list at place once (λ same. omega arith) others) (i.settled own specs first second represents size over at lt)
         | inr le ↦
             let same : place ≡ at = omega arith in
             let value = c.turns-place-end.ensures.value in
@@ -71,7 +71,7 @@ loop-place-preserved c =
             let edges = edges_with Vertical (high.spans place) (high.before place) in
             let was : FirstHasEdges old (high.asks place) edges (siblings_from place list) =
             FirstHasEdges-along start old (high.asks place) edges (siblings_from place list) (i.still place (omega arith)) (over place (omega arith)) in
-            let moved = rw part at (rw i.same.tree at (s.settled own specs (high.asks place) first second edges stands)) in
+            let moved = rw part at (rw i.same.tree at (s.settled own specs (high.asks place) first second edges represents)) in
             subst (IsSettled own specs new list) same (settled_here own specs list place new (relative_size own specs first second) size (moved was))
       ];
       still = λ at ahead key here. still_there old new list at place once (λ same. omega arith) others key here ∙ i.still at (omega arith) key here;
@@ -83,6 +83,6 @@ loop-place-preserved c =
     }
 
 pub returns-clause-settled : goal.returns-clause-settled
-returns-clause-settled c = λ own specs first second stands size over place small.
+returns-clause-settled c = λ own specs first second represents size over place small.
     let value = c.turns-place-end.ensures.value in
-    c.loop-place.invariant.settled own specs first second stands size over place (omega arith)
+    c.loop-place.invariant.settled own specs first second represents size over place (omega arith)

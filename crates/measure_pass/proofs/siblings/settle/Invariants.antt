@@ -2,7 +2,7 @@ use Rattle.std.proofs.Common.{◌≡◌, ◌≤◌, ◌<◌, ℕ, [], ◌∷◌,
 use Rattle.kept_views.specs.Kept.{Ready}
 use Rattle.measure_pass.specs.Measured.{Keeps, KeepsAllButEdges}
 use Rattle.measure_pass.specs.Siblings.{IsSettled, TurnIsOver, kids_in, phase_of}
-use Rattle.relative_layout.specs.RelativePlan.{StandsRelative}
+use Rattle.relative_layout.specs.RelativePlan.{RepresentsRelative}
 use Rattle.view_model.specs.declared.facts.Facts.{Facts}
 use Rattle.view_model.specs.declared.relative.Axis.TheVariants.{Vertical}
 use Rattle.view_model.specs.Measuring.{Specs}
@@ -20,7 +20,7 @@ invariant-loop-place l =
     let now = held_of l.tree in
     record {
       same : SameTree l.fn.tree l.tree;
-      settled : (own : Facts) (specs : Specs) (first second : List Spanned) → StandsRelative l.plan own specs (first ∷ []) second
+      settled : (own : Facts) (specs : Specs) (first second : List Spanned) → RepresentsRelative l.plan own specs (first ∷ []) second
           → relative_size own specs first second ≡ (arranged own specs (kids_in list)).size
           → ((place : ℕ) → place < length (kids_in list) → TurnIsOver (phase_of Vertical own specs (kids_in list)) start list place)
           → (place : ℕ) → place < l.place → IsSettled own specs now list place;

@@ -24,10 +24,10 @@ settle-rect-requires-clause-height c =
     rw c.state-state.ensures.value (size_at c.args.tree.now.tree c.args.kid (held_of c.args.tree.now) c.requires.live shown c.requires.size).1
 
 pub returns-clause-settled : goal.returns-clause-settled
-returns-clause-settled c = λ own specs asked first second edges stands h.
+returns-clause-settled c = λ own specs asked first second edges represents h.
     let room = relative_size own specs first second in
     let rect =
-    c.settle-rect.ensures own specs first second stands
+    c.settle-rect.ensures own specs first second represents
     ∙ ap (λ (facts : Facts). final_rect own specs room (layout_facts facts) c.state-state.result.edges c.state-state.result.measured) c.facts-2.ensures.value
     ∙ ap (λ (state : State). final_rect own specs room (layout_facts (head_view (part_from c.args.kid c.args.tree.now.tree)).facts) state.edges state.measured) c.state-state.ensures.value in
     let own_held = held_of c.args.tree.now c.args.kid in

@@ -4,10 +4,10 @@ use Rattle.relative_layout.proofs.parts.marks_of_members.Goals as goal
 pub search_all-requires-clause-search : goal.search_all-requires-clause-search
 search_all-requires-clause-search c =
     let start = c.in_ok-search.ensures in
-    IsSearching-start c.args.kids.now c.args.naming.now c.in_ok-search.search start.standing start.path start.todo start.parts start.members
+    IsSearching-start c.args.kids.now c.args.naming.now c.in_ok-search.search start.status start.path start.todo start.parts start.members
 
 pub returns-clause-size : goal.returns-clause-size
-returns-clause-size c = c.in_ok-search_all.ensures.search.told.size
+returns-clause-size c = c.in_ok-search_all.ensures.search.reported.size
 
 pub returns-clause-marks : goal.returns-clause-marks
 returns-clause-marks c =

@@ -2,14 +2,14 @@ use Rattle.std.proofs.Common.{ℕ, ◌+◌, ◌-◌, ◌<◌, ◌∷◌, ◌++�
 use Rattle.std.proofs.lemmas.Result.{err_from_is_err_and}
 use Rattle.saved_state.specs.State.{StateEntry, entries_of, entry_of}
 use Rattle.saved_state.proofs.FoundLaws.{state_read}
-use Rattle.saved_state.proofs.StateLaws.{ahead, read_fault, read_more, read_over, told_at, told_on}
+use Rattle.saved_state.proofs.StateLaws.{ahead, read_fault, read_more, read_over, reported_at, reported_on}
 use Rattle.saved_state.proofs.reading.entries_of.Goals as goal
 
 pub returns-in_err-entry-clause-read : goal.returns-in_err-entry-clause-read
 returns-in_err-entry-clause-read c =
     let p = err_from_is_err_and c.from_residual.result c.from_residual.ensures.1 in
     rw (p.1, p.2)
-    (told_on c.in_err-entry.field-0.0 (entry_of c.args.version c.loop.before c.loop.place (drop c.loop.place c.args.bytes.now)) (entries_of c.args.version c.args.count 0 5 (drop 5 c.args.bytes.now))
+    (reported_on c.in_err-entry.field-0.0 (entry_of c.args.version c.loop.before c.loop.place (drop c.loop.place c.args.bytes.now)) (entries_of c.args.version c.args.count 0 5 (drop 5 c.args.bytes.now))
     (λ wrong is.
     sym c.loop.invariant.rest
     ∙ read_fault c.args.version c.loop.entries.items c.loop.before c.loop.place c.args.bytes.now c.args.count c.loop.counter c.loop-test.true wrong is)
@@ -34,7 +34,7 @@ loop-preserved c =
 
 pub returns-then-place-bytes-clause-read : goal.returns-then-place-bytes-clause-read
 returns-then-place-bytes-clause-read c =
-    told_at c.bad_state.result (entries_of c.args.version c.args.count 0 5 (drop 5 c.args.bytes.now)) c.loop.place
+    reported_at c.bad_state.result (entries_of c.args.version c.args.count 0 5 (drop 5 c.args.bytes.now)) c.loop.place
     (sym c.loop.invariant.rest
     ∙ read_over c.args.version c.loop.entries.items c.loop.before c.loop.place c.args.bytes.now c.args.count c.loop.counter (omega (arith, c.loop-test.false)) (omega arith))
     c.bad_state.ensures

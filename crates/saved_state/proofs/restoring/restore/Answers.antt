@@ -1,7 +1,7 @@
 use Rattle.std.proofs.Common.{◌≡◌, ℕ, sym, subst}
 use Rattle.saved_state.proofs.OffsetLaws.{restored_fits}
 use Rattle.saved_state.proofs.RestoredLaws.{restored_geometry, restored_off}
-use Rattle.saved_state.proofs.RestoringLaws.{came, told, values_consistent, values_live, values_plain}
+use Rattle.saved_state.proofs.RestoringLaws.{came, reported, values_consistent, values_live, values_plain}
 use Rattle.saved_state.specs.Saving.{OffsetsFit}
 use Rattle.view_tree.specs.Views.{plain_of}
 use Rattle.saved_state.proofs.restoring.restore.Goals as goal
@@ -13,9 +13,9 @@ pub returns-clause-plain : goal.returns-clause-plain
 returns-clause-plain c =
     values_plain c.args.tree.now c.set_values.new.tree c.args.states.now c.in_ok-values.values.items c.copied_values.ensures.is_tree c.in_ok-values.ensures.values c.set_values.ensures.tree c.set_values.ensures.held
 
-pub returns-clause-retells : goal.returns-clause-retells
-returns-clause-retells c = record {
-  tree = told c.args.tree.now c.set_values.new.tree c.args.states.now c.in_ok-values.values.items c.copied_values.ensures.is_tree c.in_ok-values.ensures.values c.set_values.ensures.tree c.set_values.ensures.held;
+pub returns-clause-restates : goal.returns-clause-restates
+returns-clause-restates c = record {
+  tree = reported c.args.tree.now c.set_values.new.tree c.args.states.now c.in_ok-values.values.items c.copied_values.ensures.is_tree c.in_ok-values.ensures.values c.set_values.ensures.tree c.set_values.ensures.held;
   orders = c.set_values.ensures.orders;
   next = c.set_values.ensures.next;
 }
@@ -26,7 +26,7 @@ returns-clause-geometry c =
     let new = c.set_values.new.tree in
     let set = c.set_values.ensures in
     restored_geometry old new c.args.states.now (came old new c.args.states.now c.in_ok-values.values.items c.copied_values.ensures.is_tree c.in_ok-values.ensures.values set.tree set.held)
-    (told old new c.args.states.now c.in_ok-values.values.items c.copied_values.ensures.is_tree c.in_ok-values.ensures.values set.tree set.held)
+    (reported old new c.args.states.now c.in_ok-values.values.items c.copied_values.ensures.is_tree c.in_ok-values.ensures.values set.tree set.held)
 
 pub returns-clause-consistent : goal.returns-clause-consistent
 returns-clause-consistent c =
@@ -45,4 +45,4 @@ pub returns-clause-fits : goal.returns-clause-fits
 returns-clause-fits c = λ every.
     subst OffsetsFit
     (sym (values_plain c.args.tree.now c.set_values.new.tree c.args.states.now c.in_ok-values.values.items c.copied_values.ensures.is_tree c.in_ok-values.ensures.values c.set_values.ensures.tree c.set_values.ensures.held))
-    (restored_fits c.args.states.now (plain_of c.args.tree.now) c.tell.ensures every)
+    (restored_fits c.args.states.now (plain_of c.args.tree.now) c.recall.ensures every)

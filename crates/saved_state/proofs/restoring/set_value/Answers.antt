@@ -9,7 +9,7 @@ use Rattle.saved_state.specs.Restored.{moved_one, with_text_of}
 use Rattle.saved_state.specs.State.{IsValue}
 use Rattle.saved_state.specs.declared.value.Value.TheVariants.{Offset, Text}
 use Rattle.saved_state.proofs.RestoredLaws.{one_asked}
-use Rattle.saved_state.proofs.RetoldLaws.{same_put}
+use Rattle.saved_state.proofs.RestatedLaws.{same_put}
 use Rattle.saved_state.proofs.restoring.set_value.Goals as goal
 
 pub request-requires-in-Text : goal.request-requires-in-Text

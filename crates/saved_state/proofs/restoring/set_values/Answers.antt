@@ -9,7 +9,7 @@ use Rattle.view_tree.specs.Views.{held_of}
 use Rattle.saved_state.specs.Restored.{with_text_at}
 use Rattle.saved_state.specs.declared.value.Value.{Value}
 use Rattle.saved_state.proofs.RestoredLaws.{set_on}
-use Rattle.saved_state.proofs.RetoldLaws.{count_sets}
+use Rattle.saved_state.proofs.RestatedLaws.{count_sets}
 use Rattle.saved_state.proofs.restoring.set_values.Goals as goal
 
 pub set_value-requires-clause-live : goal.set_value-requires-clause-live

@@ -1,5 +1,5 @@
 use Rattle.std.proofs.Common.{◌≡◌, ◌<◌, ℕ, None, Some, refl, sym, ◌∙◌, ap, subst, arith}
-use Rattle.touch_dispatch.specs.declared.taker.Taker.TheVariants.{Handed}
+use Rattle.touch_dispatch.specs.declared.taker.Taker.TheVariants.{Sent}
 use Rattle.view_model.specs.Classes.{is_group}
 use Rattle.view_model.specs.declared.facts.Facts.{Facts}
 use Rattle.view_model.specs.PlainTree.{PlainView}
@@ -8,10 +8,10 @@ use Rattle.touch_dispatch.proofs.FitLaws.{kid_moved, kids_grow, out_fits_at}
 use Rattle.touch_dispatch.proofs.GrowLaws.{answer_fits, ask_fits, asked_many, later_fits, offer_fits, try_fits}
 use Rattle.touch_dispatch.proofs.KeepLaws.{group_asked, kept_ended, kept_on, kept_settled, kept_still, may_still}
 use Rattle.touch_dispatch.proofs.ParentLaws.{may_target}
-use Rattle.touch_dispatch.proofs.ReachSteps.{WalkTo, answered_own, answered_same, asked_begun, from_kid, group_chain, none_by, not_taken, out_same, out_step, put_named, taken_no, taken_up, taken_yes, try_child_same, try_earlier, try_handed, try_no, walk_begin, walk_on, answered_targets, some_by}
+use Rattle.touch_dispatch.proofs.ReachSteps.{WalkTo, answered_own, answered_same, asked_begun, from_kid, group_chain, none_by, not_taken, out_same, out_step, put_named, taken_no, taken_up, taken_yes, try_child_same, try_earlier, try_sent, try_no, walk_begin, walk_on, answered_targets, some_by}
 use Rattle.touch_dispatch.proofs.SceneLaws.{fewer_kid, kid_found, reach_at, reach_group, reach_own, same_own}
 use Rattle.touch_dispatch.proofs.TargetLaws.{TargetStep, target_step, walk_there}
-use Rattle.touch_dispatch.proofs.TryLaws.{gets_part, hands_to, kept_put, may_put, names_child, names_still, reads_child, target_read, tried_read}
+use Rattle.touch_dispatch.proofs.TryLaws.{gets_part, sends_to, kept_put, may_put, names_child, names_still, reads_child, target_read, tried_read}
 use Rattle.touch_dispatch.proofs.TryWalk.{TryWalk}
 use Rattle.touch_dispatch.specs.Delivery.{own_targets}
 use Rattle.touch_dispatch.specs.Dispatch.{Tried, ended, part_for, tried_ids}
@@ -255,7 +255,7 @@ children::try_child-returns-then-not-reach-clause-tried t c =
     let gets =
     gets_part slop c.args.log.now.entries.items c.tried_event-part.result reads (sym c.is_tried.ensures ∙ c.if-not-is_tried.false) (sym c.is_target.ensures ∙ c.if-is_target.false) c.tried_event-part.ensures.value in
     let reached : Reached = record { yes = c.reach.result; progress = progress_of c.reach.new.tree c.reach.new.gesture c.reach.new.log } in
-    try_handed (scene_of views slop) own d.event.now (child_at views slop c.args.kid) _ c.tried_event-part.result reached gets (sym (reach_at views slop c.args.kid c.tried_event-part.result _ c.requires.kid.live) ∙ c.reach.ensures.reached)
+    try_sent (scene_of views slop) own d.event.now (child_at views slop c.args.kid) _ c.tried_event-part.result reached gets (sym (reach_at views slop c.args.kid c.tried_event-part.result _ c.requires.kid.live) ∙ c.reach.ensures.reached)
     ∙ taken_no own d.event.now (own_of views c.args.kid).number reached c.if-not-reach.true
 
 pub children::try_child-put-requires-2-clause-may : goal.children::try_child-put-requires-2-clause-may
@@ -273,11 +273,11 @@ children::try_child-returns-clause-tried t c =
     gets_part slop c.args.log.now.entries.items c.tried_event-part.result reads (sym c.is_tried.ensures ∙ c.if-not-is_tried.false) (sym c.is_target.ensures ∙ c.if-is_target.false) c.tried_event-part.ensures.value in
     let reached : Reached = record { yes = c.reach.result; progress = progress_of c.reach.new.tree c.reach.new.gesture c.reach.new.log } in
     let new = progress_of c.reach.new.tree c.put-2.new.self c.reach.new.log in
-    try_handed (scene_of views slop) own d.event.now (child_at views slop c.args.kid) _ c.tried_event-part.result reached gets (sym (reach_at views slop c.args.kid c.tried_event-part.result _ c.requires.kid.live) ∙ c.reach.ensures.reached)
+    try_sent (scene_of views slop) own d.event.now (child_at views slop c.args.kid) _ c.tried_event-part.result reached gets (sym (reach_at views slop c.args.kid c.tried_event-part.result _ c.requires.kid.live) ∙ c.reach.ensures.reached)
     ∙ taken_yes own d.event.now (own_of views c.args.kid).number reached new c.if-not-reach.false
     (put_named (offsets_in c.reach.new.tree) c.reach.new.log.entries.items (gesture_of c.reach.new.gesture) (gesture_of c.put-2.new.self) _ _ _ _ _ _ c.put-2.ensures.gesture c.number-group.ensures.value c.number-child.ensures.value
     (c.tried_ids.ensures.value ∙ ap (λ (f : Facts). tried_ids f.split d.event.now) c.facts-own.ensures.value))
-    ∙ ap (λ n. let t : Tried = record { taker = Handed n; progress = new } in t) (sym c.number-child.ensures.value)
+    ∙ ap (λ n. let t : Tried = record { taker = Sent n; progress = new } in t) (sym c.number-child.ensures.value)
 
 pub children::try_child-returns-clause-kept : goal.children::try_child-returns-clause-kept
 children::try_child-returns-clause-kept t c =
@@ -389,13 +389,13 @@ targets::deliver_to-reach-requires t c =
       | targets::deliver_to-else-not-intercepted-via-else-not-intercepted w ↦ rw (w.part-is, c.cancel_event-part.ensures) (omega arith)
       | targets::deliver_to-else-not-intercepted-via-then-not-intercepted+else-not-put_part w ↦ rw (w.part-is, w.put_part.ensures.pointer) c.requires.may.pointer
     ] in
-    let hands =
-    hands_to d.limits.now.slop c.args.log.now.entries.items c.requires.may c.requires.target (sym c.find.ensures.key ∙ c.in-Some.is) c.in-Some.ensures.number c.facts-own.ensures.value c.state-rect.ensures.value
-    (c.ids-ids.ensures _ c.requires.target) (sym c.is_handed.ensures ∙ c.if-is_handed.false) part in
-    let fewer = fewer_kid c.args.tree.now d.view c.in-Some.kid c.requires.may.live hands.there in
-    let fits = ap (λ (r : Reached). many r.progress) hands.is in
+    let passes_on =
+    sends_to d.limits.now.slop c.args.log.now.entries.items c.requires.may c.requires.target (sym c.find.ensures.key ∙ c.in-Some.is) c.in-Some.ensures.number c.facts-own.ensures.value c.state-rect.ensures.value
+    (c.ids-ids.ensures _ c.requires.target) (sym c.is_sent.ensures ∙ c.if-is_sent.false) part in
+    let fewer = fewer_kid c.args.tree.now d.view c.in-Some.kid c.requires.may.live passes_on.there in
+    let fits = ap (λ (r : Reached). many r.progress) passes_on.is in
     let all = c.requires.fits in
-    (omega (arith, c.decreases, fewer), (record { tree = c.requires.may.tree; live = hands.there.live; pointer = pointer; caught = c.requires.may.caught }, omega (arith, fits, all)))
+    (omega (arith, c.decreases, fewer), (record { tree = c.requires.may.tree; live = passes_on.there.live; pointer = pointer; caught = c.requires.may.caught }, omega (arith, fits, all)))
 
 pub targets::deliver_to-returns-clause-delivered : goal.targets::deliver_to-returns-clause-delivered
 targets::deliver_to-returns-clause-delivered t c =
@@ -406,7 +406,7 @@ targets::deliver_to-returns-clause-delivered t c =
       | targets::deliver_to-else-not-intercepted-via-then-not-intercepted+else-not-put_part w ↦
           rw (w.if-not-intercepted.true, w.part-is) (sym (rw w.if-not-put_part.false at w.put_part.ensures.value))
     ] in
-    let hands =
-    hands_to d.limits.now.slop c.args.log.now.entries.items c.requires.may c.requires.target (sym c.find.ensures.key ∙ c.in-Some.is) c.in-Some.ensures.number c.facts-own.ensures.value c.state-rect.ensures.value
-    (c.ids-ids.ensures _ c.requires.target) (sym c.is_handed.ensures ∙ c.if-is_handed.false) part in
-    hands.is ∙ c.reach.ensures.reached
+    let passes_on =
+    sends_to d.limits.now.slop c.args.log.now.entries.items c.requires.may c.requires.target (sym c.find.ensures.key ∙ c.in-Some.is) c.in-Some.ensures.number c.facts-own.ensures.value c.state-rect.ensures.value
+    (c.ids-ids.ensures _ c.requires.target) (sym c.is_sent.ensures ∙ c.if-is_sent.false) part in
+    passes_on.is ∙ c.reach.ensures.reached

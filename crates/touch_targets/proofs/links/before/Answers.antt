@@ -1,7 +1,7 @@
 use Rattle.std.proofs.Common.{◌≡◌, ◌+◌, true, length, ap, refl, ◌∙◌, sym, subst, arith, inl, inr}
-use Rattle.touch_targets.specs.Nodes.{IsBehind, has_place, newest_of, places_by, places_from}
+use Rattle.touch_targets.specs.Nodes.{IsFollowing, has_place, newest_of, places_by, places_from}
 use Rattle.touch_targets.proofs.Chains.{has_cases}
-use Rattle.touch_targets.proofs.Walks.{LinkWalk, behind_here, here, no_more, rest_here, walk_on, walk_start}
+use Rattle.touch_targets.proofs.Walks.{LinkWalk, after_here, here, no_more, rest_here, walk_on, walk_start}
 use Rattle.touch_targets.proofs.links.before.Goals as goal
 
 pub loop-at-init : goal.loop-at-init
@@ -17,7 +17,7 @@ returns-then-other-place c =
     let s = c.args.nodes.now in
     let walk = subst (LinkWalk s c.args.group c.loop-at.previous) c.in-Some.is c.loop-at.invariant.walk in
     let at = here s c.args.group c.loop-at.previous c.in-Some.other c.requires.linked c.requires.group walk in
-    subst (λ p. IsBehind c.loop-at.previous p (places_by s c.args.group)) c.if-other-place.true (behind_here s c.args.group c.loop-at.previous c.in-Some.other walk at)
+    subst (λ p. IsFollowing c.loop-at.previous p (places_by s c.args.group)) c.if-other-place.true (after_here s c.args.group c.loop-at.previous c.in-Some.other walk at)
 
 pub index-requires-in-Some : goal.index-requires-in-Some
 index-requires-in-Some c =

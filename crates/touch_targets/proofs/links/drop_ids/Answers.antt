@@ -1,7 +1,7 @@
 use Rattle.std.proofs.Common.{◌<◌, length, refl, sym, subst}
 use Rattle.touch_targets.specs.Nodes.{places_from}
 use Rattle.touch_targets.proofs.Dropping.{Drops, drops_end, drops_on, drops_start, fewer_on}
-use Rattle.touch_targets.proofs.Walks.{behind_here, here}
+use Rattle.touch_targets.proofs.Walks.{after_here, here}
 use Rattle.touch_targets.proofs.links.drop_ids.Goals as goal
 
 pub loop-at-init : goal.loop-at-init
@@ -12,11 +12,11 @@ index-requires-in-Some c =
     let d = subst (Drops c.args.nodes.now c.loop-at.nodes c.args.group c.args.ids c.loop-at.previous) c.in-Some.is c.loop-at.invariant in
     rw (here c.loop-at.nodes c.args.group c.loop-at.previous c.in-Some.place d.linked d.opened d.walk).is refl
 
-pub drop_ids_at-previous-requires-clause-behind : goal.drop_ids_at-previous-requires-clause-behind
-drop_ids_at-previous-requires-clause-behind c =
+pub drop_ids_at-previous-requires-clause-following : goal.drop_ids_at-previous-requires-clause-following
+drop_ids_at-previous-requires-clause-following c =
     let d = subst (Drops c.args.nodes.now c.loop-at.nodes c.args.group c.args.ids c.loop-at.previous) c.in-Some.is c.loop-at.invariant in
     let at = here c.loop-at.nodes c.args.group c.loop-at.previous c.in-Some.place d.linked d.opened d.walk in
-    behind_here c.loop-at.nodes c.args.group c.loop-at.previous c.in-Some.place d.walk at
+    after_here c.loop-at.nodes c.args.group c.loop-at.previous c.in-Some.place d.walk at
 
 pub loop-at-smaller : goal.loop-at-smaller
 loop-at-smaller c =

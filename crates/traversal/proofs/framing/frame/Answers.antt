@@ -14,7 +14,7 @@ use Rattle.traversal.proofs.CountedLaws.{counted_then}
 use Rattle.traversal.proofs.SightLaws.{color_stays, covered_tree}
 use Rattle.traversal.proofs.ShapeLaws.{count_of-same, count_of_key-same}
 use Rattle.traversal.proofs.FrameLaws.{passed_fits, settled_first, settled_second}
-use Rattle.traversal.proofs.QuietHooks.{reported_quiet, told_still}
+use Rattle.traversal.proofs.QuietHooks.{reported_quiet, reported_still}
 use Rattle.traversal.proofs.framing.frame.Goals as goal
 
 pub returns-then-not-pass-clause-framed : goal.returns-then-not-pass-clause-framed
@@ -129,7 +129,7 @@ returns-then-not-pass-clause-calm c = λ rests none.
       c.settle.ensures.fired,
       c.settle.ensures.settled,
       calm.3,
-      c.settle.ensures.hooks ∙ told_still (geometry_of c.pass.new.tree) c.pass.new.hooks fits c.settle.ensures.map.single quiet ∙ calm.2,
+      c.settle.ensures.hooks ∙ reported_still (geometry_of c.pass.new.tree) c.pass.new.hooks fits c.settle.ensures.map.single quiet ∙ calm.2,
     )
 
 pub returns-then-not-pass-2-clause-calm : goal.returns-then-not-pass-2-clause-calm

@@ -3,8 +3,8 @@ use Rattle.view_model.specs.Forest.{Forest}
 use Rattle.view_tree.specs.Rows.{Row, children_of_first, later_siblings, part_from}
 use Rattle.view_tree.specs.Views.{held_of, laid_rows}
 use Rattle.view_tree.proofs.forest.Walks.{fewer_below, walk_falls, walk_on, walk_start}
-use Rattle.traversal.specs.Reporting.{told_in}
-use Rattle.traversal.proofs.ReportLaws.{told_alone, told_list}
+use Rattle.traversal.specs.Reporting.{reported_over}
+use Rattle.traversal.proofs.ReportLaws.{reported_alone, reported_list}
 use Rattle.traversal.proofs.reporting.+report_from.Goals as goal
 
 pub loop-next-init : goal.loop-next-init
@@ -14,10 +14,10 @@ loop-next-init t c =
     let first = c.first-next.ensures in
     record {
       walk = walk_start tree (children_of_first (part_from c.args.view tree)) c.first-next.result first.part first.live;
-      told =
-          ap (λ (list : Forest Row). told_in (laid_rows held list) c.report_at.new.hooks) first.part
-          ∙ ap (told_in (laid_rows held (children_of_first (part_from c.args.view tree)))) c.report_at.ensures
-          ∙ sym (told_alone held c.args.view tree c.requires c.args.hooks.now);
+      reported =
+          ap (λ (list : Forest Row). reported_over (laid_rows held list) c.report_at.new.hooks) first.part
+          ∙ ap (reported_over (laid_rows held (children_of_first (part_from c.args.view tree)))) c.report_at.ensures
+          ∙ sym (reported_alone held c.args.view tree c.requires c.args.hooks.now);
     }
 
 pub report_from-requires : goal.report_from-requires
@@ -37,9 +37,9 @@ loop-next-preserved t c =
     let next = c.next-next.ensures in
     record {
       walk = walk_on tree (children_of_first (part_from c.args.view tree)) c.in-Some.kid c.next-next.result i.walk next.part next.live;
-      told =
-          ap (λ (list : Forest Row). told_in (laid_rows held list) c.report_from.new.hooks) next.part
-          ∙ ap (told_in (laid_rows held (later_siblings (part_from c.in-Some.kid tree)))) c.report_from.ensures
-          ∙ sym (told_list held c.in-Some.kid tree i.walk.live c.loop-next.hooks)
-          ∙ i.told;
+      reported =
+          ap (λ (list : Forest Row). reported_over (laid_rows held list) c.report_from.new.hooks) next.part
+          ∙ ap (reported_over (laid_rows held (later_siblings (part_from c.in-Some.kid tree)))) c.report_from.ensures
+          ∙ sym (reported_list held c.in-Some.kid tree i.walk.live c.loop-next.hooks)
+          ∙ i.reported;
     }

@@ -4,9 +4,9 @@ use Rattle.relative_layout.specs.declared.ordering.OrderFault.TheVariants as ord
 use Rattle.relative_layout.specs.Sorting.{IsFaultOf}
 use Rattle.view_model.specs.Cycles.{member_from}
 use Rattle.view_model.specs.declared.relative.Link.{Link}
-use Rattle.view_tree.specs.Cycles.{IsFree, IsToldOf}
+use Rattle.view_tree.specs.Cycles.{IsFree, IsReportedFrom}
 use Rattle.view_tree.specs.Ordering.{AreOrders, plain_orders}
-use Rattle.view_tree.proofs.orders.CycleLists.{none_of, told_is}
+use Rattle.view_tree.proofs.orders.CycleLists.{none_of, reported_is}
 use Rattle.view_tree.proofs.kids.group_of.Goals as goal
 
 pub returns-in-Ok : goal.returns-in-Ok
@@ -23,7 +23,7 @@ returns-in-Ok c =
 pub returns : goal.returns
 returns c =
     let fault : IsFaultOf c.deref.result.now (order.Cycle c.in-Err-Cycle.down c.in-Err-Cycle.members) = rw c.in-Err-Cycle.field-0-is at c.in-Err-Cycle.ensures.fault in
-    told_is (member_from c.args.next) c.args.kids.links.items c.args.kids.numbers.items c.in-Err-Cycle.down c.in-Err-Cycle.members c.told.result
+    reported_is (member_from c.args.next) c.args.kids.links.items c.args.kids.numbers.items c.in-Err-Cycle.down c.in-Err-Cycle.members c.reported.result
     (subst (λ (links : List Link). IsFaultOf links (order.Cycle c.in-Err-Cycle.down c.in-Err-Cycle.members)) c.deref.ensures.value fault)
-    (subst (λ (numbers : List ℕ). IsToldOf (λ place. member_from c.args.next (slice_index numbers place)) c.in-Err-Cycle.down c.in-Err-Cycle.members.items c.told.result) c.deref-in-Err-Cycle.ensures.value
-    (subst (λ (places : List ℕ). IsToldOf (λ place. member_from c.args.next (slice_index c.deref-in-Err-Cycle.result.now place)) c.in-Err-Cycle.down places c.told.result) c.deref-in-Err-Cycle-2.ensures.value c.told.ensures))
+    (subst (λ (numbers : List ℕ). IsReportedFrom (λ place. member_from c.args.next (slice_index numbers place)) c.in-Err-Cycle.down c.in-Err-Cycle.members.items c.reported.result) c.deref-in-Err-Cycle.ensures.value
+    (subst (λ (places : List ℕ). IsReportedFrom (λ place. member_from c.args.next (slice_index c.deref-in-Err-Cycle.result.now place)) c.in-Err-Cycle.down places c.reported.result) c.deref-in-Err-Cycle-2.ensures.value c.reported.ensures))

@@ -5,8 +5,8 @@ use Rattle.whole_tool.proofs.ToolLaws.{failed_later, not_status, other_status}
 use Rattle.whole_tool.proofs.dump.dump.Goals as goal
 
 pub returns-in-Ok-clause-dumps : goal.returns-in-Ok-clause-dumps
-returns-in-Ok-clause-dumps g c files told =
-    let found = rw told at c.in-Ok.ensures.found in
+returns-in-Ok-clause-dumps g c files reported =
+    let found = rw reported at c.in-Ok.ensures.found in
     c.dump_found.ensures.dumps files c.args.name.now (subst (λ (bytes : List ℕ). Fetched files c.args.name.now 1048576 c.in-Ok.found bytes) (sym c.as_slice.ensures.value) found)
 
 pub returns-in-Ok-clause-nothing_written : goal.returns-in-Ok-clause-nothing_written

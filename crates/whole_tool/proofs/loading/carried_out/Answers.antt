@@ -22,7 +22,7 @@ returns-clause-runs c =
     let short : length script < 2 ^ 63 = omega (arith, c.requires.short) in
     let from : carried_of c.new-run.result.runner.carrier ≡ Alone empty_world = ap carried_of c.new-run.ensures.carrier ∙ c.alone.ensures.start in
     let none : c.new-shelf.result ≡ [] = c.new-shelf.ensures ∙ ap named_files c.new.ensures.items in
-    let begun = rw from at c.new-run.ensures.behind in
+    let begun = rw from at c.new-run.ensures.following in
     let read = c.in_ok-piece.ensures.done (Alone empty_world) first [] short (begun (Some c.new-shelf.result) first) in
     c.in_ok-finish.ensures.done (Alone empty_world) [] first script (c.piece.ensures.files_stay ∙ ap Some none) short
     (subst (λ (shelf : Option Files). HasReadUpTo (Alone empty_world) shelf first mid c.piece.new.self script) (sym c.piece.ensures.files_stay) read)
@@ -37,7 +37,7 @@ returns-in_err-piece-clause-stopped c =
     let short : length script < 2 ^ 63 = omega (arith, c.requires.short) in
     let from : carried_of c.new-run.result.runner.carrier ≡ Alone empty_world = ap carried_of c.new-run.ensures.carrier ∙ c.alone.ensures.start in
     let none : c.new-shelf.result ≡ [] = c.new-shelf.ensures ∙ ap named_files c.new.ensures.items in
-    let begun = rw from at c.new-run.ensures.behind in
+    let begun = rw from at c.new-run.ensures.following in
     let stopped = c.in_err-piece.ensures.stopped (Alone empty_world) first [] short (begun (Some c.new-shelf.result) first) [] (ap Some none) in
     let more = lines_of-cut script [] in
     rw e (works_further (Alone empty_world) [] c.args.work.now c.piece.new.work (cut_of script).lines more.0 (lines_of script) (more.1 ∙ ap lines_of (append-nil script)) (works_stopped (Alone empty_world) [] first mid (cut_of script).lines c.in_err-piece.field-0.0 stopped))
@@ -53,7 +53,7 @@ returns-in_err-finish-clause-stopped c =
     let short : length script < 2 ^ 63 = omega (arith, c.requires.short) in
     let from : carried_of c.new-run.result.runner.carrier ≡ Alone empty_world = ap carried_of c.new-run.ensures.carrier ∙ c.alone.ensures.start in
     let none : c.new-shelf.result ≡ [] = c.new-shelf.ensures ∙ ap named_files c.new.ensures.items in
-    let begun = rw from at c.new-run.ensures.behind in
+    let begun = rw from at c.new-run.ensures.following in
     let read = c.in_ok-piece.ensures.done (Alone empty_world) first [] short (begun (Some c.new-shelf.result) first) in
     rw e (works_stopped (Alone empty_world) [] first last (lines_of script) c.in_err-finish.field-0.0
     (c.in_err-finish.ensures.stopped (Alone empty_world) [] first script (c.piece.ensures.files_stay ∙ ap Some none) short

@@ -5,8 +5,8 @@ use Rattle.whole_tool.proofs.ToolLaws.{failed_later, not_status, other_status}
 use Rattle.whole_tool.proofs.lookup.lookup.Goals as goal
 
 pub returns-in-Ok-clause-looks_up : goal.returns-in-Ok-clause-looks_up
-returns-in-Ok-clause-looks_up g c files told =
-    let found = rw told at c.in-Ok.ensures.found in
+returns-in-Ok-clause-looks_up g c files reported =
+    let found = rw reported at c.in-Ok.ensures.found in
     c.lookup_found.ensures.looks_up files c.args.name.now (subst (λ (bytes : List ℕ). Fetched files c.args.name.now 16777216 c.in-Ok.found bytes) (sym c.as_slice.ensures.value) found)
 
 pub returns-in-Ok-clause-nothing_written : goal.returns-in-Ok-clause-nothing_written

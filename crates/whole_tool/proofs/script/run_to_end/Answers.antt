@@ -16,7 +16,7 @@ pub loop-n-init : goal.loop-n-init
 loop-n-init g c = record {
   bound = omega arith;
   numbers = omega (arith, c.requires.numbers);
-  taken = record { bytes = []; consumed = Consumes-nil (g.S.Source.left c.args.source.now); count = refl; behind = c.requires.behind (g.F.Shelf.files c.args.shelf.now) (trace (g.K.Sink.state c.args.sink.now) c.args.work.now (g.F.Shelf.fetches c.args.shelf.now)) };
+  taken = record { bytes = []; consumed = Consumes-nil (g.S.Source.left c.args.source.now); count = refl; following = c.requires.following (g.F.Shelf.files c.args.shelf.now) (trace (g.K.Sink.state c.args.sink.now) c.args.work.now (g.F.Shelf.fetches c.args.shelf.now)) };
   files = refl;
   fetches = refl;
   painted = omega arith;
@@ -35,8 +35,8 @@ returns-in_default-clause-runs g c =
     let last = trace (g.K.Sink.state c.loop-n.sink) c.loop-n.work (g.F.Shelf.fetches c.loop-n.shelf) in
     let lost = Consumes-Keeps _ _ _ t.bytes t.consumed c.in_default.ensures.bytes in
     record {
-      runs = λ files script at_hand told. ends_source start files first last _ _ script t.bytes told lost (omega (arith, t.count))
-          (works_of start files first last c.loop-n.run.runner (cut_of t.bytes).lines (t.behind.runner files (c.loop-n.invariant.files ∙ at_hand)));
+      runs = λ files script at_hand reported. ends_source start files first last _ _ script t.bytes reported lost (omega (arith, t.count))
+          (works_of start files first last c.loop-n.run.runner (cut_of t.bytes).lines (t.following.runner files (c.loop-n.invariant.files ∙ at_hand)));
       end = tt;
       taken = t.bytes;
       consumed = lost;
@@ -58,9 +58,9 @@ returns-in_err-piece-clause-runs g c =
     let front : take c.min.result bytes ≡ take c.min.result buffer = take-take c.min.result c.in-Ok.n buffer (omega (arith, c.min.ensures)) in
     let short = piece_short t.bytes buffer c.loop-n.left c.min.result t.count (omega (arith, c.min.ensures)) in
     let lost = Consumes-Consumes _ _ _ t.bytes bytes t.consumed c.in-Ok.ensures.bytes.0 in
-    let stops = c.in_err-piece.ensures.stopped start first t.bytes short t.behind in
+    let stops = c.in_err-piece.ensures.stopped start first t.bytes short t.following in
     rw e (record {
-      runs = λ files script at_hand told. ends_stopped start files first last _ _ script t.bytes bytes c.loop-n.left c.min.result c.in_err-piece.field-0.0 told lost t.count (omega (arith, c.min.ensures))
+      runs = λ files script at_hand reported. ends_stopped start files first last _ _ script t.bytes bytes c.loop-n.left c.min.result c.in_err-piece.field-0.0 reported lost t.count (omega (arith, c.min.ensures))
           (subst (λ (l : List ℕ). StopsIn start files first last (cut_of (t.bytes ++ l)).lines c.in_err-piece.field-0.0) (sym front) (stops files (c.loop-n.invariant.files ∙ at_hand)));
       end = tt;
       taken = t.bytes ++ bytes;
@@ -83,9 +83,9 @@ returns-then-n-left-clause-runs g c =
     let short = piece_short t.bytes buffer c.loop-n.left c.min.result t.count (omega (arith, c.min.ensures)) in
     let many : length bytes ≡ c.loop-n.left + 1 = omega (arith, length-take c.in-Ok.n buffer, c.in-Ok.ensures.bound, c.if-n-left.true, c.read.auto.buf, length-take c.min-room.result c.loop-n.buffer, c.min-room.ensures) in
     let lost = Consumes-Consumes _ _ _ t.bytes bytes t.consumed c.in-Ok.ensures.bytes.0 in
-    let read = c.in_ok-piece.ensures.done start first t.bytes short t.behind in
+    let read = c.in_ok-piece.ensures.done start first t.bytes short t.following in
     record {
-      runs = λ files script at_hand told. ends_long start files first last _ _ script t.bytes bytes c.loop-n.left told lost t.count many
+      runs = λ files script at_hand reported. ends_long start files first last _ _ script t.bytes bytes c.loop-n.left reported lost t.count many
           (subst (λ (l : List ℕ). Works start files first last (cut_of (t.bytes ++ l)).lines) (sym front) (works_of start files first last _ _ (read.runner files (c.loop-n.invariant.files ∙ at_hand))));
       end = tt;
       taken = t.bytes ++ bytes;
@@ -103,7 +103,7 @@ loop-n-preserved g c =
     let buffer = c.read.new.buf in
     let all : c.min.result ≡ c.in-Ok.n = omega (arith, c.min.ensures, c.if-n-left.false) in
     let short = piece_short t.bytes buffer c.loop-n.left c.min.result t.count (omega (arith, c.min.ensures)) in
-    let read = c.in_ok-piece.ensures.done start first t.bytes short t.behind in
+    let read = c.in_ok-piece.ensures.done start first t.bytes short t.following in
     record {
       bound = omega (arith, c.loop-n.invariant.bound);
       numbers = omega (arith, c.loop-n.invariant.numbers, c.piece.ensures.numbers, length-take c.min.result buffer, all, c.if-n-left.false);
@@ -129,14 +129,14 @@ returns-in_err-finish-clause-runs g c =
     let buffer = c.read.new.buf in
     let all : c.min.result ≡ c.in-Ok.n = omega (arith, c.min.ensures, c.if-n-left.false) in
     let short = piece_short so_far.bytes buffer c.loop-n.left c.min.result so_far.count (omega (arith, c.min.ensures)) in
-    let read = c.in_ok-piece.ensures.done start first so_far.bytes short so_far.behind in
+    let read = c.in_ok-piece.ensures.done start first so_far.bytes short so_far.following in
     let t = taken_on start (g.F.Shelf.files c.loop-n.shelf) (g.S.Source.left c.args.source.now) _ (g.S.Source.left c.read.new.self) first _ last _ c.piece.new.self c.loop-n.left c.in-Ok.n c.min.result buffer so_far c.in-Ok.ensures.bytes.0
     (omega (arith, c.in-Ok.ensures.bound)) (omega (arith, c.if-n-left.false)) all read in
     let ended = c.in-Ok.ensures.bytes.1 (omega (arith, c.if-n-eq0.true)) (omega (arith, c.read.auto.buf, length-take c.min-room.result c.loop-n.buffer, c.min-room.ensures, c.min-room.array_long)) in
     let fits : length t.bytes ≤ max_script = omega (arith, t.count) in
     rw e (record {
-      runs = λ files script at_hand told. ends_last _ files _ _ _ _ script t.bytes c.in_err-finish.field-0.0 told t.consumed ended fits
-          (c.in_err-finish.ensures.stopped start files first t.bytes (c.piece.ensures.files_stay ∙ c.loop-n.invariant.files ∙ at_hand) (omega (arith, fits)) (rw c.piece.ensures.files_stay t.behind));
+      runs = λ files script at_hand reported. ends_last _ files _ _ _ _ script t.bytes c.in_err-finish.field-0.0 reported t.consumed ended fits
+          (c.in_err-finish.ensures.stopped start files first t.bytes (c.piece.ensures.files_stay ∙ c.loop-n.invariant.files ∙ at_hand) (omega (arith, fits)) (rw c.piece.ensures.files_stay t.following));
       end = tt;
       taken = t.bytes;
       consumed = t.consumed;
@@ -152,14 +152,14 @@ returns-clause-runs g c =
     let buffer = c.read.new.buf in
     let all : c.min.result ≡ c.in-Ok.n = omega (arith, c.min.ensures, c.if-n-left.false) in
     let short = piece_short so_far.bytes buffer c.loop-n.left c.min.result so_far.count (omega (arith, c.min.ensures)) in
-    let read = c.in_ok-piece.ensures.done start first so_far.bytes short so_far.behind in
+    let read = c.in_ok-piece.ensures.done start first so_far.bytes short so_far.following in
     let t = taken_on start (g.F.Shelf.files c.loop-n.shelf) (g.S.Source.left c.args.source.now) _ (g.S.Source.left c.read.new.self) first _ last _ c.piece.new.self c.loop-n.left c.in-Ok.n c.min.result buffer so_far c.in-Ok.ensures.bytes.0
     (omega (arith, c.in-Ok.ensures.bound)) (omega (arith, c.if-n-left.false)) all read in
     let ended = c.in-Ok.ensures.bytes.1 (omega (arith, c.if-n-eq0.true)) (omega (arith, c.read.auto.buf, length-take c.min-room.result c.loop-n.buffer, c.min-room.ensures, c.min-room.array_long)) in
     let fits : length t.bytes ≤ max_script = omega (arith, t.count) in
     rw c.refused.ensures (record {
-      runs = λ files script at_hand told. ends_well _ files _ _ _ _ script t.bytes c.finish.new.self.runner told t.consumed ended fits
-          (c.in_ok-finish.ensures.done start files first t.bytes (c.piece.ensures.files_stay ∙ c.loop-n.invariant.files ∙ at_hand) (omega (arith, fits)) (rw c.piece.ensures.files_stay t.behind));
+      runs = λ files script at_hand reported. ends_well _ files _ _ _ _ script t.bytes c.finish.new.self.runner reported t.consumed ended fits
+          (c.in_ok-finish.ensures.done start files first t.bytes (c.piece.ensures.files_stay ∙ c.loop-n.invariant.files ∙ at_hand) (omega (arith, fits)) (rw c.piece.ensures.files_stay t.following));
       end = ended;
       taken = t.bytes;
       consumed = t.consumed;
@@ -167,7 +167,7 @@ returns-clause-runs g c =
     })
 
 pub returns-clause-world : goal.returns-clause-world
-returns-clause-world g c files script at_hand told =
+returns-clause-world g c files script at_hand reported =
     let start = carried_of c.args.run.now.runner.carrier in
     let first = trace (g.K.Sink.state c.args.sink.now) c.args.work.now (g.F.Shelf.fetches c.args.shelf.now) in
     let last = trace (g.K.Sink.state c.piece.new.sink) c.piece.new.work (g.F.Shelf.fetches c.piece.new.shelf) in
@@ -175,11 +175,11 @@ returns-clause-world g c files script at_hand told =
     let buffer = c.read.new.buf in
     let all : c.min.result ≡ c.in-Ok.n = omega (arith, c.min.ensures, c.if-n-left.false) in
     let short = piece_short so_far.bytes buffer c.loop-n.left c.min.result so_far.count (omega (arith, c.min.ensures)) in
-    let read = c.in_ok-piece.ensures.done start first so_far.bytes short so_far.behind in
+    let read = c.in_ok-piece.ensures.done start first so_far.bytes short so_far.following in
     let t = taken_on start (g.F.Shelf.files c.loop-n.shelf) (g.S.Source.left c.args.source.now) _ (g.S.Source.left c.read.new.self) first _ last _ c.piece.new.self c.loop-n.left c.in-Ok.n c.min.result buffer so_far c.in-Ok.ensures.bytes.0
     (omega (arith, c.in-Ok.ensures.bound)) (omega (arith, c.if-n-left.false)) all read in
     let ended = c.in-Ok.ensures.bytes.1 (omega (arith, c.if-n-eq0.true)) (omega (arith, c.read.auto.buf, length-take c.min-room.result c.loop-n.buffer, c.min-room.ensures, c.min-room.array_long)) in
     let fits : length t.bytes ≤ max_script = omega (arith, t.count) in
-    let whole = taken_by_end _ _ script t.bytes told t.consumed ended in
-    (c.in_ok-finish.ensures.done start files first t.bytes (c.piece.ensures.files_stay ∙ c.loop-n.invariant.files ∙ at_hand) (omega (arith, fits)) (rw c.piece.ensures.files_stay t.behind)).carried
+    let whole = taken_by_end _ _ script t.bytes reported t.consumed ended in
+    (c.in_ok-finish.ensures.done start files first t.bytes (c.piece.ensures.files_stay ∙ c.loop-n.invariant.files ∙ at_hand) (omega (arith, fits)) (rw c.piece.ensures.files_stay t.following)).carried
     ∙ ap (λ (bytes : List ℕ). (after_from start files (lines_of bytes)).carried) whole

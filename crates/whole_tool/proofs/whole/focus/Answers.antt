@@ -6,11 +6,11 @@ use Rattle.whole_tool.proofs.ToolLaws.{ends_whole, shelf_by_status, shelf_later,
 use Rattle.whole_tool.proofs.whole.focus.Goals as goal
 
 pub returns-clause-asks : goal.returns-clause-asks
-returns-clause-asks g c files script at_hand told =
+returns-clause-asks g c files script at_hand reported =
     let first = trace (g.K.Sink.state c.args.sink.now) c.args.work.now (g.F.Shelf.fetches c.args.shelf.now) in
     let last = trace (g.K.Sink.state c.ask.new.sink) c.ask.new.work (g.F.Shelf.fetches c.ask.new.shelf) in
     subst (AsksWith files script c.args.question (g.S.Source.left c.ask.new.source) first last) (sym c.status.ensures)
-    (asks_with files script c.args.question _ first last c.ask.result (c.ask.ensures.asks.asks files script at_hand told))
+    (asks_with files script c.args.question _ first last c.ask.result (c.ask.ensures.asks.asks files script at_hand reported))
 
 pub returns-clause-source_failed : goal.returns-clause-source_failed
 returns-clause-source_failed g c =

@@ -11,24 +11,24 @@ use Rattle.view_world.specs.world.World.{empty_world}
 use Rattle.whole_tool.proofs.whole.run.Goals as goal
 
 pub returns-clause-runs : goal.returns-clause-runs
-returns-clause-runs g c files script at_hand told =
+returns-clause-runs g c files script at_hand reported =
     let from : carried_of c.new-run.result.runner.carrier ≡ Alone empty_world = ap carried_of c.new-run.ensures.carrier ∙ c.alone.ensures.start in
     let runs = rw from at c.run_to_end.ensures.runs in
     let first = trace (g.K.Sink.state c.args.sink.now) c.args.work.now (g.F.Shelf.fetches c.args.shelf.now) in
     let last = trace (g.K.Sink.state c.run_to_end.new.sink) c.run_to_end.new.work (g.F.Shelf.fetches c.run_to_end.new.shelf) in
     let left = g.S.Source.left c.run_to_end.new.source in
     subst (RunsWith (Alone empty_world) files script left first.gone last.gone) (sym c.status.ensures)
-    (runs_with (Alone empty_world) files script left first last c.run_to_end.result (runs.runs files script at_hand told))
+    (runs_with (Alone empty_world) files script left first last c.run_to_end.result (runs.runs files script at_hand reported))
 
 pub returns-clause-works : goal.returns-clause-works
-returns-clause-works g c files script at_hand told =
+returns-clause-works g c files script at_hand reported =
     let from : carried_of c.new-run.result.runner.carrier ≡ Alone empty_world = ap carried_of c.new-run.ensures.carrier ∙ c.alone.ensures.start in
     let runs = rw from at c.run_to_end.ensures.runs in
     let first = trace (g.K.Sink.state c.args.sink.now) c.args.work.now (g.F.Shelf.fetches c.args.shelf.now) in
     let last = trace (g.K.Sink.state c.run_to_end.new.sink) c.run_to_end.new.work (g.F.Shelf.fetches c.run_to_end.new.shelf) in
     let left = g.S.Source.left c.run_to_end.new.source in
     subst (WorksWithFrom (Alone empty_world) files script left first last) (sym c.status.ensures)
-    (works_with (Alone empty_world) files script left first last c.run_to_end.result (runs.runs files script at_hand told))
+    (works_with (Alone empty_world) files script left first last c.run_to_end.result (runs.runs files script at_hand reported))
 
 pub returns-clause-source_failed : goal.returns-clause-source_failed
 returns-clause-source_failed g c =

@@ -11,24 +11,24 @@ use Rattle.whole_tool.proofs.ToolLaws.{ends_whole, runs_with, shelf_by_status, s
 use Rattle.whole_tool.proofs.whole.stack.Goals as goal
 
 pub returns-clause-runs : goal.returns-clause-runs
-returns-clause-runs g c files script at_hand told =
+returns-clause-runs g c files script at_hand reported =
     let from : carried_of c.new-run.result.runner.carrier ≡ Stacked empty_stack = ap carried_of c.new-run.ensures.carrier ∙ c.stacked.ensures.start in
     let runs = rw from at c.run_to_end.ensures.runs in
     let first = trace (g.K.Sink.state c.args.sink.now) c.args.work.now (g.F.Shelf.fetches c.args.shelf.now) in
     let last = trace (g.K.Sink.state c.run_to_end.new.sink) c.run_to_end.new.work (g.F.Shelf.fetches c.run_to_end.new.shelf) in
     let left = g.S.Source.left c.run_to_end.new.source in
     subst (RunsWith (Stacked empty_stack) files script left first.gone last.gone) (sym c.status.ensures)
-    (runs_with (Stacked empty_stack) files script left first last c.run_to_end.result (runs.runs files script at_hand told))
+    (runs_with (Stacked empty_stack) files script left first last c.run_to_end.result (runs.runs files script at_hand reported))
 
 pub returns-clause-works : goal.returns-clause-works
-returns-clause-works g c files script at_hand told =
+returns-clause-works g c files script at_hand reported =
     let from : carried_of c.new-run.result.runner.carrier ≡ Stacked empty_stack = ap carried_of c.new-run.ensures.carrier ∙ c.stacked.ensures.start in
     let runs = rw from at c.run_to_end.ensures.runs in
     let first = trace (g.K.Sink.state c.args.sink.now) c.args.work.now (g.F.Shelf.fetches c.args.shelf.now) in
     let last = trace (g.K.Sink.state c.run_to_end.new.sink) c.run_to_end.new.work (g.F.Shelf.fetches c.run_to_end.new.shelf) in
     let left = g.S.Source.left c.run_to_end.new.source in
     subst (WorksWithFrom (Stacked empty_stack) files script left first last) (sym c.status.ensures)
-    (works_with (Stacked empty_stack) files script left first last c.run_to_end.result (runs.runs files script at_hand told))
+    (works_with (Stacked empty_stack) files script left first last c.run_to_end.result (runs.runs files script at_hand reported))
 
 pub returns-clause-source_failed : goal.returns-clause-source_failed
 returns-clause-source_failed g c =

@@ -3,7 +3,7 @@ use Rattle.std.proofs.lemmas.Int.{to_z-of_z}
 use Rattle.linear_layout.proofs.LinedLaws.{total-lined}
 use Rattle.linear_layout.proofs.PlanLaws.{of_group, plan_of, total-is}
 use Rattle.linear_layout.specs.Line.{lined, own_in, specs_in}
-use Rattle.linear_layout.specs.LinearPlan.{StandsLine, weighed_by}
+use Rattle.linear_layout.specs.LinearPlan.{RepresentsLine, weighed_by}
 use Rattle.linear_layout.specs.Passes.{IsWeightPass}
 use Rattle.view_model.specs.declared.facts.Facts.{Facts}
 use Rattle.view_model.specs.LinearLayout.{linear_rule}
@@ -23,7 +23,7 @@ returns-in-Some c = λ own specs past taken s.
     let fits : FitsSigned w64 total = search rules in
     let ran : weighed_by plan.phase ≡ Some c.in-Some.pass = sym c.weighed.ensures ∙ c.in-Some.is in
     simp to_z-of_z
-    (of_group (λ (own : Facts) (specs : Specs). StandsLine plan own specs past taken → total ≡ (linear_rule own specs).total (past ++ taken ∷ []))
+    (of_group (λ (own : Facts) (specs : Specs). RepresentsLine plan own specs past taken → total ≡ (linear_rule own specs).total (past ++ taken ∷ []))
     plan (lined own) specs (plan_of plan (lined own) specs past taken s)
     (total-is plan (own_in plan.line) (specs_in plan.line) past taken total
     (λ first none f. none_some none ran)
@@ -36,7 +36,7 @@ returns-in-None c = λ own specs past taken s.
     let fits : FitsSigned w64 total = search rules in
     let not_ran : weighed_by plan.phase ≡ None = sym c.weighed.ensures ∙ c.in-None.is in
     simp to_z-of_z
-    (of_group (λ (own : Facts) (specs : Specs). StandsLine plan own specs past taken → total ≡ (linear_rule own specs).total (past ++ taken ∷ []))
+    (of_group (λ (own : Facts) (specs : Specs). RepresentsLine plan own specs past taken → total ≡ (linear_rule own specs).total (past ++ taken ∷ []))
     plan (lined own) specs (plan_of plan (lined own) specs past taken s)
     (total-is plan (own_in plan.line) (specs_in plan.line) past taken total
     (λ first none f. c.full_length-in-None.ensures.value first f)

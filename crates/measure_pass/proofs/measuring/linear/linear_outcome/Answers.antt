@@ -4,8 +4,8 @@ use Rattle.measure_pass.proofs.measuring.linear.linear_outcome.Goals as goal
 
 pub returns : goal.returns
 returns c = record {
-  size = λ group past taken stands. rw stands.0 (c.finish.ensures.value group.own group.specs past taken stands.1);
-  total = λ group past taken stands.
+  size = λ group past taken represents. rw represents.0 (c.finish.ensures.value group.own group.specs past taken represents.1);
+  total = λ group past taken represents.
       let fits : FitsSigned w64 c.total.result = search rules in
-      simp to_z-of_z (rw stands.0 (c.total.ensures group.own group.specs past taken stands.1));
+      simp to_z-of_z (rw represents.0 (c.total.ensures group.own group.specs past taken represents.1));
 }

@@ -3,6 +3,6 @@ use Rattle.measure_pass.proofs.measuring.scroll.scroll_size.Goals as goal
 
 pub returns : goal.returns
 returns c = record {
-  size = λ group past taken stands. rw stands.0 (c.finish.ensures.value group.own group.specs past taken stands.1);
-  total = λ group past taken stands. rw stands.0 refl;
+  size = λ group past taken represents. rw represents.0 (c.finish.ensures.value group.own group.specs past taken represents.1);
+  total = λ group past taken represents. rw represents.0 refl;
 }

@@ -5,7 +5,7 @@ use Rattle.relative_layout.proofs.parts.Search.finish.Goals as goal
 
 pub loop-place-init : goal.loop-place-init
 loop-place-init c = record {
-  settles = Settles-none c.has_two-two.result c.args.count c.args.start c.args.self.now.path.items c.args.self.now.standing.items c.args.self.now.members.items;
+  settles = Settles-none c.has_two-two.result c.args.count c.args.start c.args.self.now.path.items c.args.self.now.status.items c.args.self.now.members.items;
   path = refl;
   parts = refl;
   todo = refl;
@@ -20,9 +20,9 @@ loop-place-preserved c =
     let settle = c.settle.ensures in
     let here : c.loop-place.place < length old.path.items = omega (arith, c.loop-place-test.true, c.len-place-end.ensures, old.path.ok.0) in
     record {
-      settles = Settles-next c.has_two-two.result c.args.count c.args.start c.loop-place.place old.path.items old.standing.items mid.standing.items new.standing.items old.members.items mid.members.items new.members.items
+      settles = Settles-next c.has_two-two.result c.args.count c.args.start c.loop-place.place old.path.items old.status.items mid.status.items new.status.items old.members.items mid.members.items new.members.items
           c.loop-place.auto.place (c.requires.inside c.loop-place.place here) c.requires.members
-          (rw kept.path at settle.standing) (rw kept.path at settle.marked) settle.one (rw kept.path at settle.id) kept.settles;
+          (rw kept.path at settle.status) (rw kept.path at settle.marked) settle.one (rw kept.path at settle.id) kept.settles;
       path = settle.path ∙ kept.path;
       parts = settle.parts ∙ kept.parts;
       todo = settle.todo ∙ kept.todo;

@@ -4,7 +4,7 @@ use Rattle.relative_layout.proofs.parts.Search.finish.Given as goal
 
 abbrev pub invariant-loop-place : goal.invariant-loop-place
 invariant-loop-place l = record {
-  settles : Settles l.two l.count l.start l.place l.fn.self.path.items l.fn.self.standing.items l.self.standing.items l.fn.self.members.items l.self.members.items;
+  settles : Settles l.two l.count l.start l.place l.fn.self.path.items l.fn.self.status.items l.self.status.items l.fn.self.members.items l.self.members.items;
   path : l.self.path ≡ l.fn.self.path;
   parts : l.self.parts ≡ l.fn.self.parts;
   todo : l.self.todo ≡ l.fn.self.todo;

@@ -5,7 +5,7 @@ use Rattle.relative_layout.specs.Parts.{begins_after}
 use Rattle.relative_layout.proofs.parts.Search.join.Goals as goal
 
 pub loop-self-init : goal.loop-self-init
-loop-self-init c = record { joins = Joins-none c.args.place c.args.self.now.parts.items; standing = refl; path = refl; todo = refl; members = refl }
+loop-self-init c = record { joins = Joins-none c.args.place c.args.self.now.parts.items; status = refl; path = refl; todo = refl; members = refl }
 
 pub loop-self-preserved : goal.loop-self-preserved
 loop-self-preserved c =
@@ -15,7 +15,7 @@ loop-self-preserved c =
     let size : vec_len mid ≡ length mid.items = omega (arith, mid.ok.0) in
     record {
       joins = Joins-more c.args.place c.args.self.now.parts.items mid.items c.pop.new.self.items later (c.pop.ensures.rest ∙ ap (λ n. take (n - 1) mid.items) size) kept.joins;
-      standing = kept.standing;
+      status = kept.status;
       path = kept.path;
       todo = kept.todo;
       members = kept.members;

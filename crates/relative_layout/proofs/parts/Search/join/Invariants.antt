@@ -5,7 +5,7 @@ use Rattle.relative_layout.proofs.parts.Search.join.Given as goal
 abbrev pub invariant-loop-self : goal.invariant-loop-self
 invariant-loop-self l = record {
   joins : Joins l.place l.fn.self.parts.items l.self.parts.items;
-  standing : l.self.standing ≡ l.fn.self.standing;
+  status : l.self.status ≡ l.fn.self.status;
   path : l.self.path ≡ l.fn.self.path;
   todo : l.self.todo ≡ l.fn.self.todo;
   members : l.self.members ≡ l.fn.self.members;

@@ -28,7 +28,7 @@ returns-then-len-part-clause-effort c =
     let old = c.args.self.now in
     let finish = c.finish.ensures in
     rw (finish.todo, finish.parts)
-    (effort-leave (lists_of c.args.naming.now.namers.items) old.standing.items c.finish.new.self.standing.items (length old.todo.items) old.parts.items finish.leaves.settles.fewer_fresh c.requires.last.some)
+    (effort-leave (lists_of c.args.naming.now.namers.items) old.status.items c.finish.new.self.status.items (length old.todo.items) old.parts.items finish.leaves.settles.fewer_fresh c.requires.last.some)
 
 pub look_at-requires-clause-point : goal.look_at-requires-clause-point
 look_at-requires-clause-point c =
@@ -44,7 +44,7 @@ look_at-requires-clause-search c =
     let old = c.args.self.now in
     let is = c.take_next-point.ensures in
     let more : c.args.part.todo < length old.todo.items = omega (arith, c.if-len-part.false, c.len.ensures, old.todo.ok.0) in
-    IsSearching-next c.args.kids.now c.args.naming.now old c.take_next-point.new.self c.args.part c.take_next-point.result c.requires.last more is.todo is.standing is.path is.parts is.members c.requires.search
+    IsSearching-next c.args.kids.now c.args.naming.now old c.take_next-point.new.self c.args.part c.take_next-point.result c.requires.last more is.todo is.status is.path is.parts is.members c.requires.search
 
 pub look_at-requires-clause-led : goal.look_at-requires-clause-led
 look_at-requires-clause-led c =
@@ -60,5 +60,5 @@ returns-clause-effort c =
     let new = c.look_at.new.self in
     let is = c.take_next-point.ensures in
     let longer : length old.todo.items ≡ length next.todo.items + 1 = ap length is.todo ∙ length-append next.todo.items (c.take_next-point.result ∷ []) in
-    let less = rw (is.standing, is.parts) at c.in_ok-look_at.ensures.effort in
-    rw longer (effort-next (lists_of c.args.naming.now.namers.items) old.standing.items new.standing.items (length next.todo.items) (length new.todo.items) (length old.parts.items) (length new.parts.items) less)
+    let less = rw (is.status, is.parts) at c.in_ok-look_at.ensures.effort in
+    rw longer (effort-next (lists_of c.args.naming.now.namers.items) old.status.items new.status.items (length next.todo.items) (length new.todo.items) (length old.parts.items) (length new.parts.items) less)

@@ -6,9 +6,9 @@ use Rattle.res_values.proofs.resources.Resources.define.Goals as goal
 
 pub returns-in_err-may_define-clause-refused : goal.returns-in_err-may_define-clause-refused
 returns-in_err-may_define-clause-refused c =
-    let told = refusal_is c.self.inside.values.entries c.args.self.now c.args.id c.len.result c.get.result c.self.view_is c.len.ensures.len c.get.ensures.value
+    let reported = refusal_is c.self.inside.values.entries c.args.self.now c.args.id c.len.result c.get.result c.self.view_is c.len.ensures.len c.get.ensures.value
     ∙ ap (definition_refusal c.len.result) (sym c.is_some.ensures) ∙ c.in_err-may_define.ensures in
-    refused_as _ c.in_err-may_define.field-0.0 c.from_residual.result told c.from_residual.ensures.1
+    refused_as _ c.in_err-may_define.field-0.0 c.from_residual.result reported c.from_residual.ensures.1
 
 pub returns-in_err-insert-clause-refused : goal.returns-in_err-insert-clause-refused
 returns-in_err-insert-clause-refused c =

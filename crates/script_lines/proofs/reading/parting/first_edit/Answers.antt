@@ -9,8 +9,8 @@ use Rattle.script_lines.proofs.reading.parting.first_edit.Goals as goal
 pub loop-word-init : goal.loop-word-init
 loop-word-init c = record { within = omega arith; edit = one_edit_start c.args.bytes.now }
 
-pub overflow_sub-behind : goal.overflow_sub-behind
-overflow_sub-behind c = (word_read c.args.bytes.now c.loop-word.at c.in-Ok.word.now c.in-Ok.rest.now c.loop-word.invariant.within c.in-Ok.ensures.value c.in-Ok.ensures.rest).within
+pub overflow_sub-following : goal.overflow_sub-following
+overflow_sub-following c = (word_read c.args.bytes.now c.loop-word.at c.in-Ok.word.now c.in-Ok.rest.now c.loop-word.invariant.within c.in-Ok.ensures.value c.in-Ok.ensures.rest).within
 
 pub returns-then-is-clause-cut : goal.returns-then-is-clause-cut
 returns-then-is-clause-cut c =

@@ -46,9 +46,9 @@ plant-key-requires-clause-sound c =
     planted-fields a (sound-room c.self.inside a c.make_room.ensures.nodes c.make_room.ensures.keys c.make_room.ensures.ids refl refl refl refl c.self.invariant.planted)
 
 pub join_group-requires-clause-few : goal.join_group-requires-clause-few
-join_group-requires-clause-few c = λ k told.
+join_group-requires-clause-few c = λ k reported.
     few_at (group_at c.make_group_room.new.groups) c.args.self.now c.args.parent (is_tree c.self.inside c.args.self.now c.self.invariant.planted c.self.view_is) c.requires.live
-    (grouped (goal.at.join_group-requires-clause-few c).After-branch-make_group_room) k (sym c.group_number-group.ensures ∙ told)
+    (grouped (goal.at.join_group-requires-clause-few c).After-branch-make_group_room) k (sym c.group_number-group.ensures ∙ reported)
 
 came : (c : After-plant-key) → value_of (record c.self.inside { nodes = c.make_room.new.nodes; keys = c.make_room.new.keys; ids = c.make_room.new.ids; groups = c.make_group_room.new.groups }) ≡ c.args.self.now
     → (new : Views) → new ≡ record (represented c.plant-key.new.self) { orders = new.orders; counts = new.counts }
@@ -79,8 +79,8 @@ invariant_of-self-2 c =
           grouped-attached c.args.self.now (value_of b) c.args.parent (running_below c.args.parent c.args.self.now.tree (record { number = c.self.inside.next; class = c.args.class; facts = c.args.facts; text = c.args.text }))
           (group_at c.make_group_room.new.groups) (group_at c.join_group.new.groups) (is_tree c.self.inside c.args.self.now c.self.invariant.planted c.self.view_is) c.requires.live number
           c.requires.unnamed.0 c.requires.unnamed.1 c.join_group.ensures.own
-          (λ k told other. c.join_group.ensures.parent k (c.group_number-group.ensures ∙ told) other)
-          (λ k apart other. c.join_group.ensures.others k (λ told. apart (sym c.group_number-group.ensures ∙ told)) other)
+          (λ k reported other. c.join_group.ensures.parent k (c.group_number-group.ensures ∙ reported) other)
+          (λ k apart other. c.join_group.ensures.others k (λ reported. apart (sym c.group_number-group.ensures ∙ reported)) other)
           (rw number (came at.After-plant-key (same room) (value_of b) refl).plain)
           (grouped room);
       only =
@@ -95,7 +95,7 @@ pub returns-clause-orders : goal.returns-clause-orders
 returns-clause-orders c = λ k apart other.
     let number : c.self.inside.next ≡ c.args.self.now.next = ap (λ (v : Views). v.next) c.self.view_is in
     orders_kept c.self.inside.groups.entries c.join_group.new.groups.entries k
-    (c.join_group.ensures.others k (λ told. apart (sym c.group_number-group.ensures ∙ told)) (λ same. other (same ∙ number)) ∙ c.make_group_room.ensures.groups k)
+    (c.join_group.ensures.others k (λ reported. apart (sym c.group_number-group.ensures ∙ reported)) (λ same. other (same ∙ number)) ∙ c.make_group_room.ensures.groups k)
     ∙ ap (λ (v : Views). orders_under v k) c.self.view_is
 
 pub returns-clause-attached : goal.returns-clause-attached

@@ -6,7 +6,7 @@ use Rattle.view_tree.proofs.tree.ViewTree.child_or_none.Goals as goal
 pub returns-in-None-clause-value : goal.returns-in-None-clause-value
 returns-in-None-clause-value c = λ id holder.
     sym (when_not c.self.inside c.args.self.now c.args.view c.args.only id c.parent.result c.self.invariant.planted c.self.view_is c.requires.live holder c.parent.ensures.path
-    (λ told. let none : None ≡ Some c.args.view = sym c.in-None.is ∙ told in cc))
+    (λ reported. let none : None ≡ Some c.args.view = sym c.in-None.is ∙ reported in cc))
 
 pub returns-then-parent-view-clause-value : goal.returns-then-parent-view-clause-value
 returns-then-parent-view-clause-value c = λ id holder.
@@ -16,4 +16,4 @@ returns-then-parent-view-clause-value c = λ id holder.
 pub returns-else-parent-view-clause-value : goal.returns-else-parent-view-clause-value
 returns-else-parent-view-clause-value c = λ id holder.
     sym (when_not c.self.inside c.args.self.now c.args.view c.args.only id c.parent.result c.self.invariant.planted c.self.view_is c.requires.live holder c.parent.ensures.path
-    (λ told. c.if-parent-view.false (some_is (sym c.in-Some.is ∙ told))))
+    (λ reported. c.if-parent-view.false (some_is (sym c.in-Some.is ∙ reported))))

@@ -22,8 +22,8 @@ order-requires c =
     let size = ap length (c.deref.ensures.value ∙ c.in-Ok.ensures) in
     record { few = omega arith }
 
-pub told-requires-clause-inside : goal.told-requires-clause-inside
-told-requires-clause-inside c = λ p small.
+pub reported-requires-clause-inside : goal.reported-requires-clause-inside
+reported-requires-clause-inside c = λ p small.
     let size = ap length (c.deref.ensures.value ∙ c.in-Ok.ensures) in
     let numbers = length-each (link_or c.number.result c.args.link) (views_of (children_of_first (part_from c.in-Some.parent c.args.self.now.tree))) in
     let same = c.deref-in-Err-Cycle.ensures.value in

@@ -36,16 +36,16 @@ pub loop-next-preserved : goal.loop-next-preserved
 loop-next-preserved t c =
     let tree = c.args.tree.now.tree in
     let kid = c.in-Some.kid in
-    let behind = numbers_in (later_siblings (part_from kid tree)) in
+    let following = numbers_in (later_siblings (part_from kid tree)) in
     let i = rw c.in-Some.is at c.loop-next.invariant in
     let next = c.next-next.ensures in
     let forgot = c.forget.ensures in
     record {
       walk = walk_on tree (children_of_first (part_from c.args.view tree)) kid c.next-next.result i.walk next.part next.live;
-      hooks = rw next.part (ap (all_disarmed behind) forgot.hooks ∙ disarmed_list kid tree i.walk.live c.loop-next.hooks ∙ i.hooks);
-      gesture = rw next.part (ap (all_closed behind) forgot.gesture ∙ closed_list kid tree i.walk.live (gesture_of c.loop-next.gesture) ∙ i.gesture);
+      hooks = rw next.part (ap (all_disarmed following) forgot.hooks ∙ disarmed_list kid tree i.walk.live c.loop-next.hooks ∙ i.hooks);
+      gesture = rw next.part (ap (all_closed following) forgot.gesture ∙ closed_list kid tree i.walk.live (gesture_of c.loop-next.gesture) ∙ i.gesture);
       opened = λ other. rw next.part (
-          ap (λ (b : Bool). b && not (is_among other behind)) (forgot.opened other)
+          ap (λ (b : Bool). b && not (is_among other following)) (forgot.opened other)
           ∙ open_list kid tree i.walk.live other (is_open c.loop-next.gesture other)
           ∙ i.opened other);
     }

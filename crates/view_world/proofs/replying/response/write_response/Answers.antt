@@ -1,5 +1,5 @@
 use Rattle.text_lines.proofs.Sending.{delivered}
-use Rattle.view_world.proofs.printed.ResponseLaws.{nothing_told}
+use Rattle.view_world.proofs.printed.ResponseLaws.{nothing_reported}
 use Rattle.view_world.proofs.replying.response.write_response.Goals as goal
 
 pub returns-clause-delivered : goal.returns-clause-delivered
@@ -7,4 +7,4 @@ returns-clause-delivered g c = delivered c.finish.result c.restart.ensures c.put
 
 pub returns-clause-silent : goal.returns-clause-silent
 returns-clause-silent g c e =
-    absurd (let says = nothing_told c.args.source.now.tree.now c.args.source.now.surface.now c.args.source.now.log.now.entries.items c.args.source.now.saved.now c.args.response c.requires e in let a = c.is_nothing.ensures in let b = c.if-is_nothing.false in cc)
+    absurd (let says = nothing_reported c.args.source.now.tree.now c.args.source.now.surface.now c.args.source.now.log.now.entries.items c.args.source.now.saved.now c.args.response c.requires e in let a = c.is_nothing.ensures in let b = c.if-is_nothing.false in cc)

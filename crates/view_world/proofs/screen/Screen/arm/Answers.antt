@@ -50,6 +50,6 @@ returns-clause-keeps c =
     elim c.match-arm.branch [
       | in-Ok w ↦
           subst P (sym w.result-is) (subst (λ (s : KeyedScreen). KeepsBut Leaves [] [] [] s new) c.self.view_is
-          (armed_keeps old c.arm.new.self (record { view = number; reported = c.size_at-reported.result; edits = c.args.edits.now.items }) c.tell_tree.ensures w.in-Ok.ensures.hooks size))
+          (armed_keeps old c.arm.new.self (record { view = number; reported = c.size_at-reported.result; edits = c.args.edits.now.items }) c.recall_tree.ensures w.in-Ok.ensures.hooks size))
       | in-Err w ↦ subst P (sym w.result-is) tt
     ]

@@ -8,7 +8,7 @@ use Rattle.touch_dispatch.specs.Kept.{gesture_of}
 use Rattle.view_world.specs.screen.Changed.{CarriesOut}
 use Rattle.view_world.specs.screen.KeyedScreen.{KeyedScreen, world_of}
 use Rattle.view_world.specs.screen.Sound.{keyed}
-use Rattle.view_world.specs.world.Step.{disallow_told, Refused}
+use Rattle.view_world.specs.world.Step.{disallow_reported, Refused}
 use Rattle.view_world.specs.touching.Touching.{ancestors_of}
 use Rattle.view_world.specs.declared.fault.StepFault.TheVariants as fault
 use Rattle.view_world.specs.declared.replying.response.Response.TheVariants as response
@@ -23,7 +23,7 @@ returns-then-not-is_group-clause-changed c =
     let there = number_there tree view c.class.ensures.is_tree c.in_ok-view.ensures.0 in
     let no_group : is_group (view_at tree view).class ≡ false = ap is_group (sym c.class.ensures.value) ∙ sym c.is_group.ensures ∙ c.if-not-is_group.true in
     Changed-on tree c.args.self.now c.args.self.now c.args.view view _ (Err (fault.Refused c.plain.result)) (ap (λ (w : KeyedScreen). w.views) c.self.view_is) c.in_ok-view.ensures.1
-    (subst (λ (w : KeyedScreen). disallow_told (world_of w) (number_of w.views view) c.args.on (view_in (plain_of w.views) (number_of w.views view)) ≡ Refused (plain_refusal c.plain.result)) c.self.view_is
+    (subst (λ (w : KeyedScreen). disallow_reported (world_of w) (number_of w.views view) c.args.on (view_in (plain_of w.views) (number_of w.views view)) ≡ Refused (plain_refusal c.plain.result)) c.self.view_is
     (Refused-disallow (keyed c.self.inside) (number_of tree view) c.args.on (view_at tree view) there no_group ∙ ap Refused (sym c.plain.ensures)))
 
 pub invariant_of-self : goal.invariant_of-self
@@ -53,5 +53,5 @@ returns-clause-changed c =
     let there = number_there tree view c.class.ensures.is_tree c.in_ok-view.ensures.0 in
     let group : is_group (view_at tree view).class ≡ true = ap is_group (sym c.class.ensures.value) ∙ sym c.is_group.ensures ∙ c.if-not-is_group.false in
     Changed-on tree c.args.self.now new c.args.view view _ (Ok response.Nothing) (ap (λ (w : KeyedScreen). w.views) c.self.view_is) c.in_ok-view.ensures.1
-    (subst (λ (w : KeyedScreen). CarriesOut (disallow_told (world_of w) (number_of w.views view) c.args.on (view_in (plain_of w.views) (number_of w.views view))) new (Ok response.Nothing)) c.self.view_is
+    (subst (λ (w : KeyedScreen). CarriesOut (disallow_reported (world_of w) (number_of w.views view) c.args.on (view_in (plain_of w.views) (number_of w.views view))) new (Ok response.Nothing)) c.self.view_is
     (Changed-disallow old c.disallow_from.new.gesture (number_of tree view) c.args.on (view_at tree view) there group c.disallow_from.ensures.gesture))

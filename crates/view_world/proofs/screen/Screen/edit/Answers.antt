@@ -48,5 +48,5 @@ returns-clause-keeps c =
     let made = subst (λ (w : KeyedScreen). IsEdit w.views c.args.edit) (sym c.self.view_is) c.requires.edit in
     responded (KeepsEdit c.args.edit c.args.self.now new) c.change-made.result c.respond.result c.respond.ensures
     (subst (λ (w : KeyedScreen). OnOk c.change-made.result (KeepsEdit c.args.edit w new)) c.self.view_is
-    (edit_keeps old c.change-made.new.tree c.change-made.new.damage.rect c.args.edit c.change-made.result c.tell_tree.ensures made c.change-made.ensures.applied c.change-made.ensures.kept c.change-made.ensures.asked c.change-made.ensures.measures c.requires.leaves
-    (ok_any c.change-made.result c.tell_tree-2.ensures) (rw c.size-window.ensures.value at c.change-made.ensures.within) (λ unseen. ap (λ (damage : Damage). damage.rect) (c.change-made.ensures.unseen unseen))))
+    (edit_keeps old c.change-made.new.tree c.change-made.new.damage.rect c.args.edit c.change-made.result c.recall_tree.ensures made c.change-made.ensures.applied c.change-made.ensures.kept c.change-made.ensures.asked c.change-made.ensures.measures c.requires.leaves
+    (ok_any c.change-made.result c.recall_tree-2.ensures) (rw c.size-window.ensures.value at c.change-made.ensures.within) (λ unseen. ap (λ (damage : Damage). damage.rect) (c.change-made.ensures.unseen unseen))))

@@ -40,7 +40,7 @@ invariant_of-self-then-is_err c =
     let sound = c.self.invariant in
     let tree = failed (c.apply-made.new.tree ≡ a.tree) c.apply-made.result c.if-is_err.ensures.value c.apply-made.ensures.unchanged in
     let gesture =
-    place_back a.tree a.gesture c.open.new.self c.close.new.self c.next_number-number.result c.tell_tree.ensures sound.caught sound.closed c.next_number-number.ensures
+    place_back a.tree a.gesture c.open.new.self c.close.new.self c.next_number-number.result c.recall_tree.ensures sound.caught sound.closed c.next_number-number.ensures
     c.in_ok-open.ensures.added c.in_ok-open.ensures.unknown c.close.ensures.last in
     let room = c.in_ok-reserve.ensures.room in
     let len = c.len.ensures.value in
@@ -59,7 +59,7 @@ invariant_of-self-else-is_err c =
     λ other. c.in_ok-open.ensures.opened other ∙ ap (λ n. is_open a.gesture other || other == n) c.next_number-number.ensures in
     let room = c.in_ok-reserve.ensures.room in
     let len = c.len.ensures.value in
-    sound_grown a c.apply-made.new.tree c.open.new.self c.reserve.new.self c.args.parent c.args.class width height c.self.invariant c.tell_tree.ensures addable
+    sound_grown a c.apply-made.new.tree c.open.new.self c.reserve.new.self c.args.parent c.args.class width height c.self.invariant c.recall_tree.ensures addable
     (c.apply-made.ensures.consistent c.self.invariant.consistent) keeps
     (grown_as a.tree c.apply-made.new.tree c.args.parent c.args.class width height c.apply-made.result ok c.apply-made.ensures.applied)
     c.open.ensures.gesture opened (omega (arith, room, len))
@@ -67,7 +67,7 @@ invariant_of-self-else-is_err c =
     (offsets_edited a.tree c.apply-made.new.tree (edit.Add c.args.parent c.args.class width height) c.apply-made.result tt c.apply-made.ensures.applied c.apply-made.ensures.unchanged sound.offsets)
     (shown_come (size_of a.surface) a.damage.rect a.tree c.apply-made.new.tree (option_map (number_of a.tree) c.args.parent)
     (single (running (rtl_at (option_map (number_of a.tree) c.args.parent) (plain_of a.tree)) (new_view a.tree.next c.args.class width height)))
-    (nowhere_next a.tree a.tree.next c.tell_tree.ensures (omega arith), tt, tt) (plain_root a.tree c.args.parent (addable_root a.tree c.args.parent addable))
+    (nowhere_next a.tree a.tree.next c.recall_tree.ensures (omega arith), tt, tt) (plain_root a.tree c.args.parent (addable_root a.tree c.args.parent addable))
     (grown_as a.tree c.apply-made.new.tree c.args.parent c.args.class width height c.apply-made.result ok c.apply-made.ensures.applied)
     (grown_nowhere a.tree c.apply-made.new.tree c.args.parent c.args.class width height c.apply-made.result ok c.apply-made.ensures.applied))
 
@@ -79,7 +79,7 @@ returns-clause-unchanged c =
           let sound = c.self.invariant in
           let tree = failed (c.apply-made.new.tree ≡ a.tree) c.apply-made.result w.if-is_err.ensures.value c.apply-made.ensures.unchanged in
           let gesture =
-          place_back a.tree a.gesture c.open.new.self w.close.new.self c.next_number-number.result c.tell_tree.ensures sound.caught sound.closed c.next_number-number.ensures
+          place_back a.tree a.gesture c.open.new.self w.close.new.self c.next_number-number.result c.recall_tree.ensures sound.caught sound.closed c.next_number-number.ensures
           c.in_ok-open.ensures.added c.in_ok-open.ensures.unknown w.close.ensures.last in
           on_err (c.if-is_err.self ≡ c.args.self.now) c.respond.result
           (w.self-is ∙ same_world (keyed a) c.apply-made.new.tree w.close.new.self c.reserve.new.self.entries.items tree gesture c.reserve.ensures.same ∙ c.self.view_is)
@@ -94,10 +94,10 @@ returns-clause-changed c =
     let made = Add (option_map (number_of a.tree) c.args.parent) c.args.class c.args.width c.args.height in
     let wide = to_z w32 (of_z w32 c.args.width) in
     let high = to_z w32 (of_z w32 c.args.height) in
-    let told = λ (width : ℤ) (height : ℤ). CarriesOut (after_edit (world_of old) (Add (option_map (number_of a.tree) c.args.parent) c.args.class width height)) now (response_of c.apply-made.result) in
-    let changed : told c.args.width c.args.height =
-    subst (told c.args.width) (to_z-of_z w32 c.args.height c.ranges.height)
-    (subst (λ width. told width high) (to_z-of_z w32 c.args.width c.ranges.width)
+    let reported = λ (width : ℤ) (height : ℤ). CarriesOut (after_edit (world_of old) (Add (option_map (number_of a.tree) c.args.parent) c.args.class width height)) now (response_of c.apply-made.result) in
+    let changed : reported c.args.width c.args.height =
+    subst (reported c.args.width) (to_z-of_z w32 c.args.height c.ranges.height)
+    (subst (λ width. reported width high) (to_z-of_z w32 c.args.width c.ranges.width)
     (Changed-edit (keyed a) a.stage a.tree c.apply-made.new.tree (Add (option_map (number_of a.tree) c.args.parent) c.args.class wide high) c.apply-made.result c.apply-made.ensures.applied)) in
     subst (λ (w : KeyedScreen). CarriesOut (after_edit (world_of w) (Add (option_map (number_of w.views) c.args.parent) c.args.class c.args.width c.args.height)) c.if-is_err.self c.respond.result) c.self.view_is
     (subst (λ (r : Result Response StepFault). CarriesOut (after_edit (world_of old) made) c.if-is_err.self r) (sym c.respond.ensures)
@@ -117,11 +117,11 @@ returns-clause-keeps c =
     let P : KeyedScreen → KeyedScreen → Type 0 = λ w new. OnOk c.respond.result (KeepsEdit made w new) in
     subst (λ (w : KeyedScreen). P w c.if-is_err.self) c.self.view_is (elim c.if-is_err.branch [
       | then-is_err w ↦
-          let new : KeyedScreen = record old { views = c.apply-made.new.tree; gesture = w.close.new.self; told = c.reserve.new.self.entries.items } in
+          let new : KeyedScreen = record old { views = c.apply-made.new.tree; gesture = w.close.new.self; reported = c.reserve.new.self.entries.items } in
           subst (P old) (sym w.self-is)
-          (ok_any c.respond.result (loud_keeps old new a.tree made refl c.tell_tree.ensures addable (scrolls_none a.tree) c.apply-made.ensures.asked c.apply-made.ensures.measures (λ box lies seen. lies) refl refl))
+          (ok_any c.respond.result (loud_keeps old new a.tree made refl c.recall_tree.ensures addable (scrolls_none a.tree) c.apply-made.ensures.asked c.apply-made.ensures.measures (λ box lies seen. lies) refl refl))
       | else-is_err w ↦
-          let new : KeyedScreen = record old { views = c.apply-made.new.tree; gesture = c.open.new.self; told = c.reserve.new.self.entries.items } in
+          let new : KeyedScreen = record old { views = c.apply-made.new.tree; gesture = c.open.new.self; reported = c.reserve.new.self.entries.items } in
           subst (P old) (sym w.self-is)
-          (ok_any c.respond.result (loud_keeps old new a.tree made refl c.tell_tree.ensures addable (scrolls_none a.tree) c.apply-made.ensures.asked c.apply-made.ensures.measures (λ box lies seen. lies) refl refl))
+          (ok_any c.respond.result (loud_keeps old new a.tree made refl c.recall_tree.ensures addable (scrolls_none a.tree) c.apply-made.ensures.asked c.apply-made.ensures.measures (λ box lies seen. lies) refl refl))
     ])

@@ -11,7 +11,7 @@ use Rattle.view_world.specs.screen.KeyedScreen.{KeyedScreen, world_of}
 use Rattle.view_world.specs.screen.Sound.{keyed}
 use Rattle.view_world.specs.world.Step.{after_event}
 use Rattle.view_world.specs.declared.replying.response.Response.TheVariants as response
-use Rattle.view_world.proofs.touches.EventLaws.{delivered, handed, room_cleared, sound_scrolled}
+use Rattle.view_world.proofs.touches.EventLaws.{delivered, forwarded, room_cleared, sound_scrolled}
 use Rattle.view_world.proofs.frames.SeenLaws.{scrolled_seen}
 use Rattle.view_world.specs.frames.Seen.{deliveries_of, scrolled_in}
 use Rattle.view_world.proofs.states.OffsetLaws.{offsets_scrolled}
@@ -48,11 +48,11 @@ returns-clause-changed c =
       damage = c.note_scrolled.new.damage.rect;
       gesture = c.dispatch-yes.new.gesture;
       pointers = c.set_points.new.all.items;
-      told = c.dispatch-yes.new.log.entries.items;
+      reported = c.dispatch-yes.new.log.entries.items;
     } in
     subst (λ (points : List Point). CarriesOut (after_event (world_of c.args.self.now) c.args.event.now points) now (Ok (response.Deliveries (Some c.dispatch-yes.result)))) c.set_points.ensures
     (subst (λ (w : KeyedScreen). CarriesOut (after_event (world_of w) c.args.event.now c.set_points.new.all.items) now (Ok (response.Deliveries (Some c.dispatch-yes.result)))) c.self.view_is
-    (handed old c.dispatch-yes.new.tree c.dispatch-yes.new.gesture c.clear.new.self c.dispatch-yes.new.log _ c.args.event.now c.set_points.new.all.items c.dispatch-yes.result
+    (forwarded old c.dispatch-yes.new.tree c.dispatch-yes.new.gesture c.clear.new.self c.dispatch-yes.new.log _ c.args.event.now c.set_points.new.all.items c.dispatch-yes.result
     c.dispatch-yes.ensures.is_tree (ap (λ (w : KeyedScreen). w.stage) c.self.view_is ∙ c.requires.settled) (to_z-of_z w32 c.slop_at.result fits ∙ c.slop_at.ensures) c.clear.ensures.entries
     c.dispatch-yes.ensures.dispatched c.dispatch-yes.ensures.scrolls))
 
@@ -65,14 +65,14 @@ returns-clause-keeps c =
       damage = c.note_scrolled.new.damage.rect;
       gesture = c.dispatch-yes.new.gesture;
       pointers = c.set_points.new.all.items;
-      told = c.dispatch-yes.new.log.entries.items;
+      reported = c.dispatch-yes.new.log.entries.items;
     } in
     let event = c.args.event.now in
-    let told : deliveries_of (world_of old) event ≡ now.told =
+    let reported : deliveries_of (world_of old) event ≡ now.reported =
     delivered old c.dispatch-yes.new.tree c.dispatch-yes.new.gesture c.clear.new.self c.dispatch-yes.new.log _ event c.dispatch-yes.result c.dispatch-yes.ensures.is_tree
     (ap (λ (w : KeyedScreen). w.stage) c.self.view_is ∙ c.requires.settled) (to_z-of_z w32 c.slop_at.result fits ∙ c.slop_at.ensures) c.clear.ensures.entries c.dispatch-yes.ensures.dispatched in
     let numbers = scrolled_in (deliveries_of (world_of old) event) in
-    let same : scrolled_in now.told ≡ numbers = ap scrolled_in (sym told) in
+    let same : scrolled_in now.reported ≡ numbers = ap scrolled_in (sym reported) in
     subst (λ (w : KeyedScreen). KeepsBut Touches [] [] (scrolled_in (deliveries_of (world_of w) event)) w now) c.self.view_is
     (scrolls_keep [] [] numbers old now c.dispatch-yes.ensures.scrolls refl refl refl
     (λ box lies seen. (rw c.size.ensures.value at c.note_scrolled.ensures.within) box lies (scrolled_seen old now box c.note_scrolled.ensures.is_tree refl (subst (λ (numbers : List ℕ). AreSeenIn box numbers old now) (sym same) seen))) same)

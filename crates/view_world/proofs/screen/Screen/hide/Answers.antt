@@ -46,28 +46,28 @@ returns-clause-changed c =
     let mid = keyed c.self.inside in
     let now : KeyedScreen = record mid { views = c.change.new.tree } in
     let progress = leaving (world_of old) (number_of old.views c.args.view) in
-    let same : SameTree old.views mid.views = subst (λ (w : KeyedScreen). SameTree old.views w.views) (sym c.self.view_is) c.tell_leaving.ensures.same in
-    let world : world_of mid ≡ after_progress (world_of old) progress = ap world_of c.self.view_is ∙ c.tell_leaving.ensures.world in
-    let told : mid.told ≡ progress.entries = ap (λ (w : KeyedScreen). w.told) c.self.view_is ∙ c.tell_leaving.ensures.told in
+    let same : SameTree old.views mid.views = subst (λ (w : KeyedScreen). SameTree old.views w.views) (sym c.self.view_is) c.report_leaving.ensures.same in
+    let world : world_of mid ≡ after_progress (world_of old) progress = ap world_of c.self.view_is ∙ c.report_leaving.ensures.world in
+    let reported : mid.reported ≡ progress.entries = ap (λ (w : KeyedScreen). w.reported) c.self.view_is ∙ c.report_leaving.ensures.reported in
     let done : c.change.result ≡ Ok None =
     hide_done (edited_of mid.views) (edited_of c.change.new.tree) (number_of mid.views c.args.view) c.args.act c.change.result c.requires.hides c.change.ensures.applied c.change.ensures.memory in
     subst (λ (response : Response). CarriesOut (acted (world_of old) (number_of old.views c.args.view) c.args.act) now (Ok response)) (sym c.deliveries.ensures)
-    (Changed-hide old mid c.change.new.tree c.args.view c.args.act c.change.result c.requires.hides same world told done c.change.ensures.applied)
+    (Changed-hide old mid c.change.new.tree c.args.view c.args.act c.change.result c.requires.hides same world reported done c.change.ensures.applied)
 
 pub returns-clause-keeps : goal.returns-clause-keeps
 returns-clause-keeps c =
     let old = c.args.self.now in
     let mid = keyed c.self.inside in
     let now : KeyedScreen = record mid { views = c.change.new.tree; damage = c.change.new.damage.rect } in
-    let is : IsTree mid.views = subst (λ (w : KeyedScreen). IsTree w.views) (sym c.self.view_is) c.tell_leaving.ensures.is_tree in
-    let scrolls : OnlyScrolls old.views mid.views = subst (λ (w : KeyedScreen). OnlyScrolls old.views w.views) (sym c.self.view_is) c.tell_leaving.ensures.scrolls in
+    let is : IsTree mid.views = subst (λ (w : KeyedScreen). IsTree w.views) (sym c.self.view_is) c.report_leaving.ensures.is_tree in
+    let scrolls : OnlyScrolls old.views mid.views = subst (λ (w : KeyedScreen). OnlyScrolls old.views w.views) (sym c.self.view_is) c.report_leaving.ensures.scrolls in
     let was = is_tree-same mid.views old.views is (sym scrolls.same.tree) (sym scrolls.same.next) in
     let e = edit.Act c.args.view c.args.act in
-    let same : mid ≡ record old { views = mid.views; gesture = mid.gesture; told = mid.told } =
-    subst (λ (w : KeyedScreen). w ≡ record old { views = w.views; gesture = w.gesture; told = w.told }) (sym c.self.view_is) c.tell_leaving.ensures.rest in
-    let plain : plain_of mid.views ≡ plain_of old.views = ap (λ (w : KeyedScreen). plain_of w.views) c.self.view_is ∙ c.tell_leaving.ensures.plain in
+    let same : mid ≡ record old { views = mid.views; gesture = mid.gesture; reported = mid.reported } =
+    subst (λ (w : KeyedScreen). w ≡ record old { views = w.views; gesture = w.gesture; reported = w.reported }) (sym c.self.view_is) c.report_leaving.ensures.rest in
+    let plain : plain_of mid.views ≡ plain_of old.views = ap (λ (w : KeyedScreen). plain_of w.views) c.self.view_is ∙ c.report_leaving.ensures.plain in
     loud_keeps old now mid.views e (hides_asks c.args.act c.requires.hides) was (c.requires.live, c.requires.verb) scrolls c.change.ensures.asked c.change.ensures.measures
-    (λ box lies seen. within_edit mid now e box tt is c.tell_tree.ensures (subst (λ (tree : Forest Row). 0 < count_of_key c.args.view tree) (sym scrolls.same.tree) c.requires.live, c.requires.verb) c.in-Ok.ensures.kept refl
+    (λ box lies seen. within_edit mid now e box tt is c.recall_tree.ensures (subst (λ (tree : Forest Row). 0 < count_of_key c.args.view tree) (sym scrolls.same.tree) c.requires.live, c.requires.verb) c.in-Ok.ensures.kept refl
     (rw c.size-window.ensures.value at c.change.ensures.within) (λ unseen. ap (λ (damage : Damage). damage.rect) (c.change.ensures.unseen unseen)) (subst (λ (rect : Rect). LiesIn rect box) (sym (ap (λ (w : KeyedScreen). w.damage) same)) lies)
     (subst (λ (numbers : List ℕ). AreSeenIn box numbers mid now) (edited_same old.views mid.views e scrolls.same.tree)
     (seen_mid old mid now box (numbers_edited old.views e) plain (scrolls_geometry old.views mid.views scrolls) (ap (λ (w : KeyedScreen). size_of w.surface) same) seen)))

@@ -9,7 +9,7 @@ use Rattle.view_world.specs.world.Step.{graft_reason, grafted, inflation}
 use Rattle.view_world.specs.screen.Sound.{keyed}
 use Rattle.view_world.proofs.worlds.AfterLineLaws.{fetches_placed, fetches_unplaced}
 use Rattle.view_world.proofs.edits.FileLaws.{counts_nothing}
-use Rattle.view_world.proofs.edits.InflatingLaws.{inflated_as, inflates_as, told_where_asked, views_of-bytes}
+use Rattle.view_world.proofs.edits.InflatingLaws.{inflated_as, inflates_as, reported_where_asked, views_of-bytes}
 use Rattle.view_world.proofs.states.SeedOffsets.{grown_unscrolled}
 use Rattle.view_world.proofs.edits.InflatingLaws.{place_number}
 use Rattle.view_world.proofs.edits.NamedLaws.{place_asked}
@@ -33,8 +33,8 @@ returns-clause-changed g c files at =
     let name = c.args.name.now in
     let place = c.in_ok-place.ensures.place in
     let asked = subst (λ (w : KeyedScreen). AreAtHand files (g.F.Shelf.files c.args.shelf.now) (asked_for (plain_of w.views) (Some (name, c.args.into)))) (sym c.self.view_is) at in
-    let told = told_where_asked files (g.F.Shelf.files c.args.shelf.now) (plain_of old.views) name c.args.into place.0 place.1 asked in
-    let bytes = c.in_ok-bytes.ensures.bytes files told in
+    let reported = reported_where_asked files (g.F.Shelf.files c.args.shelf.now) (plain_of old.views) name c.args.into place.0 place.1 asked in
+    let bytes = c.in_ok-bytes.ensures.bytes files reported in
     let views = c.in_ok-grown.ensures.views in
     let same = ap (λ (b : List ℕ). views_in b old.resources old.dpi) (sym bytes.2 ∙ sym c.as_slice.ensures.value) in
     let plan : views_of files name old.resources old.dpi ≡ Ok views.0 = views_of-bytes files name old.resources old.dpi bytes.0 bytes.1 ∙ same ∙ views.1 in

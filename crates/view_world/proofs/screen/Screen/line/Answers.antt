@@ -4,7 +4,7 @@ use Rattle.script_lines.specs.commands.PlainCommands.{plain_command}
 use Rattle.view_world.specs.editing.Inflating.{inflation_of}
 use Rattle.view_world.specs.screen.KeyedScreen.{world_of}
 use Rattle.view_world.proofs.edits.FileLaws.{inflates, unaided}
-use Rattle.view_world.proofs.edits.InflatingLaws.{inflation_tells}
+use Rattle.view_world.proofs.edits.InflatingLaws.{inflation_recalls}
 use Rattle.view_world.proofs.screen.Screen.line.Goals as goal
 
 pub returns-in-Some-clause-carried : goal.returns-in-Some-clause-carried
@@ -20,7 +20,7 @@ returns-in-None-clause-carried g c files at =
 pub returns-in-Some-clause-silent : goal.returns-in-Some-clause-silent
 returns-in-Some-clause-silent g c files world at e =
     let file : inflation_of (plain_command c.args.command.now) ≡ Some (c.in-Some.name.now, c.in-Some.into) = rw c.in-Some.is at (sym c.inflation_of.ensures) in
-    absurd (inflation_tells files (world_of c.args.self.now) world c.in-Some.name.now c.in-Some.into
+    absurd (inflation_recalls files (world_of c.args.self.now) world c.in-Some.name.now c.in-Some.into
     (sym (inflates files (world_of c.args.self.now) (plain_command c.args.command.now) (c.in-Some.name.now, c.in-Some.into) file) ∙ e))
 
 pub returns-in-Some-clause-fetched : goal.returns-in-Some-clause-fetched

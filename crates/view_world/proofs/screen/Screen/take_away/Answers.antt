@@ -31,8 +31,8 @@ use Rattle.view_world.proofs.screen.Screen.take_away.Goals as goal
 pub invariant_of-self : goal.invariant_of-self
 invariant_of-self c =
     let views = c.self.inside.tree in
-    let is : IsTree views = subst (λ (w : KeyedScreen). IsTree w.views) (sym c.self.view_is) c.tell_leaving.ensures.is_tree in
-    let live : IsLive views c.args.view = subst (λ (w : KeyedScreen). IsLive w.views c.args.view) (sym c.self.view_is) c.tell_leaving.ensures.live in
+    let is : IsTree views = subst (λ (w : KeyedScreen). IsTree w.views) (sym c.self.view_is) c.report_leaving.ensures.is_tree in
+    let live : IsLive views c.args.view = subst (λ (w : KeyedScreen). IsLive w.views c.args.view) (sym c.self.view_is) c.report_leaving.ensures.live in
     let plain = plain_removed views c.take.new.tree (number_of views c.args.view) c.in-Ok.field-0 c.in-Ok.ensures.applied in
     let narrow = fits_edited views c.take.new.tree (Remove (number_of views c.args.view)) c.in-Ok.field-0 c.in-Ok.ensures.applied c.self.invariant.narrow in
     sound_removed c.self.inside c.take.new.tree c.take.new.damage (rw c.size-window.ensures.value at c.take.ensures.shown) c.forget.new.gesture c.forget.new.hooks c.args.view is live c.in-Ok.ensures.kept plain c.forget.ensures.gesture c.forget.ensures.opened
@@ -45,28 +45,28 @@ returns-clause-changed c =
     let mid = keyed c.self.inside in
     let now : KeyedScreen = record mid { views = c.take.new.tree; gesture = c.forget.new.gesture; hooks = c.forget.new.hooks } in
     let progress = leaving (world_of old) (number_of old.views c.args.view) in
-    let is : IsTree mid.views = subst (λ (w : KeyedScreen). IsTree w.views) (sym c.self.view_is) c.tell_leaving.ensures.is_tree in
-    let live : IsLive mid.views c.args.view = subst (λ (w : KeyedScreen). IsLive w.views c.args.view) (sym c.self.view_is) c.tell_leaving.ensures.live in
-    let same : SameTree old.views mid.views = subst (λ (w : KeyedScreen). SameTree old.views w.views) (sym c.self.view_is) c.tell_leaving.ensures.same in
-    let world : world_of mid ≡ after_progress (world_of old) progress = ap world_of c.self.view_is ∙ c.tell_leaving.ensures.world in
-    let told : mid.told ≡ progress.entries = ap (λ (w : KeyedScreen). w.told) c.self.view_is ∙ c.tell_leaving.ensures.told in
+    let is : IsTree mid.views = subst (λ (w : KeyedScreen). IsTree w.views) (sym c.self.view_is) c.report_leaving.ensures.is_tree in
+    let live : IsLive mid.views c.args.view = subst (λ (w : KeyedScreen). IsLive w.views c.args.view) (sym c.self.view_is) c.report_leaving.ensures.live in
+    let same : SameTree old.views mid.views = subst (λ (w : KeyedScreen). SameTree old.views w.views) (sym c.self.view_is) c.report_leaving.ensures.same in
+    let world : world_of mid ≡ after_progress (world_of old) progress = ap world_of c.self.view_is ∙ c.report_leaving.ensures.world in
+    let reported : mid.reported ≡ progress.entries = ap (λ (w : KeyedScreen). w.reported) c.self.view_is ∙ c.report_leaving.ensures.reported in
     let done : c.take.result ≡ Ok None =
     remove_done (edited_of mid.views) (edited_of c.take.new.tree) (number_of mid.views c.args.view) c.take.result c.take.ensures.applied c.take.ensures.memory in
     subst (λ (response : Response). CarriesOut (removed (world_of old) (number_of old.views c.args.view)) now (Ok response)) (sym c.deliveries.ensures)
-    (Changed-remove old mid c.take.new.tree c.forget.new.gesture c.forget.new.hooks c.args.view c.take.result is live same world told c.forget.ensures.gesture c.forget.ensures.hooks done c.take.ensures.applied)
+    (Changed-remove old mid c.take.new.tree c.forget.new.gesture c.forget.new.hooks c.args.view c.take.result is live same world reported c.forget.ensures.gesture c.forget.ensures.hooks done c.take.ensures.applied)
 
 pub returns-clause-keeps : goal.returns-clause-keeps
 returns-clause-keeps c =
     let old = c.args.self.now in
     let mid = keyed c.self.inside in
     let now : KeyedScreen = record mid { views = c.take.new.tree; damage = c.take.new.damage.rect; gesture = c.forget.new.gesture; hooks = c.forget.new.hooks } in
-    let is : IsTree mid.views = subst (λ (w : KeyedScreen). IsTree w.views) (sym c.self.view_is) c.tell_leaving.ensures.is_tree in
-    let scrolls : OnlyScrolls old.views mid.views = subst (λ (w : KeyedScreen). OnlyScrolls old.views w.views) (sym c.self.view_is) c.tell_leaving.ensures.scrolls in
+    let is : IsTree mid.views = subst (λ (w : KeyedScreen). IsTree w.views) (sym c.self.view_is) c.report_leaving.ensures.is_tree in
+    let scrolls : OnlyScrolls old.views mid.views = subst (λ (w : KeyedScreen). OnlyScrolls old.views w.views) (sym c.self.view_is) c.report_leaving.ensures.scrolls in
     let was = is_tree-same mid.views old.views is (sym scrolls.same.tree) (sym scrolls.same.next) in
-    let same : mid ≡ record old { views = mid.views; gesture = mid.gesture; told = mid.told } =
-    subst (λ (w : KeyedScreen). w ≡ record old { views = w.views; gesture = w.gesture; told = w.told }) (sym c.self.view_is) c.tell_leaving.ensures.rest in
-    let plain : plain_of mid.views ≡ plain_of old.views = ap (λ (w : KeyedScreen). plain_of w.views) c.self.view_is ∙ c.tell_leaving.ensures.plain in
-    let live : IsLive mid.views c.args.view = subst (λ (w : KeyedScreen). IsLive w.views c.args.view) (sym c.self.view_is) c.tell_leaving.ensures.live in
+    let same : mid ≡ record old { views = mid.views; gesture = mid.gesture; reported = mid.reported } =
+    subst (λ (w : KeyedScreen). w ≡ record old { views = w.views; gesture = w.gesture; reported = w.reported }) (sym c.self.view_is) c.report_leaving.ensures.rest in
+    let plain : plain_of mid.views ≡ plain_of old.views = ap (λ (w : KeyedScreen). plain_of w.views) c.self.view_is ∙ c.report_leaving.ensures.plain in
+    let live : IsLive mid.views c.args.view = subst (λ (w : KeyedScreen). IsLive w.views c.args.view) (sym c.self.view_is) c.report_leaving.ensures.live in
     let number : number_of mid.views c.args.view ≡ number_of old.views c.args.view = ap (λ (tree : Forest Row). (head_view (part_from c.args.view tree)).number) scrolls.same.tree in
     loud_keeps old now mid.views (edit.Remove c.args.view) refl was c.requires.live scrolls c.take.ensures.asked c.take.ensures.measures
     (λ box lies seen.

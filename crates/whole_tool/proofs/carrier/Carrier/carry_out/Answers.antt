@@ -5,14 +5,14 @@ use Rattle.std.proofs.Common.{sym, ◌∙◌}
 use Rattle.whole_tool.proofs.carrier.Carrier.carry_out.Goals as goal
 
 pub returns-clause-carried : goal.returns-clause-carried
-returns-clause-carried g c files told =
+returns-clause-carried g c files reported =
     let read = rw c.in-Some.is at c.requires.counts in
-    rw (c.in-Some.is, bytes_line files (carried_of c.args.self.now) c.in-Some.bytes.now read) (c.line.ensures.carried files told)
+    rw (c.in-Some.is, bytes_line files (carried_of c.args.self.now) c.in-Some.bytes.now read) (c.line.ensures.carried files reported)
 
 pub returns-clause-tallied : goal.returns-clause-tallied
-returns-clause-tallied g c files tally first told stands done =
+returns-clause-tallied g c files tally first reported reached done =
     let read = rw c.in-Some.is at c.requires.counts in
-    rw (c.in-Some.is, bytes_cost files tally c.in-Some.bytes.now read) (c.line.ensures.tallied files tally first told stands done)
+    rw (c.in-Some.is, bytes_cost files tally c.in-Some.bytes.now read) (c.line.ensures.tallied files tally first reported reached done)
 
 pub returns-clause-memory : goal.returns-clause-memory
 returns-clause-memory g c none = rw c.in-Some.is (c.line.ensures.memory none)

@@ -28,17 +28,17 @@ carry-requires-clause-short g c =
     omega (arith, short, text)
 
 pub returns-in-Ok-clause-carried : goal.returns-in-Ok-clause-carried
-returns-in-Ok-clause-carried g c files told =
+returns-in-Ok-clause-carried g c files reported =
     let read = sym c.line.ensures.value ∙ ap (map_ok plain_command) c.in-Ok.is in
     let reply = step files (world_of c.in-Alone.world) (plain_command c.in-Ok.command) in
     let before = g.K.Sink.state c.args.sink.now in
     let after = g.K.Sink.state c.carry.new.sink in
     let made = Alone (world_of c.carry.new.self) in
     subst (λ (k : Carrier). WritesLine (reply_to_bytes files (carried_of k) c.args.bytes.now) made before after c.carry.result) (sym c.in-Alone.is)
-    (rw read (writes_world reply (world_of c.carry.new.self) before after c.carry.result (c.carry.ensures.carried files (inl told))))
+    (rw read (writes_world reply (world_of c.carry.new.self) before after c.carry.result (c.carry.ensures.carried files (inl reported))))
 
 pub returns-in-Err-clause-carried : goal.returns-in-Err-clause-carried
-returns-in-Err-clause-carried g c files told =
+returns-in-Err-clause-carried g c files reported =
     let read = sym c.line.ensures.value ∙ ap (map_ok plain_command) c.in-Err.is in
     rw (c.in-Alone.is, read) (ap Refused (sym c.refusal_of.ensures))
 
@@ -46,13 +46,13 @@ pub returns-in-Ok-clause-unchanged : goal.returns-in-Ok-clause-unchanged
 returns-in-Ok-clause-unchanged g c = same_world c.carry.result c.args.self.now _ _ _ _ c.in-Alone.is c.carry.ensures.unchanged
 
 pub returns-in-Ok-clause-tallied : goal.returns-in-Ok-clause-tallied
-returns-in-Ok-clause-tallied g c files tally first told stands done =
+returns-in-Ok-clause-tallied g c files tally first reported reached done =
     let command = plain_command c.in-Ok.command in
     let read = sym c.line.ensures.value ∙ ap (map_ok plain_command) c.in-Ok.is in
     let before = g.K.Sink.state c.args.sink.now in
     let after = g.K.Sink.state c.carry.new.sink in
-    let reply = done_reply (step files (world_of c.in-Alone.world) command) (world_of c.carry.new.self) before after c.carry.result (c.carry.ensures.carried files (inl told)) done in
-    let at = subst (λ (k : Carrier). HasTallied first c.args.work.now k tally) c.in-Alone.is stands in
+    let reply = done_reply (step files (world_of c.in-Alone.world) command) (world_of c.carry.new.self) before after c.carry.result (c.carry.ensures.carried files (inl reported)) done in
+    let at = subst (λ (k : Carrier). HasTallied first c.args.work.now k tally) c.in-Alone.is reached in
     tallied_world files first c.args.work.now c.carry.new.work c.in-Alone.world c.carry.new.self tally.costs tally.watched c.args.bytes.now reply.0 command read at.watched at.worth reply.1
     (c.carry.ensures.watched done) (c.carry.ensures.worth done)
 
@@ -87,17 +87,17 @@ line-requires-in-Ok-stack_line-clause-short g c =
     omega (arith, short, text)
 
 pub returns-in-Ok-stack_line-clause-carried : goal.returns-in-Ok-stack_line-clause-carried
-returns-in-Ok-stack_line-clause-carried g c files told =
+returns-in-Ok-stack_line-clause-carried g c files reported =
     let read = sym c.stack_line.ensures.value ∙ ap (map_ok plain_line) c.in-Ok-stack_line.is in
     let reply = stack_step files (stack_of c.in-Stacked.stack) (plain_line c.in-Ok-stack_line.line) in
     let before = g.K.Sink.state c.args.sink.now in
     let after = g.K.Sink.state c.line-in-Ok-stack_line.new.sink in
     let made = Stacked (stack_of c.line-in-Ok-stack_line.new.self) in
     subst (λ (k : Carrier). WritesLine (reply_to_bytes files (carried_of k) c.args.bytes.now) made before after c.line-in-Ok-stack_line.result) (sym c.in-Stacked.is)
-    (rw read (writes_stack reply (stack_of c.line-in-Ok-stack_line.new.self) before after c.line-in-Ok-stack_line.result (c.line-in-Ok-stack_line.ensures.carried files (inl told))))
+    (rw read (writes_stack reply (stack_of c.line-in-Ok-stack_line.new.self) before after c.line-in-Ok-stack_line.result (c.line-in-Ok-stack_line.ensures.carried files (inl reported))))
 
 pub returns-in-Err-stack_line-clause-carried : goal.returns-in-Err-stack_line-clause-carried
-returns-in-Err-stack_line-clause-carried g c files told =
+returns-in-Err-stack_line-clause-carried g c files reported =
     let read = sym c.stack_line.ensures.value ∙ ap (map_ok plain_line) c.in-Err-stack_line.is in
     rw (c.in-Stacked.is, read) (ap Refused (sym c.refusal_of-in-Err-stack_line.ensures))
 
@@ -105,13 +105,13 @@ pub returns-in-Ok-stack_line-clause-unchanged : goal.returns-in-Ok-stack_line-cl
 returns-in-Ok-stack_line-clause-unchanged g c = same_stack c.line-in-Ok-stack_line.result c.args.self.now _ _ _ _ c.in-Stacked.is c.line-in-Ok-stack_line.ensures.unchanged
 
 pub returns-in-Ok-stack_line-clause-tallied : goal.returns-in-Ok-stack_line-clause-tallied
-returns-in-Ok-stack_line-clause-tallied g c files tally first told stands done =
+returns-in-Ok-stack_line-clause-tallied g c files tally first reported reached done =
     let line = plain_line c.in-Ok-stack_line.line in
     let read = sym c.stack_line.ensures.value ∙ ap (map_ok plain_line) c.in-Ok-stack_line.is in
     let before = g.K.Sink.state c.args.sink.now in
     let after = g.K.Sink.state c.line-in-Ok-stack_line.new.sink in
-    let reply = done_in_stack (stack_step files (stack_of c.in-Stacked.stack) line) (stack_of c.line-in-Ok-stack_line.new.self) before after c.line-in-Ok-stack_line.result (c.line-in-Ok-stack_line.ensures.carried files (inl told)) done in
-    let at = subst (λ (k : Carrier). HasTallied first c.args.work.now k tally) c.in-Stacked.is stands in
+    let reply = done_in_stack (stack_step files (stack_of c.in-Stacked.stack) line) (stack_of c.line-in-Ok-stack_line.new.self) before after c.line-in-Ok-stack_line.result (c.line-in-Ok-stack_line.ensures.carried files (inl reported)) done in
+    let at = subst (λ (k : Carrier). HasTallied first c.args.work.now k tally) c.in-Stacked.is reached in
     tallied_stack files first c.args.work.now c.line-in-Ok-stack_line.new.work c.in-Stacked.stack c.line-in-Ok-stack_line.new.self tally.costs tally.watched c.args.bytes.now reply.0 line c.line-in-Ok-stack_line.result read
     at.watched at.worth reply.1 c.line-in-Ok-stack_line.ensures.works done
 

@@ -17,7 +17,7 @@ returns-in_err-refused-clause-asks g c =
     let from : carried_of c.new-run.result.runner.carrier ≡ Alone empty_world = ap carried_of c.new-run.ensures.carrier ∙ c.alone.ensures.start in
     let runs = rw from at c.in_err-refused.ensures.runs in
     rw e (record {
-      asks = λ files script at_hand told. inl (runs.runs files script at_hand told);
+      asks = λ files script at_hand reported. inl (runs.runs files script at_hand reported);
       end = tt;
       taken = runs.taken;
       consumed = runs.consumed;
@@ -51,9 +51,9 @@ returns-in-Ok-clause-asks g c =
     let mid = trace (g.K.Sink.state c.run_to_end.new.sink) c.run_to_end.new.work (g.F.Shelf.fetches c.run_to_end.new.shelf) in
     let left = g.S.Source.left c.run_to_end.new.source in
     record {
-      asks = λ files script at_hand told.
+      asks = λ files script at_hand reported.
           asks_answered files script c.args.self left first mid (g.K.Sink.state c.write_answer.new.sink).gone c.in_ok-refused.refused c.is_err-unanswered.result c.answer_in-answer.result (world_in (carried_of c.carrier.result.now))
-          (runs.runs files script at_hand told) (ap (λ (c : Carrier). world_in (carried_of c)) c.carrier.ensures ∙ ap world_in (made files script at_hand told)) c.answer_in-answer.ensures.value c.is_err-unanswered.ensures.value c.in-Ok.ensures.whole;
+          (runs.runs files script at_hand reported) (ap (λ (c : Carrier). world_in (carried_of c)) c.carrier.ensures ∙ ap world_in (made files script at_hand reported)) c.answer_in-answer.ensures.value c.is_err-unanswered.ensures.value c.in-Ok.ensures.whole;
       end = runs.end;
       taken = runs.taken;
       consumed = runs.consumed;
@@ -72,9 +72,9 @@ returns-clause-asks g c =
     let mid = trace (g.K.Sink.state c.run_to_end.new.sink) c.run_to_end.new.work (g.F.Shelf.fetches c.run_to_end.new.shelf) in
     let left = g.S.Source.left c.run_to_end.new.source in
     record {
-      asks = λ files script at_hand told.
+      asks = λ files script at_hand reported.
           asks_cut files script c.args.self left first mid (g.K.Sink.state c.write_answer.new.sink).gone c.in_ok-refused.refused c.answer_in-answer.result (world_in (carried_of c.carrier.result.now))
-          (runs.runs files script at_hand told) (ap (λ (c : Carrier). world_in (carried_of c)) c.carrier.ensures ∙ ap world_in (made files script at_hand told)) c.answer_in-answer.ensures.value c.in-Err.ensures.prefix;
+          (runs.runs files script at_hand reported) (ap (λ (c : Carrier). world_in (carried_of c)) c.carrier.ensures ∙ ap world_in (made files script at_hand reported)) c.answer_in-answer.ensures.value c.in-Err.ensures.prefix;
       end = tt;
       taken = runs.taken;
       consumed = runs.consumed;

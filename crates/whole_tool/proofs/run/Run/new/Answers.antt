@@ -7,11 +7,11 @@ use Rattle.whole_tool.proofs.CarrierLaws.{first_next, first_watching}
 use Rattle.whole_tool.proofs.SumLaws.{worth_none}
 use Rattle.whole_tool.proofs.run.Run.new.Goals as goal
 
-pub returns-clause-behind : goal.returns-clause-behind
+pub returns-clause-following : goal.returns-clause-following
 unfolding after_from tally_from raised_by
-returns-clause-behind c shelf first = record {
-  held = c.new.ensures.stands;
-  runner = λ files told. record {
+returns-clause-following c shelf first = record {
+  held = c.new.ensures.reached;
+  runner = λ files reported. record {
     lines = refl;
     carried = refl;
     refused = refl;

@@ -10,7 +10,7 @@ use Rattle.whole_tool.proofs.run.Run.piece.Given as goal
 abbrev pub invariant-loop-at : goal.invariant-loop-at
 invariant-loop-at g l = record {
   within : l.at ≤ length l.piece;
-  behind : (start : Carried) (first : Trace) (before : List ℕ) → length (before ++ l.piece) < 2 ^ 63 → HasReadUpTo start (g.F.Shelf.files l.fn.shelf) first (trace (g.K.Sink.state l.fn.sink) l.fn.work (g.F.Shelf.fetches l.fn.shelf)) l.fn.self before
+  following : (start : Carried) (first : Trace) (before : List ℕ) → length (before ++ l.piece) < 2 ^ 63 → HasReadUpTo start (g.F.Shelf.files l.fn.shelf) first (trace (g.K.Sink.state l.fn.sink) l.fn.work (g.F.Shelf.fetches l.fn.shelf)) l.fn.self before
       → HasReadUpTo start (g.F.Shelf.files l.fn.shelf) first (trace (g.K.Sink.state l.sink) l.work (g.F.Shelf.fetches l.shelf)) l.self (before ++ take l.at l.piece);
   numbers : next_of l.self.runner.carrier ≤ next_of l.fn.self.runner.carrier + MAX_VIEWS * l.at;
   files : g.F.Shelf.files l.shelf ≡ g.F.Shelf.files l.fn.shelf;

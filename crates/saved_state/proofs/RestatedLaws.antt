@@ -5,7 +5,7 @@ use Rattle.std.proofs.lemmas.List.Elements.{All-append, All-cons, All-head, All-
 use Rattle.std.proofs.lemmas.List.Sums.{fold-append}
 use Rattle.std.specs.List.{All, fold}
 use Rattle.std.specs.Prelude.{◌==◌, if◌then◌else◌}
-use Rattle.saved_state.specs.Restored.{given_values, paired, retold, wanted, with_text_at, with_text_of}
+use Rattle.saved_state.specs.Restored.{given_values, paired, restated, wanted, with_text_at, with_text_of}
 use Rattle.saved_state.specs.Restoring.{given}
 use Rattle.saved_state.specs.State.{StateEntry}
 use Rattle.saved_state.specs.declared.value.Value.{Value}
@@ -13,7 +13,7 @@ use Rattle.view_model.specs.Forest.{Forest, Nothing, Branch, rows}
 use Rattle.view_tree.proofs.forest.Forests.{Within-children_of_first, Within-later_siblings}
 use Rattle.view_tree.proofs.forest.KeyLaws.{Within, count_of_key-within, from_within, here}
 use Rattle.view_tree.proofs.forest.NumberLaws.{count_of_key-put, put_absent}
-use Rattle.view_tree.proofs.forest.PreorderLaws.{key_count, key_count-rows, standing}
+use Rattle.view_tree.proofs.forest.PreorderLaws.{key_count, key_count-rows, status}
 use Rattle.view_model.specs.PlainTree.{PlainView}
 use Rattle.view_tree.specs.Preorder.{rows_from}
 use Rattle.view_tree.specs.Rows.{Row, changed_at_key, count_of_key, head_view, part_from}
@@ -69,7 +69,7 @@ pub given_on : (entries : List StateEntry) (tree : Forest Row) (view : ℕ) (nex
     → rows_from next tree ≡ drop 1 (rows_from (Some view) tree)
     → (done ++ paired view (wanted entries tree view)) ++ given_values entries tree (rows_from next tree) ≡ done ++ given_values entries tree (rows_from (Some view) tree)
 given_on entries tree view next done live is =
-    let f = standing view tree live in
+    let f = status view tree live in
     let parts : rows_from (Some view) tree ≡ f.row ∷ rows_from next tree = f.is ∙ ap (λ (list : List Row). f.row ∷ list) (sym is) in
     append_assoc done (paired view (wanted entries tree view)) (given_values entries tree (rows_from next tree))
     ∙ ap (λ (key : ℕ). done ++ (paired key (wanted entries tree key) ++ given_values entries tree (rows_from next tree))) (sym f.key_is)
@@ -116,31 +116,31 @@ set_after row kids siblings (set ∷ more) once there =
     ]
 
 -- texts change no key
-pub count-retold : (entries : List StateEntry) (key : ℕ) (list : Forest Row) → count_of_key key (retold entries list) ≡ count_of_key key list
-count-retold entries key Nothing = refl
-count-retold entries key (Branch row kids siblings) = let a = count-retold entries key kids in let b = count-retold entries key siblings in omega arith
+pub count-restated : (entries : List StateEntry) (key : ℕ) (list : Forest Row) → count_of_key key (restated entries list) ≡ count_of_key key list
+count-restated entries key Nothing = refl
+count-restated entries key (Branch row kids siblings) = let a = count-restated entries key kids in let b = count-restated entries key siblings in omega arith
 
 module _ (entries : List StateEntry) (tree : Forest Row) (once : (key : ℕ) → count_of_key key tree ≤ 1) where
   -- each view of a part has the text that it is given
-  retold_part : (list : Forest Row) → Within list tree → fold with_text_at list (given_values entries tree (rows list)) ≡ retold entries list
-  retold_part Nothing w = refl
-  retold_part (Branch row kids siblings) w =
+  restated_part : (list : Forest Row) → Within list tree → fold with_text_at list (given_values entries tree (rows list)) ≡ restated entries list
+  restated_part Nothing w = refl
+  restated_part (Branch row kids siblings) w =
       let part_once : (key : ℕ) → count_of_key key (Branch row kids siblings) ≤ 1 = λ key. (let a = count_of_key-within key w in let b = once key in omega arith) in
       let own : wanted entries tree row.key ≡ given entries row.view = ap (λ (part : Forest Row). given entries (head_view part)) (from_within row kids siblings w (once row.key)) in
       let first = paired row.key (wanted entries tree row.key) in
       let below = given_values entries tree (rows kids) in
       let after = given_values entries tree (rows siblings) in
-      let told : Row = record row { view = with_text_of (given entries row.view) row.view } in
+      let reported : Row = record row { view = with_text_of (given entries row.view) row.view } in
       ap (λ (sets : List (ℕ × Value)). fold with_text_at (Branch row kids siblings) (first ++ sets)) (given_append entries tree (rows kids) (rows siblings))
       ∙ fold-append with_text_at (Branch row kids siblings) first (below ++ after)
       ∙ ap (λ (part : Forest Row). fold with_text_at part (below ++ after))
       (set_first row kids siblings (wanted entries tree row.key)
       ∙ ap (λ (given : Option Value). Branch (let own : Row = record row { view = with_text_of given row.view } in own) kids siblings) own)
-      ∙ fold-append with_text_at (Branch told kids siblings) below after
-      ∙ ap (λ (part : Forest Row). fold with_text_at part after) (set_below told kids siblings below part_once (given_in entries tree kids))
-      ∙ ap (λ (below : Forest Row). fold with_text_at (Branch told below siblings) after) (retold_part kids (Within-children_of_first w))
-      ∙ set_after told (retold entries kids) siblings after (λ key. let a = count-retold entries key kids in let b = part_once key in omega arith) (given_in entries tree siblings)
-      ∙ ap (λ (after : Forest Row). Branch told (retold entries kids) after) (retold_part siblings (Within-later_siblings w))
+      ∙ fold-append with_text_at (Branch reported kids siblings) below after
+      ∙ ap (λ (part : Forest Row). fold with_text_at part after) (set_below reported kids siblings below part_once (given_in entries tree kids))
+      ∙ ap (λ (below : Forest Row). fold with_text_at (Branch reported below siblings) after) (restated_part kids (Within-children_of_first w))
+      ∙ set_after reported (restated entries kids) siblings after (λ key. let a = count-restated entries key kids in let b = part_once key in omega arith) (given_in entries tree siblings)
+      ∙ ap (λ (after : Forest Row). Branch reported (restated entries kids) after) (restated_part siblings (Within-later_siblings w))
 
-  pub all_retold : fold with_text_at tree (given_values entries tree (rows tree)) ≡ retold entries tree
-  all_retold = retold_part tree here
+  pub all_restated : fold with_text_at tree (given_values entries tree (rows tree)) ≡ restated entries tree
+  all_restated = restated_part tree here

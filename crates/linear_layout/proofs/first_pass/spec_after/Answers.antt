@@ -1,6 +1,6 @@
 use Rattle.std.proofs.Common.{◌+ℤ◌, FitsSigned, w32, w64, arith}
 use Rattle.std.proofs.lemmas.Int.{ints, to_z-of_z}
-use Rattle.linear_layout.proofs.first_pass.spec_behind.Goals as goal
+use Rattle.linear_layout.proofs.first_pass.spec_after.Goals as goal
 
 pub returns : goal.returns
 returns c =

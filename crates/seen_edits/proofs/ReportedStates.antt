@@ -3,8 +3,8 @@ use Rattle.std.proofs.Common.{◌≡◌, ◌≢◌, ℕ, ◌+◌, ◌<◌, ◌�
 use Rattle.std.proofs.lemmas.Bool.{cases_Bool, cases_eq, eq-eqb, ne_eqb}
 use Rattle.std.specs.Prelude.{◌==◌, if◌then◌else◌}
 use Rattle.geom_core.specs.Rects.{holds}
-use Rattle.saved_state.proofs.RetoldLaws.{count-retold}
-use Rattle.saved_state.specs.Restored.{retold, wanted, with_text_of}
+use Rattle.saved_state.proofs.RestatedLaws.{count-restated}
+use Rattle.saved_state.specs.Restored.{restated, wanted, with_text_of}
 use Rattle.saved_state.specs.Restoring.{given}
 use Rattle.saved_state.specs.State.{StateEntry}
 use Rattle.saved_state.specs.declared.value.Value.{Value}
@@ -30,48 +30,48 @@ same_facts (Some (Offset offset)) view = refl
 same_facts (Some (Text text)) view = refl
 
 -- nor where a view is seen
-around-retold : (entries : List StateEntry) (held : ℕ → Held) (canvas : Canvas) (key : ℕ) (list : Forest Row) → canvas_around held canvas key (retold entries list) ≡ canvas_around held canvas key list
-around-retold entries held canvas key Nothing = refl
-around-retold entries held canvas key (Branch row kids siblings) = elim (cases_Bool (row.key == key)) [
+around-restated : (entries : List StateEntry) (held : ℕ → Held) (canvas : Canvas) (key : ℕ) (list : Forest Row) → canvas_around held canvas key (restated entries list) ≡ canvas_around held canvas key list
+around-restated entries held canvas key Nothing = refl
+around-restated entries held canvas key (Branch row kids siblings) = elim (cases_Bool (row.key == key)) [
   | inl e ↦ rw e refl
   | inr e ↦ elim (cases_eq (count_of_key key kids) 0) [
-    | inl z ↦ rw (e, count-retold entries key kids, eq-eqb (count_of_key key kids) 0 z) (around-retold entries held canvas key siblings)
+    | inl z ↦ rw (e, count-restated entries key kids, eq-eqb (count_of_key key kids) 0 z) (around-restated entries held canvas key siblings)
     | inr nz ↦
-        rw (e, count-retold entries key kids, ne_eqb (count_of_key key kids) 0 nz)
-        (ap (λ (facts : Facts). canvas_around held (canvas_below (held row.key).state.bounds (let own : Facts = record facts { offset = (held row.key).offset } in own) canvas) key (retold entries kids))
+        rw (e, count-restated entries key kids, ne_eqb (count_of_key key kids) 0 nz)
+        (ap (λ (facts : Facts). canvas_around held (canvas_below (held row.key).state.bounds (let own : Facts = record facts { offset = (held row.key).offset } in own) canvas) key (restated entries kids))
         (same_facts (given entries row.view) row.view)
-        ∙ around-retold entries held (canvas_below (held row.key).state.bounds (scrolled held row).facts canvas) key kids)
+        ∙ around-restated entries held (canvas_below (held row.key).state.bounds (scrolled held row).facts canvas) key kids)
   ]
 ]
 
-pub seen-retold : (entries : List StateEntry) (held : ℕ → Held) (canvas : Canvas) (key : ℕ) (list : Forest Row) → seen_at held canvas key (retold entries list) ≡ seen_at held canvas key list
-seen-retold entries held canvas key list = ap (seen_in (held key).state.bounds) (around-retold entries held canvas key list)
+pub seen-restated : (entries : List StateEntry) (held : ℕ → Held) (canvas : Canvas) (key : ℕ) (list : Forest Row) → seen_at held canvas key (restated entries list) ≡ seen_at held canvas key list
+seen-restated entries held canvas key list = ap (seen_in (held key).state.bounds) (around-restated entries held canvas key list)
 
 -- views are given texts, and where that is so nothing is seen of them
 module _ (entries : List StateEntry) (tree : Forest Row) (once : (key : ℕ) → count_of_key key tree ≤ 1) (x y : ℤ) (held : ℕ → Held) where
   abbrev placed : Row → PlainView → PlacedView
   placed row view = record { view = scrolled held (record row { view = view }); bounds = (held row.key).state.bounds }
 
-  pub met_told : (canvas : Canvas) (list : Forest Row) → Within list tree
+  pub met_reported : (canvas : Canvas) (list : Forest Row) → Within list tree
       → ((key : ℕ) → 0 < count_of_key key list → (wanted entries tree key ≡ None) ⊎ (holds (seen_at held canvas key list) x y ≡ false))
-      → met_at x y canvas (placed_rows held (retold entries list)) ≡ met_at x y canvas (placed_rows held list)
-  met_told canvas Nothing w told = refl
-  met_told canvas (Branch row kids siblings) w told =
-      let after : met_at x y canvas (placed_rows held (retold entries siblings)) ≡ met_at x y canvas (placed_rows held siblings) = met_told canvas siblings (Within-later_siblings w) later in
-      elim (told row.key (times_self row kids siblings)) [
+      → met_at x y canvas (placed_rows held (restated entries list)) ≡ met_at x y canvas (placed_rows held list)
+  met_reported canvas Nothing w reported = refl
+  met_reported canvas (Branch row kids siblings) w reported =
+      let after : met_at x y canvas (placed_rows held (restated entries siblings)) ≡ met_at x y canvas (placed_rows held siblings) = met_reported canvas siblings (Within-later_siblings w) later in
+      elim (reported row.key (times_self row kids siblings)) [
         | inr unseen ↦
             let here : holds (seen_in (held row.key).state.bounds canvas) x y ≡ false = rw (eq-eqb row.key row.key refl) at unseen in
             rw here after
         | inl none ↦
             let head : wanted entries tree row.key ≡ given entries row.view = ap (λ (part : Forest Row). given entries (head_view part)) (from_within row kids siblings w (once row.key)) in
             let own : with_text_of (given entries row.view) row.view ≡ row.view = ap (λ (given : Option Value). with_text_of given row.view) (sym head ∙ none) in
-            ap (λ (view : PlainView). met_at x y canvas (Branch (placed row view) (placed_rows held (retold entries kids)) (placed_rows held (retold entries siblings)))) own
+            ap (λ (view : PlainView). met_at x y canvas (Branch (placed row view) (placed_rows held (restated entries kids)) (placed_rows held (restated entries siblings)))) own
             ∙ rw after
             (ap (λ (below : Forest PlacedView).
             if holds (seen_in (held row.key).state.bounds canvas) x y
             then Branch (placed row row.view) below (met_at x y canvas (placed_rows held siblings))
             else met_at x y canvas (placed_rows held siblings))
-            (met_told (canvas_below (held row.key).state.bounds (scrolled held row).facts canvas) kids (Within-children_of_first w) below))
+            (met_reported (canvas_below (held row.key).state.bounds (scrolled held row).facts canvas) kids (Within-children_of_first w) below))
       ]
     where
       part_once : (key : ℕ) → count_of_key key (Branch row kids siblings) ≤ 1
@@ -84,7 +84,7 @@ module _ (entries : List StateEntry) (tree : Forest Row) (once : (key : ℕ) →
       later key live =
           let ne = other key (omega arith) in
           let z : count_of_key key kids ≡ 0 = let o = part_once key in omega arith in
-          elim (told key (let o = part_once key in omega arith)) [
+          elim (reported key (let o = part_once key in omega arith)) [
             | inl none ↦ inl none
             | inr unseen ↦ inr (rw (ne_eqb row.key key ne, eq-eqb (count_of_key key kids) 0 z) at unseen)
           ]
@@ -94,7 +94,7 @@ module _ (entries : List StateEntry) (tree : Forest Row) (once : (key : ℕ) →
       below key live =
           let ne = other key (omega arith) in
           let nz : count_of_key key kids ≡ 0 → ⊥ = λ z. absurd (omega arith) in
-          elim (told key (let o = part_once key in omega arith)) [
+          elim (reported key (let o = part_once key in omega arith)) [
             | inl none ↦ inl none
             | inr unseen ↦ inr (rw (ne_eqb row.key key ne, ne_eqb (count_of_key key kids) 0 nz) at unseen)
           ]

@@ -2,7 +2,7 @@ use Rattle.std.proofs.Common.{◌∙◌, ap, sym}
 use Rattle.std.specs.Option.{option_copied}
 use Rattle.view_tree.proofs.nodes.NodeReads.{is_tree, named_for}
 use Rattle.view_tree.proofs.orders.IdPlaces.{nobodys}
-use Rattle.view_tree.proofs.tree.ViewTree.is_nobodys.Goals as goal
+use Rattle.view_tree.proofs.tree.ViewTree.is_no_views.Goals as goal
 
 pub returns-then-id-eq0 : goal.returns-then-id-eq0
 returns-then-id-eq0 c = record {
