@@ -11,7 +11,7 @@ use Rattle.kept_views.proofs.Requested.{pressed_out}
 use Rattle.view_model.specs.Facts.{is_shown}
 use Rattle.view_model.specs.Forest.{Forest}
 use Rattle.view_model.specs.PlainTree.{PlainView}
-use Rattle.view_tree.specs.Requests.{among, asking, pressed, unforced}
+use Rattle.view_tree.specs.tree.Requests.{among, asking, pressed, unforced}
 use Rattle.view_tree.specs.Rows.{Row, ancestors, changed_at_key, head_view, part_from}
 use Rattle.view_tree.specs.Views.{Held, IsLive, IsTree, Views, held_of}
 

@@ -9,7 +9,7 @@ use Rattle.view_tree.proofs.forest.KeyLaws.{times_self}
 use Rattle.kept_views.proofs.Keys.{own_more}
 use Rattle.view_tree.specs.Views.{Held}
 use Rattle.kept_views.specs.Kept.{Kept, hidden_in, loose}
-use Rattle.view_tree.specs.Requests.{among, pressed}
+use Rattle.view_tree.specs.tree.Requests.{among, pressed}
 use Rattle.kept_views.specs.Pressing.{Pressed, Touched, path_of}
 use Rattle.kept_views.proofs.Paths.{Off, among_first, among_later, among_rest, more_than, reach_few}
 use Rattle.kept_views.proofs.PressedKept.{forced_touched, pressed_kept}

@@ -1,8 +1,8 @@
 -- A tree of new views is consistent.
 use Rattle.std.proofs.Common.{ℕ, ◌<◌, Option, [], refl, ap}
 use Rattle.view_model.specs.Forest.{Forest}
-use Rattle.view_tree.specs.declared.state.State.{State}
-use Rattle.view_tree.specs.Grafted.{Gained}
+use Rattle.view_tree.specs.declared.node.state.State.{State}
+use Rattle.view_tree.specs.tree.Grafted.{Gained}
 use Rattle.view_tree.specs.Rows.{Row, count_of_key}
 use Rattle.view_tree.specs.Views.{Held, Views, held_of}
 use Rattle.kept_views.specs.Kept.{IsKept, loose}

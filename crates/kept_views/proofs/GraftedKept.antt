@@ -4,8 +4,8 @@ use Rattle.std.specs.Prelude.{if◌then◌else◌}
 use mathlib.Core.Path.{fun_ext}
 use Rattle.view_model.specs.Forest.{Forest, Nothing, Branch}
 use Rattle.view_model.specs.Sprouts.{Seed}
-use Rattle.view_tree.specs.Grafted.{Grafted}
-use Rattle.view_tree.specs.Requests.{among, asking, pressed, unforced}
+use Rattle.view_tree.specs.tree.Grafted.{Grafted}
+use Rattle.view_tree.specs.tree.Requests.{among, asking, pressed, unforced}
 use Rattle.view_tree.specs.Rows.{Row, ancestors, count_of_key, first_key, grown_at_key, later_siblings}
 use Rattle.view_tree.specs.Views.{IsLive, IsTree, Views, held_of}
 use Rattle.view_tree.proofs.forest.DepthLaws.{ancestors-grown}

@@ -6,7 +6,7 @@ use Rattle.view_model.specs.Forest.{Forest, Nothing, Branch}
 use Rattle.view_tree.specs.Rows.{Row, count_of_key}
 use Rattle.view_tree.specs.Views.{Held}
 use Rattle.kept_views.specs.Kept.{Around, Cleared, firm, inside, loose}
-use Rattle.view_tree.specs.Requests.{among, asking, forced_one, pressed}
+use Rattle.view_tree.specs.tree.Requests.{among, asking, forced_one, pressed}
 use Rattle.kept_views.specs.Pressing.{Pressed, Touched}
 use Rattle.kept_views.specs.Passes.{settled, settled_at, InPass}
 use Rattle.kept_views.proofs.Paths.{Forces, Way, kept_forces, way}

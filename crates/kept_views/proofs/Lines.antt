@@ -12,7 +12,7 @@ use Rattle.view_tree.proofs.forest.NumberLaws.{count_of_key-cut_le, sum-grown, s
 use Rattle.view_tree.specs.Views.{Held}
 use Rattle.kept_views.specs.Kept.{Around, Cleared, HiddenView, IsKept, Kept, Reached, asked, firm, inside, loose, reach}
 use Rattle.kept_views.specs.Passes.{InPass, settled_at}
-use Rattle.view_tree.specs.Requests.{among, asking, pressed}
+use Rattle.view_tree.specs.tree.Requests.{among, asking, pressed}
 use Rattle.kept_views.specs.Pressing.{all_pressed, path_of}
 use Rattle.kept_views.proofs.AroundEdits.{ClearedAt, IsCalm, cleared_at, cleared_each, flags_replaced, reached_at, reached_each}
 use Rattle.kept_views.proofs.EditParts.{SameBut, apart_part}

@@ -10,7 +10,7 @@ use Rattle.view_tree.proofs.forest.KeyLaws.{times_self}
 use Rattle.kept_views.proofs.Keys.{own_more}
 use Rattle.view_tree.specs.Views.{Held}
 use Rattle.kept_views.specs.Kept.{Around, Kept, hidden_in, inside, reach}
-use Rattle.view_tree.specs.Requests.{among, unforced}
+use Rattle.view_tree.specs.tree.Requests.{among, unforced}
 
 pub reach_few : (key : ℕ) (list : Forest Row) → reach key list ≤ count_of_key key list
 reach_few key Nothing = omega arith

@@ -8,7 +8,7 @@ use Rattle.view_model.specs.Offsets.{brought, range_by}
 use Rattle.view_tree.specs.Rows.{Row}
 use Rattle.view_tree.specs.Views.{Held, specs_of}
 use Rattle.kept_views.specs.Kept.{Around, HiddenView, Kept, ShownView, asked, first_place, hidden_in, last_edges, last_places, last_specs}
-use Rattle.view_tree.specs.Requests.{forced_one}
+use Rattle.view_tree.specs.tree.Requests.{forced_one}
 use Rattle.kept_views.specs.Pressing.{IsPressed, Pressed, Touched}
 
 no_both : {A : Type 0} (v : Bool) → v ≡ true → v ≡ false → A

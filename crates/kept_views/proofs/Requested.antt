@@ -9,7 +9,7 @@ use Rattle.view_model.specs.Measuring.{Specs}
 use Rattle.view_tree.specs.Rows.{Row, count_of_key}
 use Rattle.view_tree.specs.Views.{Held}
 use Rattle.kept_views.specs.Kept.{Around, Cleared, HiddenView, Kept, Reached, ShownView, hidden_in, inside, loose, reach}
-use Rattle.view_tree.specs.Requests.{among, asking, forced_one, pressed}
+use Rattle.view_tree.specs.tree.Requests.{among, asking, forced_one, pressed}
 use Rattle.kept_views.specs.Pressing.{IsPressed, Pressed, Touched}
 use Rattle.kept_views.proofs.Paths.{FlagsAbove, Way, kept_forces, more_than, reach_more, way}
 use Rattle.kept_views.proofs.PressedKept.{forced_touched, pressed_kept}

@@ -1,7 +1,7 @@
 -- Views that are pressed: forced from now on, with their caches emptied.
 use Rattle.std.specs.Prelude.{◌≡◌, ◌⊎◌, ℕ, true, false, List, [], ◌∷◌}
 use Rattle.view_model.specs.Forest.{Forest, Nothing, Branch}
-use Rattle.view_tree.specs.Requests.{pressed}
+use Rattle.view_tree.specs.tree.Requests.{pressed}
 use Rattle.view_tree.specs.Rows.{Row, ancestors}
 use Rattle.view_tree.specs.Views.{Held, specs_of}
 use Rattle.kept_views.specs.Kept.{Around, HiddenView, asked, hidden_in, inside}

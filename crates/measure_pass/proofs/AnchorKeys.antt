@@ -8,7 +8,7 @@ use Rattle.std.specs.Prelude.{ℤ, ◌==◌, if◌then◌else◌, slice_index_or
 use Rattle.measure_pass.specs.Siblings.{IsKidAt, edge_on, first_child, first_span, kept_spans, kids_in}
 use Rattle.measure_pass.proofs.Places.{kid_at}
 use Rattle.measure_pass.proofs.SiblingTurns.{links_same}
-use Rattle.relative_layout.proofs.NamingLaws.{last_is}
+use Rattle.relative_layout.proofs.orders.NamingLaws.{last_is}
 use Rattle.view_model.specs.declared.facts.Facts.{Facts}
 use Rattle.view_model.specs.declared.relative.Anchor.{Anchor}
 use Rattle.view_model.specs.declared.relative.Axis.{Axis}

@@ -20,7 +20,7 @@ use Rattle.view_model.specs.Facts.{is_shown}
 use Rattle.view_model.specs.Forest.{Forest, Nothing, Branch}
 use Rattle.view_model.specs.Layout.{children_of, final_specs, measure_calls, measured_size, for_layout}
 use Rattle.view_model.specs.Measuring.{Specs}
-use Rattle.view_tree.specs.declared.state.State.{State}
+use Rattle.view_tree.specs.declared.node.state.State.{State}
 use Rattle.view_tree.specs.Rows.{Row, first_tree, children_of_first, head_view, part_from, count_of_key, views_of}
 use Rattle.view_tree.specs.Views.{Held, KeepsOutside, Views, held_of, specs_of}
 use Rattle.view_tree.proofs.forest.KeyLaws.{located}

@@ -16,8 +16,8 @@ use Rattle.measure_pass.proofs.Counts.{costs_own, costs_same}
 use Rattle.measure_pass.proofs.Grows.{Grown-mono, Grown-trans}
 use Rattle.measure_pass.proofs.SiblingTurns.{orders_as}
 use Rattle.measure_pass.proofs.Whole.{AllAsked, GoneLeft, calls_shown, course_lasts, course_sized, finals_of, lasts_of, no_true, shown_calls}
-use Rattle.relative_layout.proofs.TurnLaws.{in_turns, size_in_turns}
-use Rattle.relative_layout.specs.RelativePlan.{spanned_in}
+use Rattle.relative_layout.proofs.orders.TurnLaws.{in_turns, size_in_turns}
+use Rattle.relative_layout.specs.plan.RelativePlan.{spanned_in}
 use Rattle.view_model.proofs.RelativeAlike.{requested_child}
 use Rattle.view_model.specs.declared.facts.Facts.{Facts}
 use Rattle.view_model.specs.declared.kinds.Class.TheVariants.{RelativeLayout}
@@ -32,7 +32,7 @@ use Rattle.view_model.specs.RelativeCourse.{Arrangement, arranged, child_at, eac
 use Rattle.view_model.specs.RelativeLayout.{relative_size, sides_of}
 use Rattle.view_model.specs.SiblingRules.{leads}
 use Rattle.view_model.specs.Cycles.{links_in}
-use Rattle.view_tree.specs.Ordering.{AreOrders, PlainOrders}
+use Rattle.view_tree.specs.groups.Ordering.{AreOrders, PlainOrders}
 use Rattle.view_tree.specs.Rows.{Row, children_of_first, count_of_key, head_view, part_from, siblings_from, views_of}
 use Rattle.view_tree.specs.Views.{Held}
 use Rattle.view_tree.proofs.forest.KeyLaws.{located}

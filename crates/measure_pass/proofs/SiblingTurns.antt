@@ -23,8 +23,8 @@ use Rattle.measure_pass.proofs.Grows.{Grown-first, Grown-refl}
 use Rattle.kept_views.specs.Laying.{Wrote}
 use Rattle.measure_pass.proofs.Parts.{Sized-along}
 use Rattle.measure_pass.proofs.Places.{FirstHasEdges-along, kid_at, past_kids, still_there}
-use Rattle.relative_layout.proofs.CourseLaws.{IsKidOrder, anchors_same, spans_across-fixed, spans_down-fixed}
-use Rattle.relative_layout.specs.RelativePlan.{RepresentsRelative, edges_as, spanned_as, spanned_at, spanned_in}
+use Rattle.relative_layout.proofs.plans.CourseLaws.{IsKidOrder, anchors_same, spans_across-fixed, spans_down-fixed}
+use Rattle.relative_layout.specs.plan.RelativePlan.{RepresentsRelative, edges_as, spanned_as, spanned_at, spanned_in}
 use Rattle.relative_layout.specs.declared.plan.RelativePlan.{RelativePlan}
 use Rattle.view_model.specs.declared.facts.Facts.{Facts}
 use Rattle.view_model.specs.declared.kinds.Class.{Class}
@@ -47,7 +47,7 @@ use Rattle.view_model.specs.RelativeLayout.{Spanned, edges_with, final_rect, pha
 use Rattle.view_model.specs.SiblingRules.{leads}
 use Rattle.view_model.specs.Classes.{is_relative}
 use Rattle.view_model.specs.Cycles.{each, link_of, links_in}
-use Rattle.view_tree.specs.Ordering.{AreOrders, PlainOrders, no_orders}
+use Rattle.view_tree.specs.groups.Ordering.{AreOrders, PlainOrders, no_orders}
 use Rattle.view_tree.specs.Rows.{Row, children_of_first, count_of_key, first_tree, head_view, part_from, siblings_from, views_of}
 use Rattle.view_tree.specs.Views.{Held, KeepsInside, KeepsOutside, SameTree, Views, orders_of, specs_of}
 use Rattle.view_tree.proofs.forest.KeyLaws.{located}

@@ -10,7 +10,7 @@ use Rattle.view_model.specs.Facts.{is_shown}
 use Rattle.view_model.specs.Forest.{Forest, Nothing, Branch}
 use Rattle.view_model.specs.Layout.{final_edges, final_specs, measure_calls, measured_size, total_size}
 use Rattle.view_model.specs.Measuring.{Specs}
-use Rattle.view_tree.specs.declared.state.State.{State}
+use Rattle.view_tree.specs.declared.node.state.State.{State}
 use Rattle.view_tree.specs.Rows.{Row, children_of_first, first_tree, head_view, part_from, views_of}
 use Rattle.view_tree.specs.Views.{Held, KeepsOutside, SameTree, Views, IsLive, held_of, specs_of, state_of}
 

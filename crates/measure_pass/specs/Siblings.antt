@@ -6,7 +6,7 @@ use Rattle.geom_core.specs.declared.geometry.Rect.{Rect}
 use Rattle.measure_pass.specs.Caches.{Grown}
 use Rattle.kept_views.specs.Kept.{IsSized, Sized}
 use Rattle.measure_pass.specs.Measured.{Costs}
-use Rattle.relative_layout.specs.RelativePlan.{RepresentsRelative, spanned_in}
+use Rattle.relative_layout.specs.plan.RelativePlan.{RepresentsRelative, spanned_in}
 use Rattle.relative_layout.specs.declared.plan.RelativePlan.{RelativePlan}
 use Rattle.view_model.specs.declared.facts.Facts.{Facts}
 use Rattle.view_model.specs.declared.relative.Axis.{Axis}
@@ -19,7 +19,7 @@ use Rattle.view_model.specs.Layout.{child_under, children_of}
 use Rattle.view_model.specs.Measuring.{Specs}
 use Rattle.view_model.specs.RelativeCourse.{anchors_by, arranged, asked_across, asked_down, child_at, edges_at, no_child, span_across, span_down, spans_across, spans_down}
 use Rattle.view_model.specs.RelativeLayout.{Spanned, edges_with, span_or_none}
-use Rattle.view_tree.specs.Ordering.{PlainOrders}
+use Rattle.view_tree.specs.groups.Ordering.{PlainOrders}
 use Rattle.view_tree.specs.Rows.{Row, count_of_key, first_tree, part_from, siblings_from, views_of}
 use Rattle.view_tree.specs.Views.{Held, specs_of}
 

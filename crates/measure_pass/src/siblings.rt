@@ -3,7 +3,7 @@ ghost use Rattle.std.specs.Prelude.{◌≡◌, ◌<◌, ℕ, [], ◌∷◌, List
 ghost use Rattle.kept_views.specs.Kept.{Ready};
 ghost use Rattle.measure_pass.specs.Measured.{Keeps, KeepsAllButEdges, kids_from, tree_from};
 ghost use Rattle.measure_pass.specs.Siblings.{FirstHasEdges, FirstHasSize, HaveSizes, IsSettled, TurnIsOver, edges_of, first_child, kids_in, no_edges, order_on, phase_of};
-ghost use Rattle.relative_layout.specs.RelativePlan.{RepresentsRelative};
+ghost use Rattle.relative_layout.specs.plan.RelativePlan.{RepresentsRelative};
 ghost use Rattle.view_model.specs.declared.facts.Facts.{Facts as FactsValue};
 ghost use Rattle.view_model.specs.declared.relative.Edges.{Edges as EdgesValue};
 ghost use Rattle.view_model.specs.declared.kinds.Class.TheVariants.{RelativeLayout};
@@ -12,7 +12,7 @@ ghost use Rattle.view_model.specs.Measuring.{Specs};
 ghost use Rattle.view_model.specs.RelativeCourse.{arranged};
 ghost use Rattle.view_model.specs.RelativeLayout.{Spanned, final_rect, relative_size};
 ghost use Rattle.view_model.specs.Cycles.{links_in};
-ghost use Rattle.view_tree.specs.Ordering.{AreOrders};
+ghost use Rattle.view_tree.specs.groups.Ordering.{AreOrders};
 ghost use Rattle.view_tree.specs.Rows.{part_from, siblings_from, views_of};
 ghost use Rattle.view_tree.specs.Views.{IsLive, IsTree, KeepsOthers, KeepsOutside, SameTree, class_of, held_of, orders_of, state_of};
 

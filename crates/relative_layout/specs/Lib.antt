@@ -1,6 +1,2 @@
-pub mod Naming
-pub mod Sorting
-pub mod Points
-pub mod Parts
-pub mod RelativePlan
-pub mod Taking
+pub mod ordering
+pub mod plan

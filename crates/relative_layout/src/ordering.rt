@@ -1,19 +1,27 @@
 //! The orders in which the children of a relative layout are measured.
 ghost use Rattle.std.specs.Prelude.{◌≡◌, ◌<◌, ◌≤◌, ℕ, IfErr, IfOk, OnOk, length, nat_eq};
 ghost use Rattle.indexmap.specs.IndexMap.{get as place_in};
-ghost use Rattle.relative_layout.specs.Naming.{IsNaming};
-ghost use Rattle.relative_layout.specs.Parts.{members_with};
-ghost use Rattle.relative_layout.specs.Sorting.{IsFaultOf, IsLongest, IsSorting};
+ghost use Rattle.relative_layout.specs.ordering.Naming.{IsNaming};
+ghost use Rattle.relative_layout.specs.ordering.Components.{members_with};
+ghost use Rattle.relative_layout.specs.ordering.Sorting.{IsFaultOf, IsLongest, IsSorting};
 ghost use Rattle.view_model.specs.declared.relative.Axis.TheVariants.{Horizontal, Vertical};
 ghost use Rattle.view_model.specs.Orders.{AreMembers, IsAcyclic, IsOrder};
 ghost use Rattle.view_model.specs.SiblingRules.{last_with_id, leads};
 ghost use Rattle.view_model.specs.declared.limits.TheConstants.{MAX_VIEWS};
 
-use crate::ids::last_places;
-use crate::listing::{leads_back, listed_places};
-use crate::naming::Naming;
-use crate::parts::marks_of_members;
-use crate::taking::Taking;
+pub mod components;
+pub mod ids;
+pub mod listing;
+pub mod marks;
+pub mod naming;
+pub mod points;
+pub mod topological;
+
+use crate::ordering::components::marks_of_members;
+use crate::ordering::ids::last_places;
+use crate::ordering::listing::{leads_back, listed_places};
+use crate::ordering::naming::Naming;
+use crate::ordering::topological::Taking;
 use indexmap::IndexMap;
 use std::alloc::{AllocError, Global};
 use view_model::{Axis, Link};

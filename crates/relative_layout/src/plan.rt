@@ -6,9 +6,13 @@ ghost use Rattle.view_model.specs.Facts.{layout_facts};
 ghost use Rattle.view_model.specs.Measuring.{Specs, pair_of};
 ghost use Rattle.view_model.specs.RelativeLayout.{Spanned, across_specs, down_specs, final_rect, phase_specs, relative_size, span_or_none};
 
-use crate::extent::Extent;
-use crate::sides::{loose_spec, reported_spec};
-use crate::spans::rect_between;
+pub mod extent;
+pub mod sides;
+pub mod spans;
+
+use crate::plan::extent::Extent;
+use crate::plan::sides::{loose_spec, reported_spec};
+use crate::plan::spans::rect_between;
 use geom_core::{Rect, Size, Spec};
 use view_model::{Anchors, Axis, Edges, Facts};
 
@@ -26,7 +30,7 @@ pub struct RelativePlan {
 }
 
 impl RelativePlan {
-    ghost use Rattle.relative_layout.specs.RelativePlan.{RepresentsRelative, TurnsRelative, edges_as, spanned_as};
+    ghost use Rattle.relative_layout.specs.plan.RelativePlan.{RepresentsRelative, TurnsRelative, edges_as, spanned_as};
 
     /// The plan of a group with these facts under these specs, before its first child.
     pub fn start(own: &Facts, ws: Spec, hs: Spec) -> RelativePlan

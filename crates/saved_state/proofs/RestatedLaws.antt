@@ -15,7 +15,7 @@ use Rattle.view_tree.proofs.forest.KeyLaws.{Within, count_of_key-within, from_wi
 use Rattle.view_tree.proofs.forest.NumberLaws.{count_of_key-put, put_absent}
 use Rattle.view_tree.proofs.forest.PreorderLaws.{key_count, key_count-rows, status}
 use Rattle.view_model.specs.PlainTree.{PlainView}
-use Rattle.view_tree.specs.Preorder.{rows_from}
+use Rattle.view_tree.specs.tree.Preorder.{rows_from}
 use Rattle.view_tree.specs.Rows.{Row, changed_at_key, count_of_key, head_view, part_from}
 
 -- what the views of two lists are given

@@ -21,7 +21,7 @@ use Rattle.view_model.specs.PlainTree.{PlainView}
 use Rattle.view_tree.proofs.forest.PreorderLaws.{key_count, key_count-rows}
 use Rattle.view_tree.proofs.values.GeometryLaws.{laid_along}
 use Rattle.view_tree.proofs.values.KeptLaws.{ancestors-put}
-use Rattle.view_tree.specs.Requests.{among, asking, pressed, unforced}
+use Rattle.view_tree.specs.tree.Requests.{among, asking, pressed, unforced}
 use Rattle.view_tree.specs.Rows.{Row, ancestors, count_of_key}
 use Rattle.view_tree.specs.Views.{Held, IsTree, Views, geometry_of, held_of, laid_at, laid_rows}
 

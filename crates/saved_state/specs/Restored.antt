@@ -7,7 +7,7 @@ use Rattle.saved_state.specs.declared.value.Value.{Value}
 use Rattle.saved_state.specs.declared.value.Value.TheVariants.{Offset, Text}
 use Rattle.view_model.specs.Forest.{Forest, map_rows, rows}
 use Rattle.view_model.specs.PlainTree.{PlainView}
-use Rattle.view_tree.specs.Requests.{among, asking, pressed}
+use Rattle.view_tree.specs.tree.Requests.{among, asking, pressed}
 use Rattle.view_tree.specs.Rows.{Row, changed_at_key, head_view, part_from}
 use Rattle.view_tree.specs.Views.{Held, Views}
 

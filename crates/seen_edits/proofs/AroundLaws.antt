@@ -18,7 +18,7 @@ use Rattle.view_model.specs.Changes.{facts_after_act}
 use Rattle.view_model.specs.Forest.{Forest}
 use Rattle.view_model.specs.Visible.{Canvas, whole_window}
 use Rattle.view_model.specs.declared.changes.Act.{Act}
-use Rattle.view_tree.specs.Requests.{among, asking, forced_one, pressed, requested}
+use Rattle.view_tree.specs.tree.Requests.{among, asking, forced_one, pressed, requested}
 use Rattle.view_tree.specs.Rows.{Row, count_of_key, first_tree, part_from, pruned_at_key}
 use Rattle.view_tree.specs.Views.{Held, IsLive, IsTree, Views, facts_of, held_of}
 

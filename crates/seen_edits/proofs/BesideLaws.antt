@@ -13,7 +13,7 @@ use Rattle.view_model.specs.Direction.{dir}
 use Rattle.view_model.specs.Forest.{Forest, Nothing, Branch}
 use Rattle.view_model.specs.PlainTree.{PlainView}
 use Rattle.view_model.specs.Visible.{Canvas, canvas_below}
-use Rattle.view_tree.specs.Directions.{directed_rows, row_running}
+use Rattle.view_tree.specs.tree.Directions.{directed_rows, row_running}
 use Rattle.view_tree.specs.Rows.{Row, changed_at_key, count_of_key, pruned_at_key}
 use Rattle.view_tree.specs.Views.{AreDirected, Held, scrolled}
 use Rattle.view_tree.proofs.forest.KeyLaws.{times_self}

@@ -23,7 +23,7 @@ use Rattle.view_model.specs.Forest.{Forest, rows}
 use Rattle.view_model.specs.Visible.{whole_window}
 use Rattle.view_tree.proofs.forest.PreorderLaws.{key_count, key_count-rows, status}
 use Rattle.view_tree.proofs.forest.KeyLaws.{here}
-use Rattle.view_tree.specs.Preorder.{rows_from}
+use Rattle.view_tree.specs.tree.Preorder.{rows_from}
 use Rattle.view_tree.specs.Rows.{Row, count_of_key}
 use Rattle.view_tree.specs.Views.{IsLive, IsTree, Views, held_of}
 

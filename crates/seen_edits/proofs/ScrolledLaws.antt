@@ -13,14 +13,14 @@ use Rattle.seen_edits.specs.Scrolled.{IsIn, NotesAll, NotesEntry}
 use Rattle.seen_edits.specs.Shown.{KeepsShown}
 use Rattle.seen_parts.proofs.ChangeLaws.{met_scrolled}
 use Rattle.seen_parts.specs.Meeting.{met_at, placed_rows, seen_at}
-use Rattle.touch_dispatch.proofs.SceneLaws.{offset_live}
-use Rattle.touch_dispatch.proofs.ScrollLaws.{LogsScrolls, dispatch_logs}
+use Rattle.touch_dispatch.proofs.steps.SceneLaws.{offset_live}
+use Rattle.touch_dispatch.proofs.scrolls.ScrollLaws.{LogsScrolls, dispatch_logs}
 use Rattle.touch_dispatch.specs.Dispatch.{dispatched}
-use Rattle.touch_dispatch.specs.Handling.{Reached}
+use Rattle.touch_dispatch.specs.handling.Handling.{Reached}
 use Rattle.touch_event.specs.declared.event.Event.{Event}
-use Rattle.touch_dispatch.specs.Kept.{Kept}
-use Rattle.touch_dispatch.specs.Scrolled.{has_scrolled, is_scroll}
-use Rattle.touch_dispatch.specs.TreeEvents.{OnlyScrolls, offsets_in, progress_of, scene_of}
+use Rattle.touch_dispatch.specs.gesture.Kept.{Kept}
+use Rattle.touch_dispatch.specs.handling.Scrolled.{has_scrolled, is_scroll}
+use Rattle.touch_dispatch.specs.reaching.TreeEvents.{OnlyScrolls, offsets_in, progress_of, scene_of}
 use Rattle.touch_dispatch.specs.declared.log.Entry.{Entry}
 use Rattle.touch_dispatch.specs.declared.log.Log.{Log}
 use Rattle.view_model.specs.Forest.{Forest}

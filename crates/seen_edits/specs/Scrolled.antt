@@ -7,7 +7,7 @@ use Rattle.damage_rect.specs.Within.{LiesIn}
 use Rattle.saved_state.specs.Restored.{wanted}
 use Rattle.saved_state.specs.State.{StateEntry}
 use Rattle.seen_edits.specs.Shown.{seen_of}
-use Rattle.touch_dispatch.specs.Scrolled.{has_scrolled, is_scroll}
+use Rattle.touch_dispatch.specs.handling.Scrolled.{has_scrolled, is_scroll}
 use Rattle.touch_dispatch.specs.declared.log.Entry.{Entry}
 use Rattle.view_tree.specs.Views.{IsLive, Views, number_of}
 

@@ -3,7 +3,7 @@ ghost use Rattle.std.specs.Prelude.{◌≡◌};
 ghost use Rattle.damage_rect.specs.Within.{LiesIn};
 ghost use Rattle.geom_core.specs.declared.geometry.Rect.{Rect};
 ghost use Rattle.seen_edits.specs.Scrolled.{EntryIn, NotesAll, NotesEntry, ScrolledIn};
-ghost use Rattle.touch_dispatch.specs.Scrolled.{is_scroll};
+ghost use Rattle.touch_dispatch.specs.handling.Scrolled.{is_scroll};
 ghost use Rattle.view_tree.specs.Views.{IsTree};
 
 use crate::trees::note_tree;

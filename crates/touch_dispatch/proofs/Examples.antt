@@ -4,10 +4,10 @@ use Rattle.std.specs.Prelude.{ℤ, pos, ◌==◌, if◌then◌else◌, map}
 use Rattle.geom_core.specs.Limits.{clamp_coordinate}
 use Rattle.geom_core.specs.declared.geometry.Rect.{Rect}
 use Rattle.touch_dispatch.specs.Dispatch.{Scene, cancelled, reach}
-use Rattle.touch_dispatch.specs.Drags.{beyond_slop, is_past, way_up}
-use Rattle.touch_dispatch.specs.Gestures.{no_gesture}
-use Rattle.touch_dispatch.specs.Handling.{Progress, is_same_offset, targets_at}
-use Rattle.touch_dispatch.specs.Points.{cancel_event, is_inside, is_near_point, local_point}
+use Rattle.touch_dispatch.specs.handling.Drags.{beyond_slop, is_past, way_up}
+use Rattle.touch_dispatch.specs.gesture.Gestures.{no_gesture}
+use Rattle.touch_dispatch.specs.handling.Handling.{Progress, is_same_offset, targets_at}
+use Rattle.touch_dispatch.specs.reaching.Points.{cancel_event, is_inside, is_near_point, local_point}
 use Rattle.touch_dispatch.specs.declared.log.Entry.{Entry}
 use Rattle.touch_dispatch.specs.declared.log.Kind.TheVariants.{Ask, Touch, Scroll}
 use Rattle.touch_event.specs.declared.event.Action.{Action}

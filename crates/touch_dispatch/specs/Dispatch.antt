@@ -3,12 +3,12 @@
 use Rattle.std.specs.Prelude.{ℕ, ◌==◌, ℤ, pos, nat_lt, Bool, true, false, ◌&&◌, ◌||◌, not, if◌then◌else◌, List, [], ◌∷◌, Option, Some, None, find, is_some}
 use Rattle.std.specs.Option.{option_map, unwrap_or}
 use Rattle.geom_core.specs.declared.geometry.Rect.{Rect}
-use Rattle.touch_dispatch.specs.Gestures.{PlainGesture, cleared, set_targets, without_target}
-use Rattle.touch_dispatch.specs.Handling.{Progress, Reached, asked, handled, is_cancel, is_down, is_nil, targets_at, with_gesture}
-use Rattle.touch_dispatch.specs.Points.{cancel_event, is_tried, local_event}
-use Rattle.touch_dispatch.specs.declared.receiver.Receiver.{Receiver}
-use Rattle.touch_dispatch.specs.declared.taker.Taker.{Taker}
-use Rattle.touch_dispatch.specs.declared.taker.Taker.TheVariants.{NoChild, Earlier, Sent}
+use Rattle.touch_dispatch.specs.gesture.Gestures.{PlainGesture, cleared, set_targets, without_target}
+use Rattle.touch_dispatch.specs.handling.Handling.{Progress, Reached, asked, handled, is_cancel, is_down, is_nil, targets_at, with_gesture}
+use Rattle.touch_dispatch.specs.reaching.Points.{cancel_event, is_tried, local_event}
+use Rattle.touch_dispatch.specs.declared.handling.receiver.Receiver.{Receiver}
+use Rattle.touch_dispatch.specs.declared.reaching.taker.Taker.{Taker}
+use Rattle.touch_dispatch.specs.declared.reaching.taker.Taker.TheVariants.{NoChild, Earlier, Sent}
 use Rattle.touch_event.specs.Splitting.{split_event}
 use Rattle.touch_event.specs.declared.event.Action.{Action}
 use Rattle.touch_event.specs.declared.event.Action.TheVariants.{Down, Up, Move, Cancel, PointerDown, PointerUp}

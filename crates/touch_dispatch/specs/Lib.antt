@@ -1,10 +1,5 @@
-pub mod Gestures
-pub mod Points
-pub mod Scrolled
-pub mod Drags
-pub mod Handling
 pub mod Dispatch
-pub mod Kept
-pub mod TreeEvents
 pub mod Once
-pub mod Delivery
+pub mod gesture
+pub mod handling
+pub mod reaching

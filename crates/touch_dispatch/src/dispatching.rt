@@ -1,10 +1,10 @@
 //! An event of all the pointers, and the cancel of a view that goes away.
 ghost use Rattle.std.specs.Prelude.{◌≡◌, ◌≤◌, ◌<◌, ◌+◌, ◌*◌, ◌&&◌, ℕ, Some, length, is_some, false};
-ghost use Rattle.touch_dispatch.specs.Delivery.{delivered};
+ghost use Rattle.touch_dispatch.specs.reaching.Delivery.{delivered};
 ghost use Rattle.touch_dispatch.specs.Dispatch.{cancelled, dispatched};
-ghost use Rattle.touch_dispatch.specs.Kept.{gesture_of, is_open};
+ghost use Rattle.touch_dispatch.specs.gesture.Kept.{gesture_of, is_open};
 ghost use Rattle.touch_dispatch.specs.Once.{asks, total, touches};
-ghost use Rattle.touch_dispatch.specs.TreeEvents.{IsGestureIn, KeepsScene, MayReach, OnlyScrolls, Unchanged, parent_number, part_at, progress_of, room_of, scene_of};
+ghost use Rattle.touch_dispatch.specs.reaching.TreeEvents.{IsGestureIn, KeepsScene, MayReach, OnlyScrolls, Unchanged, parent_number, part_at, progress_of, room_of, scene_of};
 ghost use Rattle.touch_event.specs.declared.event.TheConstants.{MAX_POINTERS};
 ghost use Rattle.touch_targets.specs.Captures.{is_target};
 ghost use Rattle.view_model.specs.Facts.{is_shown};
@@ -12,13 +12,13 @@ ghost use Rattle.view_model.specs.Forest.{count_of};
 ghost use Rattle.view_tree.specs.Rows.{views_of};
 ghost use Rattle.view_tree.specs.Views.{IsLive, IsTree, facts_of, number_of, state_of};
 
-use crate::delivery::Delivery;
 use crate::gesture::Gesture;
-use crate::groups::is_target;
-use crate::limits::Limits;
+use crate::handling::limits::Limits;
 use crate::log::Log;
-use crate::points::cancel_event;
+use crate::reaching::delivery::Delivery;
+use crate::reaching::points::cancel_event;
 use crate::reaching::reach;
+use crate::reaching::target_list::is_target;
 use touch_event::Event;
 use view_tree::{Key, ViewTree};
 

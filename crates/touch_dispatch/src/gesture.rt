@@ -1,14 +1,16 @@
-//! What is kept of a gesture between its events.
+//! What is kept of a gesture between its events; `marks` is what is kept of a view besides its targets.
 ghost use Rattle.std.specs.Prelude.{◌≡◌, ◌≢◌, ◌==◌, ◌<◌, ◌≤◌, ◌+◌, ◌&&◌, ◌||◌, not, true, false, Bool, ℕ, [], if◌then◌else◌, None, Some, OnErr, OnOk, is_some, nat_eq};
 ghost use Rattle.indexmap.specs.IndexMap.{get as get_key, spare};
-ghost use Rattle.touch_dispatch.specs.Gestures.{closed, set_disallow, set_drag, set_pressed, set_targets, without_target};
-ghost use Rattle.touch_dispatch.specs.Kept.{HasRoom, IsUnknown, Kept, MayCapture, gesture_of, is_open, marks_or, no_marks, nothing_kept, with_place};
+ghost use Rattle.touch_dispatch.specs.gesture.Gestures.{closed, set_disallow, set_drag, set_pressed, set_targets, without_target};
+ghost use Rattle.touch_dispatch.specs.gesture.Kept.{HasRoom, IsUnknown, Kept, MayCapture, gesture_of, is_open, marks_or, no_marks, nothing_kept, with_place};
 ghost use Rattle.touch_dispatch.specs.Once.{AllDistinct};
 ghost use Rattle.touch_event.specs.PointerSets.{has_id};
 ghost use Rattle.touch_targets.specs.Captures.{drop_pointers, first_child, first_ids, from_child, is_target, older, put_target, targets_from};
 
-use crate::drag::Drag;
-use crate::marks::Marks;
+pub mod marks;
+
+use crate::gesture::marks::Marks;
+use crate::handling::drag::Drag;
 use indexmap::IndexMap;
 use std::alloc::{AllocError, Global};
 use std::marker::Model;
@@ -24,13 +26,13 @@ pub struct Gesture {
 }
 
 impl Model for Gesture {
-    ghost use Rattle.touch_dispatch.specs.Kept.{Kept, kept_code};
+    ghost use Rattle.touch_dispatch.specs.gesture.Kept.{Kept, kept_code};
 
     ghost Value = { Kept };
 
     ghost coded = { kept_code };
 
-    ghost use Rattle.touch_dispatch.specs.Kept.{IsSoundGesture, kept_in};
+    ghost use Rattle.touch_dispatch.specs.gesture.Kept.{IsSoundGesture, kept_in};
 
     ghost view = { kept_in };
 

@@ -1,14 +1,20 @@
-//! What a view does with an event itself, and what a group is asked about one.
+//! What a view does with an event itself, and what a group is asked about one. `receiver` is the view, `scrolling` how it
+//! scrolls, by the `drag` that is kept of it and the `limits` of slight moves.
 ghost use Rattle.std.specs.Prelude.{◌≡◌, ◌<◌, ◌≤◌, ◌+◌, ◌&&◌, ◌||◌, ◌++◌, ◌∷◌, [], ℕ, ℤ, pos, length, not, true};
-ghost use Rattle.touch_dispatch.specs.Handling.{asked, click_handled, clicks, drag_answer, handled_by, intercepts, is_down, is_nil, looked, many, pressed_after};
-ghost use Rattle.touch_dispatch.specs.Kept.{gesture_of, is_open};
-ghost use Rattle.touch_dispatch.specs.TreeEvents.{progress_by, room_of};
+ghost use Rattle.touch_dispatch.specs.handling.Handling.{asked, click_handled, clicks, drag_answer, handled_by, intercepts, is_down, is_nil, looked, many, pressed_after};
+ghost use Rattle.touch_dispatch.specs.gesture.Kept.{gesture_of, is_open};
+ghost use Rattle.touch_dispatch.specs.reaching.TreeEvents.{progress_by, room_of};
 
-use crate::drag::asked_drag;
+pub mod drag;
+pub mod limits;
+pub mod receiver;
+pub mod scrolling;
+
 use crate::gesture::Gesture;
+use crate::handling::drag::asked_drag;
+use crate::handling::receiver::Receiver;
 use crate::log::{Entry, Kind, Log};
-use crate::points::{cancel_event, is_down, is_near_first, is_planned};
-use crate::receiver::Receiver;
+use crate::reaching::points::{cancel_event, is_down, is_near_first, is_planned};
 use touch_event::{Action, Event};
 use view_model::Answer;
 

@@ -1,6 +1,6 @@
 //! What is recorded of an event.
 ghost use Rattle.std.specs.Prelude.{◌≡◌, ◌≤◌, ◌<◌, ◌+◌, ◌++◌, ◌∷◌, [], length, OnOk, OnErr};
-ghost use Rattle.touch_dispatch.specs.TreeEvents.{room_of};
+ghost use Rattle.touch_dispatch.specs.reaching.TreeEvents.{room_of};
 
 use std::alloc::{AllocError, Global};
 use touch_event::Event;

@@ -1,20 +1,25 @@
 //! An event goes down a tree: `group` is how a group passes it on, `children` which child takes a pointer that goes
-//! down, `targets` what the targets of the group get.
+//! down, `targets` what the targets of the group get, and `target_list` which targets it has afterwards. `delivery` is the
+//! event on its way, `points` a child's part of it, and `taker` the child that has got it.
 ghost use Rattle.std.specs.Prelude.{◌≡◌, ◌≤◌};
-ghost use Rattle.touch_dispatch.specs.Delivery.{delivered, delivered_own};
-ghost use Rattle.touch_dispatch.specs.Handling.{many};
-ghost use Rattle.touch_dispatch.specs.TreeEvents.{IsGestureIn, KeepsScene, MayReach, progress_of, room_of};
+ghost use Rattle.touch_dispatch.specs.reaching.Delivery.{delivered, delivered_own};
+ghost use Rattle.touch_dispatch.specs.handling.Handling.{many};
+ghost use Rattle.touch_dispatch.specs.reaching.TreeEvents.{IsGestureIn, KeepsScene, MayReach, progress_of, room_of};
 ghost use Rattle.view_tree.specs.Views.{IsLive};
 
 mod children;
+pub mod delivery;
 mod group;
+pub mod points;
+pub mod taker;
+pub mod target_list;
 mod targets;
 
-use crate::delivery::Delivery;
 use crate::gesture::Gesture;
 use crate::handling::handle;
+use crate::handling::scrolling::{handle_drag, receiver_at};
 use crate::log::Log;
-use crate::scrolling::{handle_drag, receiver_at};
+use crate::reaching::delivery::Delivery;
 use group::reach_group;
 use view_tree::ViewTree;
 

@@ -18,7 +18,7 @@ use Rattle.view_model.specs.Geometry.{Laid}
 use Rattle.view_model.specs.Layout.{full_layout}
 use Rattle.view_model.specs.Offsets.{ranged}
 use Rattle.view_model.specs.PlainTree.{PlainView}
-use Rattle.view_tree.specs.Requests.{among, asking, forced_one, pressed}
+use Rattle.view_tree.specs.tree.Requests.{among, asking, forced_one, pressed}
 use Rattle.view_tree.specs.Rows.{Row, changed_at_key, count_of_key}
 use Rattle.view_tree.specs.Views.{Held, IsLive, IsTree, KeepsOthers, Views, facts_of, geometry_of, held_of, plain_of, plain_rows, scrolled}
 use Rattle.traversal.specs.Changing.{IsPassed}

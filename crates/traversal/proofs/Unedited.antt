@@ -9,7 +9,7 @@ use Rattle.kept_views.proofs.Requested.{pressed_out}
 use Rattle.view_model.specs.declared.changes.NumEdit.{NumEdit}
 use Rattle.view_model.specs.Forest.{Forest}
 use Rattle.view_model.specs.PlainTree.{PlainView}
-use Rattle.view_tree.specs.Requests.{among, asking, pressed, unforced}
+use Rattle.view_tree.specs.tree.Requests.{among, asking, pressed, unforced}
 use Rattle.view_tree.specs.Rows.{Row, ancestors, changed_at_key, count_of_key}
 use Rattle.view_tree.specs.Views.{Held, Views}
 use Rattle.view_tree.proofs.values.KeptLaws.{ancestors-put}

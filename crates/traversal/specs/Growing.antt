@@ -11,7 +11,7 @@ use Rattle.view_model.specs.Forest.{Forest, Nothing, Branch}
 use Rattle.view_model.specs.Layout.{children_of, course_by, for_layout, full_layout, root_specs}
 use Rattle.view_model.specs.Measuring.{Specs}
 use Rattle.view_model.specs.PlainTree.{PlainView}
-use Rattle.view_tree.specs.Requests.{among}
+use Rattle.view_tree.specs.tree.Requests.{among}
 use Rattle.view_tree.specs.Rows.{Row, count_of_key, head_view, part_from}
 use Rattle.view_tree.specs.Views.{Held, specs_of}
 use Rattle.traversal.specs.Frames.{after_pass, edits_of, fired_in}

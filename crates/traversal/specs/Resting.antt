@@ -6,7 +6,7 @@ use Rattle.view_model.specs.declared.facts.Facts.{Facts}
 use Rattle.view_model.specs.Facts.{is_shown}
 use Rattle.view_model.specs.Geometry.{rect_at}
 use Rattle.view_model.specs.Layout.{root_specs}
-use Rattle.view_tree.specs.declared.state.State.{State}
+use Rattle.view_tree.specs.declared.node.state.State.{State}
 use Rattle.view_tree.specs.Rows.{first_key, head_view}
 use Rattle.view_tree.specs.Views.{Views, specs_of, state_of}
 

@@ -4,7 +4,7 @@ ghost use Rattle.arrayvec.specs.ArrayVec.{array_vec_len};
 ghost use Rattle.kept_views.specs.Passes.{InPass};
 ghost use Rattle.kept_views.specs.Pressing.{path_of};
 ghost use Rattle.view_model.specs.declared.limits.TheConstants.{MAX_EDITS};
-ghost use Rattle.view_tree.specs.Requests.{among};
+ghost use Rattle.view_tree.specs.tree.Requests.{among};
 ghost use Rattle.traversal.specs.Growing.{IsOffPaths, IsUnedited};
 ghost use Rattle.traversal.specs.Requesters.{listed, with_requester};
 ghost use Rattle.std.specs.Ordering.{int_eq};

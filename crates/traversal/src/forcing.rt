@@ -1,7 +1,7 @@
 //! Views that are forced with all above them.
 ghost use Rattle.std.specs.Prelude.{◌≡◌, ℕ, true, []};
 ghost use Rattle.kept_views.specs.Pressing.{all_pressed, path_of};
-ghost use Rattle.view_tree.specs.Requests.{among, forced_one, pressed};
+ghost use Rattle.view_tree.specs.tree.Requests.{among, forced_one, pressed};
 ghost use Rattle.view_tree.specs.Rows.{ancestors};
 ghost use Rattle.view_tree.specs.Views.{IsLive, KeepsOthers, SameTree, held_of};
 

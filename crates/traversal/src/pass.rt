@@ -9,7 +9,7 @@ ghost use Rattle.seen_parts.specs.Meeting.{KeepsSight};
 ghost use Rattle.view_model.specs.Facts.{is_shown};
 ghost use Rattle.view_model.specs.Visible.{whole_window};
 ghost use Rattle.view_tree.specs.Rows.{first_key, head_view};
-ghost use Rattle.view_tree.specs.Requests.{among};
+ghost use Rattle.view_tree.specs.tree.Requests.{among};
 ghost use Rattle.kept_views.specs.Kept.{IsConsistent, IsKept};
 ghost use Rattle.kept_views.specs.Laying.{differ};
 ghost use Rattle.traversal.specs.Changing.{IsPassed, SameShape};

@@ -17,8 +17,8 @@ use Rattle.view_model.specs.Facts.{is_shown, layout_facts, unscrolled_facts}
 use Rattle.view_model.specs.Forest.{Forest, Nothing}
 use Rattle.view_model.specs.Layout.{unscrolled}
 use Rattle.view_model.specs.PlainTree.{PlainView}
-use Rattle.view_tree.specs.Attached.{Attached}
-use Rattle.view_tree.specs.Requests.{asking, pressed, requested}
+use Rattle.view_tree.specs.tree.Attached.{Attached}
+use Rattle.view_tree.specs.tree.Requests.{asking, pressed, requested}
 use Rattle.view_tree.specs.Rows.{Row, ancestors, changed_at_key, count_of_key, first_tree, grown_at_key, head_view, leaf, part_from, pruned_at_key}
 use Rattle.view_tree.specs.Views.{Held, IsLive, IsTree, KeepsOthers, KeepsOutside, SameTree, Views, facts_of, held_of}
 use Rattle.view_tree.proofs.forest.KeyLaws.{zero_or_more}

@@ -16,10 +16,10 @@ use Rattle.view_model.specs.Growth.{grown_at, refusal_at}
 use Rattle.view_model.specs.PlainTree.{PlainView, pruned, single, view_in, with_facts, with_text}
 use Rattle.view_model.specs.Refusals.{IsRefusedExactlyFor, refusal_numbered}
 use Rattle.view_model.specs.declared.refusals.TheConstants.{WRONG_CLASS}
-use Rattle.view_tree.specs.Attached.{Attached}
+use Rattle.view_tree.specs.tree.Attached.{Attached}
 use Rattle.view_model.specs.declared.fault.Fault.{Fault}
 use Rattle.view_tree.specs.Faults.{IsRefusedOrCyclic}
-use Rattle.view_tree.specs.Directions.{running_below}
+use Rattle.view_tree.specs.tree.Directions.{running_below}
 use Rattle.view_tree.specs.Rows.{first_tree, pruned_at_key, part_from, changed_at_key}
 use Rattle.view_tree.specs.Views.{Held, IsLive, IsTree, KeepsOutside, Views, class_of, held_of, laid_rows, number_of, plain_of}
 use Rattle.view_tree.proofs.values.GeometryLaws.{geometry-pruned_at_key, geometry-put, geometry-with_child}

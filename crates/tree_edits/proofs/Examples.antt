@@ -27,7 +27,7 @@ use Rattle.tree_edits.specs.Editing.{Add, ActOn, Remove, SetText, outcome_of_edi
 use Rattle.tree_edits.specs.Hiding.{gone_one}
 use Rattle.tree_edits.specs.Keeping.{held_after}
 use Rattle.tree_edits.specs.Scene.{EditScene}
-use Rattle.view_tree.specs.Requests.{forced_one}
+use Rattle.view_tree.specs.tree.Requests.{forced_one}
 use Rattle.view_tree.specs.Rows.{Row}
 use Rattle.view_tree.specs.Views.{Views, held_of}
 

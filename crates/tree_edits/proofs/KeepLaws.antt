@@ -11,10 +11,10 @@ use Rattle.view_model.specs.declared.changes.Act.{Act}
 use Rattle.view_model.specs.declared.kinds.Class.{Class}
 use Rattle.view_model.specs.Forest.{Forest, Nothing, Branch}
 use Rattle.view_model.specs.PlainTree.{PlainView}
-use Rattle.view_tree.specs.Attached.{Attached}
+use Rattle.view_tree.specs.tree.Attached.{Attached}
 use Rattle.view_model.specs.Facts.{unscrolled_facts}
-use Rattle.view_tree.specs.Directions.{running_below}
-use Rattle.view_tree.specs.Requests.{among, requested}
+use Rattle.view_tree.specs.tree.Directions.{running_below}
+use Rattle.view_tree.specs.tree.Requests.{among, requested}
 use Rattle.view_tree.specs.Rows.{Row, ancestors, changed_at_key, count_of_key, first_tree, head_view, leaf, part_from, pruned_at_key}
 use Rattle.view_tree.specs.Views.{Held, IsLive, IsTree, KeepsOthers, KeepsOutside, SameTree, Unscrolled, Views, facts_of, held_of, offset_of}
 use Rattle.view_tree.proofs.forest.DepthLaws.{ancestors-grown, ancestors-pruned_at_key}

@@ -7,7 +7,7 @@ use Rattle.kept_views.proofs.Paths.{among_first, among_rest, unforced_off}
 use Rattle.kept_views.proofs.Requested.{pressed_out}
 use Rattle.view_model.specs.Forest.{Forest}
 use Rattle.view_model.specs.PlainTree.{PlainView}
-use Rattle.view_tree.specs.Requests.{among, asking, forced_one, pressed, requested, unforced}
+use Rattle.view_tree.specs.tree.Requests.{among, asking, forced_one, pressed, requested, unforced}
 use Rattle.view_tree.specs.Rows.{Row, ancestors, around, changed_at_key, count_of_key}
 use Rattle.view_tree.specs.Views.{Held}
 use Rattle.view_tree.proofs.forest.KeyLaws.{zero_or_more}

@@ -9,7 +9,7 @@ use Rattle.view_model.specs.Directed.{rtl_at, rtl_of}
 use Rattle.view_model.specs.Direction.{dir}
 use Rattle.view_model.specs.Forest.{Forest, Nothing, Branch, sum_of}
 use Rattle.view_tree.proofs.forest.PlainLaws.{number_there}
-use Rattle.view_tree.specs.Directions.{directed_rows, is_rtl_at, row_running}
+use Rattle.view_tree.specs.tree.Directions.{directed_rows, is_rtl_at, row_running}
 use Rattle.view_tree.specs.Rows.{Row, count_of_key}
 use Rattle.view_tree.specs.Views.{Held, IsLive, IsTree, Views, laid_rows, number_of, plain_of}
 

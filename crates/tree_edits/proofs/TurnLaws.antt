@@ -16,10 +16,10 @@ use Rattle.view_tree.proofs.forest.KeyLaws.{times_self}
 use Rattle.view_tree.proofs.forest.NumberLaws.{count_of_key-put, put_absent}
 use Rattle.view_tree.proofs.values.GeometryLaws.{geometry-put}
 use Rattle.view_tree.proofs.values.KeptLaws.{ancestors-put}
-use Rattle.view_tree.specs.Directions.{asked_by_direction, directed_rows, row_running, with_direction}
-use Rattle.view_tree.specs.Requests.{asking, pressed, requested, unforced}
+use Rattle.view_tree.specs.tree.Directions.{asked_by_direction, directed_rows, row_running, with_direction}
+use Rattle.view_tree.specs.tree.Requests.{asking, pressed, requested, unforced}
 use Rattle.view_tree.specs.Rows.{Row, changed_at_key, count_of_key, head_view, part_from}
-use Rattle.view_tree.specs.Turning.{runs_so}
+use Rattle.view_tree.specs.node.Turning.{runs_so}
 use Rattle.view_tree.specs.Views.{Held, IsLive, IsTree, Views, held_of, laid_rows, number_of, plain_of}
 use Rattle.tree_edits.specs.Asking.{acted_view, asked_by_turn}
 use Rattle.tree_edits.specs.Editing.{after_act}

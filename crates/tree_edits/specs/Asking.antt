@@ -12,7 +12,7 @@ use Rattle.view_model.specs.Directed.{turned}
 use Rattle.view_model.specs.Facts.{unscrolled_facts}
 use Rattle.view_model.specs.Forest.{Forest}
 use Rattle.view_model.specs.PlainTree.{PlainView}
-use Rattle.view_tree.specs.Requests.{among}
+use Rattle.view_tree.specs.tree.Requests.{among}
 use Rattle.view_tree.specs.Rows.{Row, ancestors, changed_at_key, count_of_key, first_tree, part_from}
 use Rattle.view_tree.specs.Views.{IsLive, Views, cache_of, state_of}
 use Rattle.tree_edits.specs.declared.edits.Edit.{Edit}

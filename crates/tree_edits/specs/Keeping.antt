@@ -3,8 +3,8 @@ use Rattle.std.specs.Prelude.{◌≡◌, ℕ, ◌+◌, ◌==◌, false, None, if
 use Rattle.view_model.specs.Changes.{facts_after_act}
 use Rattle.view_model.specs.declared.changes.Act.{Act}
 use Rattle.view_model.specs.Forest.{Forest}
-use Rattle.view_tree.specs.Directions.{directed_rows, running_below}
-use Rattle.view_tree.specs.Requests.{requested}
+use Rattle.view_tree.specs.tree.Directions.{directed_rows, running_below}
+use Rattle.view_tree.specs.tree.Requests.{requested}
 use Rattle.view_tree.specs.Rows.{Row, pruned_at_key, leaf, changed_at_key, count_of_key, with_child}
 use Rattle.view_tree.specs.Views.{Held, IsLive, Views, facts_of, held_of, held_or}
 use Rattle.tree_edits.specs.declared.edits.Edit.{Edit}

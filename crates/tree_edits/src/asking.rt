@@ -1,7 +1,7 @@
 //! Requests for layout that go with edits.
 ghost use Rattle.std.specs.Prelude.{◌≡◌, ℕ, IfSome};
 ghost use Rattle.tree_edits.specs.Asking.{asked_by_act, change_requests, flag_requests, listed, requests_layout};
-ghost use Rattle.view_tree.specs.Requests.{requested};
+ghost use Rattle.view_tree.specs.tree.Requests.{requested};
 ghost use Rattle.view_tree.specs.Views.{IsLive, SameTree, held_of};
 
 use view_model::{Act, Change, Flag};

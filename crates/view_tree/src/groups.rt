@@ -1,13 +1,17 @@
-//! What is kept of the children of relative layouts, by the numbers of these.
+//! What is kept of the children of relative layouts, by the numbers of these: `places` changes an order, `kids` gathers
+//! the children of a sapling's layouts.
 ghost use Rattle.std.specs.Prelude.{◌≡◌, ◌≢◌, ◌≤◌, ◌<◌, ◌+◌, ◌^◌, ℕ, length, true, None, Some, IfSome, OnOk, option_map, if◌then◌else◌, nat_eq};
 ghost use Rattle.indexmap.specs.IndexMap.{get as held_at, spare};
 ghost use Rattle.view_model.specs.Refusals.{IsRefusedExactlyFor};
 ghost use Rattle.view_model.specs.Classes.{is_relative};
-ghost use Rattle.view_tree.specs.Grafting.{noted};
-ghost use Rattle.view_tree.specs.Ordering.{HasKidRoom, IsTaken, IsTakenAt, group_at, no_group, orders_in, place_in, plain_group, plain_orders, with_kid, with_orders};
+ghost use Rattle.view_tree.specs.tree.Grafting.{noted};
+ghost use Rattle.view_tree.specs.groups.Ordering.{HasKidRoom, IsTaken, IsTakenAt, group_at, no_group, orders_in, place_in, plain_group, plain_orders, with_kid, with_orders};
+
+pub mod kids;
+pub mod places;
 
 use crate::fault::AttachFault;
-use crate::places::{add_place, remove_place};
+use crate::groups::places::{add_place, remove_place};
 use indexmap::IndexMap;
 use relative_layout::Orders;
 use std::alloc::{AllocError, Global};

@@ -5,9 +5,11 @@ ghost use Rattle.slab.specs.Slab.{HasRoomFor};
 ghost use Rattle.slab_link.specs.declared.link.TheConstants.{LINKS_END};
 ghost use Rattle.view_model.specs.Refusals.{IsRefusedExactlyFor};
 
+pub mod ids;
+
 use crate::fault::AttachFault;
-use crate::ids::Holders;
 use crate::node::Node;
+use crate::table::ids::Holders;
 use indexmap::IndexMap;
 use slab::Slab;
 use slab_link::LINKS_END;

@@ -22,8 +22,8 @@ mod staying;
 
 use crate::counts::Counts;
 use crate::groups::Group;
-use crate::ids::Holders;
 use crate::node::Node;
+use crate::table::ids::Holders;
 use indexmap::IndexMap;
 use slab::Slab;
 use std::alloc::Global;
@@ -55,7 +55,7 @@ impl Model for ViewTree {
 
     ghost coded = { views_code };
 
-    ghost use Rattle.view_tree.specs.Nodes.{value_of, IsSoundTree};
+    ghost use Rattle.view_tree.specs.node.Nodes.{value_of, IsSoundTree};
 
     ghost view = { value_of };
 

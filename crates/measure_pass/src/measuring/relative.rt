@@ -4,13 +4,13 @@ ghost use Rattle.kept_views.specs.Kept.{Ready};
 ghost use Rattle.measure_pass.specs.Courses.{IsMeasuredBelow};
 ghost use Rattle.measure_pass.specs.Measured.{KeepsRest, kids_from, tree_from};
 ghost use Rattle.measure_pass.specs.Siblings.{AfterTurn, AfterTurns, FirstHasSize, FirstIsKnown, HaveSizes, TurnIsFixed, kept_spans, kids_in, order_on, phase_of};
-ghost use Rattle.relative_layout.specs.RelativePlan.{RepresentsRelative};
+ghost use Rattle.relative_layout.specs.plan.RelativePlan.{RepresentsRelative};
 ghost use Rattle.view_model.specs.declared.facts.Facts.{Facts as FactsValue};
 ghost use Rattle.view_model.specs.declared.kinds.Class.TheVariants.{RelativeLayout};
 ghost use Rattle.view_model.specs.Cycles.{links_in};
 ghost use Rattle.view_model.specs.Measuring.{Specs};
 ghost use Rattle.view_model.specs.RelativeLayout.{Spanned, phase_axis};
-ghost use Rattle.view_tree.specs.Ordering.{AreOrders};
+ghost use Rattle.view_tree.specs.groups.Ordering.{AreOrders};
 ghost use Rattle.view_tree.specs.Rows.{part_from, siblings_from, views_of};
 ghost use Rattle.view_tree.specs.Views.{IsLive, IsTree, class_of, held_of, orders_of};
 

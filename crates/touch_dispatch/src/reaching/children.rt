@@ -1,17 +1,17 @@
 //! Which child of a group takes a pointer that goes down.
 ghost use Rattle.std.specs.Prelude.{◌≡◌, ◌≤◌};
-ghost use Rattle.touch_dispatch.specs.Delivery.{offered_kids, tried_kid, tried_kids};
+ghost use Rattle.touch_dispatch.specs.reaching.Delivery.{offered_kids, tried_kid, tried_kids};
 ghost use Rattle.touch_dispatch.specs.Dispatch.{is_taken};
-ghost use Rattle.touch_dispatch.specs.Handling.{many};
-ghost use Rattle.touch_dispatch.specs.TreeEvents.{IsKidAt, KeepsScene, MayReach, progress_of, room_of};
+ghost use Rattle.touch_dispatch.specs.handling.Handling.{many};
+ghost use Rattle.touch_dispatch.specs.reaching.TreeEvents.{IsKidAt, KeepsScene, MayReach, progress_of, room_of};
 
-use crate::delivery::Delivery;
 use crate::gesture::Gesture;
-use crate::groups::{is_target, settle};
 use crate::log::Log;
-use crate::points::{id_bit, is_offered, is_tried, tried_event, tried_ids};
+use crate::reaching::delivery::Delivery;
+use crate::reaching::points::{id_bit, is_offered, is_tried, tried_event, tried_ids};
 use crate::reaching::reach;
-use crate::taker::Taker;
+use crate::reaching::taker::Taker;
+use crate::reaching::target_list::{is_target, settle};
 use view_tree::{Key, ViewTree};
 
 /// Looks for a child to capture, if a pointer comes down and the group lets its children have it: the first pointer,

@@ -1,18 +1,18 @@
 //! How a group passes an event on.
 ghost use Rattle.std.specs.Prelude.{◌≡◌, ◌≤◌};
-ghost use Rattle.touch_dispatch.specs.Delivery.{answered_group, delivered_group};
-ghost use Rattle.touch_dispatch.specs.Handling.{many};
-ghost use Rattle.touch_dispatch.specs.TreeEvents.{KeepsScene, MayReach, progress_of, room_of};
+ghost use Rattle.touch_dispatch.specs.reaching.Delivery.{answered_group, delivered_group};
+ghost use Rattle.touch_dispatch.specs.handling.Handling.{many};
+ghost use Rattle.touch_dispatch.specs.reaching.TreeEvents.{KeepsScene, MayReach, progress_of, room_of};
 
-use crate::delivery::{Delivery, Shared};
 use crate::gesture::Gesture;
-use crate::groups::{begin, end};
 use crate::handling::ask;
+use crate::handling::scrolling::receiver_at;
 use crate::log::Log;
 use crate::reaching::children::offer;
+use crate::reaching::delivery::{Delivery, Shared};
 use crate::reaching::handle_at;
+use crate::reaching::target_list::{begin, end};
 use crate::reaching::targets::deliver;
-use crate::scrolling::receiver_at;
 use view_tree::ViewTree;
 
 /// A group gets an event, as in Android's `ViewGroup.dispatchTouchEvent`: the first pointer that goes down begins a

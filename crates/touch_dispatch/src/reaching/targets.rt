@@ -1,17 +1,17 @@
 //! What the targets of a group get.
 ghost use Rattle.std.specs.Prelude.{◌≡◌, ◌≤◌, ◌||◌, true, false};
-ghost use Rattle.touch_dispatch.specs.Delivery.{delivered_target, delivered_targets, own_targets};
+ghost use Rattle.touch_dispatch.specs.reaching.Delivery.{delivered_target, delivered_targets, own_targets};
 ghost use Rattle.touch_dispatch.specs.Dispatch.{is_sent};
-ghost use Rattle.touch_dispatch.specs.Handling.{many};
-ghost use Rattle.touch_dispatch.specs.TreeEvents.{KeepsScene, MayReach, progress_of, room_of};
+ghost use Rattle.touch_dispatch.specs.handling.Handling.{many};
+ghost use Rattle.touch_dispatch.specs.reaching.TreeEvents.{KeepsScene, MayReach, progress_of, room_of};
 ghost use Rattle.touch_targets.specs.Captures.{is_target};
 
-use crate::delivery::{Delivery, Shared};
 use crate::gesture::Gesture;
 use crate::log::Log;
-use crate::points::{cancel_event, put_part};
+use crate::reaching::delivery::{Delivery, Shared};
+use crate::reaching::points::{cancel_event, put_part};
 use crate::reaching::reach;
-use crate::taker::Taker;
+use crate::reaching::taker::Taker;
 use view_tree::ViewTree;
 
 /// Sends an event to each target, the newest first, and returns whether one has taken it.

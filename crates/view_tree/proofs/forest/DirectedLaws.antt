@@ -6,7 +6,7 @@ use Rattle.view_model.specs.declared.facts.Facts.{Facts}
 use Rattle.view_model.specs.Direction.{dir}
 use Rattle.view_model.specs.Forest.{Forest, Nothing, Branch, joined}
 use Rattle.view_model.specs.PlainTree.{PlainView}
-use Rattle.view_tree.specs.Directions.{directed_rows, is_rtl_at}
+use Rattle.view_tree.specs.tree.Directions.{directed_rows, is_rtl_at}
 use Rattle.view_tree.specs.Rows.{Row, changed_at_key, count_of_key, grown_at_key, head_view, leaf, part_from, pruned_at_key}
 use Rattle.view_tree.specs.Views.{AreDirected}
 use Rattle.view_tree.proofs.forest.KeyLaws.{Within, from_within, here, in_after, in_below}

@@ -5,9 +5,9 @@ use Rattle.std.specs.Prelude.{◌==◌, if◌then◌else◌, IfSome}
 use Rattle.view_model.specs.declared.limits.TheConstants.{MAX_VIEWS}
 use Rattle.view_model.specs.Forest.{Forest, Nothing, Branch, count_of, sum_of}
 use Rattle.view_model.specs.PlainTree.{PlainView}
-use Rattle.view_tree.specs.declared.ids.Holders.{Holders}
-use Rattle.view_tree.specs.Holders.{dropped, noted, renamed}
-use Rattle.view_tree.specs.Nodes.{has_id, holders_of}
+use Rattle.view_tree.specs.declared.table.ids.Holders.{Holders}
+use Rattle.view_tree.specs.table.Holders.{dropped, noted, renamed}
+use Rattle.view_tree.specs.node.Nodes.{has_id, holders_of}
 use Rattle.view_tree.specs.Rows.{Row, first_tree, children_of_first, count_where, pruned_at_key, part_from, head_view, key_where, keys_where, leaf, changed_at_key, count_of_key, with_child}
 use Rattle.view_tree.proofs.nodes.HolderLaws.{dropped_is, held_few, held_none, held_one, noted_is, own, renamed_is}
 use Rattle.view_tree.proofs.forest.KeyLaws.{absent, located, or_else_live, zero_or_more}

@@ -4,7 +4,7 @@ use Rattle.std.proofs.lemmas.Bool.{eq-eqb, ne_eqb, cases_eq}
 use Rattle.std.proofs.lemmas.List.{append-nil}
 use Rattle.std.specs.Prelude.{◌==◌, if◌then◌else◌, MatchOption}
 use Rattle.view_model.specs.Forest.{Forest, Nothing, Branch, rows}
-use Rattle.view_tree.specs.Preorder.{first_row_key, from_key, rows_following, rows_from, views_from}
+use Rattle.view_tree.specs.tree.Preorder.{first_row_key, from_key, rows_following, rows_from, views_from}
 use Rattle.view_model.specs.PlainTree.{PlainView}
 use Rattle.view_tree.specs.Views.{IsLive, Views, held_of, offset_of, plain_of, scrolled, view_at}
 use Rattle.view_tree.specs.Rows.{Row, ancestors, around, children_of_first, count_of_key, first_key, first_tree, head_view, later_siblings, part_from}

@@ -4,7 +4,7 @@ use Rattle.std.proofs.lemmas.Bool.{eq-eqb, ne_eqb, cases_eq}
 use Rattle.std.specs.Prelude.{IfSome}
 use Rattle.view_model.specs.Forest.{Forest, Nothing, Branch}
 use Rattle.view_tree.specs.Rows.{Row, count_of_key, last_key, last_key_or, previous_key}
-use Rattle.view_tree.specs.Nodes.{PlainNode, RepresentsPart, RepresentsTree}
+use Rattle.view_tree.specs.node.Nodes.{PlainNode, RepresentsPart, RepresentsTree}
 use Rattle.view_tree.proofs.forest.KeyLaws.{times_self, count_of_key-within}
 use Rattle.view_tree.proofs.forest.Forests.{seen, some_is}
 use Rattle.view_tree.proofs.forest.AncestorLaws.{left}

@@ -17,7 +17,7 @@ use Rattle.view_model.specs.declared.fault.Fault.{Fault}
 use Rattle.view_model.specs.declared.fault.Fault.TheVariants as fault
 use Rattle.view_tree.specs.declared.groups.Group.{Group}
 use Rattle.view_tree.specs.Faults.{IsRefusedOrCyclic}
-use Rattle.view_tree.specs.Grafting.{AreEntries, HasAdded, IsFollowing, IsGroupOrCycle, IsMadeUnless, IsOwnFor, IsParentEntry, following, cycle_of, links_following, links_then, numbers_following, numbers_then, parent_cycle, sprout_link}
+use Rattle.view_tree.specs.tree.Grafting.{AreEntries, HasAdded, IsFollowing, IsGroupOrCycle, IsMadeUnless, IsOwnFor, IsParentEntry, following, cycle_of, links_following, links_then, numbers_following, numbers_then, parent_cycle, sprout_link}
 use Rattle.view_tree.specs.Rows.{Row, children_of_first, count_of_key, head_view, later_siblings, part_from, views_of}
 use Rattle.view_tree.specs.Views.{IsLive, IsTree, Views, class_of, number_of}
 use Rattle.view_tree.proofs.forest.KeyLaws.{located}

@@ -5,8 +5,8 @@ use Rattle.std.specs.Prelude.{◌==◌}
 use Rattle.view_model.specs.Forest.{Forest, Nothing, Branch, joined}
 use Rattle.view_model.specs.Layout.{unscrolled}
 use Rattle.view_model.specs.PlainTree.{PlainView}
-use Rattle.view_tree.specs.Attached.{Attached}
-use Rattle.view_tree.specs.Grafted.{Gained}
+use Rattle.view_tree.specs.tree.Attached.{Attached}
+use Rattle.view_tree.specs.tree.Grafted.{Gained}
 use Rattle.view_tree.specs.Rows.{Row, count_of_key, grown_at_key, leaf, with_child}
 use Rattle.view_tree.specs.Views.{Held, Views}
 use Rattle.view_tree.proofs.forest.ForestLaws.{grown_where-again, grown_where-nothing}

@@ -15,11 +15,11 @@ use Rattle.view_model.specs.Layout.{unscrolled}
 use Rattle.view_model.specs.PlainTree.{PlainView, grown, single}
 use Rattle.view_model.specs.Refusals.{PlainRefusal}
 use Rattle.view_model.specs.Sprouts.{IsPreorder, Seed, numbered, preorder, seed_of, seeds_of, sprout_of, view_of}
-use Rattle.view_tree.specs.Attached.{Attached}
-use Rattle.view_tree.specs.Directions.{is_rtl_at, running_below}
-use Rattle.view_tree.specs.Grafted.{Grafted}
+use Rattle.view_tree.specs.tree.Attached.{Attached}
+use Rattle.view_tree.specs.tree.Directions.{is_rtl_at, running_below}
+use Rattle.view_tree.specs.tree.Grafted.{Grafted}
 use Rattle.view_tree.specs.Rows.{ancestors, has_kids, head_view, leaf, part_from}
-use Rattle.view_tree.specs.Sowing.{FitsBelow, GainedBelow}
+use Rattle.view_tree.specs.tree.Sowing.{FitsBelow, GainedBelow}
 use Rattle.view_tree.specs.Views.{Views, IsLive, IsTree, class_of, number_of, plain_of}
 use Rattle.view_tree.proofs.forest.ChildLaws.{has_kids-leaf, has_kids-new}
 use Rattle.view_tree.proofs.forest.GrownParts.{head_view-leaf}

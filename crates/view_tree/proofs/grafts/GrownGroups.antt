@@ -19,10 +19,10 @@ use Rattle.view_model.specs.PlainTree.{PlainView, grown}
 use Rattle.view_model.specs.Refusals.{PlainRefusal}
 use Rattle.view_model.specs.Sprouts.{IsPreorder, Seed, numbered, preorder, seeds_of, sprout_of}
 use Rattle.view_tree.specs.declared.groups.Group.{Group}
-use Rattle.view_tree.specs.Cycles.{HasNoCycle, IsFree}
-use Rattle.view_tree.specs.Directions.{is_rtl_at}
-use Rattle.view_tree.specs.Grafting.{AreEntries, AreGrafted, IsOwnFor, IsParentEntry, cycle_in, cycle_of, entries_cycle, links_then, noted, numbers_then, parent_cycle, sprout_link}
-use Rattle.view_tree.specs.Ordering.{IsGrouped, IsGroupedAt, IsKeptFor, PlainGroup}
+use Rattle.view_tree.specs.groups.Cycles.{HasNoCycle, IsFree}
+use Rattle.view_tree.specs.tree.Directions.{is_rtl_at}
+use Rattle.view_tree.specs.tree.Grafting.{AreEntries, AreGrafted, IsOwnFor, IsParentEntry, cycle_in, cycle_of, entries_cycle, links_then, noted, numbers_then, parent_cycle, sprout_link}
+use Rattle.view_tree.specs.groups.Ordering.{IsGrouped, IsGroupedAt, IsKeptFor, PlainGroup}
 use Rattle.view_tree.specs.Rows.{Row, children_of_first, head_view, part_from, views_of}
 use Rattle.view_tree.specs.Views.{IsLive, IsTree, Views, class_of, group_number, held_of, number_of, plain_of, plain_rows}
 use Rattle.view_tree.proofs.forest.KeyLaws.{number_live}

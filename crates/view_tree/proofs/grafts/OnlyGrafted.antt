@@ -14,9 +14,9 @@ use Rattle.view_model.specs.Growth.{grown_at}
 use Rattle.view_model.specs.PlainTree.{PlainView, grown}
 use Rattle.view_model.specs.Sprouts.{IsPreorder, Seed, numbered, preorder, seeds_of, view_of}
 use Rattle.view_tree.specs.declared.groups.Group.{Group}
-use Rattle.view_tree.specs.Directions.{is_rtl_at}
-use Rattle.view_tree.specs.Grafting.{AreEntries, AreGrafted, links_following, links_then, noted, numbers_following, numbers_then, sprout_link}
-use Rattle.view_tree.specs.Ordering.{HasNoOther, PlainGroup, is_layout}
+use Rattle.view_tree.specs.tree.Directions.{is_rtl_at}
+use Rattle.view_tree.specs.tree.Grafting.{AreEntries, AreGrafted, links_following, links_then, noted, numbers_following, numbers_then, sprout_link}
+use Rattle.view_tree.specs.groups.Ordering.{HasNoOther, PlainGroup, is_layout}
 use Rattle.view_tree.specs.Rows.{Row, count_where, head_view}
 use Rattle.view_tree.specs.Views.{Held, IsLive, Views, class_of, held_of, number_of, plain_of, plain_rows}
 use Rattle.view_tree.proofs.forest.KeyLaws.{located, number_live}

@@ -12,11 +12,11 @@ use Rattle.view_model.specs.Forest.{Forest, Nothing, Branch, count_of}
 use Rattle.view_model.specs.Growth.{growth_refusal, refusal_at}
 use Rattle.view_model.specs.PlainTree.{PlainView, grown, single}
 use Rattle.view_model.specs.Sprouts.{Seed, follows, numbered, preorder, seed_of, view_of}
-use Rattle.view_tree.specs.Attached.{Attached}
-use Rattle.view_tree.specs.Directions.{is_rtl_at, running_below}
-use Rattle.view_tree.specs.Grafted.{Gained}
+use Rattle.view_tree.specs.tree.Attached.{Attached}
+use Rattle.view_tree.specs.tree.Directions.{is_rtl_at, running_below}
+use Rattle.view_tree.specs.tree.Grafted.{Gained}
 use Rattle.view_tree.specs.Rows.{Row, ancestors, count_of_key, count_of_number, grown_at_key, has_kids, head_view, leaf, part_from}
-use Rattle.view_tree.specs.Sowing.{FitsBelow}
+use Rattle.view_tree.specs.tree.Sowing.{FitsBelow}
 use Rattle.view_tree.specs.Views.{Held, Views, IsLive, IsTree, class_of, held_of, number_of, plain_of, plain_rows}
 use Rattle.view_tree.proofs.forest.ChildLaws.{has_kids-grown, has_kids-new, has_kids-parent}
 use Rattle.view_tree.proofs.forest.DepthLaws.{ancestors-grown, ancestors-leaf}

@@ -14,8 +14,8 @@ use Rattle.view_model.specs.PlainTree.{PlainView}
 use Rattle.view_model.specs.Refusals.{PlainRefusal}
 use Rattle.view_model.specs.Sprouts.{Seed, numbered, preorder, sprout_of, view_of}
 use Rattle.view_tree.specs.declared.groups.Group.{Group}
-use Rattle.view_tree.specs.Grafting.{AreEntries, IsOwnFor, following, cycle_after, cycle_in, cycle_of, links_following, noted, numbers_following, sprout_link}
-use Rattle.view_tree.specs.Ordering.{IsGrouped, IsKeptFor, PlainGroup, plain_group}
+use Rattle.view_tree.specs.tree.Grafting.{AreEntries, IsOwnFor, following, cycle_after, cycle_in, cycle_of, links_following, noted, numbers_following, sprout_link}
+use Rattle.view_tree.specs.groups.Ordering.{IsGrouped, IsKeptFor, PlainGroup, plain_group}
 use Rattle.view_tree.proofs.orders.TreeLaws.{Groups}
 
 -- the first of these is not deeper than this

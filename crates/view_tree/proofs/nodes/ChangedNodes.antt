@@ -1,7 +1,7 @@
 -- What nodes hold after changes of some of them.
 use Rattle.std.proofs.Common.{◌≡◌, ◌≢◌, ℕ, Option, Some, None, refl, sym, ap}
 use Rattle.std.proofs.lemmas.Bool.{eq-eqb, ne_eqb}
-use Rattle.view_tree.specs.Nodes.{PlainNode, changed_at, with_node, without}
+use Rattle.view_tree.specs.node.Nodes.{PlainNode, changed_at, with_node, without}
 use Rattle.view_tree.proofs.forest.Forests.{some_is}
 
 pub changed_not : (at : ℕ → Option PlainNode) (o : Option ℕ) (f : PlainNode → PlainNode) (x : ℕ) → o ≢ Some x → changed_at at o f x ≡ at x

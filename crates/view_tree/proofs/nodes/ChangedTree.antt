@@ -4,7 +4,7 @@ use Rattle.std.proofs.lemmas.Bool.{eq-eqb, ne_eqb, cases_eq}
 use Rattle.view_model.specs.PlainTree.{PlainView}
 use Rattle.view_model.specs.Forest.{Forest, Nothing, Branch}
 use Rattle.view_tree.specs.Rows.{Row, count_of_key, first_key, last_key_or, changed_at_key}
-use Rattle.view_tree.specs.Nodes.{PlainNode, RepresentsPart, RepresentsTree, links_for}
+use Rattle.view_tree.specs.node.Nodes.{PlainNode, RepresentsPart, RepresentsTree, links_for}
 use Rattle.view_tree.proofs.values.KeptLaws.{later_siblings-put}
 use Rattle.view_tree.proofs.forest.NumberLaws.{count_of_key-put, count-put}
 use Rattle.view_tree.proofs.nodes.ChildEdits.{RepresentsPart-along}

@@ -4,7 +4,7 @@ use Rattle.std.proofs.lemmas.Bool.{eq-eqb, ne_eqb}
 use Rattle.std.specs.Prelude.{◌==◌, if◌then◌else◌}
 use Rattle.view_model.specs.Forest.{Forest, Nothing, Branch, edited_where, joined}
 use Rattle.view_tree.specs.Rows.{Row, count_of_key, first_key, last_key_or, grown_at_key, later_siblings}
-use Rattle.view_tree.specs.Nodes.{PlainNode, RepresentsPart, links_for}
+use Rattle.view_tree.specs.node.Nodes.{PlainNode, RepresentsPart, links_for}
 use Rattle.view_tree.proofs.values.KeptLaws.{later_siblings-edited}
 use Rattle.view_tree.proofs.forest.KeyLaws.{Within, here, in_below, in_after, count_of_key-within, times_self}
 use Rattle.view_tree.proofs.forest.NumberLaws.{edited_absent}

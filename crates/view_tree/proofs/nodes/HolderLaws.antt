@@ -4,9 +4,9 @@ use Rattle.std.proofs.lemmas.Bool.{eq-eqb, ne_eqb, cases_eq, lt-ltb}
 use Rattle.std.proofs.Math.Nat.{add-mod_right, mod-add-mod}
 use Rattle.std.specs.Prelude.{◌==◌, if◌then◌else◌, nat_lt, IfSome}
 use Rattle.view_model.specs.declared.limits.TheConstants.{MAX_VIEWS}
-use Rattle.view_tree.specs.declared.ids.Holders.{Holders}
+use Rattle.view_tree.specs.declared.table.ids.Holders.{Holders}
 use Rattle.view_tree.proofs.forest.Forests.{some_is}
-use Rattle.view_tree.specs.Holders.{dropped, holders, noted, renamed, with_holder, without_holder}
+use Rattle.view_tree.specs.table.Holders.{dropped, holders, noted, renamed, with_holder, without_holder}
 
 abbrev some_holders : ℕ → ℕ → Option Holders
 some_holders count sum = Some (record { count = count; sum = sum })

@@ -3,7 +3,7 @@ use Rattle.std.proofs.Common.{◌≡◌, ℕ, Option, Some, refl, ◌∙◌, ap,
 use Rattle.std.proofs.lemmas.Bool.{cases_eq, eq-eqb, ne_eqb}
 use mathlib.Core.Path.{fun_ext}
 use Rattle.slab.specs.Slab.{Slab, Updates}
-use Rattle.view_tree.specs.Nodes.{PlainNode, links_in, links_of, links_at, changed_at, key_or, with_node}
+use Rattle.view_tree.specs.node.Nodes.{PlainNode, links_in, links_of, links_at, changed_at, key_or, with_node}
 use Rattle.view_tree.specs.declared.node.Node.{Node}
 
 pub said-insert : (s t : Slab Node) (key : ℕ) (node : Node) → Updates s t key (Some node) → links_at t ≡ with_node (links_at s) key (links_of node)

@@ -7,7 +7,7 @@ use Rattle.slab_link.specs.declared.link.TheConstants.{LINKS_END}
 use Rattle.view_model.specs.Forest.{Forest}
 use Rattle.view_model.specs.PlainTree.{PlainView}
 use Rattle.view_tree.specs.Rows.{Row, head_view, part_from, children_of_first, later_siblings, first_key, last_key, previous_key}
-use Rattle.view_tree.specs.Nodes.{PlainNode, links_in, links_of, links_at, held_by, held_in, view_of_node, RepresentsTree, links_for, value_of, IsPlanted, holders_of}
+use Rattle.view_tree.specs.node.Nodes.{PlainNode, links_in, links_of, links_at, held_by, held_in, view_of_node, RepresentsTree, links_for, value_of, IsPlanted, holders_of}
 use Rattle.view_tree.specs.Views.{Views, Held, IsLive, IsTree, held_of, held_or, facts_of, offset_of}
 use Rattle.view_tree.specs.declared.node.Node.{Node}
 use Rattle.view_tree.specs.declared.tree.ViewTree.TheInside.{Inside}

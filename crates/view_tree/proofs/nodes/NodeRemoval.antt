@@ -5,9 +5,9 @@ use Rattle.indexmap.specs.IndexMap.{get as get_key}
 use Rattle.slab.specs.Slab.{get, slab_len, ContainsKey}
 use Rattle.view_model.specs.Forest.{Nothing, count_of}
 use Rattle.view_model.specs.PlainTree.{PlainView}
-use Rattle.view_tree.specs.Holders.{dropped}
+use Rattle.view_tree.specs.table.Holders.{dropped}
 use Rattle.view_tree.specs.Rows.{children_of_first, pruned_at_key, part_from, key_where, count_of_key}
-use Rattle.view_tree.specs.Nodes.{PlainNode, links_in, links_at, held_in, replaced_if_none, unlinked, IsAround, RepresentsTree, tree_of, value_of, IsPlanted, holders_of}
+use Rattle.view_tree.specs.node.Nodes.{PlainNode, links_in, links_at, held_in, replaced_if_none, unlinked, IsAround, RepresentsTree, tree_of, value_of, IsPlanted, holders_of}
 use Rattle.view_tree.specs.Views.{Views, IsLive, KeepsOthers, held_of, held_or, number_of}
 use Rattle.view_tree.specs.declared.node.Node.{Node}
 use Rattle.view_tree.specs.declared.tree.ViewTree.TheInside.{Inside}

@@ -5,9 +5,9 @@ use Rattle.slab.specs.Slab.{ContainsKey, Slab, get}
 use Rattle.view_model.specs.declared.limits.TheConstants.{MAX_VIEWS}
 use Rattle.view_model.specs.Direction.{dir}
 use Rattle.view_model.specs.Forest.{Forest, Nothing, Branch, count_of}
-use Rattle.view_tree.specs.Nodes.{PlainNode, RepresentsPart, forest, links_at, links_for, links_in}
+use Rattle.view_tree.specs.node.Nodes.{PlainNode, RepresentsPart, forest, links_at, links_for, links_in}
 use Rattle.view_tree.specs.Rows.{Row, children_of_first, count_of_key, first_key, first_tree, rest_from}
-use Rattle.view_tree.specs.Turning.{HaveTurned, IsPart, RunsBelow, part_at, running_node, turned_node}
+use Rattle.view_tree.specs.node.Turning.{HaveTurned, IsPart, RunsBelow, part_at, running_node, turned_node}
 use Rattle.view_tree.specs.Views.{AreDirected}
 use Rattle.view_tree.specs.declared.node.Node.{Node}
 use Rattle.view_tree.proofs.forest.Forests.{count-within, forest_is, part, some_is}

@@ -13,12 +13,12 @@ use Rattle.view_model.specs.Directed.{directed, with_direction as plain_with_dir
 use Rattle.view_model.specs.Direction.{dir}
 use Rattle.view_model.specs.Forest.{Forest, Nothing, Branch, count_of}
 use Rattle.view_model.specs.PlainTree.{PlainView}
-use Rattle.view_tree.specs.Directions.{directed_rows, is_rtl_above, with_direction}
-use Rattle.view_tree.specs.Nodes.{IsPlanted, IsSoundTree, PlainNode, RepresentsPart, RepresentsTree, forest, held_in, holders_of, links_at, links_in, links_of, tree_of, value_of}
-use Rattle.view_tree.specs.Ordering.{HasNoOther, IsGrouped, group_at}
+use Rattle.view_tree.specs.tree.Directions.{directed_rows, is_rtl_above, with_direction}
+use Rattle.view_tree.specs.node.Nodes.{IsPlanted, IsSoundTree, PlainNode, RepresentsPart, RepresentsTree, forest, held_in, holders_of, links_at, links_in, links_of, tree_of, value_of}
+use Rattle.view_tree.specs.groups.Ordering.{HasNoOther, IsGrouped, group_at}
 use Rattle.view_tree.specs.Rows.{Row, changed_at_key, count_of_key, first_key, first_tree, key_where, later_siblings, part_from}
-use Rattle.view_tree.specs.Turning.{HaveTurned, IsPart, RunsBelow, part_at}
-use Rattle.view_tree.specs.Requests.{among, forced_one, pressed}
+use Rattle.view_tree.specs.node.Turning.{HaveTurned, IsPart, RunsBelow, part_at}
+use Rattle.view_tree.specs.tree.Requests.{among, forced_one, pressed}
 use Rattle.view_tree.specs.Views.{AreDirected, Held, IsLive, IsTree, Views, held_of, held_or, number_of, plain_of, plain_rows}
 use Rattle.view_tree.specs.declared.node.Node.{Node}
 use Rattle.view_tree.specs.declared.tree.ViewTree.TheInside.{Inside}

@@ -7,10 +7,10 @@ use Rattle.view_model.specs.declared.facts.Facts.{Facts}
 use Rattle.view_model.specs.Direction.{dir}
 use Rattle.view_model.specs.Directed.{turned}
 use Rattle.view_model.specs.Forest.{Forest, Nothing, Branch}
-use Rattle.view_tree.specs.Nodes.{PlainNode, RepresentsPart, held_by, held_in, links_for, links_in, links_of}
-use Rattle.view_tree.specs.Requests.{among, asking, forced_one, pressed, requested, unforced}
+use Rattle.view_tree.specs.node.Nodes.{PlainNode, RepresentsPart, held_by, held_in, links_for, links_in, links_of}
+use Rattle.view_tree.specs.tree.Requests.{among, asking, forced_one, pressed, requested, unforced}
 use Rattle.view_tree.specs.Rows.{Row, ancestors, around, count_of_key}
-use Rattle.view_tree.specs.Turning.{HaveTurned, running_node, runs_so, turned_node}
+use Rattle.view_tree.specs.node.Turning.{HaveTurned, running_node, runs_so, turned_node}
 use Rattle.view_tree.specs.Views.{AreDirected, Held}
 use Rattle.view_tree.specs.declared.node.Node.{Node}
 use Rattle.view_tree.proofs.forest.Forests.{Within-children_of_first, Within-later_siblings}

@@ -5,10 +5,10 @@ use Rattle.std.specs.Prelude.{option_map}
 use Rattle.view_model.specs.Direction.{dir}
 use Rattle.view_model.specs.Directed.{running}
 use Rattle.view_model.specs.Forest.{Forest, Nothing, Branch}
-use Rattle.view_tree.specs.Directions.{directed_rows, row_running}
-use Rattle.view_tree.specs.Nodes.{PlainNode, RepresentsPart, links_for, links_in, links_of}
+use Rattle.view_tree.specs.tree.Directions.{directed_rows, row_running}
+use Rattle.view_tree.specs.node.Nodes.{PlainNode, RepresentsPart, links_for, links_in, links_of}
 use Rattle.view_tree.specs.Rows.{Row, count_of_key, first_key, last_key_or}
-use Rattle.view_tree.specs.Turning.{HaveTurned, running_node, runs_so, turned_node}
+use Rattle.view_tree.specs.node.Turning.{HaveTurned, running_node, runs_so, turned_node}
 use Rattle.view_tree.specs.Views.{AreDirected}
 use Rattle.view_tree.specs.declared.node.Node.{Node}
 use Rattle.view_tree.proofs.forest.KeyLaws.{times_self}

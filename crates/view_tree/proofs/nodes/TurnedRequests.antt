@@ -6,10 +6,10 @@ use Rattle.std.specs.Prelude.{◌==◌}
 use Rattle.view_model.specs.declared.placing.Direction.{Direction}
 use Rattle.view_model.specs.Direction.{dir}
 use Rattle.view_model.specs.Forest.{Forest, Nothing, Branch}
-use Rattle.view_tree.specs.Directions.{with_direction}
-use Rattle.view_tree.specs.Requests.{among, asking, pressed, requested, unforced}
+use Rattle.view_tree.specs.tree.Directions.{with_direction}
+use Rattle.view_tree.specs.tree.Requests.{among, asking, pressed, requested, unforced}
 use Rattle.view_tree.specs.Rows.{Row, ancestors, around, changed_at_key, count_of_key, first_tree, part_from}
-use Rattle.view_tree.specs.Turning.{runs_so}
+use Rattle.view_tree.specs.node.Turning.{runs_so}
 use Rattle.view_tree.specs.Views.{AreDirected, Held}
 use Rattle.std.proofs.lemmas.List.{append-nil}
 use Rattle.view_tree.proofs.forest.DirectedLaws.{directed-within}

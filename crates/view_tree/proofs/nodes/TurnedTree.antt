@@ -10,9 +10,9 @@ use Rattle.view_model.specs.declared.facts.Rules.{Rules}
 use Rattle.view_model.specs.declared.kinds.Class.{Class}
 use Rattle.view_model.specs.Forest.{Forest, Nothing, Branch, EveryRow, count_of, sum_of}
 use Rattle.view_model.specs.PlainTree.{PlainView}
-use Rattle.view_tree.specs.Directions.{directed_rows, row_running, with_direction}
-use Rattle.view_tree.specs.Nodes.{has_id, holders_of}
-use Rattle.view_tree.specs.Ordering.{HasNoOther, IsGrouped, is_layout}
+use Rattle.view_tree.specs.tree.Directions.{directed_rows, row_running, with_direction}
+use Rattle.view_tree.specs.node.Nodes.{has_id, holders_of}
+use Rattle.view_tree.specs.groups.Ordering.{HasNoOther, IsGrouped, is_layout}
 use Rattle.view_tree.specs.Rows.{Row, around, changed_at_key, count_of_key, count_of_number, count_where, key_where, keys_where, later_siblings}
 use Rattle.view_tree.specs.Views.{AreDirected, GroupsOnly, Held, IsTree, Unscrolled, Views, plain_rows, scrolled}
 use Rattle.view_tree.proofs.forest.IdLaws.{key_of, one_of}

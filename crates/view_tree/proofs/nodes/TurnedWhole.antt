@@ -6,10 +6,10 @@ use Rattle.view_model.specs.declared.placing.Direction.{Direction}
 use Rattle.view_model.specs.Direction.{dir}
 use Rattle.view_model.specs.Forest.{Forest, Nothing, Branch, or_else}
 use Rattle.view_model.specs.PlainTree.{PlainView}
-use Rattle.view_tree.specs.Directions.{first_runs, with_direction}
-use Rattle.view_tree.specs.Nodes.{PlainNode, RepresentsPart, links_for, links_in}
+use Rattle.view_tree.specs.tree.Directions.{first_runs, with_direction}
+use Rattle.view_tree.specs.node.Nodes.{PlainNode, RepresentsPart, links_for, links_in}
 use Rattle.view_tree.specs.Rows.{Row, around, changed_at_key, count_of_key, first_tree, head_view, part_from}
-use Rattle.view_tree.specs.Turning.{HaveTurned, turned_node}
+use Rattle.view_tree.specs.node.Turning.{HaveTurned, turned_node}
 use Rattle.view_tree.specs.Views.{AreDirected}
 use Rattle.view_tree.specs.declared.node.Node.{Node}
 use Rattle.view_tree.proofs.forest.Forests.{Within-children_of_first, Within-later_siblings, count_alone, times_from}

@@ -4,7 +4,7 @@ use Rattle.std.proofs.lemmas.Bool.{cases_eq, eq-eqb, ne_eqb}
 use Rattle.std.specs.Prelude.{option_map, ◌==◌, if◌then◌else◌}
 use mathlib.Core.Path.{fun_ext}
 use Rattle.slab.specs.Slab.{Slab, get, ContainsKey, Updates}
-use Rattle.view_tree.specs.Nodes.{PlainNode, links_in, links_of, links_at, changed_at, without, unlinked, replaced_if_none}
+use Rattle.view_tree.specs.node.Nodes.{PlainNode, links_in, links_of, links_at, changed_at, without, unlinked, replaced_if_none}
 use Rattle.view_tree.specs.declared.node.Node.{Node}
 use Rattle.view_tree.proofs.forest.Forests.{some_is}
 

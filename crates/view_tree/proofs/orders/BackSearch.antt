@@ -7,7 +7,7 @@ use Rattle.view_model.specs.Cycles.{links_in}
 use Rattle.view_model.specs.Forest.{Forest, Nothing, Branch, count_of}
 use Rattle.view_model.specs.PlainTree.{PlainView}
 use Rattle.view_model.specs.SiblingRules.{last_below, last_with_id, no_link}
-use Rattle.view_tree.specs.Nodes.{has_id}
+use Rattle.view_tree.specs.node.Nodes.{has_id}
 use Rattle.view_tree.specs.Rows.{At_first, Later, Later_on, Row, children_of_first, count_of_key, first_key, head_view, last_key, later_siblings, part_from, previous_key, siblings_from, views_of}
 use Rattle.view_tree.proofs.forest.Backwards.{count-later, count_of_key-later, from_later, kids-within, last_is, last_none, later-within, previous_in, previous_within, within_within}
 use Rattle.view_tree.proofs.forest.KeyLaws.{Within, located, count_of_key-within, times_self}

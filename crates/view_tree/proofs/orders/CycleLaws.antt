@@ -4,7 +4,7 @@ use Rattle.std.proofs.lemmas.Bool.{cases_eq, eq-eqb, eqb-true, ne_eqb}
 use mathlib.Core.Path.{fun_ext}
 use Rattle.std.specs.declared.alloc.Global.{Global}
 use Rattle.relative_layout.specs.declared.ordering.OrderFault.TheVariants as order
-use Rattle.relative_layout.specs.Sorting.{IsFaultOf}
+use Rattle.relative_layout.specs.ordering.Sorting.{IsFaultOf}
 use Rattle.std.specs.Prelude.{Vec, Bool, false, ◌==◌, if◌then◌else◌, option_map, slice_index, IfSome, Ok, Err}
 use Rattle.relative_layout.specs.declared.ordering.Orders.{Orders}
 use Rattle.view_model.specs.declared.limits.TheConstants.{MAX_VIEWS}
@@ -12,18 +12,18 @@ use Rattle.view_model.specs.declared.fault.Fault.{Fault}
 use Rattle.view_model.specs.declared.fault.Fault.TheVariants as fault
 use Rattle.view_model.specs.declared.refusal.Member.{Member}
 use Rattle.view_model.specs.declared.refusal.Member.TheVariants as member
-use Rattle.relative_layout.proofs.OrderLaws.{acyclic}
+use Rattle.relative_layout.proofs.orders.OrderLaws.{acyclic}
 use Rattle.view_model.specs.declared.relative.Axis.TheVariants.{Horizontal, Vertical}
 use Rattle.view_model.specs.declared.relative.Link.{Link}
 use Rattle.view_model.specs.Forest.{Forest, Nothing, Branch, EveryBranch, changed_where, count_of}
 use Rattle.view_model.specs.PlainTree.{PlainView}
 use Rattle.view_model.specs.Refusals.{PlainRefusal, plain_refusal}
-use Rattle.view_tree.specs.Cycles.{AreNewOrders, HasNoCycle, IsCycleReported, IsFree, links_below, view_member}
+use Rattle.view_tree.specs.groups.Cycles.{AreNewOrders, HasNoCycle, IsCycleReported, IsFree, links_below, view_member}
 use Rattle.view_tree.specs.Faults.{IsRefusedOrCyclic}
-use Rattle.view_tree.specs.Nodes.{PlainNode, RepresentsPart, RepresentsTree}
+use Rattle.view_tree.specs.node.Nodes.{PlainNode, RepresentsPart, RepresentsTree}
 use Rattle.view_model.specs.Classes.{is_relative}
 use Rattle.view_model.specs.Cycles.{cycle_below, first_cycle, link_of, links_in, numbers_in}
-use Rattle.view_tree.specs.Ordering.{AreOrders, IsGrouped, IsGroupedAt, IsKeptOf, PlainGroup, PlainOrders, link_or, linked_in, plain_orders, with_orders}
+use Rattle.view_tree.specs.groups.Ordering.{AreOrders, IsGrouped, IsGroupedAt, IsKeptOf, PlainGroup, PlainOrders, link_or, linked_in, plain_orders, with_orders}
 use Rattle.view_tree.specs.Rows.{Row, children_of_first, count_of_key, count_of_number, head_view, later_siblings, part_from, views_of}
 use Rattle.view_tree.specs.Views.{Held, IsLive, IsTree, Views, class_of, group_number, held_of, number_of, plain_of, plain_rows, scrolled}
 use Rattle.view_tree.proofs.forest.Forests.{some_is}

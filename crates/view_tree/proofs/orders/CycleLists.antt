@@ -3,7 +3,7 @@ use Rattle.std.proofs.Common.{◌≡◌, ℕ, ◌<◌, Bool, true, false, List, 
 use Rattle.std.specs.declared.alloc.Global.{Global}
 use Rattle.std.specs.Prelude.{Vec, slice_index, Err}
 use Rattle.relative_layout.specs.declared.ordering.OrderFault.TheVariants as order
-use Rattle.relative_layout.specs.Sorting.{IsFaultOf}
+use Rattle.relative_layout.specs.ordering.Sorting.{IsFaultOf}
 use Rattle.view_model.specs.declared.refusal.Member.{Member}
 use Rattle.view_model.specs.declared.refusals.TheConstants.{CYCLE}
 use Rattle.view_model.specs.declared.relative.Axis.{Axis}
@@ -14,10 +14,10 @@ use Rattle.view_model.specs.Orders.{IsAcyclic, IsCycle, members_of}
 use Rattle.view_model.specs.Refusals.{Cycle, PlainRefusal}
 use Rattle.view_model.specs.SiblingRules.{leads}
 use Rattle.view_model.proofs.MemberLaws.{leads_inside, members_are, no_members}
-use Rattle.view_tree.specs.Cycles.{AreCyclic, IsFree, IsReportedFrom}
+use Rattle.view_tree.specs.groups.Cycles.{AreCyclic, IsFree, IsReportedFrom}
 use Rattle.view_model.specs.declared.fault.Fault.{Fault}
 use Rattle.view_model.specs.declared.fault.Fault.TheVariants as fault
-use Rattle.view_tree.specs.Grafting.{IsGroupOrCycle, cycle_of}
+use Rattle.view_tree.specs.tree.Grafting.{IsGroupOrCycle, cycle_of}
 
 module _ (name : ℕ → Member) (links : List Link) (numbers : List ℕ) where
   -- an axis without cycles has none to report

@@ -3,7 +3,7 @@ use Rattle.std.proofs.Common.{◌≡◌, ℕ, zero, suc, ◌<◌, Bool, List, []
 use Rattle.std.specs.Map.{lookup, set_value}
 use Rattle.std.proofs.lemmas.Bool.{cases_Bool, eq-eqb, ne_eqb}
 use Rattle.view_tree.specs.declared.groups.Group.{Group}
-use Rattle.view_tree.specs.Ordering.{orders_in, place_in, plain_orders}
+use Rattle.view_tree.specs.groups.Ordering.{orders_in, place_in, plain_orders}
 use Rattle.view_tree.proofs.forest.Forests.{some_is}
 
 -- where a key is in a list: at the first equal entry

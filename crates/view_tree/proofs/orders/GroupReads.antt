@@ -4,10 +4,10 @@ use Rattle.std.specs.Prelude.{nat_eq, option_map}
 use Rattle.std.specs.Map.{lookup}
 use Rattle.view_tree.specs.declared.groups.Group.{Group}
 use Rattle.view_tree.specs.declared.tree.ViewTree.TheInside.{Inside}
-use Rattle.view_tree.specs.Nodes.{IsSoundTree, value_of}
+use Rattle.view_tree.specs.node.Nodes.{IsSoundTree, value_of}
 use Rattle.view_model.specs.Classes.{is_relative}
 use Rattle.view_model.specs.Cycles.{links_in, numbers_in}
-use Rattle.view_tree.specs.Ordering.{AreOrders, IsGroupOf, IsGrouped, IsKeptOf, group_at, plain_group, plain_orders}
+use Rattle.view_tree.specs.groups.Ordering.{AreOrders, IsGroupOf, IsGrouped, IsKeptOf, group_at, plain_group, plain_orders}
 use Rattle.view_tree.specs.Rows.{children_of_first, part_from, views_of}
 use Rattle.view_tree.specs.Views.{IsLive, Views, class_of, held_of, number_of, orders_of, plain_of, plain_rows}
 use Rattle.view_tree.proofs.orders.RowLaws.{group_there, links-plain, numbers-plain, orders_are}

@@ -7,9 +7,9 @@ use Rattle.view_model.specs.Forest.{Forest, Nothing, Branch}
 use Rattle.view_model.specs.PlainTree.{PlainView}
 use Rattle.view_model.specs.declared.relative.Link.{Link}
 use Rattle.view_model.specs.SiblingRules.{last_below, last_with_id, no_link}
-use Rattle.view_tree.specs.declared.ids.Holders.{Holders}
+use Rattle.view_tree.specs.declared.table.ids.Holders.{Holders}
 use Rattle.view_tree.specs.declared.tree.ViewTree.TheInside.{Inside}
-use Rattle.view_tree.specs.Nodes.{IsPlanted, has_id, holders_of, links_at, links_in, links_of, value_of}
+use Rattle.view_tree.specs.node.Nodes.{IsPlanted, has_id, holders_of, links_at, links_in, links_of, value_of}
 use Rattle.view_model.specs.Cycles.{link_of}
 use Rattle.view_model.specs.Cycles.{links_in as links_read}
 use Rattle.view_tree.specs.Rows.{Row, ancestors, children_of_first, count_of_key, count_where, first_key, head_view, keys_where, part_from, siblings_from, views_of}

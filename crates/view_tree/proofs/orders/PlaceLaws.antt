@@ -7,7 +7,7 @@ use Rattle.std.specs.List.{remove}
 use Rattle.std.proofs.lemmas.List.{get_or_push, get_or_append_left}
 use Rattle.std.proofs.lemmas.List.Edits.{length-remove, get_or-remove_below, get_or-remove_above}
 use Rattle.view_model.specs.Orders.{IsOrder}
-use Rattle.view_tree.specs.Places.{StaysWithin, passing}
+use Rattle.view_tree.specs.groups.Places.{StaysWithin, passing}
 
 -- the two cases of a place that stays
 pub passes : (i j : ℕ) → ((j < i) × (passing i j ≡ j)) ⊎ ((i ≤ j) × (passing i j ≡ j + 1))

@@ -3,7 +3,7 @@ use Rattle.std.proofs.Common.{◌≡◌, ℕ, Option, Some, sym, ◌∙◌, ap, 
 use Rattle.std.specs.Prelude.{[], ◌∷◌}
 use Rattle.view_model.specs.Forest.{EveryBranch}
 use Rattle.view_tree.specs.declared.tree.ViewTree.TheInside.{Inside}
-use Rattle.view_tree.specs.Nodes.{IsPlanted, links_at, links_in, links_of, value_of}
+use Rattle.view_tree.specs.node.Nodes.{IsPlanted, links_at, links_in, links_of, value_of}
 use Rattle.view_tree.specs.Rows.{ancestors}
 use Rattle.view_tree.specs.Views.{IsLive, Views, group_number, held_of, number_of, plain_of}
 use Rattle.view_tree.proofs.nodes.NodeReads.{is_tree, node_of, parent_of, represents_for}

@@ -2,8 +2,8 @@
 use Rattle.std.proofs.Common.{◌≡◌, ◌≢◌, ◌⊎◌, ℕ, zero, suc, ◌+◌, ◌-◌, ◌<◌, ◌≤◌, Bool, true, false, List, length, get_or, refl, sym, ◌∙◌, ap, subst, arith, inl, inr}
 use Rattle.std.proofs.lemmas.Bool.{cases_Bool, eqb-true, true≢false}
 use Rattle.std.specs.Prelude.{◌==◌, if◌then◌else◌, Option, Some, None, Result, Ok, Err}
-use Rattle.relative_layout.specs.Naming.{padded_ids}
-use Rattle.relative_layout.proofs.NamingLaws.{leads_from, leads_inside, leads_parts, leads_whole, names-at, names-some}
+use Rattle.relative_layout.specs.ordering.Naming.{padded_ids}
+use Rattle.relative_layout.proofs.orders.NamingLaws.{leads_from, leads_inside, leads_parts, leads_whole, names-at, names-some}
 use Rattle.view_model.specs.Classes.{is_relative}
 use Rattle.view_model.specs.Cycles.{each, link_of, links_in, numbers_in}
 use Rattle.view_model.specs.Forest.{Forest, Nothing, Branch}
@@ -15,12 +15,12 @@ use Rattle.view_model.specs.declared.relative.Axis.{Axis}
 use Rattle.view_model.specs.declared.relative.Axis.TheVariants.{Horizontal, Vertical}
 use Rattle.view_model.specs.declared.relative.Link.{Link}
 use Rattle.relative_layout.specs.declared.ordering.Orders.{Orders}
-use Rattle.view_tree.specs.Cycles.{AreNewOrders, links_below}
+use Rattle.view_tree.specs.groups.Cycles.{AreNewOrders, links_below}
 use Rattle.view_model.specs.declared.fault.Fault.{Fault}
 use Rattle.view_model.specs.declared.fault.Fault.TheVariants as fault
-use Rattle.view_tree.specs.Ordering.{AreOrders, PlainOrders, link_or}
+use Rattle.view_tree.specs.groups.Ordering.{AreOrders, PlainOrders, link_or}
 use Rattle.view_tree.specs.Rows.{Row, children_of_first, count_of_key, head_view, later_siblings, part_from, siblings_from, views_of}
-use Rattle.view_tree.specs.Staying.{AddsNone, AreSameOrders, IsLastIn, NamesNone}
+use Rattle.view_tree.specs.groups.Staying.{AddsNone, AreSameOrders, IsLastIn, NamesNone}
 use Rattle.view_tree.specs.Views.{IsLive, IsTree, Views, class_of, number_of, orders_of}
 use Rattle.view_tree.proofs.forest.KeyLaws.{located}
 use Rattle.view_tree.proofs.orders.ListLaws.{length-each}

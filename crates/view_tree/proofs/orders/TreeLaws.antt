@@ -6,7 +6,7 @@ use Rattle.std.proofs.lemmas.List.{get_or_append_left, get_or_push}
 use Rattle.std.proofs.lemmas.List.Edits.{length-remove, get_or-remove_below, get_or-remove_above}
 use Rattle.std.specs.List.{remove}
 use Rattle.std.specs.Prelude.{◌==◌, replicate}
-use Rattle.relative_layout.proofs.NamingLaws.{leads_from, leads_inside, leads_parts, names-some}
+use Rattle.relative_layout.proofs.orders.NamingLaws.{leads_from, leads_inside, leads_parts, names-some}
 use Rattle.view_model.specs.declared.facts.Rules.{Rules}
 use Rattle.view_model.specs.declared.relative.Axis.{Axis}
 use Rattle.view_model.specs.declared.relative.Axis.TheVariants.{Horizontal, Vertical}
@@ -17,8 +17,8 @@ use Rattle.view_model.specs.PlainTree.{PlainView, grown, pruned, single}
 use Rattle.view_model.specs.SiblingRules.{leads, names, no_link}
 use Rattle.view_model.specs.Classes.{is_relative}
 use Rattle.view_model.specs.Cycles.{link_of, links_in, numbers_in}
-use Rattle.view_tree.specs.Ordering.{AreOrders, IsGroupOf, IsGrouped, IsGroupedAt, IsKeptOf, IsTakenAt, IsWithoutKid, PlainGroup, place_in, with_kid}
-use Rattle.view_tree.specs.Places.{IsLowered, StaysWithin, passing}
+use Rattle.view_tree.specs.groups.Ordering.{AreOrders, IsGroupOf, IsGrouped, IsGroupedAt, IsKeptOf, IsTakenAt, IsWithoutKid, PlainGroup, place_in, with_kid}
+use Rattle.view_tree.specs.groups.Places.{IsLowered, StaysWithin, passing}
 use Rattle.view_tree.proofs.forest.ForestLaws.{every_branch-joined}
 use Rattle.view_tree.proofs.orders.ListLaws.{IsAmong, among_or_not, each-changed, each-grown, each-joined, each-pruned, each-pruned_below, edited_nowhere, every_below, every_both, every_by, length-each, place_past, place_within, times_in}
 use Rattle.view_tree.proofs.orders.PlaceLaws.{IsOrder-add, passes, passing_injective}

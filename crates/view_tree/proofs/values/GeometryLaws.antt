@@ -12,9 +12,9 @@ use Rattle.geom_core.specs.declared.geometry.Rect.{Rect}
 use Rattle.view_model.specs.Forest.{Forest, Nothing, Branch, joined, or_else, rows}
 use Rattle.view_model.specs.Geometry.{Laid, rect_in, without}
 use Rattle.view_model.specs.PlainTree.{PlainView, numbers_of, part_of}
-use Rattle.view_tree.specs.Grafted.{Gained}
-use Rattle.view_tree.specs.Hidden.{NoBounds}
-use Rattle.view_tree.specs.declared.state.State.{State}
+use Rattle.view_tree.specs.tree.Grafted.{Gained}
+use Rattle.view_tree.specs.tree.Hidden.{NoBounds}
+use Rattle.view_tree.specs.declared.node.state.State.{State}
 use Rattle.view_tree.specs.Rows.{Row, first_tree, pruned_at_key, part_from, grown_at_key, leaf, changed_at_key, count_of_key, count_of_number, with_child}
 use Rattle.view_tree.specs.Views.{Held, IsLive, IsTree, Views, geometry_of, held_of, laid_at, laid_rows, number_of, plain_of, scrolled, state_of}
 use Rattle.view_tree.proofs.forest.KeyLaws.{Agree, absent, number_self, or_else_live, times_self, zero_or_more}

@@ -12,7 +12,7 @@ use Rattle.view_model.specs.Growth.{growth_refusal, growth_refusal_of, refusal_a
 use Rattle.view_model.specs.Refusals.{PlainRefusal, refusal_numbered}
 use Rattle.view_model.specs.declared.refusals.TheConstants.{NOT_GROUP, SCROLL_FULL, TOO_DEEP, TOO_MANY_VIEWS}
 use Rattle.view_model.specs.PlainTree.{PlainView, depth_of, has_child}
-use Rattle.view_tree.specs.Directions.{is_rtl_at}
+use Rattle.view_tree.specs.tree.Directions.{is_rtl_at}
 use Rattle.view_tree.specs.Rows.{Row, later_siblings, ancestors, around, children_of_first, pruned_at_key, part_from, grown_at_key, has_kids, head_view, leaf, changed_at_key, count_of_key, count_of_number, with_child}
 use Rattle.view_tree.specs.Views.{GroupsOnly, IsLive, IsTree, Unscrolled, Views, held_of, number_of, plain_of}
 use Rattle.view_tree.proofs.forest.ChildLaws.{has_child_live}

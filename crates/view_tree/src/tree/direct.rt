@@ -1,13 +1,13 @@
 //! The direction of a view, and what runs in it.
 ghost use Rattle.std.specs.Prelude.{◌≡◌, false, ℕ};
 ghost use Rattle.view_model.specs.Directed.{directed, with_direction as plain_with_direction};
-ghost use Rattle.view_tree.specs.Directions.{asked_by_direction, directed_rows, is_rtl_above, with_direction};
-ghost use Rattle.view_tree.specs.Requests.{requested};
+ghost use Rattle.view_tree.specs.tree.Directions.{asked_by_direction, directed_rows, is_rtl_above, with_direction};
+ghost use Rattle.view_tree.specs.tree.Requests.{requested};
 ghost use Rattle.view_tree.specs.Rows.{changed_at_key};
 ghost use Rattle.view_tree.specs.Views.{IsLive, IsTree, held_of, number_of, plain_of};
 
 use super::{Key, ViewTree};
-use crate::turning::turn;
+use crate::node::turning::turn;
 use view_model::Direction;
 
 impl ViewTree {

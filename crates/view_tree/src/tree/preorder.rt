@@ -1,6 +1,6 @@
 //! The views in preorder, one after the other.
 ghost use Rattle.std.specs.Prelude.{◌≡◌, ◌<◌, [], ◌∷◌, Some, IfSome, drop, length};
-ghost use Rattle.view_tree.specs.Preorder.{first_row_key, rows_following, rows_from, views_from};
+ghost use Rattle.view_tree.specs.tree.Preorder.{first_row_key, rows_following, rows_from, views_from};
 ghost use Rattle.view_tree.specs.Views.{IsLive, IsTree, view_at};
 
 use super::{Key, ViewTree};

@@ -2,11 +2,11 @@
 ghost use Rattle.std.specs.Prelude.{◌≡◌, ◌<◌, ◌≤◌, ◌+◌, ◌^◌, ◌++◌, ◌∷◌, [], None, suc, length, IfOk};
 ghost use Rattle.view_model.specs.Cycles.{member_from};
 ghost use Rattle.view_model.specs.declared.limits.TheConstants.{MAX_VIEWS};
-ghost use Rattle.view_tree.specs.Grafting.{AreEntries, HasAdded, IsFollowing, IsGroupOrCycle, IsMadeUnless, cycle_after, cycle_in, links_following, numbers_following, sprout_link};
+ghost use Rattle.view_tree.specs.tree.Grafting.{AreEntries, HasAdded, IsFollowing, IsGroupOrCycle, IsMadeUnless, cycle_after, cycle_in, links_following, numbers_following, sprout_link};
 
 use crate::fault::AttachFault;
 use crate::groups::Group;
-use crate::kids::{Kids, group_of};
+use crate::groups::kids::{Kids, group_of};
 use std::alloc::{AllocError, Global};
 use view_model::{Link, Sprout};
 

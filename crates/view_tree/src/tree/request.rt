@@ -1,6 +1,6 @@
 //! Requests for layout.
 ghost use Rattle.std.specs.Prelude.{◌≡◌, ℕ, if◌then◌else◌};
-ghost use Rattle.view_tree.specs.Requests.{among, asking, forced_one, unforced};
+ghost use Rattle.view_tree.specs.tree.Requests.{among, asking, forced_one, unforced};
 ghost use Rattle.view_tree.specs.Rows.{ancestors};
 ghost use Rattle.view_tree.specs.Views.{IsLive, KeepsOthers, SameTree, held_of};
 

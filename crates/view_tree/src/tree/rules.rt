@@ -1,19 +1,19 @@
 //! The ids and the rules of views, and the orders that depend on them.
 ghost use Rattle.std.specs.Prelude.{◌≡◌, ◌≢◌, ◌<◌, ℕ, true, length, map, slice_get, slice_index, None, Some, IfOk, IfSome, OnOk, OnErr};
 ghost use Rattle.view_model.specs.PlainTree.{with_facts};
-ghost use Rattle.view_tree.specs.Cycles.{AreNewOrders, IsReportedFrom, view_member};
-ghost use Rattle.view_tree.specs.Staying.{AreSameOrders};
+ghost use Rattle.view_tree.specs.groups.Cycles.{AreNewOrders, IsReportedFrom, view_member};
+ghost use Rattle.view_tree.specs.groups.Staying.{AreSameOrders};
 ghost use Rattle.view_tree.specs.Faults.{IsRefusedOrCyclic};
 ghost use Rattle.view_model.specs.Classes.{is_relative};
 ghost use Rattle.view_model.specs.Cycles.{first_cycle, link_of, numbers_in};
-ghost use Rattle.view_tree.specs.Ordering.{link_or, linked_in};
+ghost use Rattle.view_tree.specs.groups.Ordering.{link_or, linked_in};
 ghost use Rattle.view_tree.specs.Rows.{ancestors, changed_at_key, children_of_first, part_from, views_of};
 ghost use Rattle.view_tree.specs.Views.{IsLive, class_of, group_number, held_of, number_of, orders_of, orders_under, plain_of, view_at};
 
 use super::{Key, ViewTree};
 use crate::fault::AttachFault;
 use crate::groups::set_orders;
-use crate::ids::rename;
+use crate::table::ids::rename;
 use relative_layout::{OrderFault, Orders, order};
 use std::alloc::{AllocError, Global};
 use view_model::refusals::CYCLE;

@@ -1,13 +1,13 @@
 //! Kept orders that stay right when a child of a relative layout gets another id or other rules.
 ghost use Rattle.std.specs.Prelude.{◌≡◌, ◌<◌, ℕ, ◌⊎◌, IfOk, false, length, slice_index, true};
-ghost use Rattle.relative_layout.specs.Naming.{padded_ids};
+ghost use Rattle.relative_layout.specs.ordering.Naming.{padded_ids};
 ghost use Rattle.view_model.specs.Classes.{is_relative};
 ghost use Rattle.view_model.specs.SiblingRules.{names};
 ghost use Rattle.view_model.specs.declared.relative.Axis.TheVariants.{Horizontal, Vertical};
-ghost use Rattle.view_tree.specs.Cycles.{links_below};
-ghost use Rattle.view_tree.specs.Ordering.{AreOrders, plain_orders};
+ghost use Rattle.view_tree.specs.groups.Cycles.{links_below};
+ghost use Rattle.view_tree.specs.groups.Ordering.{AreOrders, plain_orders};
 ghost use Rattle.view_tree.specs.Rows.{children_of_first, part_from};
-ghost use Rattle.view_tree.specs.Staying.{AddsNone, IsLastIn, NamesNone};
+ghost use Rattle.view_tree.specs.groups.Staying.{AddsNone, IsLastIn, NamesNone};
 ghost use Rattle.view_tree.specs.Views.{IsLive, class_of, number_of, orders_of};
 
 use super::{Key, ViewTree};

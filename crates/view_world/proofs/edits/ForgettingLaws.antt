@@ -5,7 +5,7 @@ use Rattle.std.proofs.lemmas.List.{append-nil, map-append}
 use Rattle.std.proofs.lemmas.List.Folds.{list_any-append}
 use Rattle.size_hooks.specs.Hook.{Hook}
 use Rattle.size_hooks.specs.Hooks.{disarmed}
-use Rattle.touch_dispatch.specs.Gestures.{PlainGesture, closed}
+use Rattle.touch_dispatch.specs.gesture.Gestures.{PlainGesture, closed}
 use Rattle.view_model.specs.Forest.{Forest, Nothing, Branch, rows}
 use Rattle.view_model.specs.PlainTree.{PlainView, numbers_of}
 use Rattle.view_tree.specs.Rows.{Row, children_of_first, count_of_key, first_tree, head_view, later_siblings, part_from, views_of}

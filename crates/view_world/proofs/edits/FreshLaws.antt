@@ -2,8 +2,8 @@
 use Rattle.std.proofs.Common.{◌≡◌, ℕ, ◌+◌, ◌<◌, ◌≤◌, true, false, arith, inl, inr}
 use Rattle.std.proofs.lemmas.Bool.{cases_Bool}
 use Rattle.std.specs.Prelude.{◌==◌}
-use Rattle.touch_dispatch.specs.Kept.{Kept, gesture_of}
-use Rattle.touch_dispatch.specs.TreeEvents.{IsGestureIn, below_first, is_root}
+use Rattle.touch_dispatch.specs.gesture.Kept.{Kept, gesture_of}
+use Rattle.touch_dispatch.specs.reaching.TreeEvents.{IsGestureIn, below_first, is_root}
 use Rattle.touch_targets.specs.Captures.{is_target}
 use Rattle.view_model.specs.Forest.{Forest, Nothing, Branch, or_else}
 use Rattle.view_model.specs.PlainTree.{PlainView, part_of}

@@ -14,8 +14,8 @@ use Rattle.view_model.specs.Growth.{grown_at}
 use Rattle.view_model.specs.Sprouts.{Seed, numbered}
 use Rattle.view_tree.proofs.forest.PlainLaws.{plain_along}
 use Rattle.view_tree.proofs.values.GeometryLaws.{geometry-gained, laid_along}
-use Rattle.view_tree.specs.Grafted.{Grafted}
-use Rattle.view_tree.specs.Requests.{among, asking, forced_one, requested}
+use Rattle.view_tree.specs.tree.Grafted.{Grafted}
+use Rattle.view_tree.specs.tree.Requests.{among, asking, forced_one, requested}
 use Rattle.view_tree.specs.Rows.{Row, count_of_key}
 use Rattle.view_tree.specs.Views.{Held, IsLive, IsTree, SameTree, Views, held_of, laid_rows, number_of, plain_of, plain_rows}
 use Rattle.view_world.specs.editing.Places.{HasGained}

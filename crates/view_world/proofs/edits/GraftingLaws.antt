@@ -6,8 +6,8 @@ use Rattle.std.proofs.lemmas.Bool.{cases_Bool, cases_eq, cases_lt, eq-eqb}
 use Rattle.saved_state.specs.Saving.{OffsetsFit}
 use Rattle.pixel_raster.specs.Raster.{size_of}
 use Rattle.seen_edits.proofs.ShownLaws.{shows_on}
-use Rattle.touch_dispatch.specs.Kept.{Kept, gesture_of, is_open}
-use Rattle.touch_dispatch.specs.TreeEvents.{room_of}
+use Rattle.touch_dispatch.specs.gesture.Kept.{Kept, gesture_of, is_open}
+use Rattle.touch_dispatch.specs.reaching.TreeEvents.{room_of}
 use Rattle.touch_dispatch.specs.declared.log.Log.{Log}
 use Rattle.inflater.specs.Inflating.{Plan}
 use Rattle.traversal.specs.Changing.{FitAll}

@@ -8,9 +8,9 @@ use Rattle.saved_state.specs.Saving.{OffsetsFit}
 use Rattle.pixel_raster.specs.Raster.{size_of}
 use Rattle.seen_edits.proofs.ShownLaws.{shows_on}
 use Rattle.seen_edits.specs.Shown.{KeepsShown, Shows}
-use Rattle.touch_dispatch.specs.Kept.{IsUnknown, Kept, gesture_of, is_open, with_place}
+use Rattle.touch_dispatch.specs.gesture.Kept.{IsUnknown, Kept, gesture_of, is_open, with_place}
 use Rattle.touch_targets.specs.Captures.{is_target}
-use Rattle.touch_dispatch.specs.TreeEvents.{IsGestureIn, room_of}
+use Rattle.touch_dispatch.specs.reaching.TreeEvents.{IsGestureIn, room_of}
 use Rattle.touch_dispatch.specs.declared.log.Entry.{Entry}
 use Rattle.touch_dispatch.specs.declared.log.Log.{Log}
 use Rattle.traversal.specs.Changing.{FitAll}
@@ -27,7 +27,7 @@ use Rattle.view_model.specs.PlainTree.{single}
 use Rattle.view_model.specs.Refusals.{PlainRefusal}
 use Rattle.view_model.specs.declared.kinds.Class.{Class}
 use Rattle.kept_views.specs.Kept.{IsConsistent}
-use Rattle.view_tree.specs.Directions.{running_below}
+use Rattle.view_tree.specs.tree.Directions.{running_below}
 use Rattle.view_tree.specs.Rows.{Row, count_of_key, count_of_number, leaf}
 use Rattle.view_tree.specs.Views.{IsTree, Views, geometry_of, held_of, number_of, plain_of, plain_rows}
 use Rattle.view_tree.proofs.forest.NumberLaws.{count-with_child, number-leaf_own, sum-with_child}

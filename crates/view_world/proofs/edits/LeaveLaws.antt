@@ -7,9 +7,9 @@ use Rattle.text_lines.specs.Joined.{◌⧺◌, texts_of}
 use Rattle.pixel_raster.specs.Raster.{Raster}
 use Rattle.size_hooks.specs.Hook.{Hook}
 use Rattle.touch_dispatch.specs.Dispatch.{Scene, cancelled}
-use Rattle.touch_dispatch.specs.Handling.{Progress, is_nil}
-use Rattle.touch_dispatch.specs.Kept.{Kept, gesture_of}
-use Rattle.touch_dispatch.specs.TreeEvents.{OnlyScrolls, first_number, offsets_in as offsets_kept, parent_number, part_at, progress_by, progress_of, scene_of}
+use Rattle.touch_dispatch.specs.handling.Handling.{Progress, is_nil}
+use Rattle.touch_dispatch.specs.gesture.Kept.{Kept, gesture_of}
+use Rattle.touch_dispatch.specs.reaching.TreeEvents.{OnlyScrolls, first_number, offsets_in as offsets_kept, parent_number, part_at, progress_by, progress_of, scene_of}
 use Rattle.touch_dispatch.specs.declared.log.Entry.{Entry}
 use Rattle.touch_dispatch.specs.declared.log.Log.{Log}
 use Rattle.touch_event.specs.declared.event.Point.{Point}

@@ -8,8 +8,8 @@ use Rattle.saved_state.specs.Saving.{OffsetsFit}
 use Rattle.seen_edits.proofs.ShownLaws.{shows_on}
 use Rattle.seen_edits.specs.Shown.{KeepsShown}
 use Rattle.size_hooks.specs.Hook.{Hook}
-use Rattle.touch_dispatch.specs.Kept.{Kept, gesture_of, is_open}
-use Rattle.touch_dispatch.specs.TreeEvents.{part_at}
+use Rattle.touch_dispatch.specs.gesture.Kept.{Kept, gesture_of, is_open}
+use Rattle.touch_dispatch.specs.reaching.TreeEvents.{part_at}
 use Rattle.traversal.specs.Changing.{FitAll}
 use Rattle.tree_edits.specs.Keeping.{KeepsViews}
 use Rattle.tree_edits.specs.declared.edits.Edit.TheVariants as edit

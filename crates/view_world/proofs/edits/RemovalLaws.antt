@@ -4,8 +4,8 @@ use Rattle.std.proofs.lemmas.Bool.{cases_Bool, eq-eqb, ne_eqb}
 use Rattle.std.proofs.lemmas.List.{map-append}
 use Rattle.std.proofs.lemmas.List.Folds.{list_any-append}
 use Rattle.std.specs.Prelude.{◌==◌, ◌&&◌, ◌||◌, not}
-use Rattle.touch_dispatch.specs.Kept.{Kept, gesture_of, is_open}
-use Rattle.touch_dispatch.specs.TreeEvents.{IsGestureIn, part_at}
+use Rattle.touch_dispatch.specs.gesture.Kept.{Kept, gesture_of, is_open}
+use Rattle.touch_dispatch.specs.reaching.TreeEvents.{IsGestureIn, part_at}
 use Rattle.view_model.specs.Forest.{Forest, Nothing, Branch, rows}
 use Rattle.view_model.specs.Layout.{unscrolled}
 use Rattle.view_model.specs.PlainTree.{PlainView, numbers_of, part_of, pruned}

@@ -7,7 +7,7 @@ use Rattle.std.specs.Prelude.{◌≢◌, ◌⊎◌, ◌==◌, ◌||◌, if◌the
 use Rattle.std.specs.Option.{option_map}
 use Rattle.damage_rect.specs.Within.{LiesIn}
 use Rattle.geom_core.specs.declared.geometry.Rect.{Rect}
-use Rattle.touch_dispatch.specs.TreeEvents.{OnlyScrolls}
+use Rattle.touch_dispatch.specs.reaching.TreeEvents.{OnlyScrolls}
 use Rattle.tree_edits.specs.Applied.{IsEdit}
 use Rattle.tree_edits.specs.Asking.{LeavesUnasked as EditLeaves, acted_view, asked_by_act as asked_key, asked_by_turn, excused, is_in_part, is_on_paths as are_on_paths, listed as listed_key, nearest as nearest_key, requests_layout}
 use Rattle.tree_edits.specs.Editing.{hides, turns}
@@ -26,7 +26,7 @@ use Rattle.view_tree.proofs.forest.ForestLaws.{every-edited}
 use Rattle.view_tree.proofs.forest.KeyLaws.{Within, here, in_below, in_after, located, times_self, zero_or_more}
 use Rattle.view_tree.proofs.forest.NumberLaws.{count_of_key-put}
 use Rattle.view_tree.proofs.forest.PlainLaws.{agree_live, plain-change_facts}
-use Rattle.view_tree.specs.Requests.{among}
+use Rattle.view_tree.specs.tree.Requests.{among}
 use Rattle.view_tree.specs.Rows.{Row, ancestors, around, changed_at_key, count_of_key, first_tree, part_from, views_of}
 use Rattle.view_tree.specs.Views.{Held, IsLive, IsTree, Views, held_of, number_of, plain_of, plain_rows, scrolled}
 use Rattle.view_world.proofs.trees.AncestorLaws.{ancestors_named, numbers_named}

@@ -7,7 +7,7 @@ use Rattle.geom_core.specs.declared.geometry.Size.{Size}
 use Rattle.pixel_raster.specs.Raster.{size_of}
 use Rattle.tree_edits.proofs.SpreadLaws.{count_of_key-spread, unspread}
 use Rattle.seen_edits.specs.Shown.{GrowsWithin, IsChange, act_is_unseen, edited, flag_is_unseen, is_unseen, seen_of}
-use Rattle.touch_dispatch.specs.TreeEvents.{OnlyScrolls}
+use Rattle.touch_dispatch.specs.reaching.TreeEvents.{OnlyScrolls}
 use Rattle.traversal.specs.Frames.{fired_in}
 use Rattle.geom_core.specs.declared.geometry.Rect.{Rect}
 use Rattle.tree_edits.specs.Applied.{AppliesEdit, IsEdit, numbered}

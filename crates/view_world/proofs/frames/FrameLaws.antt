@@ -22,8 +22,8 @@ use Rattle.seen_edits.proofs.ShownLaws.{area_most}
 use Rattle.seen_edits.specs.Differing.{differing}
 use Rattle.seen_edits.specs.Shown.{Shows}
 use Rattle.size_hooks.specs.Hook.{Hook}
-use Rattle.touch_dispatch.specs.Kept.{Kept, gesture_of, is_open}
-use Rattle.touch_dispatch.specs.TreeEvents.{IsGestureIn}
+use Rattle.touch_dispatch.specs.gesture.Kept.{Kept, gesture_of, is_open}
+use Rattle.touch_dispatch.specs.reaching.TreeEvents.{IsGestureIn}
 use Rattle.traversal.proofs.FrameLaws.{unsettled_nowhere}
 use Rattle.traversal.proofs.ShapeLaws.{bare_view, count_of-same, count_of_key-same, number_of-same, sum-same, views_of-same}
 use Rattle.traversal.specs.Changing.{FitAll, IsFramed, SameShape}

@@ -7,7 +7,7 @@ use Rattle.geom_core.specs.declared.geometry.Size.{Size}
 use Rattle.pixel_raster.specs.Raster.{Raster, size_of}
 use Rattle.size_hooks.specs.Hook.{Hook}
 use Rattle.size_hooks.specs.Hooks.{armed}
-use Rattle.touch_dispatch.specs.TreeEvents.{OnlyScrolls}
+use Rattle.touch_dispatch.specs.reaching.TreeEvents.{OnlyScrolls}
 use Rattle.touch_event.specs.declared.event.Event.{Event}
 use Rattle.traversal.specs.Frames.{fired_in}
 use Rattle.view_model.specs.declared.fault.Fault.{Fault}
@@ -18,7 +18,7 @@ use Rattle.view_model.specs.Geometry.{Laid, rect_at}
 use Rattle.view_model.specs.Layout.{root_specs}
 use Rattle.view_tree.specs.Rows.{Row, first_key, head_view}
 use Rattle.view_tree.specs.Views.{Held, IsTree, Views, cache_of, geometry_of, specs_of, state_of}
-use Rattle.view_tree.specs.declared.state.State.{State}
+use Rattle.view_tree.specs.declared.node.state.State.{State}
 use Rattle.view_world.proofs.edits.ArmedLaws.{armed_unfired}
 use Rattle.view_world.specs.screen.KeyedScreen.{KeyedScreen, geometry_in, window_of, world_of}
 use Rattle.view_world.specs.replying.Responses.{response_of}

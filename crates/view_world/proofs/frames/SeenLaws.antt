@@ -11,7 +11,7 @@ use Rattle.pixel_raster.specs.Raster.{size_of}
 use Rattle.seen_edits.specs.Scrolled.{ScrolledIn}
 use Rattle.seen_edits.specs.Shown.{seen_of}
 use Rattle.seen_parts.proofs.SeenLaws.{seen_visible}
-use Rattle.touch_dispatch.specs.Scrolled.{has_scrolled, is_scroll}
+use Rattle.touch_dispatch.specs.handling.Scrolled.{has_scrolled, is_scroll}
 use Rattle.touch_dispatch.specs.declared.log.Entry.{Entry}
 use Rattle.view_model.specs.Forest.{Forest, Nothing, Branch, or_else}
 use Rattle.view_model.specs.Geometry.{Laid}

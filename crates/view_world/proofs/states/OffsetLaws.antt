@@ -11,7 +11,7 @@ use Rattle.geom_core.specs.declared.geometry.Size.{Size}
 use Rattle.saved_state.specs.Saving.{FitsOffset, OffsetsFit}
 use Rattle.size_hooks.specs.Hook.{Hook}
 use Rattle.size_hooks.specs.Hooks.{hook_of}
-use Rattle.touch_dispatch.specs.TreeEvents.{OnlyScrolls}
+use Rattle.touch_dispatch.specs.reaching.TreeEvents.{OnlyScrolls}
 use Rattle.traversal.specs.Changing.{IsFramed}
 use Rattle.traversal.specs.Frames.{Pass, after_frame, after_pass, edited_by, edits_of, ended, fired_in, followed, spent}
 use Rattle.traversal.specs.declared.outcome.Frame.{Frame}

@@ -4,11 +4,11 @@ use Rattle.std.proofs.lemmas.Bool.{cases_Bool}
 use Rattle.std.specs.Prelude.{◌==◌, ◌||◌}
 use Rattle.geom_core.specs.declared.geometry.Rect.{Rect}
 use Rattle.touch_dispatch.specs.Dispatch.{EventChild, Scene, Tried, answered, cancelled, child_of, ended, event_children, group_reached, hand_out, hand_part, hand_to, offered, range_for, first_rect, reach, reached_by, receiver}
-use Rattle.touch_dispatch.specs.Gestures.{without_target}
-use Rattle.touch_dispatch.specs.Handling.{Progress, Reached, asked, handled, is_nil, targets_at, with_gesture}
-use Rattle.touch_dispatch.specs.Points.{cancel_event}
-use Rattle.touch_dispatch.specs.declared.receiver.Receiver.{Receiver}
-use Rattle.touch_dispatch.specs.declared.taker.Taker.TheVariants.{NoChild}
+use Rattle.touch_dispatch.specs.gesture.Gestures.{without_target}
+use Rattle.touch_dispatch.specs.handling.Handling.{Progress, Reached, asked, handled, is_nil, targets_at, with_gesture}
+use Rattle.touch_dispatch.specs.reaching.Points.{cancel_event}
+use Rattle.touch_dispatch.specs.declared.handling.receiver.Receiver.{Receiver}
+use Rattle.touch_dispatch.specs.declared.reaching.taker.Taker.TheVariants.{NoChild}
 use Rattle.touch_targets.specs.Captures.{Target, is_target}
 use Rattle.view_model.specs.Forest.{Forest, Nothing, Branch}
 use Rattle.view_model.specs.Classes.{is_group, scrolls}

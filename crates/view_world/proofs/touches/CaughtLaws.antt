@@ -2,8 +2,8 @@
 use Rattle.std.proofs.Common.{◌≡◌, ℕ, ◌+◌, ◌<◌, ◌≤◌, true, refl, sym, ◌∙◌, ap, subst, arith, eqb-true, inl, inr}
 use Rattle.std.proofs.lemmas.Bool.{cases_Bool}
 use Rattle.std.specs.Prelude.{if◌then◌else◌, ◌==◌}
-use Rattle.touch_dispatch.specs.Kept.{Kept, gesture_of, is_open}
-use Rattle.touch_dispatch.specs.TreeEvents.{AreChildren, IsGestureIn}
+use Rattle.touch_dispatch.specs.gesture.Kept.{Kept, gesture_of, is_open}
+use Rattle.touch_dispatch.specs.reaching.TreeEvents.{AreChildren, IsGestureIn}
 use Rattle.view_model.specs.Forest.{Forest, Nothing, Branch}
 use Rattle.view_model.specs.PlainTree.{PlainView}
 use Rattle.view_tree.specs.Rows.{Row, count_of_key, count_of_number, head_view, part_from, views_of}

@@ -1,7 +1,7 @@
 -- Walks from a view up to the root.
 use Rattle.std.proofs.Common.{◌≡◌, ℕ, Bool, List, [], ◌∷◌, Option, Some, None, map, sym, ◌∙◌, ap}
 use Rattle.std.specs.Prelude.{MatchOption}
-use Rattle.touch_dispatch.specs.Gestures.{PlainGesture, set_disallow}
+use Rattle.touch_dispatch.specs.gesture.Gestures.{PlainGesture, set_disallow}
 use Rattle.view_model.specs.Forest.{Forest}
 use Rattle.view_tree.specs.Rows.{Row, ancestors}
 use Rattle.view_world.specs.touching.Touching.{all_disallowed}

@@ -3,9 +3,9 @@ use Rattle.std.proofs.Common.{◌≡◌, ℕ, ◌+◌, ◌≤◌, Bool, true, fa
 use Rattle.std.proofs.lemmas.Bool.{cases_Bool}
 use Rattle.std.specs.List.{list_any}
 use Rattle.std.specs.Prelude.{◌==◌, ◌||◌}
-use Rattle.touch_dispatch.specs.Gestures.{PlainGesture, closed}
-use Rattle.touch_dispatch.specs.Kept.{Kept, gesture_of, is_open}
-use Rattle.touch_dispatch.specs.TreeEvents.{IsGestureIn, below_first, is_root}
+use Rattle.touch_dispatch.specs.gesture.Gestures.{PlainGesture, closed}
+use Rattle.touch_dispatch.specs.gesture.Kept.{Kept, gesture_of, is_open}
+use Rattle.touch_dispatch.specs.reaching.TreeEvents.{IsGestureIn, below_first, is_root}
 use Rattle.touch_targets.specs.Captures.{Target, is_target, without_child}
 use Rattle.view_model.specs.Forest.{Forest, Nothing, Branch, or_else}
 use Rattle.view_model.specs.PlainTree.{PlainView, numbers_of, part_of, pruned}

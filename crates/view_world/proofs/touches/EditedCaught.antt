@@ -3,8 +3,8 @@ use Rattle.std.proofs.Common.{◌≡◌, ℕ, ◌<◌, Bool, true, false, refl, 
 use Rattle.std.proofs.lemmas.Bool.{cases_Bool}
 use Rattle.std.specs.Prelude.{◌==◌, if◌then◌else◌}
 use Rattle.tree_edits.proofs.SpreadLaws.{count_of_key-directed, sum-directed}
-use Rattle.touch_dispatch.specs.Kept.{Kept, gesture_of, is_open}
-use Rattle.touch_dispatch.specs.TreeEvents.{IsGestureIn}
+use Rattle.touch_dispatch.specs.gesture.Kept.{Kept, gesture_of, is_open}
+use Rattle.touch_dispatch.specs.reaching.TreeEvents.{IsGestureIn}
 use Rattle.tree_edits.specs.Asking.{acted_view}
 use Rattle.tree_edits.specs.Editing.{turns}
 use Rattle.tree_edits.specs.Keeping.{KeepsViews, spread}
@@ -14,7 +14,7 @@ use Rattle.view_model.specs.declared.changes.Act.{Act}
 use Rattle.view_model.specs.Direction.{dir}
 use Rattle.view_model.specs.Forest.{Forest, Nothing, Branch, count_of}
 use Rattle.view_model.specs.PlainTree.{PlainView}
-use Rattle.view_tree.specs.Directions.{directed_rows}
+use Rattle.view_tree.specs.tree.Directions.{directed_rows}
 use Rattle.view_tree.specs.Rows.{Row, changed_at_key, count_of_key, count_of_number, head_view, part_from, views_of}
 use Rattle.view_tree.specs.Views.{Views}
 use Rattle.view_tree.proofs.forest.KeyLaws.{absent, or_else_live, zero_or_more}

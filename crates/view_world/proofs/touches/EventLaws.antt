@@ -5,9 +5,9 @@ use Rattle.saved_state.specs.Saving.{OffsetsFit}
 use Rattle.text_lines.specs.Joined.{◌⧺◌}
 use Rattle.seen_edits.specs.Shown.{Shows}
 use Rattle.touch_dispatch.specs.Dispatch.{Scene, dispatched}
-use Rattle.touch_dispatch.specs.Handling.{Reached}
-use Rattle.touch_dispatch.specs.Kept.{Kept, gesture_of, is_open}
-use Rattle.touch_dispatch.specs.TreeEvents.{IsGestureIn, OnlyScrolls, offsets_in as offsets_kept, progress_by, progress_of, room_of, scene_of}
+use Rattle.touch_dispatch.specs.handling.Handling.{Reached}
+use Rattle.touch_dispatch.specs.gesture.Kept.{Kept, gesture_of, is_open}
+use Rattle.touch_dispatch.specs.reaching.TreeEvents.{IsGestureIn, OnlyScrolls, offsets_in as offsets_kept, progress_by, progress_of, room_of, scene_of}
 use Rattle.touch_dispatch.specs.declared.log.Entry.{Entry}
 use Rattle.touch_dispatch.specs.declared.log.Log.{Log}
 use Rattle.touch_event.specs.declared.event.Event.{Event}

@@ -2,9 +2,9 @@
 use Rattle.std.proofs.Common.{◌≡◌, ℕ, ◌+◌, ◌<◌, ◌≤◌, Bool, true, false, Option, Some, None, refl, sym, ◌∙◌, ap, subst, arith, eqb-true, inl, inr}
 use Rattle.std.proofs.lemmas.Bool.{cases_Bool, eq-eqb}
 use Rattle.std.specs.Prelude.{◌==◌, ◌||◌}
-use Rattle.touch_dispatch.specs.Gestures.{PlainGesture}
-use Rattle.touch_dispatch.specs.Kept.{Kept, gesture_of, is_open}
-use Rattle.touch_dispatch.specs.TreeEvents.{AreChildren, IsGestureIn, below_first, is_root}
+use Rattle.touch_dispatch.specs.gesture.Gestures.{PlainGesture}
+use Rattle.touch_dispatch.specs.gesture.Kept.{Kept, gesture_of, is_open}
+use Rattle.touch_dispatch.specs.reaching.TreeEvents.{AreChildren, IsGestureIn, below_first, is_root}
 use Rattle.view_model.specs.Directed.{directed}
 use Rattle.view_model.specs.Forest.{Forest, Nothing, Branch, count_of, joined, or_else}
 use Rattle.view_model.specs.Growth.{grown_at}

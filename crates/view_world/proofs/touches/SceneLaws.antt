@@ -6,9 +6,9 @@ use Rattle.std.specs.Prelude.{◌==◌, find, IfSome}
 use Rattle.std.specs.Option.{option_map, option_or}
 use mathlib.Core.Path.{fun_ext}
 use Rattle.geom_core.specs.declared.geometry.Rect.{Rect}
-use Rattle.touch_dispatch.proofs.SceneLaws.{held_live}
+use Rattle.touch_dispatch.proofs.steps.SceneLaws.{held_live}
 use Rattle.touch_dispatch.specs.Dispatch.{Scene}
-use Rattle.touch_dispatch.specs.TreeEvents.{OnlyScrolls, held_at, held_under, offsets_in as offsets_kept, scene_of}
+use Rattle.touch_dispatch.specs.reaching.TreeEvents.{OnlyScrolls, held_at, held_under, offsets_in as offsets_kept, scene_of}
 use Rattle.view_model.specs.Forest.{Forest, Nothing, Branch, count_of, map_rows, rows}
 use Rattle.view_model.specs.Geometry.{Laid, rect_in}
 use Rattle.view_model.specs.Layout.{unscrolled}

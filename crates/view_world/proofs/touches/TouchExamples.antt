@@ -6,7 +6,7 @@ use Rattle.geom_core.specs.Spec.{child_spec_of, default_size_of, remaining_of, r
 use Rattle.script_lines.specs.commands.PlainCommands.{PlainCommand, Window, Add, Remove, Act, Frame, Down, Move, Up, Cancel}
 use Rattle.script_lines.specs.declared.words.naming.Name.TheVariants.{Number}
 use Rattle.text_lines.specs.Joined.{◌⧺◌, texts_of}
-use Rattle.touch_dispatch.specs.Points.{is_inside, local_point}
+use Rattle.touch_dispatch.specs.reaching.Points.{is_inside, local_point}
 use Rattle.view_model.specs.declared.changes.Act.TheVariants as act
 use Rattle.view_model.specs.declared.kinds.Answer.TheVariants as answer
 use Rattle.view_model.specs.declared.kinds.Class.TheVariants as class

@@ -1,10 +1,10 @@
 -- How lines that touch views change the world of a script.
 use Rattle.std.proofs.Common.{◌≡◌, ℕ, Bool, true, false, List, [], ◌∷◌, Some, refl, sym, ◌∙◌, ap, subst}
 use Rattle.std.specs.Prelude.{Ok}
-use Rattle.touch_dispatch.specs.Handling.{is_nil}
-use Rattle.touch_dispatch.specs.Gestures.{PlainGesture, set_disallow}
-use Rattle.touch_dispatch.specs.Kept.{Kept, gesture_of, is_open}
-use Rattle.touch_dispatch.specs.TreeEvents.{IsGestureIn}
+use Rattle.touch_dispatch.specs.handling.Handling.{is_nil}
+use Rattle.touch_dispatch.specs.gesture.Gestures.{PlainGesture, set_disallow}
+use Rattle.touch_dispatch.specs.gesture.Kept.{Kept, gesture_of, is_open}
+use Rattle.touch_dispatch.specs.reaching.TreeEvents.{IsGestureIn}
 use Rattle.touch_event.specs.declared.event.Action.TheVariants.{Move as Moved, Cancel as Cancelled}
 use Rattle.touch_event.specs.declared.event.Event.{Event}
 use Rattle.touch_event.specs.declared.event.Point.{Point}

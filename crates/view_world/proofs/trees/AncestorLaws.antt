@@ -2,7 +2,7 @@
 use Rattle.std.proofs.Common.{◌≡◌, ℕ, ◌<◌, true, List, [], ◌∷◌, map, refl, sym, ◌∙◌, ap, arith, inl, inr}
 use Rattle.std.proofs.lemmas.Bool.{cases_Bool}
 use Rattle.std.specs.Prelude.{◌==◌}
-use Rattle.touch_dispatch.specs.TreeEvents.{first_number, parent_number}
+use Rattle.touch_dispatch.specs.reaching.TreeEvents.{first_number, parent_number}
 use Rattle.view_model.specs.Forest.{Forest, Nothing, Branch, EveryRow, has_row}
 use Rattle.view_model.specs.PlainTree.{part_of}
 use Rattle.view_tree.proofs.forest.DepthLaws.{positive}

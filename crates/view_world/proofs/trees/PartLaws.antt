@@ -2,8 +2,8 @@
 use Rattle.std.proofs.Common.{◌≡◌, ℕ, refl, sym, ◌∙◌, ap, inl, inr}
 use Rattle.std.proofs.lemmas.Bool.{cases_Bool}
 use Rattle.std.specs.Prelude.{◌==◌}
-use Rattle.touch_dispatch.proofs.SceneLaws.{views_part}
-use Rattle.touch_dispatch.specs.TreeEvents.{part_at}
+use Rattle.touch_dispatch.proofs.steps.SceneLaws.{views_part}
+use Rattle.touch_dispatch.specs.reaching.TreeEvents.{part_at}
 use Rattle.view_model.specs.Forest.{Forest, Nothing, Branch}
 use Rattle.view_model.specs.Layout.{unscrolled}
 use Rattle.view_model.specs.PlainTree.{PlainView, part_of}

@@ -2,8 +2,8 @@
 use Rattle.std.proofs.Common.{◌≡◌, ℕ, Bool, false, refl, sym, ◌∙◌, ap, inl, inr}
 use Rattle.std.proofs.lemmas.Bool.{cases_Bool}
 use Rattle.std.specs.Prelude.{if◌then◌else◌, ◌==◌, ◌||◌}
-use Rattle.touch_dispatch.specs.Gestures.{PlainGesture}
-use Rattle.touch_dispatch.specs.TreeEvents.{AreChildren, below_first, is_root}
+use Rattle.touch_dispatch.specs.gesture.Gestures.{PlainGesture}
+use Rattle.touch_dispatch.specs.reaching.TreeEvents.{AreChildren, below_first, is_root}
 use Rattle.view_model.specs.Forest.{Forest, Nothing, Branch, map_rows, or_else, sum_of}
 use Rattle.view_model.specs.PlainTree.{PlainView, part_of}
 use Rattle.view_tree.specs.Rows.{Row, views_of}

@@ -5,8 +5,8 @@ use Rattle.std.specs.Prelude.{◌⊎◌, ◌&&◌, not}
 use Rattle.script_lines.specs.commands.PlainCommands.{PlainCommand}
 use Rattle.script_lines.specs.commands.PlainCommands as command
 use Rattle.tree_edits.specs.Asking.{requests_layout}
-use Rattle.touch_dispatch.specs.Handling.{is_nil}
-use Rattle.touch_dispatch.specs.Scrolled.{is_scroll}
+use Rattle.touch_dispatch.specs.handling.Handling.{is_nil}
+use Rattle.touch_dispatch.specs.handling.Scrolled.{is_scroll}
 use Rattle.touch_dispatch.specs.declared.log.Entry.{Entry}
 use Rattle.view_model.specs.declared.changes.Act.{Act}
 use Rattle.view_model.specs.declared.work.Work.{Work}

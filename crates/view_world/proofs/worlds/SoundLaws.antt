@@ -12,7 +12,7 @@ use Rattle.traversal.specs.Changing.{FitAll}
 use Rattle.tree_edits.specs.Keeping.{KeepsViews}
 use Rattle.tree_edits.specs.declared.edits.Edit.{Edit}
 use Rattle.view_model.specs.declared.fault.Fault.{Fault}
-use Rattle.touch_dispatch.specs.Kept.{Kept}
+use Rattle.touch_dispatch.specs.gesture.Kept.{Kept}
 use Rattle.kept_views.specs.Kept.{IsConsistent}
 use Rattle.view_tree.specs.Views.{Views, geometry_of, plain_of}
 use Rattle.view_world.specs.screen.Changed.{LeavesViews}

@@ -1,7 +1,7 @@
 -- Places for views that are to be added.
 use Rattle.std.specs.Prelude.{◌≡◌, ℕ, zero, suc, ◌+◌, ◌<◌, ◌≤◌, false, true, Option}
 use Rattle.std.specs.Option.{option_map}
-use Rattle.touch_dispatch.specs.Kept.{IsUnknown, Kept, gesture_of, is_open, with_place}
+use Rattle.touch_dispatch.specs.gesture.Kept.{IsUnknown, Kept, gesture_of, is_open, with_place}
 use Rattle.touch_targets.specs.Captures.{is_target}
 use Rattle.view_model.specs.Directed.{directed, rtl_at}
 use Rattle.view_model.specs.Forest.{Forest, count_of}

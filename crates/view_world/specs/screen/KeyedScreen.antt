@@ -12,7 +12,7 @@ use Rattle.saved_state.specs.State.{StateEntry}
 use Rattle.saved_state.specs.contracts.states.States.{the_row as states_row}
 use Rattle.size_hooks.specs.Entries.{hooks_code}
 use Rattle.size_hooks.specs.Hook.{Hook}
-use Rattle.touch_dispatch.specs.Kept.{Kept, gesture_of, kept_code, nothing_kept}
+use Rattle.touch_dispatch.specs.gesture.Kept.{Kept, gesture_of, kept_code, nothing_kept}
 use Rattle.touch_dispatch.specs.contracts.log.Entry.{the_row as entry_row}
 use Rattle.touch_dispatch.specs.declared.log.Entry.{Entry}
 use Rattle.touch_event.specs.contracts.event.Point.{the_row as point_row}

@@ -1,7 +1,7 @@
 -- What a screen keeps between lines.
 use Rattle.std.specs.Prelude.{◌≡◌, ◌≤◌, ◌*◌, ℕ, false}
-use Rattle.touch_dispatch.specs.Kept.{Kept, is_open}
-use Rattle.touch_dispatch.specs.TreeEvents.{IsGestureIn, room_of}
+use Rattle.touch_dispatch.specs.gesture.Kept.{Kept, is_open}
+use Rattle.touch_dispatch.specs.reaching.TreeEvents.{IsGestureIn, room_of}
 use Rattle.view_model.specs.Forest.{Forest, count_of}
 use Rattle.kept_views.specs.Kept.{IsConsistent}
 use Rattle.saved_state.specs.Saving.{OffsetsFit}

@@ -1,7 +1,7 @@
 -- The pointers that are down, and the events that lines make of them.
 use Rattle.std.specs.Prelude.{ℕ, ◌==◌, ◌<◌, nat_lt, Bool, not, if◌then◌else◌, All, List, ◌∷◌, ◌++◌, filter}
 use Rattle.std.specs.List.{AllPairs, list_any}
-use Rattle.touch_dispatch.specs.Handling.{is_nil}
+use Rattle.touch_dispatch.specs.handling.Handling.{is_nil}
 use Rattle.touch_event.specs.declared.event.Action.{Action}
 use Rattle.touch_event.specs.declared.event.Action.TheVariants.{Down, Up, PointerDown, PointerUp}
 use Rattle.touch_event.specs.declared.event.Event.{Event}

@@ -3,8 +3,8 @@ use Rattle.std.specs.Prelude.{ℕ, ◌==◌, ℤ, pos, Bool, true, ◌&&◌, not
 use Rattle.std.specs.List.{list_any}
 use Rattle.std.specs.Option.{unwrap_or}
 use Rattle.touch_dispatch.specs.Dispatch.{Scene, cancelled, dispatched}
-use Rattle.touch_dispatch.specs.Gestures.{PlainGesture, closed, set_disallow}
-use Rattle.touch_dispatch.specs.Handling.{Progress, Reached, is_nil}
+use Rattle.touch_dispatch.specs.gesture.Gestures.{PlainGesture, closed, set_disallow}
+use Rattle.touch_dispatch.specs.handling.Handling.{Progress, Reached, is_nil}
 use Rattle.touch_event.specs.declared.event.Event.{Event}
 use Rattle.touch_event.specs.declared.event.Point.{Point}
 use Rattle.view_model.specs.Dimensions.{px_of}

@@ -19,7 +19,7 @@ use Rattle.size_hooks.specs.Hook.{Hook}
 use Rattle.size_hooks.specs.Hooks.{armed, disarmed, hook_of}
 use Rattle.text_lines.specs.Joined.{◌⧺◌}
 use Rattle.tool_io.specs.Fetched.{Files}
-use Rattle.touch_dispatch.specs.Handling.{is_nil}
+use Rattle.touch_dispatch.specs.handling.Handling.{is_nil}
 use Rattle.touch_event.specs.declared.event.Action.TheVariants.{Move as Moved, Cancel as Cancelled}
 use Rattle.touch_event.specs.declared.event.Event.{Event}
 use Rattle.touch_event.specs.declared.event.Point.{Point}

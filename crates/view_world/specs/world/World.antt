@@ -9,7 +9,7 @@ use Rattle.view_model.specs.Geometry.{Laid}
 use Rattle.view_model.specs.PlainTree.{PlainView}
 use Rattle.view_model.specs.Resources.{Entries}
 use Rattle.view_model.specs.declared.limits.TheConstants.{NORMAL_DPI}
-use Rattle.touch_dispatch.specs.Gestures.{PlainGesture, no_gesture}
+use Rattle.touch_dispatch.specs.gesture.Gestures.{PlainGesture, no_gesture}
 use Rattle.touch_event.specs.declared.event.Point.{Point}
 
 -- the stage of a script

@@ -1,7 +1,7 @@
 //! What is forgotten of views that go away.
 
 ghost use Rattle.std.specs.Prelude.{◌≡◌, ◌&&◌, not, ℕ};
-ghost use Rattle.touch_dispatch.specs.Kept.{gesture_of, is_open};
+ghost use Rattle.touch_dispatch.specs.gesture.Kept.{gesture_of, is_open};
 ghost use Rattle.view_model.specs.PlainTree.{numbers_of};
 ghost use Rattle.view_tree.specs.Rows.{first_tree, part_from, views_of};
 ghost use Rattle.view_tree.specs.Views.{IsLive};

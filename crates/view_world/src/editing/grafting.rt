@@ -8,7 +8,7 @@ ghost use Rattle.view_model.specs.Forest.{Nothing};
 ghost use Rattle.view_model.specs.Grafts.{graft_refusal};
 ghost use Rattle.view_model.specs.Sprouts.{seeds_of};
 ghost use Rattle.view_model.specs.declared.limits.TheConstants.{MAX_VIEWS, NUMBERS_END};
-ghost use Rattle.view_tree.specs.Requests.{requested};
+ghost use Rattle.view_tree.specs.tree.Requests.{requested};
 ghost use Rattle.view_tree.specs.Faults.{IsRefusedOrCyclic};
 ghost use Rattle.view_tree.specs.Views.{IsLive, SameTree, held_of, number_of, plain_of};
 ghost use Rattle.view_world.specs.editing.Places.{HasGained};

@@ -1,7 +1,7 @@
 //! Places for views that are to be added.
 
 ghost use Rattle.std.specs.Prelude.{◌≡◌, ◌<◌, ◌+◌, ◌^◌, OnErr, OnOk};
-ghost use Rattle.touch_dispatch.specs.Kept.{Kept, gesture_of};
+ghost use Rattle.touch_dispatch.specs.gesture.Kept.{Kept, gesture_of};
 ghost use Rattle.view_world.specs.editing.Places.{AreFree, AreOpened, AreUnknown, with_places};
 
 use std::alloc::AllocError;

@@ -1,6 +1,6 @@
 //! Views that go away, from the tree or out of sight.
 ghost use Rattle.std.specs.Prelude.{◌≡◌, ◌≢◌, OnErr, OnOk, true};
-ghost use Rattle.touch_dispatch.specs.TreeEvents.{OnlyScrolls};
+ghost use Rattle.touch_dispatch.specs.reaching.TreeEvents.{OnlyScrolls};
 ghost use Rattle.tree_edits.specs.Applied.{IsVerb};
 ghost use Rattle.tree_edits.specs.Editing.{hides};
 ghost use Rattle.view_tree.specs.Views.{IsLive, IsTree, SameTree, facts_of, number_of, plain_of};

@@ -1,9 +1,9 @@
 //! What lines change of a gesture, and what that depends on.
 
 ghost use Rattle.std.specs.Prelude.{◌≡◌, ℕ, ◌∷◌};
-ghost use Rattle.touch_dispatch.specs.Kept.{gesture_of, is_open};
-ghost use Rattle.touch_dispatch.specs.Scrolled.{is_scroll};
-ghost use Rattle.touch_dispatch.specs.TreeEvents.{IsGestureIn};
+ghost use Rattle.touch_dispatch.specs.gesture.Kept.{gesture_of, is_open};
+ghost use Rattle.touch_dispatch.specs.handling.Scrolled.{is_scroll};
+ghost use Rattle.touch_dispatch.specs.reaching.TreeEvents.{IsGestureIn};
 ghost use Rattle.tree_edits.specs.Editing.{hides};
 ghost use Rattle.view_tree.specs.Views.{IsLive, IsTree, number_of, plain_of};
 ghost use Rattle.view_world.specs.frames.Seen.{has_any_scrolled};

@@ -7,7 +7,7 @@ use Rattle.view_model.specs.Visible.{Canvas, canvas_below, seen_in}
 use Rattle.view_model.specs.declared.facts.Facts.{Facts}
 use Rattle.view_tree.specs.Rows.{children_of_first, first_tree, later_siblings, part_from}
 use Rattle.view_tree.specs.Views.{Views, facts_of, held_of, state_of, view_at}
-use Rattle.view_tree.specs.declared.state.State.{State}
+use Rattle.view_tree.specs.declared.node.state.State.{State}
 use Rattle.view_tree.proofs.forest.Walks.{fewer_below, walk_falls, walk_on}
 use Rattle.focus_finder.proofs.LeastLaws.{lesser_alone, lesser_assoc, lesser_below}
 use Rattle.focus_finder.proofs.SightLaws.{found, found-drawn, found-parts, found-unseen, nowhere_below}

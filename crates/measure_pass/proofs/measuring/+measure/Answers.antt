@@ -22,7 +22,7 @@ use Rattle.measure_pass.proofs.Parts.{facts_in}
 use Rattle.measure_pass.proofs.Places.{count_in_list, sizes_on}
 use Rattle.measure_pass.proofs.SettledLaws.{caches_both, settled_at, size_as}
 use Rattle.measure_pass.proofs.SiblingTurns.{edges_known, known_then, not_in, once_below, order_length, orders_as, orders_same, size_kept, turn_fixed, turn_gone, turn_taken, turning_end, turning_on, turning_start}
-use Rattle.relative_layout.specs.RelativePlan.{spanned_in}
+use Rattle.relative_layout.specs.plan.RelativePlan.{spanned_in}
 use Rattle.view_model.specs.declared.relative.Axis.TheVariants.{Horizontal, Vertical}
 use Rattle.geom_core.specs.declared.geometry.Size.{Size}
 use Rattle.view_model.specs.declared.facts.Facts.{Facts}
@@ -37,7 +37,7 @@ use Rattle.view_model.specs.TextView.{text_size}
 use Rattle.view_model.specs.RelativeCourse.{arranged}
 use Rattle.view_model.specs.RelativeLayout.{relative_size}
 use Rattle.view_model.specs.Measuring.{Specs}
-use Rattle.view_tree.specs.declared.state.State.{State}
+use Rattle.view_tree.specs.declared.node.state.State.{State}
 use Rattle.view_tree.proofs.forest.Forests.{live_below}
 use Rattle.view_tree.specs.Rows.{first_tree, children_of_first, count_of_key, head_view, part_from, siblings_from}
 use Rattle.view_tree.specs.Views.{Held, cache_of, held_of, orders_of, specs_of, state_of}

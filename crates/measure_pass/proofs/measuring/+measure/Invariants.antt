@@ -5,7 +5,7 @@ use Rattle.measure_pass.specs.Plans.{Frame, Linear, Scroll}
 use Rattle.measure_pass.specs.Siblings.{FirstHasSize, FirstIsKnown, kids_in, order_on, phase_of}
 use Rattle.measure_pass.proofs.PlanWalk.{PlanWalk}
 use Rattle.measure_pass.proofs.SiblingTurns.{Turning}
-use Rattle.relative_layout.specs.RelativePlan.{RepresentsRelative}
+use Rattle.relative_layout.specs.plan.RelativePlan.{RepresentsRelative}
 use Rattle.view_model.specs.declared.facts.Facts.{Facts}
 use Rattle.view_model.specs.Forest.{count_of}
 use Rattle.view_model.specs.Measuring.{Specs}

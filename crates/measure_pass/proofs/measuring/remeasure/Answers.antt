@@ -4,7 +4,7 @@ use Rattle.measure_pass.proofs.Calm.{Ready-below}
 use Rattle.measure_pass.proofs.Counts.{counted_one, counted_own}
 use Rattle.measure_pass.proofs.Own.{make_at, measured_at}
 use Rattle.view_model.specs.declared.work.Work.{Work}
-use Rattle.view_tree.specs.declared.state.State.{State}
+use Rattle.view_tree.specs.declared.node.state.State.{State}
 use Rattle.view_tree.specs.Rows.{part_from}
 use Rattle.view_tree.specs.Views.{held_of, specs_of, state_of}
 use Rattle.measure_pass.proofs.measuring.remeasure.Goals as goal

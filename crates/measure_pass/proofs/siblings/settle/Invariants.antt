@@ -2,7 +2,7 @@ use Rattle.std.proofs.Common.{◌≡◌, ◌≤◌, ◌<◌, ℕ, [], ◌∷◌,
 use Rattle.kept_views.specs.Kept.{Ready}
 use Rattle.measure_pass.specs.Measured.{Keeps, KeepsAllButEdges}
 use Rattle.measure_pass.specs.Siblings.{IsSettled, TurnIsOver, kids_in, phase_of}
-use Rattle.relative_layout.specs.RelativePlan.{RepresentsRelative}
+use Rattle.relative_layout.specs.plan.RelativePlan.{RepresentsRelative}
 use Rattle.view_model.specs.declared.facts.Facts.{Facts}
 use Rattle.view_model.specs.declared.relative.Axis.TheVariants.{Vertical}
 use Rattle.view_model.specs.Measuring.{Specs}

@@ -9,7 +9,7 @@ use Rattle.view_model.specs.Facts.{is_shown, layout_facts}
 use Rattle.view_model.specs.RelativeLayout.{final_rect, relative_size}
 use Rattle.view_tree.specs.Rows.{head_view, part_from}
 use Rattle.view_tree.specs.Views.{Held, held_of}
-use Rattle.view_tree.specs.declared.state.State.{State}
+use Rattle.view_tree.specs.declared.node.state.State.{State}
 use Rattle.measure_pass.proofs.siblings.settle_kid.Goals as goal
 use Rattle.measure_pass.proofs.siblings.settle_kid.Goals.{After-keep_edges}
 

@@ -1,5 +1,5 @@
 use Rattle.std.proofs.Common.{length}
-use Rattle.relative_layout.proofs.OrderLaws.{AreMembers-next}
+use Rattle.relative_layout.proofs.orders.OrderLaws.{AreMembers-next}
 use Rattle.view_model.specs.SiblingRules.{leads}
 use Rattle.relative_layout.proofs.ordering.members.Goals as goal
 

@@ -1,5 +1,5 @@
 use Rattle.std.proofs.Common.{◌≡◌, ◌≢◌, length, rules}
-use Rattle.relative_layout.proofs.OrderLaws.{IsCycle-left, IsOrder-whole, acyclic}
+use Rattle.relative_layout.proofs.orders.OrderLaws.{IsCycle-left, IsOrder-whole, acyclic}
 use Rattle.view_model.specs.SiblingRules.{leads}
 use Rattle.relative_layout.proofs.ordering.sorted_by_names.Goals as goal
 

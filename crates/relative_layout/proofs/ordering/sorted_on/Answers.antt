@@ -1,5 +1,5 @@
 use Rattle.std.proofs.Common.{length}
-use Rattle.relative_layout.proofs.OrderLaws.{IsOrder-listed, acyclic}
+use Rattle.relative_layout.proofs.orders.OrderLaws.{IsOrder-listed, acyclic}
 use Rattle.view_model.specs.SiblingRules.{leads}
 use Rattle.relative_layout.proofs.ordering.sorted_on.Goals as goal
 

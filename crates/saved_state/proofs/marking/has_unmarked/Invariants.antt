@@ -2,7 +2,7 @@ use Rattle.std.proofs.Common.{◌≡◌, length}
 use Rattle.std.specs.List.{list_any}
 use Rattle.std.specs.Prelude.{IfSome}
 use Rattle.view_model.specs.Forest.{rows}
-use Rattle.view_tree.specs.Preorder.{rows_from, views_from}
+use Rattle.view_tree.specs.tree.Preorder.{rows_from, views_from}
 use Rattle.view_tree.specs.Views.{IsLive, plain_of}
 use Rattle.saved_state.specs.Restoring.{is_for_other_class, is_unmet}
 use Rattle.saved_state.proofs.marking.has_unmarked.Given as goal

@@ -1,7 +1,7 @@
 use Rattle.std.proofs.Common.{◌≡◌, ℕ, ◌<◌, ◌≤◌, ◌||◌, false, length, slice_index_or}
 use Rattle.std.specs.Prelude.{IfSome}
 use Rattle.view_model.specs.Forest.{rows}
-use Rattle.view_tree.specs.Preorder.{rows_from, views_from}
+use Rattle.view_tree.specs.tree.Preorder.{rows_from, views_from}
 use Rattle.view_tree.specs.Views.{IsLive, plain_of}
 use Rattle.saved_state.specs.Restoring.{entry_at, is_met}
 use Rattle.saved_state.proofs.marking.mark_all.Given as goal

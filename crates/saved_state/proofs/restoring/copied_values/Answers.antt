@@ -1,5 +1,5 @@
 use Rattle.std.proofs.Common.{◌≡◌, ◌++◌, ◌<◌, ℕ, Some, Option, List, sym, ap, ◌∙◌}
-use Rattle.view_tree.specs.Preorder.{rows_from}
+use Rattle.view_tree.specs.tree.Preorder.{rows_from}
 use Rattle.view_tree.specs.Rows.{count_of_key}
 use Rattle.saved_state.specs.Restored.{given_values}
 use Rattle.saved_state.specs.declared.value.Value.{Value}

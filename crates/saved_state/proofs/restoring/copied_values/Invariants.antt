@@ -1,7 +1,7 @@
 use Rattle.std.proofs.Common.{◌≡◌, ◌++◌, All, length}
 use Rattle.std.specs.Prelude.{IfSome}
 use Rattle.view_model.specs.Forest.{rows}
-use Rattle.view_tree.specs.Preorder.{rows_from}
+use Rattle.view_tree.specs.tree.Preorder.{rows_from}
 use Rattle.view_tree.specs.Views.{IsLive, IsTree}
 use Rattle.saved_state.specs.Restored.{given_values}
 use Rattle.saved_state.specs.State.{IsValue}

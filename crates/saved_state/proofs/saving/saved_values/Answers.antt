@@ -1,7 +1,7 @@
 use Rattle.std.proofs.Common.{◌≡◌, ℕ, List, [], Option, ap, arith, subst, sym, ◌∙◌, length}
 use Rattle.std.specs.List.{AllByRecursion, fold}
 use Rattle.view_model.specs.Forest.{count_of}
-use Rattle.view_tree.specs.Preorder.{rows_from, views_from}
+use Rattle.view_tree.specs.tree.Preorder.{rows_from, views_from}
 use Rattle.view_tree.specs.Views.{plain_of}
 use Rattle.view_tree.proofs.forest.PreorderLaws.{rows_from_root, views_from_root}
 use Rattle.saved_state.specs.Saving.{FitsOffset, with_view}

@@ -2,7 +2,7 @@ use Rattle.std.proofs.Common.{◌≡◌, ◌+◌, ◌≤◌, length}
 use Rattle.std.specs.List.{AllByRecursion, fold}
 use Rattle.std.specs.Prelude.{IfSome}
 use Rattle.view_model.specs.Forest.{count_of}
-use Rattle.view_tree.specs.Preorder.{rows_from, views_from}
+use Rattle.view_tree.specs.tree.Preorder.{rows_from, views_from}
 use Rattle.view_tree.specs.Views.{IsLive, plain_of}
 use Rattle.saved_state.specs.Saving.{FitsOffset, saved_of, with_view}
 use Rattle.saved_state.specs.State.{RisesFrom}

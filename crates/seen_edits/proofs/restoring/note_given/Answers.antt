@@ -1,7 +1,7 @@
 use Rattle.std.proofs.Common.{◌<◌, ◌∙◌, ap, refl, Option, ℕ}
 use Rattle.seen_edits.proofs.GivenLaws.{given_on, given_start}
 use Rattle.view_tree.proofs.forest.PreorderLaws.{rows_from_root}
-use Rattle.view_tree.specs.Preorder.{rows_from}
+use Rattle.view_tree.specs.tree.Preorder.{rows_from}
 use Rattle.view_tree.specs.Rows.{count_of_key}
 use Rattle.seen_edits.proofs.restoring.note_given.Goals as goal
 

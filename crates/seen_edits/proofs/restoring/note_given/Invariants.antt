@@ -4,7 +4,7 @@ use Rattle.damage_rect.specs.Within.{LiesIn}
 use Rattle.geom_core.specs.declared.geometry.Rect.{Rect}
 use Rattle.seen_edits.proofs.GivenLaws.{NotesBefore}
 use Rattle.seen_edits.specs.Scrolled.{GivenIn}
-use Rattle.view_tree.specs.Preorder.{rows_from}
+use Rattle.view_tree.specs.tree.Preorder.{rows_from}
 use Rattle.view_tree.specs.Views.{IsLive}
 use Rattle.seen_edits.proofs.restoring.note_given.Given as goal
 

@@ -5,7 +5,7 @@ use Rattle.geom_core.specs.declared.geometry.Rect.{Rect}
 use Rattle.seen_edits.proofs.ScrolledLaws.{is_of, notes_absent, notes_found, notes_other}
 use Rattle.seen_edits.proofs.ShownLaws.{points, within_once}
 use Rattle.seen_edits.specs.Shown.{seen_of}
-use Rattle.touch_dispatch.specs.Scrolled.{is_scroll}
+use Rattle.touch_dispatch.specs.handling.Scrolled.{is_scroll}
 use Rattle.view_tree.specs.Views.{IsLive, number_of}
 use Rattle.seen_edits.proofs.scrolling.note_entry.Goals as goal
 

@@ -3,7 +3,7 @@ use Rattle.geom_core.specs.Rects.{holds}
 use Rattle.seen_parts.proofs.ClimbLaws.{answer_below, below_none, below_nowhere, canvas_outermost, canvas_parent}
 use Rattle.seen_parts.specs.Meeting.{as_seen, canvas_around}
 use Rattle.view_model.specs.Visible.{Canvas, whole_window}
-use Rattle.view_tree.specs.declared.state.State.{State}
+use Rattle.view_tree.specs.declared.node.state.State.{State}
 use Rattle.view_tree.specs.Views.{facts_of, held_of, state_of}
 use Rattle.seen_parts.proofs.climbing.+canvas_of.Goals as goal
 

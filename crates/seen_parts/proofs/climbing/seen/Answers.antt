@@ -3,7 +3,7 @@ use Rattle.seen_parts.proofs.ClimbLaws.{seen_none}
 use Rattle.seen_parts.proofs.SeenLaws.{seen_visible}
 use Rattle.seen_parts.specs.Meeting.{as_seen, canvas_around}
 use Rattle.view_model.specs.Visible.{Canvas, seen_in, whole_window}
-use Rattle.view_tree.specs.declared.state.State.{State}
+use Rattle.view_tree.specs.declared.node.state.State.{State}
 use Rattle.view_tree.specs.Views.{held_of, state_of}
 use Rattle.seen_parts.proofs.climbing.seen.Goals as goal
 

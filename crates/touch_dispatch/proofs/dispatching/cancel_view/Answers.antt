@@ -1,9 +1,9 @@
 use Rattle.std.proofs.Common.{◌∙◌, ap}
-use Rattle.touch_dispatch.proofs.CaughtLaws.{caught_without}
-use Rattle.touch_dispatch.proofs.DistinctLaws.{without_self}
-use Rattle.touch_dispatch.proofs.ParentLaws.{gesture_in}
-use Rattle.touch_dispatch.specs.Gestures.{PlainGesture}
-use Rattle.touch_dispatch.specs.Kept.{gesture_of}
+use Rattle.touch_dispatch.proofs.gestures.CaughtLaws.{caught_without}
+use Rattle.touch_dispatch.proofs.gestures.DistinctLaws.{without_self}
+use Rattle.touch_dispatch.proofs.gestures.ParentLaws.{gesture_in}
+use Rattle.touch_dispatch.specs.gesture.Gestures.{PlainGesture}
+use Rattle.touch_dispatch.specs.gesture.Kept.{gesture_of}
 use Rattle.touch_targets.specs.Captures.{is_target, without_child}
 use Rattle.view_tree.specs.Rows.{views_of}
 use Rattle.view_tree.specs.Views.{number_of}

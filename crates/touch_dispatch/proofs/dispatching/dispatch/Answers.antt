@@ -1,9 +1,9 @@
 use Rattle.std.proofs.Common.{sym, ◌∙◌, ap}
 use Rattle.std.proofs.lemmas.Int.{to_z-of_z}
 use mir.Syntax.{w32}
-use Rattle.touch_dispatch.proofs.RootLaws.{root_no, root_yes}
+use Rattle.touch_dispatch.proofs.steps.RootLaws.{root_no, root_yes}
 use Rattle.touch_dispatch.specs.Dispatch.{reach}
-use Rattle.touch_dispatch.specs.TreeEvents.{progress_of, scene_of}
+use Rattle.touch_dispatch.specs.reaching.TreeEvents.{progress_of, scene_of}
 use Rattle.view_tree.specs.Rows.{first_tree, part_from, views_of}
 use Rattle.touch_dispatch.proofs.dispatching.dispatch.Goals as goal
 

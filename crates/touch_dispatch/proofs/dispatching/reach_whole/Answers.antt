@@ -1,9 +1,9 @@
 use Rattle.std.proofs.Common.{◌≤◌, ◌+◌, subst, arith}
-use Rattle.touch_dispatch.proofs.OnceLaws.{spent}
-use Rattle.touch_dispatch.proofs.RootLaws.{part_once, part_room}
-use Rattle.touch_dispatch.specs.Handling.{Reached}
+use Rattle.touch_dispatch.proofs.counts.OnceLaws.{spent}
+use Rattle.touch_dispatch.proofs.steps.RootLaws.{part_once, part_room}
+use Rattle.touch_dispatch.specs.handling.Handling.{Reached}
 use Rattle.touch_dispatch.specs.Once.{asks, touches}
-use Rattle.touch_dispatch.specs.TreeEvents.{progress_of}
+use Rattle.touch_dispatch.specs.reaching.TreeEvents.{progress_of}
 use Rattle.touch_dispatch.proofs.dispatching.reach_whole.Goals as goal
 
 pub reach-requires-clause-fits : goal.reach-requires-clause-fits

@@ -1,6 +1,6 @@
 use Rattle.std.specs.Prelude.{nat_eq}
 use Rattle.indexmap.specs.IndexMap.{get as get_key, spare}
-use Rattle.touch_dispatch.proofs.RoomLaws.{room_marked}
+use Rattle.touch_dispatch.proofs.gestures.RoomLaws.{room_marked}
 use Rattle.touch_dispatch.proofs.gesture.set_marks.Goals as goal
 
 pub returns-then-ne-clause-room : goal.returns-then-ne-clause-room

@@ -1,8 +1,8 @@
 use Rattle.std.proofs.Common.{sym, ◌∙◌, arith}
 use Rattle.std.specs.Prelude.{pos}
-use Rattle.touch_dispatch.proofs.GrowLaws.{asks_fit}
-use Rattle.touch_dispatch.specs.Kept.{gesture_of}
-use Rattle.touch_dispatch.specs.TreeEvents.{progress_by}
+use Rattle.touch_dispatch.proofs.steps.GrowLaws.{asks_fit}
+use Rattle.touch_dispatch.specs.gesture.Kept.{gesture_of}
+use Rattle.touch_dispatch.specs.reaching.TreeEvents.{progress_by}
 use Rattle.touch_dispatch.proofs.handling.ask.Goals as goal
 
 pub note-requires : goal.note-requires

@@ -1,9 +1,9 @@
 use Rattle.std.proofs.Common.{sym, ◌∙◌, ap, arith}
 use Rattle.std.specs.Prelude.{pos}
-use Rattle.touch_dispatch.proofs.GrowLaws.{click_fits}
-use Rattle.touch_dispatch.specs.Kept.{gesture_of}
-use Rattle.touch_dispatch.specs.Points.{is_near_first}
-use Rattle.touch_dispatch.specs.TreeEvents.{progress_by}
+use Rattle.touch_dispatch.proofs.steps.GrowLaws.{click_fits}
+use Rattle.touch_dispatch.specs.gesture.Kept.{gesture_of}
+use Rattle.touch_dispatch.specs.reaching.Points.{is_near_first}
+use Rattle.touch_dispatch.specs.reaching.TreeEvents.{progress_by}
 use Rattle.touch_dispatch.proofs.handling.click.Goals as goal
 
 pub note-requires : goal.note-requires

@@ -1,9 +1,9 @@
 use Rattle.std.proofs.Common.{ap, arith}
 use Rattle.std.specs.Prelude.{pos}
-use Rattle.touch_dispatch.proofs.GrowLaws.{click_part, touch_fits}
-use Rattle.touch_dispatch.specs.Handling.{click_handled, many}
-use Rattle.touch_dispatch.specs.Kept.{gesture_of}
-use Rattle.touch_dispatch.specs.TreeEvents.{progress_by}
+use Rattle.touch_dispatch.proofs.steps.GrowLaws.{click_part, touch_fits}
+use Rattle.touch_dispatch.specs.handling.Handling.{click_handled, many}
+use Rattle.touch_dispatch.specs.gesture.Kept.{gesture_of}
+use Rattle.touch_dispatch.specs.reaching.TreeEvents.{progress_by}
 use Rattle.touch_dispatch.proofs.handling.handle.Goals as goal
 
 pub note-requires : goal.note-requires

@@ -1,24 +1,24 @@
 use Rattle.std.proofs.Common.{◌≡◌, ◌<◌, ℕ, None, Some, refl, sym, ◌∙◌, ap, subst, arith}
-use Rattle.touch_dispatch.specs.declared.taker.Taker.TheVariants.{Sent}
+use Rattle.touch_dispatch.specs.declared.reaching.taker.Taker.TheVariants.{Sent}
 use Rattle.view_model.specs.Classes.{is_group}
 use Rattle.view_model.specs.declared.facts.Facts.{Facts}
 use Rattle.view_model.specs.PlainTree.{PlainView}
 use Rattle.view_tree.specs.Rows.{previous_key}
-use Rattle.touch_dispatch.proofs.FitLaws.{kid_moved, kids_grow, out_fits_at}
-use Rattle.touch_dispatch.proofs.GrowLaws.{answer_fits, ask_fits, asked_many, later_fits, offer_fits, try_fits}
-use Rattle.touch_dispatch.proofs.KeepLaws.{group_asked, kept_ended, kept_on, kept_settled, kept_still, may_still}
-use Rattle.touch_dispatch.proofs.ParentLaws.{may_target}
-use Rattle.touch_dispatch.proofs.ReachSteps.{WalkTo, answered_own, answered_same, asked_begun, from_kid, group_chain, none_by, not_taken, out_same, out_step, put_named, taken_no, taken_up, taken_yes, try_child_same, try_earlier, try_sent, try_no, walk_begin, walk_on, answered_targets, some_by}
-use Rattle.touch_dispatch.proofs.SceneLaws.{fewer_kid, kid_found, reach_at, reach_group, reach_own, same_own}
-use Rattle.touch_dispatch.proofs.TargetLaws.{TargetStep, target_step, walk_there}
-use Rattle.touch_dispatch.proofs.TryLaws.{gets_part, sends_to, kept_put, may_put, names_child, names_still, reads_child, target_read, tried_read}
-use Rattle.touch_dispatch.proofs.TryWalk.{TryWalk}
-use Rattle.touch_dispatch.specs.Delivery.{own_targets}
+use Rattle.touch_dispatch.proofs.scrolls.FitLaws.{kid_moved, kids_grow, out_fits_at}
+use Rattle.touch_dispatch.proofs.steps.GrowLaws.{answer_fits, ask_fits, asked_many, later_fits, offer_fits, try_fits}
+use Rattle.touch_dispatch.proofs.steps.KeepLaws.{group_asked, kept_ended, kept_on, kept_settled, kept_still, may_still}
+use Rattle.touch_dispatch.proofs.gestures.ParentLaws.{may_target}
+use Rattle.touch_dispatch.proofs.steps.ReachSteps.{WalkTo, answered_own, answered_same, asked_begun, from_kid, group_chain, none_by, not_taken, out_same, out_step, put_named, taken_no, taken_up, taken_yes, try_child_same, try_earlier, try_sent, try_no, walk_begin, walk_on, answered_targets, some_by}
+use Rattle.touch_dispatch.proofs.steps.SceneLaws.{fewer_kid, kid_found, reach_at, reach_group, reach_own, same_own}
+use Rattle.touch_dispatch.proofs.steps.TargetLaws.{TargetStep, target_step, walk_there}
+use Rattle.touch_dispatch.proofs.steps.TryLaws.{gets_part, sends_to, kept_put, may_put, names_child, names_still, reads_child, target_read, tried_read}
+use Rattle.touch_dispatch.proofs.steps.TryWalk.{TryWalk}
+use Rattle.touch_dispatch.specs.reaching.Delivery.{own_targets}
 use Rattle.touch_dispatch.specs.Dispatch.{Tried, ended, part_for, tried_ids}
-use Rattle.touch_dispatch.specs.Handling.{Reached, many}
-use Rattle.touch_dispatch.specs.Kept.{gesture_of, is_open}
-use Rattle.touch_dispatch.specs.TreeEvents.{IsKidAt, child_at, kids_of, offsets_in, own_of, progress_of, scene_of, target_of}
-use Rattle.touch_dispatch.specs.declared.receiver.Receiver.{Receiver}
+use Rattle.touch_dispatch.specs.handling.Handling.{Reached, many}
+use Rattle.touch_dispatch.specs.gesture.Kept.{gesture_of, is_open}
+use Rattle.touch_dispatch.specs.reaching.TreeEvents.{IsKidAt, child_at, kids_of, offsets_in, own_of, progress_of, scene_of, target_of}
+use Rattle.touch_dispatch.specs.declared.handling.receiver.Receiver.{Receiver}
 use Rattle.touch_event.specs.PointerSets.{has_id}
 use Rattle.touch_event.specs.declared.event.TheConstants.{MAX_POINTERS}
 use Rattle.touch_targets.specs.Captures.{first_child, is_target, targets_from}

@@ -1,10 +1,10 @@
 use Rattle.std.proofs.Common.{◌≡◌, ◌+◌, ◌*◌, false, length}
 use Rattle.view_model.specs.Forest.{count_of}
 use Rattle.view_tree.specs.Rows.{first_tree, part_from, children_of_first}
-use Rattle.touch_dispatch.proofs.TryWalk.{TryWalk, before}
-use Rattle.touch_dispatch.specs.Delivery.{delivered_targets, own_targets}
-use Rattle.touch_dispatch.specs.Kept.{gesture_of}
-use Rattle.touch_dispatch.specs.TreeEvents.{KeepsScene, own_of, progress_of}
+use Rattle.touch_dispatch.proofs.steps.TryWalk.{TryWalk, before}
+use Rattle.touch_dispatch.specs.reaching.Delivery.{delivered_targets, own_targets}
+use Rattle.touch_dispatch.specs.gesture.Kept.{gesture_of}
+use Rattle.touch_dispatch.specs.reaching.TreeEvents.{KeepsScene, own_of, progress_of}
 use Rattle.touch_targets.specs.Captures.{first_child, targets_from}
 use Rattle.touch_dispatch.proofs.reaching.+reach.Given as goal
 

@@ -1,9 +1,9 @@
 use Rattle.std.proofs.Common.{sym, ◌∙◌, ap}
-use Rattle.touch_dispatch.proofs.CaughtLaws.{by_plan_targets, drag_targets}
-use Rattle.touch_dispatch.proofs.KeepLaws.{kept_targets, none_scrolls}
-use Rattle.touch_dispatch.specs.Handling.{Reached}
-use Rattle.touch_dispatch.specs.TreeEvents.{offsets_in, progress_of}
-use Rattle.touch_dispatch.specs.declared.receiver.Receiver.{Receiver}
+use Rattle.touch_dispatch.proofs.gestures.CaughtLaws.{by_plan_targets, drag_targets}
+use Rattle.touch_dispatch.proofs.steps.KeepLaws.{kept_targets, none_scrolls}
+use Rattle.touch_dispatch.specs.handling.Handling.{Reached}
+use Rattle.touch_dispatch.specs.reaching.TreeEvents.{offsets_in, progress_of}
+use Rattle.touch_dispatch.specs.declared.handling.receiver.Receiver.{Receiver}
 use Rattle.touch_dispatch.proofs.reaching.handle_at.Goals as goal
 
 pub handle_drag-requires-clause-read : goal.handle_drag-requires-clause-read

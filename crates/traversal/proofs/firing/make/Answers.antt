@@ -3,7 +3,7 @@ use Rattle.kept_views.specs.Pressing.{path_of}
 use Rattle.view_model.specs.Facts.{is_shown, unscrolled_facts}
 use Rattle.view_model.specs.PlainTree.{PlainView}
 use Rattle.view_model.specs.Forest.{map_rows}
-use Rattle.view_tree.specs.Requests.{among, asking}
+use Rattle.view_tree.specs.tree.Requests.{among, asking}
 use Rattle.view_tree.specs.Rows.{count_of_key}
 use Rattle.view_tree.proofs.forest.NumberLaws.{count_of_key-put}
 use Rattle.view_tree.proofs.values.GeometryLaws.{laid_along}

@@ -3,7 +3,7 @@ use Rattle.kept_views.specs.Pressing.{path_of}
 use Rattle.size_hooks.specs.Hooks.{hook_of}
 use Rattle.view_model.specs.declared.changes.NumEdit.{NumEdit}
 use Rattle.std.proofs.Common.{arith}
-use Rattle.view_tree.specs.Requests.{among}
+use Rattle.view_tree.specs.tree.Requests.{among}
 use Rattle.view_tree.specs.Views.{IsLive, held_of, plain_of}
 use Rattle.traversal.proofs.PassEdits.{noted, noted_live}
 use Rattle.traversal.proofs.ShapeLaws.{count_of_key-same}

@@ -2,7 +2,7 @@ use Rattle.std.proofs.Common.{◌≡◌, ◌≤◌, ◌-◌, ℕ, [], true, drop
 use Rattle.size_hooks.specs.Hooks.{hook_of}
 use Rattle.arrayvec.specs.ArrayVec.{array_vec_len}
 use Rattle.kept_views.specs.Passes.{InPass}
-use Rattle.view_tree.specs.Requests.{among}
+use Rattle.view_tree.specs.tree.Requests.{among}
 use Rattle.view_tree.specs.Views.{IsLive, cache_of, geometry_of, held_of, plain_of, state_of}
 use Rattle.traversal.specs.Changing.{SameShape}
 use Rattle.traversal.specs.Frames.{edited_by, edits_of}

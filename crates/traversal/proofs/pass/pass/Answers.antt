@@ -10,7 +10,7 @@ use Rattle.kept_views.specs.Laying.{differ}
 use Rattle.kept_views.specs.Passes.{settled_at}
 use Rattle.kept_views.proofs.LaidFrames.{differ-along}
 use Rattle.view_tree.specs.declared.counts.Counts.{Counts}
-use Rattle.view_tree.specs.declared.state.State.{State}
+use Rattle.view_tree.specs.declared.node.state.State.{State}
 use Rattle.view_tree.specs.Views.{Held, Views, cache_of, geometry_of, held_of, number_of, plain_of, specs_of, state_of}
 use Rattle.seen_parts.specs.Meeting.{met_at}
 use Rattle.view_model.specs.Visible.{whole_window}

@@ -1,7 +1,7 @@
 use Rattle.std.proofs.Common.{rules, ◌≡◌, Ok, Some, ap, sym, ◌∙◌}
 use Rattle.view_model.specs.Facts.{new_facts}
-use Rattle.view_tree.specs.Attached.{Attached}
-use Rattle.view_tree.specs.Directions.{running_below}
+use Rattle.view_tree.specs.tree.Attached.{Attached}
+use Rattle.view_tree.specs.tree.Directions.{running_below}
 use Rattle.tree_edits.specs.Asking.{listed}
 use Rattle.tree_edits.specs.Editing.{new_view}
 use Rattle.tree_edits.specs.Scene.{EditScene, scene_of}

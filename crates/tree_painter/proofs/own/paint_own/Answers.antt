@@ -6,7 +6,7 @@ use Rattle.pixel_raster.specs.Raster.{Fills, Raster}
 use Rattle.view_model.specs.declared.facts.Facts.{Facts}
 use Rattle.view_model.specs.Painting.{Painter, drawn_in, is_drawn, reaches_children}
 use Rattle.view_model.specs.PlainTree.{PlainView}
-use Rattle.view_tree.specs.declared.state.State.{State}
+use Rattle.view_tree.specs.declared.node.state.State.{State}
 use Rattle.view_tree.specs.Views.{view_at}
 use Rattle.seen_parts.specs.declared.frame.Canvas.{Canvas}
 use Rattle.seen_parts.specs.Frames.{IsBelow, canvas_holds, frame_size}

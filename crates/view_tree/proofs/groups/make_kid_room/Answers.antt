@@ -1,7 +1,7 @@
 use Rattle.std.proofs.Common.{ap, ◌∙◌, sym}
 use Rattle.std.specs.Prelude.{nat_eq}
 use Rattle.view_tree.proofs.orders.GroupLaws.{orders_in-set}
-use Rattle.view_tree.specs.Ordering.{PlainGroup, orders_in}
+use Rattle.view_tree.specs.groups.Ordering.{PlainGroup, orders_in}
 use Rattle.view_tree.proofs.groups.make_kid_room.Goals as goal
 
 pub returns-in-Ok-clause-same : goal.returns-in-Ok-clause-same

@@ -1,8 +1,8 @@
 use Rattle.std.proofs.Common.{◌≡◌, ◌≤◌, ℕ, length}
 use Rattle.std.specs.Vec.Iter.{into_iter_items}
 use Rattle.indexmap.specs.IndexMap.{spare}
-use Rattle.view_tree.specs.Grafting.{noted}
-use Rattle.view_tree.specs.Ordering.{group_at}
+use Rattle.view_tree.specs.tree.Grafting.{noted}
+use Rattle.view_tree.specs.groups.Ordering.{group_at}
 use Rattle.view_tree.proofs.groups.note_groups.Given as goal
 
 abbrev pub invariant-loop-number : goal.invariant-loop-number

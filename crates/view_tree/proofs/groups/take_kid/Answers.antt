@@ -1,7 +1,7 @@
 use Rattle.std.proofs.Common.{◌≡◌, ◌∙◌, ap, length, refl, subst, arith}
 use Rattle.std.specs.List.{remove}
-use Rattle.view_tree.specs.Ordering.{place_in}
-use Rattle.view_tree.specs.Places.{IsLowered}
+use Rattle.view_tree.specs.groups.Ordering.{place_in}
+use Rattle.view_tree.specs.groups.Places.{IsLowered}
 use Rattle.view_tree.proofs.groups.take_kid.Goals as goal
 
 pub returns-then-place-len : goal.returns-then-place-len

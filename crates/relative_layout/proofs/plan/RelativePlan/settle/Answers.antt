@@ -3,7 +3,7 @@ use Rattle.std.proofs.lemmas.Int.{to_z-of_z}
 use Rattle.view_model.specs.Facts.{layout_facts}
 use Rattle.view_model.specs.RelativeLayout.{final_span, own_length, rect_between, span_or_none}
 use Rattle.view_model.specs.declared.relative.Axis.TheVariants.{Horizontal, Vertical}
-use Rattle.relative_layout.proofs.PlanLaws.{final_span-of_extent}
+use Rattle.relative_layout.proofs.plans.PlanLaws.{final_span-of_extent}
 use Rattle.relative_layout.proofs.plan.RelativePlan.settle.Goals as goal
 
 pub returns : goal.returns

@@ -1,7 +1,7 @@
 use Rattle.std.proofs.Common.{FitsSigned, w32, rules}
 use Rattle.std.proofs.lemmas.Int.{to_z-of_z}
 use Rattle.view_model.specs.Facts.{layout_facts}
-use Rattle.relative_layout.proofs.PlanLaws.{take-across, take-down}
+use Rattle.relative_layout.proofs.plans.PlanLaws.{take-across, take-down}
 use Rattle.relative_layout.proofs.plan.RelativePlan.take.Goals as goal
 
 pub returns-in-Horizontal-clause-taken : goal.returns-in-Horizontal-clause-taken

@@ -4,13 +4,13 @@ use Rattle.std.specs.Prelude.{◌==◌, nat_eq}
 use Rattle.std.specs.Map.{lookup}
 use Rattle.indexmap.specs.IndexMap.{get as get_key, spare}
 use Rattle.touch_targets.specs.Seats.{Seat, is_open, targets_of}
-use Rattle.touch_dispatch.specs.Gestures.{closed}
-use Rattle.touch_dispatch.specs.Kept.{Kept, gesture_of, kept_in}
-use Rattle.touch_dispatch.specs.declared.marks.Marks.{Marks}
+use Rattle.touch_dispatch.specs.gesture.Gestures.{closed}
+use Rattle.touch_dispatch.specs.gesture.Kept.{Kept, gesture_of, kept_in}
+use Rattle.touch_dispatch.specs.declared.gesture.marks.Marks.{Marks}
 use Rattle.touch_dispatch.specs.Once.{Distinct}
-use Rattle.touch_dispatch.proofs.DistinctLaws.{without_distinct}
-use Rattle.touch_dispatch.proofs.PlaceLaws.{closed_gesture}
-use Rattle.touch_dispatch.proofs.RoomLaws.{room_closed}
+use Rattle.touch_dispatch.proofs.gestures.DistinctLaws.{without_distinct}
+use Rattle.touch_dispatch.proofs.gestures.PlaceLaws.{closed_gesture}
+use Rattle.touch_dispatch.proofs.gestures.RoomLaws.{room_closed}
 use Rattle.touch_dispatch.proofs.gesture.Gesture.close.Goals as goal
 
 pub invariant_of-self : goal.invariant_of-self

@@ -5,8 +5,8 @@ use Rattle.indexmap.specs.IndexMap.{get as get_key, spare}
 use Rattle.touch_event.specs.PointerSets.{has_id}
 use Rattle.touch_targets.specs.Seats.{is_open, targets_of}
 use Rattle.touch_dispatch.specs.Once.{Distinct}
-use Rattle.touch_dispatch.proofs.DistinctLaws.{drop_distinct}
-use Rattle.touch_dispatch.proofs.RoomLaws.{room_same}
+use Rattle.touch_dispatch.proofs.gestures.DistinctLaws.{drop_distinct}
+use Rattle.touch_dispatch.proofs.gestures.RoomLaws.{room_same}
 use Rattle.touch_dispatch.proofs.gesture.Gesture.drop_ids.Goals as goal
 
 pub invariant_of-self : goal.invariant_of-self

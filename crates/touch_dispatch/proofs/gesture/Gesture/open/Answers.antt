@@ -2,7 +2,7 @@ use Rattle.std.proofs.Common.{◌≡◌, ℕ, ◌+◌, ◌≤◌, arith, ap, len
 use Rattle.std.specs.Map.{lookup}
 use Rattle.std.specs.Prelude.{nat_eq}
 use Rattle.indexmap.specs.IndexMap.{get as get_key, spare}
-use Rattle.touch_dispatch.proofs.RoomLaws.{room_after}
+use Rattle.touch_dispatch.proofs.gestures.RoomLaws.{room_after}
 use Rattle.touch_dispatch.specs.Once.{Distinct}
 use Rattle.touch_dispatch.proofs.gesture.Gesture.open.Goals as goal
 

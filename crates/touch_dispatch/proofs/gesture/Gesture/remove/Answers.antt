@@ -3,8 +3,8 @@ use Rattle.std.specs.Prelude.{nat_eq}
 use Rattle.indexmap.specs.IndexMap.{get as get_key, spare}
 use Rattle.touch_targets.specs.Seats.{is_open, targets_of}
 use Rattle.touch_dispatch.specs.Once.{Distinct}
-use Rattle.touch_dispatch.proofs.DistinctLaws.{without_distinct}
-use Rattle.touch_dispatch.proofs.RoomLaws.{room_same}
+use Rattle.touch_dispatch.proofs.gestures.DistinctLaws.{without_distinct}
+use Rattle.touch_dispatch.proofs.gestures.RoomLaws.{room_same}
 use Rattle.touch_dispatch.proofs.gesture.Gesture.remove.Goals as goal
 
 pub invariant_of-self : goal.invariant_of-self

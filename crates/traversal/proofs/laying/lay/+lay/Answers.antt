@@ -17,7 +17,7 @@ use Rattle.view_model.specs.Forest.{count_of}
 use Rattle.view_model.specs.Layout.{place_in, places_backwards}
 use Rattle.view_model.specs.Measuring.{Measured, Specs}
 use Rattle.view_model.specs.RelativeLayout.{sides_of}
-use Rattle.view_tree.specs.declared.state.State.{State}
+use Rattle.view_tree.specs.declared.node.state.State.{State}
 use Rattle.view_tree.specs.Rows.{first_tree, children_of_first, later_siblings, part_from, head_view}
 use Rattle.view_tree.specs.Views.{Held, Views, class_of, facts_of, held_of, specs_of, state_of}
 use Rattle.view_tree.specs.declared.counts.Counts.{Counts}

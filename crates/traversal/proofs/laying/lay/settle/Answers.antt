@@ -1,5 +1,5 @@
 use Rattle.std.proofs.Common.{◌≡◌, true, false, refl, sym, ◌∙◌, ap}
-use Rattle.view_tree.specs.declared.state.State.{State}
+use Rattle.view_tree.specs.declared.node.state.State.{State}
 use Rattle.view_tree.specs.Views.{held_of}
 use Rattle.traversal.proofs.LaidAt.{settled_calm}
 use Rattle.traversal.proofs.RestLaws.{calm_is, calm_of}

@@ -1,5 +1,5 @@
 use Rattle.std.proofs.Common.{Some, None, sym, ap, ◌∙◌}
-use Rattle.view_tree.specs.Preorder.{first_row_key}
+use Rattle.view_tree.specs.tree.Preorder.{first_row_key}
 use Rattle.view_tree.proofs.forest.PreorderLaws.{after_last, after_sibling}
 use Rattle.view_tree.proofs.tree.ViewTree.+next_outside.Goals as goal
 

@@ -10,13 +10,13 @@ use Rattle.view_model.specs.Forest.{count_of}
 use Rattle.view_model.specs.Grafts.{graft_refusal}
 use Rattle.view_model.specs.Growth.{refusal_at}
 use Rattle.view_model.specs.Sprouts.{seed_of, seeds_of, view_of}
-use Rattle.view_tree.specs.Attached.{Attached}
-use Rattle.view_tree.specs.Bed.{represented}
-use Rattle.view_tree.specs.Directions.{running_below}
-use Rattle.view_tree.specs.Grafted.{Grafted}
-use Rattle.view_tree.specs.Grafting.{AreGrafted, IsMadeUnless, entries_cycle}
-use Rattle.view_tree.specs.Nodes.{value_of, views_in}
-use Rattle.view_tree.specs.Ordering.{HasNoOther, IsGrouped, group_at, orders_in}
+use Rattle.view_tree.specs.tree.Attached.{Attached}
+use Rattle.view_tree.specs.tree.Bed.{represented}
+use Rattle.view_tree.specs.tree.Directions.{running_below}
+use Rattle.view_tree.specs.tree.Grafted.{Grafted}
+use Rattle.view_tree.specs.tree.Grafting.{AreGrafted, IsMadeUnless, entries_cycle}
+use Rattle.view_tree.specs.node.Nodes.{value_of, views_in}
+use Rattle.view_tree.specs.groups.Ordering.{HasNoOther, IsGrouped, group_at, orders_in}
 use Rattle.view_tree.specs.Views.{IsLive, Views, no_counts, number_of, orders_under, plain_of}
 use Rattle.view_tree.specs.declared.groups.Group.{Group}
 use Rattle.view_tree.specs.declared.tree.ViewTree.TheInside.{Inside}

@@ -1,4 +1,4 @@
-use Rattle.view_tree.specs.Nodes.{has_id}
+use Rattle.view_tree.specs.node.Nodes.{has_id}
 use Rattle.view_tree.specs.Rows.{children_of_first, part_from}
 use Rattle.view_tree.proofs.orders.BackSearch.{BackSearch, before}
 use Rattle.view_tree.proofs.tree.ViewTree.last_by_walk.Given as goal

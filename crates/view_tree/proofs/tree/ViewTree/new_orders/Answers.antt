@@ -1,9 +1,9 @@
 use Rattle.std.proofs.Common.{◌≡◌, ◌∙◌, ap, arith, length, sym, true}
-use Rattle.view_tree.specs.Ordering.{link_or}
+use Rattle.view_tree.specs.groups.Ordering.{link_or}
 use Rattle.view_tree.specs.Rows.{children_of_first, part_from, views_of}
 use Rattle.view_tree.proofs.orders.CycleLaws.{few_links, members_within}
 use Rattle.relative_layout.specs.declared.ordering.OrderFault.TheVariants as order
-use Rattle.relative_layout.specs.Sorting.{IsFaultOf}
+use Rattle.relative_layout.specs.ordering.Sorting.{IsFaultOf}
 use Rattle.view_tree.proofs.orders.ListLaws.{length-each}
 use Rattle.view_model.specs.Classes.{is_relative}
 use Rattle.view_tree.specs.Views.{class_of}

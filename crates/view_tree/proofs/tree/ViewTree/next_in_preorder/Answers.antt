@@ -1,5 +1,5 @@
 use Rattle.std.proofs.Common.{Some, sym, ap, ◌∙◌}
-use Rattle.view_tree.specs.Preorder.{first_row_key}
+use Rattle.view_tree.specs.tree.Preorder.{first_row_key}
 use Rattle.view_tree.proofs.forest.PreorderLaws.{after_kid, after_leaf, rows_following_first, rows_fewer, views_on}
 use Rattle.view_tree.proofs.tree.ViewTree.next_in_preorder.Goals as goal
 

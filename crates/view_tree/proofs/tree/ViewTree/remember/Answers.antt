@@ -1,7 +1,7 @@
 use Rattle.std.proofs.Common.{refl, ◌∙◌, sym, ap, List}
 use Rattle.measure_cache.specs.declared.cache.Entry.{Entry}
 use Rattle.measure_cache.specs.Entries.{put_in}
-use Rattle.view_tree.specs.Nodes.{held_by}
+use Rattle.view_tree.specs.node.Nodes.{held_by}
 use Rattle.view_tree.specs.Views.{Held, Views}
 use Rattle.view_tree.specs.declared.node.Node.{Node}
 use Rattle.view_tree.proofs.nodes.NodeReads.{contains_live}

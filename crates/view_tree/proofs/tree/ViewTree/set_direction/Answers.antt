@@ -3,8 +3,8 @@ use mathlib.Core.Path.{fun_ext}
 use Rattle.view_model.specs.Directed.{directed, with_direction as plain_with_direction}
 use Rattle.view_model.specs.Forest.{Forest}
 use Rattle.view_model.specs.PlainTree.{PlainView}
-use Rattle.view_tree.specs.Directions.{directed_rows, with_direction}
-use Rattle.view_tree.specs.Requests.{asking, pressed}
+use Rattle.view_tree.specs.tree.Directions.{directed_rows, with_direction}
+use Rattle.view_tree.specs.tree.Requests.{asking, pressed}
 use Rattle.view_tree.specs.Rows.{Row, changed_at_key, count_of_key, head_view, part_from}
 use Rattle.view_tree.specs.Views.{AreDirected, Held, IsLive, IsTree, Views, held_of, number_of, plain_of, plain_rows}
 use Rattle.view_tree.proofs.forest.PlainLaws.{plain_along}

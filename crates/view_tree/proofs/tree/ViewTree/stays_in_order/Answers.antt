@@ -2,13 +2,13 @@ use Rattle.std.proofs.Common.{◌≡◌, ◌⊎◌, ◌∙◌, ap, arith, inl, i
 use Rattle.std.proofs.lemmas.Bool.{cases_Bool}
 use Rattle.std.specs.Option.{option_copied}
 use Rattle.view_model.specs.Cycles.{link_of}
-use Rattle.relative_layout.specs.Naming.{padded_ids}
+use Rattle.relative_layout.specs.ordering.Naming.{padded_ids}
 use Rattle.view_model.specs.declared.relative.Axis.TheVariants.{Horizontal, Vertical}
 use Rattle.view_model.specs.declared.relative.Link.{Link}
-use Rattle.view_tree.specs.Cycles.{links_below}
-use Rattle.view_tree.specs.Ordering.{AreOrders, plain_orders}
+use Rattle.view_tree.specs.groups.Cycles.{links_below}
+use Rattle.view_tree.specs.groups.Ordering.{AreOrders, plain_orders}
 use Rattle.view_tree.specs.Rows.{children_of_first, part_from, views_of}
-use Rattle.view_tree.specs.Staying.{AddsNone, NamesNone}
+use Rattle.view_tree.specs.groups.Staying.{AddsNone, NamesNone}
 use Rattle.view_tree.specs.Views.{number_of}
 use Rattle.view_tree.proofs.nodes.NodeReads.{is_tree}
 use Rattle.view_tree.proofs.orders.GroupReads.{numbers_found, orders_found, orders_value}

@@ -1,7 +1,7 @@
 use Rattle.std.proofs.Common.{rules, ◌≡◌, suc, true}
 use Rattle.view_model.specs.Classes.{is_relative}
 use Rattle.view_model.specs.Cycles.{member_from}
-use Rattle.view_tree.specs.Grafting.{links_following, numbers_following}
+use Rattle.view_tree.specs.tree.Grafting.{links_following, numbers_following}
 use Rattle.view_tree.proofs.grafts.EntryLaws.{added}
 use Rattle.view_tree.proofs.tree.relatives.add_entry.Goals as goal
 

@@ -3,7 +3,7 @@ use Rattle.std.specs.Prelude.{List, ℕ, slice_index, ◌+◌}
 use Rattle.view_model.specs.Cycles.{member_from}
 use Rattle.view_model.specs.declared.limits.TheConstants.{MAX_VIEWS}
 use Rattle.view_model.specs.declared.relative.Link.{Link}
-use Rattle.view_tree.specs.Grafting.{IsGroupOrCycle, links_following, numbers_following, sprout_link}
+use Rattle.view_tree.specs.tree.Grafting.{IsGroupOrCycle, links_following, numbers_following, sprout_link}
 use Rattle.view_tree.proofs.grafts.EntryLaws.{following-alike, following-few, following-near}
 use Rattle.view_tree.proofs.tree.relatives.group_after.Goals as goal
 

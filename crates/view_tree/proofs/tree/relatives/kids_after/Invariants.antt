@@ -1,5 +1,5 @@
 use Rattle.std.proofs.Common.{◌≡◌, ◌+◌, ◌++◌, length}
-use Rattle.view_tree.specs.Grafting.{links_following, numbers_following}
+use Rattle.view_tree.specs.tree.Grafting.{links_following, numbers_following}
 use Rattle.view_tree.proofs.tree.relatives.kids_after.Given as goal
 
 abbrev pub invariant-loop-sprout : goal.invariant-loop-sprout

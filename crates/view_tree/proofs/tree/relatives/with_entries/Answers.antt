@@ -2,7 +2,7 @@ use Rattle.std.proofs.Common.{rules, ◌≡◌, ◌+◌, ◌∙◌, ◌∷◌, [
 use Rattle.std.proofs.lemmas.List.{nil_from_length}
 use Rattle.std.specs.Option.{option_or}
 use Rattle.view_model.specs.Cycles.{member_from}
-use Rattle.view_tree.specs.Grafting.{AreEntries, cycle_in}
+use Rattle.view_tree.specs.tree.Grafting.{AreEntries, cycle_in}
 use Rattle.view_tree.proofs.grafts.EntryLaws.{entries_end, entries_on}
 use Rattle.view_tree.proofs.tree.relatives.with_entries.Goals as goal
 

@@ -1,7 +1,7 @@
 use Rattle.std.proofs.Common.{◌≡◌, ℕ, ◌+◌, ◌≤◌, ◌++◌, List, length}
 use Rattle.view_model.specs.Cycles.{member_from}
 use Rattle.view_tree.specs.declared.groups.Group.{Group}
-use Rattle.view_tree.specs.Grafting.{AreEntries, HasAdded, cycle_in}
+use Rattle.view_tree.specs.tree.Grafting.{AreEntries, HasAdded, cycle_in}
 use Rattle.view_tree.proofs.tree.relatives.with_entries.Given as goal
 
 abbrev pub invariant-loop-sprout : goal.invariant-loop-sprout

@@ -1,5 +1,5 @@
 use Rattle.std.proofs.Common.{◌≡◌, ◌⊎◌, ℕ, ◌<◌, get_or}
-use Rattle.relative_layout.specs.Naming.{padded_ids}
+use Rattle.relative_layout.specs.ordering.Naming.{padded_ids}
 use Rattle.view_tree.proofs.tree.staying.follows.Given as goal
 
 abbrev pub invariant-loop-k : goal.invariant-loop-k

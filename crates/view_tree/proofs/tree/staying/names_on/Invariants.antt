@@ -1,5 +1,5 @@
 use Rattle.std.proofs.Common.{◌≢◌, ℕ, ◌<◌, get_or}
-use Rattle.relative_layout.specs.Naming.{padded_ids}
+use Rattle.relative_layout.specs.ordering.Naming.{padded_ids}
 use Rattle.view_tree.proofs.tree.staying.names_on.Given as goal
 
 abbrev pub invariant-loop-named : goal.invariant-loop-named

@@ -1,6 +1,6 @@
 use Rattle.std.proofs.Common.{arith, sym, ◌∙◌, ap}
 use Rattle.std.specs.Prelude.{Bool, ◌&&◌, not}
-use Rattle.touch_dispatch.specs.Kept.{gesture_of, is_open}
+use Rattle.touch_dispatch.specs.gesture.Kept.{gesture_of, is_open}
 use Rattle.view_tree.specs.Rows.{children_of_first, later_siblings, part_from}
 use Rattle.view_tree.proofs.forest.Walks.{fewer_below, walk_falls, walk_on, walk_start}
 use Rattle.view_world.specs.world.Step.{all_disarmed}

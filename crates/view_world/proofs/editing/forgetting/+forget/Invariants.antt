@@ -1,6 +1,6 @@
 use Rattle.std.proofs.Common.{◌≡◌, ℕ}
 use Rattle.std.specs.Prelude.{◌&&◌, not}
-use Rattle.touch_dispatch.specs.Kept.{gesture_of, is_open}
+use Rattle.touch_dispatch.specs.gesture.Kept.{gesture_of, is_open}
 use Rattle.view_model.specs.Forest.{count_of}
 use Rattle.view_tree.specs.Rows.{children_of_first, first_tree, part_from, rest_from}
 use Rattle.view_tree.proofs.forest.Walks.{Walk}

@@ -2,7 +2,7 @@ use Rattle.std.proofs.Common.{◌≡◌, ℕ, Some, ap, sym, ◌∙◌}
 use Rattle.traversal.proofs.FitLaws.{near_size_is}
 use Rattle.view_model.specs.Geometry.{rect_in}
 use Rattle.view_tree.specs.Views.{IsLive, IsTree, Views, geometry_of, number_of, state_of}
-use Rattle.view_tree.specs.declared.state.State.{State}
+use Rattle.view_tree.specs.declared.node.state.State.{State}
 use Rattle.view_tree.proofs.values.GeometryLaws.{rect_live}
 use Rattle.view_world.proofs.edits.HookLaws.{rect_fits, size_or}
 use Rattle.view_world.proofs.editing.hooking.present_size.Goals as goal

@@ -1,5 +1,5 @@
 use Rattle.std.proofs.Common.{◌≡◌, ◌∙◌, ◌+◌, ◌-◌, ◌<◌, ◌≤◌, ℕ, suc, arith, ap}
-use Rattle.touch_dispatch.specs.Kept.{IsUnknown, with_place}
+use Rattle.touch_dispatch.specs.gesture.Kept.{IsUnknown, with_place}
 use Rattle.touch_targets.specs.Captures.{is_target}
 use Rattle.view_world.proofs.edits.OpeningLaws.{targets_places, unknown_above}
 use Rattle.view_world.specs.editing.Places.{with_places}

@@ -1,5 +1,5 @@
 use Rattle.std.proofs.Common.{◌≡◌, ◌≤◌}
-use Rattle.touch_dispatch.specs.Kept.{Kept}
+use Rattle.touch_dispatch.specs.gesture.Kept.{Kept}
 use Rattle.view_world.specs.editing.Places.{AreFree, AreUnknown, with_places}
 use Rattle.view_world.proofs.editing.opening.close_all.Given as goal
 

@@ -1,7 +1,7 @@
 use Rattle.std.proofs.Common.{◌≡◌, ◌∙◌, ◌+◌, ◌≤◌, ℕ, suc, arith, ap, sym, subst, inl, inr}
 use Rattle.std.specs.Prelude.{◌==◌, ◌||◌, false}
 use Rattle.std.proofs.lemmas.Bool.{cases_eq}
-use Rattle.touch_dispatch.specs.Kept.{IsUnknown, is_open, with_place}
+use Rattle.touch_dispatch.specs.gesture.Kept.{IsUnknown, is_open, with_place}
 use Rattle.view_world.proofs.edits.OpeningLaws.{done, opened_more, unknown_first}
 use Rattle.view_world.specs.editing.Places.{with_places}
 use Rattle.view_world.proofs.editing.opening.open_all.Goals as goal

@@ -1,5 +1,5 @@
 use Rattle.std.proofs.Common.{◌≡◌, ◌≤◌, ◌-◌}
-use Rattle.touch_dispatch.specs.Kept.{gesture_of}
+use Rattle.touch_dispatch.specs.gesture.Kept.{gesture_of}
 use Rattle.view_world.specs.editing.Places.{AreOpened, AreUnknown, with_places}
 use Rattle.view_world.proofs.editing.opening.open_all.Given as goal
 

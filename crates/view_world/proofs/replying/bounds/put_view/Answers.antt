@@ -1,7 +1,7 @@
 use Rattle.std.proofs.Common.{ap, sym, ◌∙◌}
 use Rattle.std.specs.Prelude.{ℤ, Option}
 use Rattle.view_tree.specs.Views.{class_of, number_of, offset_of}
-use Rattle.view_tree.specs.declared.state.State.{State}
+use Rattle.view_tree.specs.declared.node.state.State.{State}
 use Rattle.view_tree.proofs.values.GeometryLaws.{rect_live}
 use Rattle.view_world.specs.replying.Replies.{bounds_line}
 use Rattle.view_world.specs.world.Step.{printed_offset}

@@ -1,5 +1,5 @@
 use Rattle.std.proofs.Common.{◌≡◌, [], false, refl, sym, ◌∙◌, ap}
-use Rattle.touch_dispatch.specs.Handling.{is_nil}
+use Rattle.touch_dispatch.specs.handling.Handling.{is_nil}
 use Rattle.view_world.specs.screen.KeyedScreen.{KeyedScreen}
 use Rattle.view_world.proofs.edits.LeaveLaws.{nil-length}
 use Rattle.view_world.proofs.touches.TouchLaws.{Changed-cancel}

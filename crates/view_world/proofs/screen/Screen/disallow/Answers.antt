@@ -4,7 +4,7 @@ use Rattle.view_model.specs.PlainTree.{view_in}
 use Rattle.view_model.specs.Refusals.{plain_refusal}
 use Rattle.view_tree.specs.Views.{number_of, plain_of, view_at}
 use Rattle.view_tree.proofs.forest.PlainLaws.{number_there}
-use Rattle.touch_dispatch.specs.Kept.{gesture_of}
+use Rattle.touch_dispatch.specs.gesture.Kept.{gesture_of}
 use Rattle.view_world.specs.screen.Changed.{CarriesOut}
 use Rattle.view_world.specs.screen.KeyedScreen.{KeyedScreen, world_of}
 use Rattle.view_world.specs.screen.Sound.{keyed}

@@ -4,7 +4,7 @@ use Rattle.std.proofs.lemmas.Int.{to_z-of_z}
 use mir.Syntax.{w32}
 use mir.Val.{of_z, to_z}
 use Rattle.std.specs.Option.{option_map}
-use Rattle.touch_dispatch.specs.Kept.{is_open}
+use Rattle.touch_dispatch.specs.gesture.Kept.{is_open}
 use Rattle.tree_edits.specs.Applied.{IsAddable}
 use Rattle.tree_edits.specs.Editing.{Add, new_view}
 use Rattle.tree_edits.specs.Keeping.{KeepsViews}

@@ -27,7 +27,7 @@ use Rattle.view_world.proofs.frames.SeenLaws.{seen_mid}
 use Rattle.view_world.specs.frames.Resting.{AreSeenIn}
 use Rattle.view_world.specs.frames.Seen.{numbers_edited}
 use Rattle.view_tree.proofs.values.KeptLaws.{is_tree-same}
-use Rattle.touch_dispatch.specs.TreeEvents.{OnlyScrolls}
+use Rattle.touch_dispatch.specs.reaching.TreeEvents.{OnlyScrolls}
 use Rattle.view_tree.specs.Views.{IsTree}
 use Rattle.view_world.proofs.screen.Screen.hide.Goals as goal
 

@@ -1,7 +1,7 @@
 use Rattle.std.proofs.Common.{◌≡◌, ℕ, Bool, true, false, sym, ◌∙◌, ap, subst}
 use Rattle.std.specs.Prelude.{not, ◌&&◌}
 use Rattle.std.specs.Option.{is_some}
-use Rattle.touch_dispatch.specs.Handling.{is_nil}
+use Rattle.touch_dispatch.specs.handling.Handling.{is_nil}
 use Rattle.view_model.specs.Facts.{is_shown}
 use Rattle.view_tree.specs.Views.{IsLive, facts_of, number_of}
 use Rattle.view_world.specs.screen.KeyedScreen.{KeyedScreen, world_of}

@@ -1,5 +1,5 @@
 use Rattle.std.proofs.Common.{◌≡◌, sym, ◌∙◌, ap, subst}
-use Rattle.touch_dispatch.specs.Handling.{Progress}
+use Rattle.touch_dispatch.specs.handling.Handling.{Progress}
 use Rattle.view_tree.specs.Views.{IsLive, number_of, plain_of}
 use Rattle.view_world.specs.screen.KeyedScreen.{KeyedScreen, world_of}
 use Rattle.view_world.specs.screen.Sound.{keyed}
@@ -9,7 +9,7 @@ use Rattle.view_world.proofs.edits.LeaveLaws.{leaving_silent, leaving_reported, 
 use Rattle.view_world.proofs.touches.SceneLaws.{scrolls_geometry}
 use Rattle.view_world.proofs.edits.GrownShown.{shows_alike}
 use Rattle.view_world.proofs.states.OffsetLaws.{offsets_scrolled}
-use Rattle.touch_dispatch.specs.TreeEvents.{OnlyScrolls}
+use Rattle.touch_dispatch.specs.reaching.TreeEvents.{OnlyScrolls}
 use Rattle.view_world.proofs.screen.Screen.report_leaving.Goals as goal
 
 pub invariant_of-self-then-is_reported : goal.invariant_of-self-then-is_reported

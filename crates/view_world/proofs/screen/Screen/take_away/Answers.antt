@@ -25,7 +25,7 @@ use Rattle.view_world.proofs.touches.SceneLaws.{scrolls_geometry}
 use Rattle.view_world.proofs.frames.SeenLaws.{among_first, seen_alike, seen_named}
 use Rattle.view_world.specs.frames.Resting.{seen_on}
 use Rattle.view_tree.proofs.values.KeptLaws.{is_tree-same}
-use Rattle.touch_dispatch.specs.TreeEvents.{OnlyScrolls}
+use Rattle.touch_dispatch.specs.reaching.TreeEvents.{OnlyScrolls}
 use Rattle.view_world.proofs.screen.Screen.take_away.Goals as goal
 
 pub invariant_of-self : goal.invariant_of-self

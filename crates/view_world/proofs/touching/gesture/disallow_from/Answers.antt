@@ -1,5 +1,5 @@
 use Rattle.std.proofs.Common.{ℕ, List, ◌∷◌, refl, sym, ◌∙◌, ap, length, arith}
-use Rattle.touch_dispatch.specs.Kept.{gesture_of}
+use Rattle.touch_dispatch.specs.gesture.Kept.{gesture_of}
 use Rattle.view_tree.specs.Views.{number_of}
 use Rattle.view_world.specs.touching.Touching.{all_disallowed}
 use Rattle.view_world.proofs.trees.AncestorLaws.{ancestors_named}

@@ -1,6 +1,6 @@
 use Rattle.std.proofs.Common.{◌≡◌, ℕ, Some, length}
 use Rattle.std.specs.Prelude.{IfSome, map}
-use Rattle.touch_dispatch.specs.Kept.{gesture_of, is_open}
+use Rattle.touch_dispatch.specs.gesture.Kept.{gesture_of, is_open}
 use Rattle.view_tree.specs.Views.{IsLive, number_of}
 use Rattle.view_world.specs.touching.Touching.{all_disallowed}
 use Rattle.view_world.proofs.touches.ClimbLaws.{path_from}

@@ -3,9 +3,9 @@ use Rattle.view_model.specs.declared.facts.Facts.{Facts}
 use Rattle.view_model.specs.Direction.{dir}
 use Rattle.view_model.specs.PlainTree.{PlainView}
 use Rattle.view_model.specs.Sprouts.{seed_of, view_of}
-use Rattle.view_tree.specs.Bed.{fields_of}
-use Rattle.view_tree.specs.Directions.{running_below}
-use Rattle.view_tree.specs.Nodes.{fields, last_child, linked, links_at, tree_of, value_of}
+use Rattle.view_tree.specs.tree.Bed.{fields_of}
+use Rattle.view_tree.specs.tree.Directions.{running_below}
+use Rattle.view_tree.specs.node.Nodes.{fields, last_child, linked, links_at, tree_of, value_of}
 use Rattle.view_tree.specs.Views.{fresh_held}
 use Rattle.view_tree.specs.declared.tree.ViewTree.TheInside.{Inside}
 use Rattle.view_tree.proofs.forest.IdLaws.{holders_of-few}

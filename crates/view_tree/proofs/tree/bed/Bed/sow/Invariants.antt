@@ -3,8 +3,8 @@ use Rattle.std.specs.Vec.Iter.{into_iter_items}
 use Rattle.indexmap.specs.IndexMap.{spare}
 use Rattle.slab.specs.Slab.{HasRoomFor}
 use Rattle.slab_link.specs.declared.link.TheConstants.{LINKS_END}
-use Rattle.view_tree.specs.Bed.{KeepsReferences, fields_of, represented}
-use Rattle.view_tree.specs.Nodes.{IsPlanted}
+use Rattle.view_tree.specs.tree.Bed.{KeepsReferences, fields_of, represented}
+use Rattle.view_tree.specs.node.Nodes.{IsPlanted}
 use Rattle.view_tree.proofs.grafts.SownSprouts.{Sowing}
 use Rattle.view_tree.proofs.tree.bed.Bed.sow.Given as goal
 

@@ -1,6 +1,0 @@
-use Rattle.std.proofs.Common.{◌<◌, ℕ}
-use Rattle.relative_layout.specs.Naming.{NamesBack}
-use Rattle.relative_layout.proofs.listing.leads_back.Given as goal
-
-abbrev pub invariant-loop-place : goal.invariant-loop-place
-invariant-loop-place l = (p : ℕ) → p < l.place → NamesBack l.axis l.kids p

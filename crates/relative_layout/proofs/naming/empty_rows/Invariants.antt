@@ -1,7 +1,0 @@
-use Rattle.std.proofs.Common.{◌≡◌, []}
-use Rattle.std.specs.Prelude.{replicate}
-use Rattle.relative_layout.specs.Naming.{lists_of}
-use Rattle.relative_layout.proofs.naming.empty_rows.Given as goal
-
-abbrev pub invariant-loop-row : goal.invariant-loop-row
-invariant-loop-row l = lists_of l.rows.items ≡ replicate l._row []

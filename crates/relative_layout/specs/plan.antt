@@ -1,0 +1,2 @@
+-- How a relative layout measures and places its children.
+pub mod RelativePlan

@@ -1,7 +1,0 @@
-use Rattle.std.proofs.Common.{sym, ◌∙◌}
-use Rattle.touch_dispatch.proofs.TargetLaws.{oldest_there}
-use Rattle.touch_dispatch.specs.Kept.{gesture_of}
-use Rattle.touch_dispatch.proofs.groups.give_to_oldest.Goals as goal
-
-pub put-requires-clause-may : goal.put-requires-clause-may
-put-requires-clause-may c = c.requires.may c.in-Some.child (oldest_there c.in-Some.child ((gesture_of c.args.gesture.now).targets c.args.group) (sym c.oldest.ensures ∙ c.in-Some.is))

@@ -1,0 +1,29 @@
+use Rattle.std.proofs.Common.{List, ℕ, refl, subst}
+use Rattle.std.specs.Prelude.{slice_index}
+use Rattle.relative_layout.specs.declared.ordering.OrderFault.TheVariants as order
+use Rattle.relative_layout.specs.ordering.Sorting.{IsFaultOf}
+use Rattle.view_model.specs.Cycles.{member_from}
+use Rattle.view_model.specs.declared.relative.Link.{Link}
+use Rattle.view_tree.specs.groups.Cycles.{IsFree, IsReportedFrom}
+use Rattle.view_tree.specs.groups.Ordering.{AreOrders, plain_orders}
+use Rattle.view_tree.proofs.orders.CycleLists.{none_of, reported_is}
+use Rattle.view_tree.proofs.groups.kids.group_of.Goals as goal
+
+pub returns-in-Ok : goal.returns-in-Ok
+returns-in-Ok c =
+    let e = c.in-Ok.ensures in (
+      none_of (member_from c.args.next) c.args.kids.links.items c.args.kids.numbers.items
+          (subst IsFree c.deref.ensures.value (record { across = e.acyclic_across; down = e.acyclic_down })),
+      record {
+        numbers = refl;
+        orders = subst (λ (links : List Link). AreOrders links (plain_orders c.in-Ok.orders)) c.deref.ensures.value (record { across = e.across; down = e.down });
+      },
+    )
+
+pub returns : goal.returns
+returns c =
+    let fault : IsFaultOf c.deref.result.now (order.Cycle c.in-Err-Cycle.down c.in-Err-Cycle.members) = rw c.in-Err-Cycle.field-0-is at c.in-Err-Cycle.ensures.fault in
+    reported_is (member_from c.args.next) c.args.kids.links.items c.args.kids.numbers.items c.in-Err-Cycle.down c.in-Err-Cycle.members c.reported.result
+    (subst (λ (links : List Link). IsFaultOf links (order.Cycle c.in-Err-Cycle.down c.in-Err-Cycle.members)) c.deref.ensures.value fault)
+    (subst (λ (numbers : List ℕ). IsReportedFrom (λ place. member_from c.args.next (slice_index numbers place)) c.in-Err-Cycle.down c.in-Err-Cycle.members.items c.reported.result) c.deref-in-Err-Cycle.ensures.value
+    (subst (λ (places : List ℕ). IsReportedFrom (λ place. member_from c.args.next (slice_index c.deref-in-Err-Cycle.result.now place)) c.in-Err-Cycle.down places c.reported.result) c.deref-in-Err-Cycle-2.ensures.value c.reported.ensures))

@@ -1,0 +1,5 @@
+-- The kept orders of relative layouts.
+pub mod Cycles
+pub mod Ordering
+pub mod Places
+pub mod Staying

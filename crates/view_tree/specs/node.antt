@@ -1,0 +1,4 @@
+-- The nodes of a tree.
+pub mod Linked
+pub mod Nodes
+pub mod Turning

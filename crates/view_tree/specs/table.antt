@@ -1,0 +1,2 @@
+-- The tables of numbers and of ids.
+pub mod Holders

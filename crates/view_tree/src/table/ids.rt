@@ -1,0 +1,104 @@
+//! The views that have each id, kept so that one that has an id alone is found without a walk.
+ghost use Rattle.std.specs.Prelude.{◌≡◌, ◌≢◌, ◌≤◌, ◌<◌, ◌+◌, ℕ, Some, None, IfSome, IsOk, OnErr, OnOk, nat_eq};
+ghost use Rattle.indexmap.specs.IndexMap.{get as holders_at, spare};
+ghost use Rattle.view_model.specs.declared.limits.TheConstants.{MAX_VIEWS};
+ghost use Rattle.view_model.specs.Refusals.{IsRefusedExactlyFor};
+ghost use Rattle.view_tree.specs.table.Holders.{dropped, noted, renamed, with_holder, without_holder};
+
+use crate::fault::AttachFault;
+use indexmap::IndexMap;
+
+/// How many views have an id, and the sum of their keys modulo 2 ^ 64, which is the key if it is one view.
+#[derive(Clone, Copy, Debug, PartialEq, Eq)]
+pub struct Holders {
+    pub count: u32,
+    pub sum: usize,
+}
+
+/// These views and the one of a key.
+fn one_more(held: Option<Holders>, key: usize) -> Holders
+    requires { IfSome held (λ holders. holders.count ≤ MAX_VIEWS) }
+    ensures { result ≡ with_holder held key }
+{
+    match held {
+        None => Holders { count: 1, sum: key },
+        Some(holders) => Holders {
+            count: holders.count + 1,
+            sum: holders.sum.wrapping_add(key),
+        },
+    }
+}
+
+/// These views without the one of a key; `None` if it was the only one.
+fn one_less(holders: Holders, key: usize) -> Option<Holders>
+    ensures { result ≡ without_holder (Some holders) key }
+{
+    if holders.count > 1 {
+        return Some(Holders {
+            count: holders.count - 1,
+            sum: holders.sum.wrapping_sub(key),
+        });
+    }
+    None
+}
+
+/// Records that the view of this key has an id; 0 names nothing and has no entry.
+pub fn note_id(ids: &mut IndexMap<u32, Holders>, id: u32, key: usize) -> Result<(), AttachFault>
+    requires { IfSome (holders_at nat_eq ids.old id) (λ holders. holders.count ≤ MAX_VIEWS) }
+    ensures refused { IsRefusedExactlyFor None result }
+    ensures noted { OnOk result ((i : ℕ) → holders_at nat_eq ids.new i ≡ noted (holders_at nat_eq ids.old i) id key i) }
+    ensures unchanged { OnErr result (ids.new.entries ≡ ids.old.entries) }
+    ensures succeeds { (id ≢ 0 → 0 < spare ids.old) → IsOk result }
+    ensures spare { spare ids.old ≤ spare ids.new + 1 }
+{
+    if id == 0 {
+        return Ok(());
+    }
+    let holders = one_more(ids.get(&id).copied(), key);
+    match ids.insert(id, holders) {
+        Ok(_) => Ok(()),
+        Err(_) => Err(AttachFault::NoMemory),
+    }
+}
+
+/// Records that the view of this key no longer has an id.
+pub fn drop_id(ids: &mut IndexMap<u32, Holders>, id: u32, key: usize)
+    ensures { (i : ℕ) → holders_at nat_eq ids.new i ≡ dropped (holders_at nat_eq ids.old i) id key i }
+{
+    if id == 0 {
+        return;
+    }
+    let Some(holders) = ids.get(&id).copied() else {
+        return;
+    };
+    match one_less(holders, key) {
+        None => {
+            ids.swap_remove(&id);
+        }
+        Some(rest) => match ids.insert(id, rest) {
+            Ok(_) => (),
+            Err(_) => unreachable!(),
+        },
+    }
+}
+
+/// Records that the view of this key has another id than before.
+pub fn rename(
+    ids: &mut IndexMap<u32, Holders>,
+    key: usize,
+    old: u32,
+    new: u32,
+) -> Result<(), AttachFault>
+    requires { IfSome (holders_at nat_eq ids.old new) (λ holders. holders.count ≤ MAX_VIEWS) }
+    ensures refused { IsRefusedExactlyFor None result }
+    ensures renamed { OnOk result ((i : ℕ)
+        → holders_at nat_eq ids.new i ≡ renamed (holders_at nat_eq ids.old i) old new key i) }
+    ensures unchanged { OnErr result (ids.new.entries ≡ ids.old.entries) }
+{
+    if new == old {
+        return Ok(());
+    }
+    note_id(ids, new, key)?;
+    drop_id(ids, old, key);
+    Ok(())
+}
