@@ -1,7 +1,7 @@
 //! What a resource holds, and an entry of a table.
 
 /// What a resource holds: nothing, several values, or one with its type and its word.
-#[derive(Clone, Copy, Debug, PartialEq, Eq)]
+#[derive(Clone, Copy)]
 pub enum Held {
     None,
     Complex,
@@ -9,7 +9,7 @@ pub enum Held {
 }
 
 /// An entry of a table: the id of a resource, and what it holds.
-#[derive(Clone, Copy, Debug, PartialEq, Eq)]
+#[derive(Clone, Copy)]
 pub struct Entry {
     pub id: u32,
     pub held: Held,

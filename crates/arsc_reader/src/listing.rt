@@ -2,7 +2,7 @@
 
 /// Where the entries of a type are: the id of its first entry, the places in the file of the list of offsets and of the
 /// first entry, the place after the type's chunk, and how many entries there are.
-#[derive(Clone, Copy, Debug, PartialEq, Eq)]
+#[derive(Clone, Copy)]
 pub(crate) struct Listing {
     pub(crate) id: u32,
     pub(crate) offsets: usize,

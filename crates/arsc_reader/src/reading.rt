@@ -6,7 +6,7 @@ use axml_chunks::Pool;
 
 /// What was read of a table so far: its strings, its entries in the order of the file, and how many entries its types
 /// so far declare.
-#[derive(Debug, Drop)]
+#[derive(Drop)]
 pub(crate) struct Reading {
     pub(crate) pool: Option<Pool>,
     pub(crate) entries: Vec<Entry>,

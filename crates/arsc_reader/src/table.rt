@@ -25,7 +25,7 @@ const REFERENCE: u8 = 1;
 const MAX_REFERENCES: u32 = 16;
 
 /// A compiled resource table: its strings, and its entries in the order of their ids.
-#[derive(Debug, Drop)]
+#[derive(Drop)]
 pub struct Table {
     pool: Option<Pool>,
     entries: Vec<Entry>,

@@ -6,7 +6,7 @@ ghost use Rattle.attr_table.specs.Table.{attribute, place_in, place_of, slot_at,
 use view_model::limits::{MAX_INSET, MAX_SIZE, MIN_MARGIN};
 
 /// What the value of an attribute may be.
-#[derive(Clone, Copy, Debug, PartialEq, Eq)]
+#[derive(Clone, Copy)]
 pub enum Takes {
     /// A reference, whose id counts and not what it names.
     Reference,
@@ -29,7 +29,7 @@ pub enum Takes {
 }
 
 /// A side of a view.
-#[derive(Clone, Copy, Debug, PartialEq, Eq)]
+#[derive(Clone, Copy)]
 pub enum Side {
     Left,
     Top,
@@ -40,7 +40,7 @@ pub enum Side {
 }
 
 /// What an attribute sets.
-#[derive(Clone, Copy, Debug, PartialEq, Eq)]
+#[derive(Clone, Copy)]
 pub enum Slot {
     Id,
     Width,

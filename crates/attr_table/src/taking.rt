@@ -22,7 +22,7 @@ use view_model::refusals::{BAD_VALUE, DUPLICATE, NO_SIZE, THEME_REF};
 use view_model::{Facts, Refusal, Text};
 
 /// What the attributes of an element set.
-#[derive(Debug, Drop)]
+#[derive(Drop)]
 pub struct Taken {
     pub facts: Facts,
     pub text: Text,

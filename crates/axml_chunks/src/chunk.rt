@@ -9,7 +9,7 @@ use byteorder::{ByteOrder, LittleEndian};
 
 /// The first eight bytes of a chunk: its type, and in bytes the length of its header and of the
 /// whole chunk.
-#[derive(Clone, Copy, Debug, PartialEq, Eq)]
+#[derive(Clone, Copy)]
 pub struct Chunk {
     pub kind: u16,
     pub head: usize,

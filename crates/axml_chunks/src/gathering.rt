@@ -5,7 +5,7 @@ ghost use Rattle.std.specs.String.{string_bytes};
 ghost use Rattle.axml_chunks.specs.Short.{IsShort};
 
 /// The strings of a pool so far, and the sum of their lengths in bytes of UTF-8.
-#[derive(Debug, Drop)]
+#[derive(Drop)]
 pub(crate) struct Gathering {
     pub(crate) texts: Vec<String>,
     pub(crate) sum: usize,

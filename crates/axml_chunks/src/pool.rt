@@ -24,7 +24,7 @@ const MAX_TEXT: usize = 4194304;
 
 /// What a pool's header says: whether its strings are in UTF-8, how many there are, and where in
 /// the chunk the first begins.
-#[derive(Clone, Copy, Debug, PartialEq, Eq)]
+#[derive(Clone, Copy)]
 pub(crate) struct Header {
     pub(crate) utf8: bool,
     pub(crate) count: usize,
@@ -32,7 +32,7 @@ pub(crate) struct Header {
 }
 
 /// The chunk of a pool: its bytes, where in the file it begins, and the length of its header.
-#[derive(Clone, Copy, Debug)]
+#[derive(Clone, Copy)]
 struct PoolChunk<'a> {
     bytes: &'a [u8],
     at: usize,
@@ -41,7 +41,7 @@ struct PoolChunk<'a> {
 
 /// The strings of a file. Each was found to be a text when the pool was read, and is kept in
 /// UTF-8.
-#[derive(Debug, Drop)]
+#[derive(Drop)]
 pub struct Pool {
     utf8: bool,
     texts: Vec<String>,

@@ -8,7 +8,7 @@ pub const NO_STRING: u32 = 0xffff_ffff;
 
 /// An attribute. `ns`, `name` and `raw` are string numbers; `kind` and `word` are the type and the
 /// word of its value, and for the type 3, a string, the word is a string number too.
-#[derive(Clone, Copy, Debug, PartialEq, Eq)]
+#[derive(Clone, Copy)]
 pub struct Attr {
     pub ns: u32,
     pub name: u32,
@@ -19,7 +19,7 @@ pub struct Attr {
 
 /// A node, in the order of the file. All but `line`, `first`, `count`, `kind` and `word` are
 /// string numbers.
-#[derive(Clone, Copy, Debug, PartialEq, Eq)]
+#[derive(Clone, Copy)]
 pub enum Node {
     NsStart {
         prefix: u32,
@@ -53,7 +53,7 @@ pub enum Node {
 
 /// A document: its strings, the ids of the resource map, the nodes, and the attributes of all
 /// elements.
-#[derive(Debug, Drop)]
+#[derive(Drop)]
 pub struct Doc {
     pub pool: Pool,
     pub map: Vec<u32>,

@@ -17,7 +17,7 @@ use tool_io::{Failed, Sink};
 
 /// The tag that begins an element: its line in the source, its string numbers, and how many
 /// attributes it has.
-#[derive(Clone, Copy, Debug)]
+#[derive(Clone, Copy)]
 struct StartTag {
     line: u32,
     ns: u32,
@@ -27,7 +27,7 @@ struct StartTag {
 
 /// Character data: its line in the source, its string number, and the type and the word of its
 /// value.
-#[derive(Clone, Copy, Debug)]
+#[derive(Clone, Copy)]
 struct CharacterData {
     line: u32,
     string: u32,

@@ -12,7 +12,7 @@ const STRING: u8 = 3;
 
 /// An element that begins, without its attributes: its string numbers, where in the file the first
 /// attribute is, how many bytes each has, and how many there are.
-#[derive(Clone, Copy, Debug, PartialEq, Eq)]
+#[derive(Clone, Copy)]
 pub(crate) struct StartHead {
     pub(crate) ns: u32,
     pub(crate) name: u32,

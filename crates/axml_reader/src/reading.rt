@@ -8,7 +8,7 @@ use axml_chunks::Pool;
 /// What was read of a document so far: its parts, which string numbers are known to have the same
 /// text, the names of the open elements with the innermost last, whether an outermost element has
 /// ended, and how many elements have begun.
-#[derive(Debug, Drop)]
+#[derive(Drop)]
 pub(crate) struct Reading {
     pub(crate) pool: Option<Pool>,
     pub(crate) alike: Vec<u32>,

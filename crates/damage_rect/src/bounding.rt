@@ -6,7 +6,7 @@ ghost use Rattle.geom_core.specs.Rects.{hull_of};
 use geom_core::{Rect, hull};
 
 /// The bounding box of the rectangles that were added so far.
-#[derive(Clone, Copy, Debug, PartialEq, Eq)]
+#[derive(Clone, Copy)]
 pub struct Damage {
     rect: Rect,
 }

@@ -7,7 +7,7 @@ use crate::side::{Side, in_beam, is_low, turned};
 use geom_core::Rect;
 
 /// The key of a candidate. The least one wins: first by the beam, then by the distance.
-#[derive(Clone, Copy, Debug, PartialEq, Eq)]
+#[derive(Clone, Copy)]
 pub struct FocusKey {
     /// Whether the candidate lies outside the beam of the view that it is compared with.
     pub outside: bool,

@@ -19,7 +19,7 @@ use view_model::{Answer, Visibility};
 use view_tree::{Key, ViewTree};
 
 /// A view that may get the focus, and the key by which it is compared.
-#[derive(Clone, Copy, Debug, PartialEq, Eq)]
+#[derive(Clone, Copy)]
 pub struct Candidate {
     pub view: Key,
     pub key: FocusKey,

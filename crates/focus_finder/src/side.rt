@@ -6,7 +6,7 @@ ghost use Rattle.focus_finder.specs.Focus.{in_beam, is_low, lies_high, lies_low,
 use geom_core::Rect;
 
 /// The side of a view to which the focus moves.
-#[derive(Clone, Copy, Debug, PartialEq, Eq)]
+#[derive(Clone, Copy)]
 pub enum Side {
     Left,
     Right,

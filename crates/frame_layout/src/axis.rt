@@ -9,7 +9,7 @@ use geom_core::{MATCH, Mode, Spec, remaining};
 use view_model::{child_spec_within, greater_need, own_side};
 
 /// What a group has on an axis, and what its children need of it.
-#[derive(Clone, Copy, Debug)]
+#[derive(Clone, Copy)]
 pub struct Axis {
     pub spec: Spec,
     /// The least size of the group.

@@ -19,7 +19,7 @@ const NO_GRAVITY: Gravity = Gravity {
 
 /// What is read of a group's facts to place its children, and its size. These few numbers of the group are copied, since
 /// a group is placed in each layout.
-#[derive(Clone, Copy, Debug)]
+#[derive(Clone, Copy)]
 pub struct Room {
     /// On each side, the one that applies.
     padding: Insets,

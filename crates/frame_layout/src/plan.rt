@@ -14,7 +14,7 @@ use view_model::{Facts, is_exact};
 /// The measuring of one frame layout. In its first phase every child that takes part in layout is measured once; in the
 /// second, if there is one, those that match their parent are measured again. In each phase the children are passed in
 /// order: `ask`, measuring, `take`.
-#[derive(Clone, Copy, Debug)]
+#[derive(Clone, Copy)]
 pub struct FramePlan {
     across: Axis,
     down: Axis,

@@ -17,7 +17,7 @@ use view_model::refusals::UNKNOWN_CLASS;
 use view_model::{Class, Detail, Refusal};
 
 /// The class of an element, and what its attributes set.
-#[derive(Debug, Drop)]
+#[derive(Drop)]
 pub(crate) struct ElementView {
     pub(crate) class: Class,
     pub(crate) taken: Taken,

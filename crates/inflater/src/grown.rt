@@ -3,7 +3,7 @@
 use view_model::Sapling;
 
 /// The views of a document, as they are to be added to a tree.
-#[derive(Debug, Drop)]
+#[derive(Drop)]
 pub struct Grown {
     pub sapling: Sapling,
     /// How many attributes of all elements together are not known.

@@ -244,7 +244,7 @@ fn each_attribute_sets_what_it_is_for(rt: HostRuntime) -> Result<(), Fail> {
         let doc = read(alloc, &file(name, *kind, *word)).expect(&rt, "a document");
         let taken = taken(alloc, &doc, &resources).expect(&rt, "an element");
         let taken = taken.expect(&rt, "a value that is taken");
-        assert_eq!(rt; taken.facts, expected(row, name, *word), "at {name}");
+        assert!(rt; taken.facts == expected(row, name, *word), "at {name}");
         assert_eq!(rt; taken.text.len(), if *name == "text" { 2 } else { 0 });
     }
     Ok(())

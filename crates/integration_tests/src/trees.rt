@@ -104,7 +104,11 @@ fn a_cycle_in_a_sapling_is_reported_by_its_elements(rt: HostRuntime) -> Result<(
         Ok(_) => Vec::new(alloc),
         Err(fault) => members(fault, alloc),
     };
-    assert!(rt; reported.len() == 2 && reported[0] == Member::Element(2) && reported[1] == Member::Element(4));
+    assert!(rt;
+        reported.len() == 2
+            && reported[0] == Member::Element(2)
+            && reported[1] == Member::Element(4)
+    );
     assert_eq!(rt; (tree.len(), tree.next_number()), (0, 1));
     Ok(())
 }

@@ -19,7 +19,7 @@ use view_model::{Alignment, Extent, Facts, Gravity, rect_at};
 
 /// The placing of the children of one group. They are passed in order; in a horizontal line
 /// whose group runs from right to left, from the last to the first.
-#[derive(Clone, Copy, Debug)]
+#[derive(Clone, Copy)]
 pub struct Cursor {
     /// Whether the line runs from top to bottom.
     vertical: bool,

@@ -16,7 +16,7 @@ use geom_core::{Size, Spec, WRAP, child_spec, resolve};
 use view_model::Facts;
 
 /// The sums and maxima of the children of the first pass.
-#[derive(Clone, Copy, Debug)]
+#[derive(Clone, Copy)]
 pub struct FirstPass {
     /// What they take of the length.
     pub extents: Total,

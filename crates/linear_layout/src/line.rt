@@ -9,7 +9,7 @@ use view_model::{Facts, child_spec_within, is_exact};
 
 /// What is read of a group's facts, and the specs for its width and for its height. It is a small part of the facts, so
 /// that a plan takes little room while what is below is measured.
-#[derive(Clone, Copy, Debug)]
+#[derive(Clone, Copy)]
 pub struct Line {
     /// On each side, the one that applies.
     pub padding: Insets,

@@ -7,7 +7,7 @@ use crate::wide::wide_to_coordinate;
 use view_model::limits::MAX_VIEWS;
 
 /// Where a child's low margin begins. Once `MAX_VIEWS` children are passed it stays as it is.
-#[derive(Clone, Copy, Debug)]
+#[derive(Clone, Copy)]
 pub struct Mark {
     /// How many children are passed.
     pub count: usize,

@@ -18,7 +18,7 @@ use geom_core::{Size, Spec};
 use view_model::Facts;
 
 /// The phase of a measuring.
-#[derive(Clone, Copy, Debug)]
+#[derive(Clone, Copy)]
 pub enum Phase {
     First,
     Weight(WeightPass),
@@ -28,7 +28,7 @@ pub enum Phase {
 
 /// The measuring of one linear layout. In each phase the children that take part in layout are passed in order: `ask`,
 /// measuring, `take`; `turn` ends it. The locals of these three leave the stack before what is below is measured.
-#[derive(Clone, Copy, Debug)]
+#[derive(Clone, Copy)]
 pub struct LinearPlan {
     line: Line,
     first: FirstPass,

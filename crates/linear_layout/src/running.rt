@@ -6,7 +6,7 @@ ghost use Rattle.view_model.specs.declared.limits.TheConstants.{MAX_VIEWS};
 use view_model::limits::MAX_VIEWS;
 
 /// A sum of lengths.
-#[derive(Clone, Copy, Debug)]
+#[derive(Clone, Copy)]
 pub struct Total {
     pub count: usize,
     pub sum: i64,
@@ -40,7 +40,7 @@ impl Total {
 }
 
 /// A sum of weights.
-#[derive(Clone, Copy, Debug)]
+#[derive(Clone, Copy)]
 pub struct Weights {
     pub count: usize,
     pub sum: u64,
@@ -71,7 +71,7 @@ impl Weights {
 }
 
 /// The greatest of 0 and some breadths.
-#[derive(Clone, Copy, Debug)]
+#[derive(Clone, Copy)]
 pub struct Greatest {
     pub value: i64,
     ghost low: { pos 0 ≤ℤ value },

@@ -6,7 +6,7 @@ ghost use Rattle.view_model.specs.declared.limits.TheConstants.{MAX_VIEWS};
 use view_model::limits::MAX_VIEWS;
 
 /// What is left to give out by weight.
-#[derive(Clone, Copy, Debug)]
+#[derive(Clone, Copy)]
 pub struct Sharing {
     /// How many children have had their turn.
     pub count: usize,

@@ -15,7 +15,7 @@ use geom_core::{Mode, Size, Spec};
 use view_model::Facts;
 
 /// The sums and maxima of the children of the weight pass.
-#[derive(Clone, Copy, Debug)]
+#[derive(Clone, Copy)]
 pub struct WeightPass {
     pub sharing: Sharing,
     /// What they take of the length.

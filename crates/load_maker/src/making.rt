@@ -10,7 +10,7 @@ use text_lines::hex_digits;
 
 /// A load while it is made: the state of its draws, and its text so far. Once there was no memory, nothing more is put,
 /// and `failed` reports it at the end.
-#[derive(Debug, Drop)]
+#[derive(Drop)]
 pub struct Maker {
     pub state: u32,
     pub text: Vec<u8>,

@@ -8,7 +8,7 @@ use geom_core::{Mode, Size, Spec};
 use std::marker::Model;
 
 /// A size and the specs for which it was found.
-#[derive(Clone, Copy, Debug, PartialEq, Eq)]
+#[derive(Clone, Copy)]
 pub struct Entry {
     pub ws: Spec,
     pub hs: Spec,
@@ -16,7 +16,7 @@ pub struct Entry {
 }
 
 /// An entry as it is kept: 17 bytes without alignment, so that eight take 136 bytes. Lengths have their lowest byte first.
-#[derive(Clone, Copy, Debug, PartialEq, Eq)]
+#[derive(Clone, Copy)]
 struct Kept {
     across: [u8; 4],
     down: [u8; 4],

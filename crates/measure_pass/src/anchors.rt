@@ -15,7 +15,7 @@ use view_model::{Anchor, Anchors, Axis, Tie};
 use view_tree::{Key, ViewTree};
 
 /// An axis of a group, and whether the group runs from right to left.
-#[derive(Clone, Copy, Debug)]
+#[derive(Clone, Copy)]
 struct GroupAxis {
     axis: Axis,
     rtl: bool,

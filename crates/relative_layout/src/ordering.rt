@@ -27,7 +27,7 @@ use std::alloc::{AllocError, Global};
 use view_model::{Axis, Link};
 
 /// The places of all children, on each axis those that a child's rules name before the child itself.
-#[derive(Debug, Drop)]
+#[derive(Drop)]
 pub struct Orders {
     pub across: Vec<u32>,
     pub down: Vec<u32>,
@@ -42,7 +42,7 @@ pub enum OrderFault {
 }
 
 /// The result for the children on one axis.
-#[derive(Debug, Drop)]
+#[derive(Drop)]
 enum Sorting {
     Order(Vec<u32>),
     Cycle(Vec<u32>),

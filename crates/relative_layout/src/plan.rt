@@ -20,7 +20,7 @@ use view_model::{Anchors, Axis, Edges, Facts};
 /// every child that takes part in layout is passed once, after its anchors on that axis: `ask`, measuring, `take`.
 /// `edges` is what `take` returned last for that child, and none on either axis before; `anchors` are those of the
 /// phase's axis, with the sides that they have there.
-#[derive(Clone, Copy, Debug)]
+#[derive(Clone, Copy)]
 pub struct RelativePlan {
     axis: Axis,
     /// Whether the group runs from right to left.

@@ -4,7 +4,7 @@ use geom_core::Argb;
 use view_model::Text;
 
 /// What a resource is.
-#[derive(Debug, Drop)]
+#[derive(Drop)]
 pub enum Value {
     Color(Argb),
     /// The word of a dimension, as a layout file has it.

@@ -6,7 +6,7 @@ use std::alloc::{AllocError, Global};
 use view_model::{Class, Text};
 
 /// What a state has for a view: an offset in pixels, or a text.
-#[derive(Debug, Drop)]
+#[derive(Drop)]
 pub enum Value {
     Offset(u32),
     Text(Text),

@@ -24,7 +24,7 @@ pub const MIN_DPI: u32 = 40;
 pub const MAX_DPI: u32 = 1000;
 
 /// What a line gives a resource.
-#[derive(Clone, Copy, Debug, PartialEq, Eq)]
+#[derive(Clone, Copy)]
 pub enum Given<'a> {
     Color(Argb),
     /// The word of a dimension, as a layout file has it.
@@ -34,7 +34,7 @@ pub enum Given<'a> {
 }
 
 /// An edit of a hook: what it changes of which view.
-#[derive(Clone, Copy, Debug, PartialEq, Eq)]
+#[derive(Clone, Copy)]
 pub struct Asked {
     pub view: Name,
     pub change: Change,
@@ -51,7 +51,7 @@ impl Default for Asked {
 }
 
 /// What a line asks for. A dimension is a number of pixels from 0 to `MAX_SIZE`, `MATCH` or `WRAP`.
-#[derive(Debug, PartialEq, Eq, Drop)]
+#[derive(Drop)]
 pub enum Command<'a> {
     /// A new window of this size, each side from 1 to `MAX_WINDOW` pixels, without a frame.
     Window {

@@ -13,7 +13,7 @@ use std::marker::Model;
 const MAX_LINE: usize = 1024;
 
 /// Whether a line has ended, and how.
-#[derive(Clone, Copy, Debug, PartialEq, Eq)]
+#[derive(Clone, Copy)]
 pub enum Ended {
     No,
     /// A line of at most `MAX_LINE` bytes, a carriage return counted.
@@ -23,7 +23,7 @@ pub enum Ended {
 }
 
 /// Whether a line has ended, and where it is.
-#[derive(Clone, Copy, Debug, PartialEq, Eq)]
+#[derive(Clone, Copy)]
 pub enum LinePlace {
     No,
     /// A line that began in this piece: this many bytes at its front.
@@ -35,7 +35,7 @@ pub enum LinePlace {
 }
 
 /// Lines at the front of a piece that are passed over.
-#[derive(Clone, Copy, Debug, PartialEq, Eq)]
+#[derive(Clone, Copy)]
 pub struct PassedOver {
     /// How many bytes these lines are, each with its line feed.
     pub bytes: usize,

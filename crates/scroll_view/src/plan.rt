@@ -14,7 +14,7 @@ use view_model::{Facts, child_spec_within};
 /// The measuring of one scroll view. In its first phase a child is measured with any height; in the second, if it is to
 /// fill the group, once more, if it is too short for that. In each phase the children are passed in order: `ask`,
 /// measuring, `take`.
-#[derive(Clone, Copy, Debug)]
+#[derive(Clone, Copy)]
 pub struct ScrollPlan {
     /// On each side, the one that applies.
     padding: Insets,

@@ -1,5 +1,5 @@
 //! Why a hook is not armed.
 
 /// As many hooks are armed as may be.
-#[derive(Clone, Copy, Debug, PartialEq, Eq)]
+#[derive(Clone, Copy, Debug)]
 pub struct HookFault;

@@ -7,7 +7,7 @@ use std::marker::Model;
 pub const LINKS_END: usize = 0xffff_ffff;
 
 /// The key of a value in a slab, or none. It takes 4 bytes, where an `Option<usize>` takes 16.
-#[derive(Clone, Copy, Debug, PartialEq, Eq)]
+#[derive(Clone, Copy)]
 pub struct Link {
     /// The key, or `u32::MAX` for none.
     raw: u32,

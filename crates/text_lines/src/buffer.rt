@@ -17,7 +17,7 @@ use tool_io::{Failed, Sink};
 ///
 /// Each call takes the sink, which has to be the same one each time. After a failed write nothing
 /// is written any more, and only `finish` returns the error: no call before it does.
-#[derive(Debug, Drop)]
+#[derive(Drop)]
 pub struct TextBuffer {
     bytes: [u8; 4096],
     len: usize,

@@ -6,7 +6,7 @@ use std::alloc::{AllocError, Global};
 use touch_event::Event;
 
 /// What an entry records of an event.
-#[derive(Clone, Copy, Debug, PartialEq, Eq)]
+#[derive(Clone, Copy)]
 pub enum Kind {
     /// A group was asked whether it takes the event away from its children.
     Ask,
@@ -19,7 +19,7 @@ pub enum Kind {
 }
 
 /// A delivery of an event.
-#[derive(Debug, PartialEq, Eq, Drop)]
+#[derive(Drop)]
 pub struct Entry {
     pub view: u64,
     pub kind: Kind,

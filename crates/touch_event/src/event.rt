@@ -6,7 +6,7 @@ use arrayvec::ArrayVec;
 pub const MAX_POINTERS: usize = 32;
 
 /// What happens in an event.
-#[derive(Clone, Copy, Debug, PartialEq, Eq)]
+#[derive(Clone, Copy)]
 pub enum Action {
     /// The first pointer goes down.
     Down,
@@ -32,7 +32,7 @@ pub struct Point {
 
 /// What a view gets: the action, the id of the pointer that acts, and the pointers that are down, by rising ids. One
 /// that goes up is still among them; `Cancel` has none. In a part of an event the one that acts may be missing.
-#[derive(Debug, PartialEq, Eq, Drop)]
+#[derive(Drop)]
 pub struct Event {
     pub action: Action,
     pub pointer: u8,

@@ -2,7 +2,7 @@
 use geom_core::Rect;
 
 /// How a frame has ended.
-#[derive(Clone, Copy, Debug, PartialEq, Eq)]
+#[derive(Clone, Copy)]
 pub struct Frame {
     /// Whether its last pass fired no hook.
     pub settled: bool,

@@ -59,7 +59,7 @@ pub fn apply(alloc: Global, tree: &mut ViewTree, edit: Edit<'_>) -> Result<Optio
 }
 
 /// A view that is to be made, the last child of its parent or the root. Its dimensions are those of `Edit::Add`.
-#[derive(Clone, Copy, Debug)]
+#[derive(Clone, Copy)]
 struct Added {
     parent: Option<Key>,
     class: Class,

@@ -4,7 +4,7 @@ use view_model::{Act, Class};
 use view_tree::Key;
 
 /// What is asked of a tree.
-#[derive(Clone, Copy, Debug, PartialEq, Eq)]
+#[derive(Clone, Copy)]
 pub enum Edit<'a> {
     /// A new view, the last child of its parent, or the root if there is none. Its dimensions are a number of pixels
     /// from 0 upward, `MATCH` or `WRAP`.

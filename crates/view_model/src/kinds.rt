@@ -105,7 +105,7 @@ impl Class {
 }
 
 /// Whether a view is drawn, and whether it takes part in layout.
-#[derive(Clone, Copy, Debug, PartialEq, Eq)]
+#[derive(Clone, Copy, PartialEq, Eq)]
 pub enum Visibility {
     Visible,
     /// Not drawn, but measured and laid out.
@@ -115,7 +115,7 @@ pub enum Visibility {
 }
 
 /// How a view answers an event that reaches it.
-#[derive(Clone, Copy, Debug, PartialEq, Eq)]
+#[derive(Clone, Copy, PartialEq, Eq)]
 pub enum Answer {
     Off,
     Yes,

@@ -13,14 +13,14 @@ use crate::verbs::{
 use geom_core::{Size, Spec};
 
 /// An axis of a layout. Its near side is left or top, its far side right or bottom.
-#[derive(Clone, Copy, Debug, PartialEq, Eq)]
+#[derive(Clone, Copy)]
 pub enum Axis {
     Horizontal,
     Vertical,
 }
 
 /// How a child is tied to a sibling on an axis.
-#[derive(Clone, Copy, Debug, PartialEq, Eq)]
+#[derive(Clone, Copy)]
 pub enum Tie {
     /// It ends before it: by left_of or above.
     Before,
@@ -33,21 +33,21 @@ pub enum Tie {
 }
 
 /// What the order of a relative layout's children depends on: a child's id, and the ids that it names.
-#[derive(Clone, Copy, Debug, PartialEq, Eq)]
+#[derive(Clone, Copy)]
 pub struct Link {
     pub id: u32,
     pub rules: Rules,
 }
 
 /// The near and the far side of a child on each axis, in the coordinates of its group, once they are known.
-#[derive(Clone, Copy, Debug, PartialEq, Eq)]
+#[derive(Clone, Copy)]
 pub struct Edges {
     pub across: Option<(i32, i32)>,
     pub down: Option<(i32, i32)>,
 }
 
 /// A sibling that was measured on an axis: its sides there, and its margins.
-#[derive(Clone, Copy, Debug, PartialEq, Eq)]
+#[derive(Clone, Copy)]
 pub struct Anchor {
     pub near: i32,
     pub far: i32,
@@ -56,7 +56,7 @@ pub struct Anchor {
 }
 
 /// The siblings to which a child is tied on an axis.
-#[derive(Clone, Copy, Debug, PartialEq, Eq)]
+#[derive(Clone, Copy)]
 pub struct Anchors {
     /// The one that it ends before: by left_of or above.
     pub before: Option<Anchor>,
@@ -69,7 +69,7 @@ pub struct Anchors {
 }
 
 /// A relative layout on an axis.
-#[derive(Clone, Copy, Debug, PartialEq, Eq)]
+#[derive(Clone, Copy)]
 pub struct Band {
     pub spec: Spec,
     pub padding_near: i32,
@@ -79,7 +79,7 @@ pub struct Band {
 }
 
 /// A child of a relative layout on an axis, apart from its siblings.
-#[derive(Clone, Copy, Debug, PartialEq, Eq)]
+#[derive(Clone, Copy)]
 pub struct Tied {
     /// The width or the height that it wants.
     pub dim: i32,

@@ -5,7 +5,7 @@ use crate::kinds::Class;
 use crate::text::Text;
 
 /// A view that is to be added to a tree with others, and has no number yet.
-#[derive(Debug, Drop)]
+#[derive(Drop)]
 pub struct Sprout {
     pub class: Class,
     pub facts: Facts,

@@ -5,7 +5,7 @@ use std::alloc::{AllocError, Global};
 use std::marker::Model;
 
 /// The text of a view, which contracts see as the list of its characters.
-#[derive(Debug, Drop)]
+#[derive(Drop)]
 pub struct Text {
     characters: Vec<char>,
 }

@@ -5,7 +5,7 @@ use crate::kinds::Class;
 use crate::text::Text;
 
 /// A plain tree: a view and the trees of its children, in order.
-#[derive(Debug, Drop)]
+#[derive(Drop)]
 pub struct Tree {
     /// The number that the view was given when it was made, from 1.
     pub number: u64,

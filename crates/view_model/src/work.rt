@@ -1,7 +1,7 @@
 //! How work is counted.
 
 /// How much work was done. Each count stays at the greatest number once it is there.
-#[derive(Clone, Copy, Debug, PartialEq, Eq, Default)]
+#[derive(Clone, Copy, Debug, Default, PartialEq, Eq)]
 pub struct Work {
     /// How many views were measured.
     pub measured: u64,

@@ -2,7 +2,7 @@
 
 /// How often views were measured and laid out since a tree was made. A count stays at the greatest number once it is
 /// there.
-#[derive(Clone, Copy, Debug, PartialEq, Eq)]
+#[derive(Clone, Copy)]
 pub struct Counts {
     /// The calls of `set_measured`.
     pub measures: u64,

@@ -37,7 +37,7 @@ mod state;
 mod touch;
 
 use crate::editing::inflating::{fetch, inflation_of, views_of};
-use crate::editing::naming::{find, place_of, resolve, recall_tree};
+use crate::editing::naming::{find, place_of, recall_tree, resolve};
 use crate::editing::texts::resolved;
 use crate::fault::StepFault;
 use crate::replying::pixels::part_in;

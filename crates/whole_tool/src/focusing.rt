@@ -27,7 +27,7 @@ use view_tree::{Key, ViewTree};
 use view_world::{Stage, World, find};
 
 /// A question that is asked after a script: which view gets the focus next, from a view to a side of it.
-#[derive(Clone, Copy, Debug, PartialEq, Eq)]
+#[derive(Clone, Copy)]
 pub struct Question {
     pub side: Side,
     pub view: Name,

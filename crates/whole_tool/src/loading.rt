@@ -34,7 +34,7 @@ use view_model::Work;
 const PIECE: usize = 4096;
 
 /// The results of a load.
-#[derive(Clone, Copy, Debug, PartialEq, Eq)]
+#[derive(Clone, Copy)]
 pub struct Outcome {
     /// How many lines its script has.
     lines: u64,

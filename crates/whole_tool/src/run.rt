@@ -23,7 +23,7 @@ use view_model::Work;
 use view_world::StepFault;
 
 /// What ends a run before its last line.
-#[derive(Clone, Copy, Debug, PartialEq, Eq)]
+#[derive(Clone, Copy)]
 pub enum Stop {
     Sink,
     NoMemory,

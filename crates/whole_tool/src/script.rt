@@ -20,7 +20,7 @@ const MAX_SCRIPT: usize = 16777216;
 const PIECE: usize = 4096;
 
 /// What ends a run before the end of its script.
-#[derive(Clone, Copy, Debug, PartialEq, Eq)]
+#[derive(Clone, Copy)]
 pub enum End {
     /// A read failed.
     Source,

@@ -12,7 +12,7 @@ use script_lines::{Name, hex, is_file_name, natural};
 const MAX_IDS: usize = 64;
 
 /// What the words ask for.
-#[derive(Clone, Copy, Debug)]
+#[derive(Clone, Copy)]
 pub enum Form<'a> {
     /// To carry out the script on the source.
     Run,

@@ -10,7 +10,7 @@ pub const MIN_CORNER: i64 = -4096;
 pub const MAX_CORNER: i64 = 4096;
 
 /// What a line of a stack asks for. A window has a name `k` from 0 to `MAX_PANE`.
-#[derive(Debug, PartialEq, Eq, Drop)]
+#[derive(Drop)]
 pub enum StackLine<'a> {
     /// Sets the corner of a window, each coordinate from `MIN_CORNER` to `MAX_CORNER` pixels, and opens the window on
     /// top if it is not open.

@@ -12,7 +12,7 @@ use std::marker::Model;
 pub const MAX_PANES: usize = 8;
 
 /// An open window, and its corner in the coordinates of the stack, in pixels.
-#[derive(Clone, Copy, Debug, Default, PartialEq, Eq)]
+#[derive(Clone, Copy, Default)]
 pub struct Pane {
     pub k: u8,
     pub x: i32,

@@ -10,7 +10,7 @@ use view_model::Work;
 use view_tree::{Key, State, ViewTree};
 
 /// The result of a measuring: the view's size, and what its children took along its axis, with its padding, in pixels.
-#[derive(Clone, Copy, Debug)]
+#[derive(Clone, Copy)]
 pub struct Outcome {
     pub size: Size,
     pub total: i64,

@@ -86,7 +86,7 @@ fn measure_turns(
 }
 
 /// A turn in a phase of a relative layout: of this child of this group, on this axis.
-#[derive(Clone, Copy, Debug)]
+#[derive(Clone, Copy)]
 struct Turn {
     view: Key,
     kid: Key,

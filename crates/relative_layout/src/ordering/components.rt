@@ -15,7 +15,7 @@ use std::alloc::{AllocError, Global};
 use view_model::Link;
 
 /// The state of a point in the search.
-#[derive(Debug, Clone, Copy)]
+#[derive(Clone, Copy)]
 pub enum Status {
     Fresh,
     /// On the path, at this place.
@@ -25,7 +25,7 @@ pub enum Status {
 }
 
 /// Where a part of the path begins, and its edges that are not followed yet.
-#[derive(Debug, Clone, Copy)]
+#[derive(Clone, Copy)]
 pub struct Part {
     pub path: usize,
     pub todo: usize,

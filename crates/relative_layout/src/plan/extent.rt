@@ -11,7 +11,7 @@ use geom_core::Spec;
 use view_model::{Anchors, Band, Tied, greater_need, own_side};
 
 /// A group on an axis, and how far its children extend there.
-#[derive(Clone, Copy, Debug)]
+#[derive(Clone, Copy)]
 pub struct Extent {
     pub band: Band,
     /// The farthest extent so far of a child with its margin, at least 0.

@@ -20,7 +20,7 @@ use view_model::limits::{MAX_INSET, MAX_SIZE, MIN_MARGIN};
 use view_model::{Act, Answer, Change, Direction, Flag, Visibility};
 
 /// The sides of a view as words give them, the numbers not yet within their bounds.
-#[derive(Clone, Copy, Debug, PartialEq, Eq)]
+#[derive(Clone, Copy)]
 struct Sides {
     left: i64,
     top: i64,

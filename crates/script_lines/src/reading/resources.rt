@@ -21,7 +21,7 @@ pub const MAX_MANTISSA: i64 = 8388607;
 pub const MIN_MANTISSA: i64 = -8388607;
 
 /// The unit of a dimension.
-#[derive(Clone, Copy, Debug, PartialEq, Eq)]
+#[derive(Clone, Copy)]
 enum LengthUnit {
     Px,
     Dp,

@@ -13,7 +13,7 @@ use crate::words::end;
 use crate::words::number::{natural_within, number, within};
 
 /// A pointer, and where it is.
-#[derive(Clone, Copy, Debug, PartialEq, Eq)]
+#[derive(Clone, Copy)]
 pub struct Touch {
     pub pointer: u8,
     pub x: i32,

@@ -11,7 +11,7 @@ use geom_core::{MATCH, WRAP};
 use view_model::limits::MAX_SIZE;
 
 /// A dimension as a word gives it, its number not yet within its bounds.
-#[derive(Clone, Copy, Debug, PartialEq, Eq)]
+#[derive(Clone, Copy)]
 enum Dimension {
     Match,
     Wrap,

@@ -54,7 +54,7 @@ fn meant_by(c: char) -> char
 }
 
 /// The characters of a text, its escapes resolved.
-#[derive(Clone, Debug, Drop)]
+#[derive(Clone, Drop)]
 pub struct Unescaped<'a> {
     /// What is still to be resolved, its escapes as written.
     rest: &'a str,

@@ -11,7 +11,7 @@ use crate::words::number::natural;
 use crate::words::{is, word};
 
 /// How a line names a view.
-#[derive(Clone, Copy, Debug, PartialEq, Eq)]
+#[derive(Clone, Copy)]
 pub enum Name {
     /// By the number that it was given when it was made.
     Number(u64),

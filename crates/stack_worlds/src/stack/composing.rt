@@ -26,7 +26,7 @@ use view_world::{Stage, World};
 use window_stack::MAX_PANES;
 
 /// A part of a stack: its corner and its sides, in pixels.
-#[derive(Clone, Copy, Debug)]
+#[derive(Clone, Copy)]
 pub struct Part {
     pub left: u16,
     pub top: u16,

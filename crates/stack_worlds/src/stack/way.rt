@@ -27,7 +27,7 @@ const MIN_TOUCH: i64 = -1048576;
 const MAX_TOUCH: i64 = 1048576;
 
 /// A command for a window.
-#[derive(Debug, Drop)]
+#[derive(Drop)]
 pub struct Given<'a> {
     /// The window that has the gesture if the command is accepted, as long as a pointer is down in it.
     pub holder: Option<u8>,
@@ -36,7 +36,7 @@ pub struct Given<'a> {
 }
 
 /// What a line does to the stack itself. Its numbers are those of the line.
-#[derive(Clone, Copy, Debug)]
+#[derive(Clone, Copy)]
 pub enum Own {
     At { k: u8, x: i32, y: i32 },
     Raise(u8),
@@ -45,7 +45,7 @@ pub enum Own {
 }
 
 /// Where a line goes.
-#[derive(Debug, Drop)]
+#[derive(Drop)]
 pub enum Way<'a> {
     Given(Given<'a>),
     /// A pointer goes down where no window is.

@@ -2,7 +2,7 @@
 
 use crate::handling::drag::Drag;
 
-#[derive(Clone, Copy, Debug, PartialEq, Eq)]
+#[derive(Clone, Copy, PartialEq, Eq)]
 pub struct Marks {
     /// The group may not take events away from its children.
     pub disallows: bool,

@@ -7,7 +7,7 @@ use crate::reaching::points::{acting_point, point_of};
 use touch_event::{Action, Event, Point};
 
 /// The pointer that a scroll view follows, and whether that moves its child.
-#[derive(Clone, Copy, Debug, PartialEq, Eq)]
+#[derive(Clone, Copy, PartialEq, Eq)]
 pub struct Drag {
     pub active: Option<u8>,
     /// Where the pointer was last, in pixels down from the view's top.
@@ -16,7 +16,7 @@ pub struct Drag {
 }
 
 /// What an event does to a drag: how it goes on, and how far it moves the child up, if it moves it.
-#[derive(Clone, Copy, Debug, PartialEq, Eq)]
+#[derive(Clone, Copy)]
 pub struct Pull {
     pub drag: Drag,
     pub by: Option<i64>,

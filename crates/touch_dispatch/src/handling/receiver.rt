@@ -4,7 +4,7 @@ use geom_core::Rect;
 use view_model::Answer;
 
 /// What of a view determines how it handles an event itself, and what it is asked. Lengths are in pixels.
-#[derive(Clone, Copy, Debug, PartialEq, Eq)]
+#[derive(Clone, Copy)]
 pub struct Receiver {
     pub number: u64,
     pub scrolls: bool,

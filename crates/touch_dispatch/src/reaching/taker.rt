@@ -1,6 +1,6 @@
 //! Which child takes a pointer that goes down.
 
-#[derive(Clone, Copy, Debug, PartialEq, Eq)]
+#[derive(Clone, Copy)]
 pub enum Taker {
     NoChild,
     /// A child that was a target before.

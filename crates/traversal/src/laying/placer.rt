@@ -20,7 +20,7 @@ use view_model::{Class, Edges, Facts};
 use view_tree::{Key, ViewTree};
 
 /// How a view places its children.
-#[derive(Clone, Copy, Debug)]
+#[derive(Clone, Copy)]
 pub enum Placer {
     /// Over one another.
     Over(Room),

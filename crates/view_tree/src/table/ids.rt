@@ -9,7 +9,7 @@ use crate::fault::AttachFault;
 use indexmap::IndexMap;
 
 /// How many views have an id, and the sum of their keys modulo 2 ^ 64, which is the key if it is one view.
-#[derive(Clone, Copy, Debug, PartialEq, Eq)]
+#[derive(Clone, Copy)]
 pub struct Holders {
     pub count: u32,
     pub sum: usize,

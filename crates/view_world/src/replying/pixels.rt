@@ -20,7 +20,7 @@ use text_lines::TextBuffer;
 use tool_io::Sink;
 
 /// A part of a picture: its corner, by column and row, and its sides, in pixels.
-#[derive(Clone, Copy, Debug)]
+#[derive(Clone, Copy)]
 pub struct Part {
     pub left: usize,
     pub top: usize,

@@ -19,7 +19,7 @@ use tree_edits::EditFault;
 use view_tree::{Key, ViewTree};
 
 /// The response to a line that was carried out.
-#[derive(Clone, Copy, Debug)]
+#[derive(Clone, Copy)]
 pub enum Response {
     Nothing,
     /// A view was made and given this number.

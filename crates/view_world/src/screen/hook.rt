@@ -10,7 +10,7 @@ ghost use Rattle.view_world.specs.declared.world.marks.Effect.TheVariants.{Leave
 
 use super::Screen;
 use crate::editing::hooking::{may_change_all, numbered_edits, size_at};
-use crate::editing::naming::{resolve, recall_tree};
+use crate::editing::naming::{recall_tree, resolve};
 use crate::fault::StepFault;
 use crate::replying::response::Response;
 use arrayvec::ArrayVec;

@@ -3,7 +3,7 @@ ghost use Rattle.std.specs.Prelude.{◌≡◌};
 ghost use Rattle.view_world.specs.screen.KeyedScreen.{stage_after};
 
 /// The stage of a script.
-#[derive(Clone, Copy, Debug, PartialEq, Eq)]
+#[derive(Clone, Copy)]
 pub enum Stage {
     NoWindow,
     /// A window was opened, and nothing was laid out in it.

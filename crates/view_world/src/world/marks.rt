@@ -9,7 +9,7 @@ use tree_edits::requests_layout;
 use view_model::{Act, Change, Flag};
 
 /// What is known of the next frame.
-#[derive(Clone, Copy, Debug, PartialEq, Eq)]
+#[derive(Clone, Copy)]
 pub struct Marks {
     /// The last frame has settled, and no window came since.
     pub based: bool,
@@ -20,7 +20,7 @@ pub struct Marks {
 }
 
 /// What a line does to the marks.
-#[derive(Clone, Copy, Debug, PartialEq, Eq)]
+#[derive(Clone, Copy)]
 pub enum Effect {
     /// A window opens.
     Opens,
