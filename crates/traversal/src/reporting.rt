@@ -27,7 +27,8 @@ pub fn report_all(tree: &ViewTree, hooks: &mut Hooks)
 /// So does a view, and then all below it.
 fn report_from(tree: &ViewTree, hooks: &mut Hooks, view: Key)
     requires { IsLive tree.now view }
-    ensures { hooks.new ≡ reported_over (laid_rows (held_of tree.now) (first_tree (part_from view tree.now.tree))) hooks.old }
+    ensures { hooks.new
+        ≡ reported_over (laid_rows (held_of tree.now) (first_tree (part_from view tree.now.tree))) hooks.old }
 {
     report_at(tree, hooks, view);
     let mut next = tree.first(view);

@@ -242,7 +242,7 @@ impl Screen {
         ensures no_shelf { result ≢ Err StepFault.Shelf }
     {
         let response = self.carry_out(alloc, command, work)?;
-        self.recall(response, sink)
+        self.report(response, sink)
     }
 
     /// Adds the views of a file, and then writes which they are.
@@ -273,14 +273,15 @@ impl Screen {
         ensures sink_failed { (K.state sink.new).faults ≡ faults_after_line result (K.state sink.old).faults }
     {
         let response = self.inflate(alloc, name, into, shelf)?;
-        self.recall(response, sink)
+        self.report(response, sink)
     }
 
     /// Writes the text of a line that was carried out.
-    fn recall<K: Sink>(&mut self, response: Response, sink: &mut K) -> Result<(), StepFault>
+    fn report<K: Sink>(&mut self, response: Response, sink: &mut K) -> Result<(), StepFault>
         requires { IsReportable self.old.views self.old.surface self.old.reported self.old.saved response }
         ensures carried { WritesReply (Done (world_of self.old) (response_text self.old.views self.old.surface
-            self.old.reported self.old.saved response)) (world_of self.new) (K.state sink.old) (K.state sink.new) result }
+            self.old.reported self.old.saved response))
+            (world_of self.new) (K.state sink.old) (K.state sink.new) result }
         ensures silent { response_text self.old.views self.old.surface self.old.reported self.old.saved response ≡ []
             → sink.new ≡ sink.old }
         ensures done { IsDone result }

@@ -1,13 +1,18 @@
 //! Which view gets the focus next, after a script.
 
-ghost use Rattle.std.specs.Prelude.{◌≡◌, ◌≤◌, ◌-◌, ◌^◌, IfErr, IfSome, min};
+ghost use Rattle.std.specs.Prelude.{◌≡◌, ◌≢◌, ◌==◌, ℕ, ◌+◌, ◌≤◌, ◌-◌, ◌^◌, ◌⊎◌, List, [], ◌∷◌, IfErr, IfSome, Some, if◌then◌else◌, length, min};
+ghost use Rattle.std.specs.Io.KnownBytes.{Consumes, IsAtEnd};
 ghost use Rattle.std.specs.Option.{option_map};
 ghost use Rattle.text_lines.specs.BufferedText.{Sends};
 ghost use Rattle.text_lines.specs.Delivered.{Delivered};
+ghost use Rattle.tool_io.specs.Counts.{raised};
+ghost use Rattle.tool_io.specs.Fetched.{Files};
 ghost use Rattle.whole_tool.specs.Carried.{world_in};
 ghost use Rattle.whole_tool.specs.Carrier.{carried_of};
-ghost use Rattle.whole_tool.specs.Focus.{AsksFrom, IsNamed, answer_of, answer_text, found_text, refused_question};
+ghost use Rattle.whole_tool.specs.Focus.{AsksFrom, AsksWith, IsNamed, answer_of, answer_text, found_text, refused_question};
 ghost use Rattle.whole_tool.specs.Script.{CountsEnd, ends_counted, reads_counted};
+ghost use Rattle.whole_tool.specs.Tool.{IsComplete, IsOneOf};
+ghost use Rattle.whole_tool.specs.Transcript.{max_script};
 ghost use Rattle.whole_tool.specs.Works.{trace};
 ghost use Rattle.view_tree.specs.Views.{IsLive, number_of};
 ghost use Rattle.view_world.specs.world.KeyedWorld.{world_of};
@@ -16,6 +21,7 @@ use crate::carrier::Carrier;
 use crate::refusals::{put_counted, put_refused};
 use crate::run::{Run, Stop};
 use crate::script::{End, run_to_end};
+use crate::status::status;
 use focus_finder::{Side, next};
 use script_lines::Name;
 use std::alloc::Global;
@@ -34,6 +40,40 @@ pub struct Question {
 }
 
 impl Question {
+    /// Carries out the script on a source, and then answers the question. Returns the status.
+    pub fn carry_out<S: Source, K: Sink, F: Shelf>(
+        self,
+        alloc: Global,
+        shelf: &mut F,
+        source: &mut S,
+        sink: &mut K,
+        work: &mut Work,
+    ) -> u8
+        ensures asks { (files : Files) (script : List ℕ)
+            → F.files shelf.old ≡ Some files
+            → S.left source.old ≡ Some script
+            → AsksWith files script self (S.left source.new) (trace (K.state sink.old) work.old (F.fetches shelf.old))
+            (trace (K.state sink.new) work.new (F.fetches shelf.new)) result }
+        ensures known { IsOneOf result (0 ∷ 1 ∷ 3 ∷ 4 ∷ 5 ∷ 6 ∷ 7 ∷ []) }
+        ensures whole { result ≢ 3 → result ≢ 4 → result ≢ 6 → result ≢ 7 → IsComplete result ⊎ (result ≡ 5) }
+        ensures read_to_end { IsComplete result → IsAtEnd (S.left source.new) }
+        ensures taken { (taken : List ℕ)
+            × Consumes (S.left source.old) (S.left source.new) taken
+            × (length taken ≤ max_script + 1) }
+        ensures source_failed { S.faults source.new
+            ≡ (if result == 3 then raised (S.faults source.old) else S.faults source.old) }
+        ensures sink_failed { (K.state sink.new).faults
+            ≡ (if result == 4 then raised (K.state sink.old).faults else (K.state sink.old).faults) }
+        ensures shelf_failed { result ≢ 5
+            → F.faults shelf.new ≡ (if result == 6 then raised (F.faults shelf.old) else F.faults shelf.old) }
+        ensures shelf_later { F.faults shelf.old ≤ F.faults shelf.new }
+        ensures files_stay { F.files shelf.new ≡ F.files shelf.old }
+        ensures painted { work.old.painted ≤ work.new.painted }
+        ensures measured { min work.old.measured (2 ^ 64 - 1) ≤ work.new.measured }
+    {
+        status(self.ask(alloc, source, shelf, sink, work))
+    }
+
     /// Carries out the script on a source and, if it was read to its end, answers the question. Returns whether a line
     /// or the question was refused.
     pub fn ask<S: Source, K: Sink, F: Shelf>(

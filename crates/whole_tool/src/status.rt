@@ -1,5 +1,11 @@
 //! The statuses that the tool ends with.
 
+ghost use Rattle.std.specs.Prelude.{◌≡◌};
+ghost use Rattle.whole_tool.specs.Tool.{status_of};
+
+use crate::run::Stop;
+use crate::script::End;
+
 /// Every line was carried out and the question was answered, and none was refused; or the file was printed.
 pub const ACCEPTED: u8 = 0;
 
@@ -23,3 +29,18 @@ pub const SHELF_FAILED: u8 = 6;
 
 /// The script is too long.
 pub const LONG_SCRIPT: u8 = 7;
+
+/// The status of a run.
+pub fn status(outcome: Result<bool, End>) -> u8
+    ensures { result ≡ status_of outcome }
+{
+    match outcome {
+        Ok(true) => REFUSED,
+        Ok(false) => ACCEPTED,
+        Err(End::Source) => SOURCE_FAILED,
+        Err(End::Long) => LONG_SCRIPT,
+        Err(End::Stopped(Stop::Sink)) => SINK_FAILED,
+        Err(End::Stopped(Stop::NoMemory)) => NO_MEMORY,
+        Err(End::Stopped(Stop::Shelf)) => SHELF_FAILED,
+    }
+}

@@ -20,21 +20,17 @@ ghost use Rattle.whole_tool.specs.WorksWith.{WorksWith, WorksWithFrom};
 ghost use Rattle.view_world.specs.frames.Watched.{IsWorth};
 ghost use Rattle.view_world.specs.world.World.{empty_world};
 ghost use Rattle.whole_tool.specs.Script.{WritesTaken};
-ghost use Rattle.whole_tool.specs.Tool.{IsComplete, IsDumpOf, IsLookupOf, IsOneOf, IsRunOf, IsStackOf, RunsWith, Writes, status_of};
+ghost use Rattle.whole_tool.specs.Tool.{IsComplete, IsDumpOf, IsLookupOf, IsOneOf, IsRunOf, IsStackOf, RunsWith, Writes};
 ghost use Rattle.whole_tool.specs.Transcript.{carried_lines, cut_transcript, has_refusal, max_script, refuses_in_stack, stack_page, transcript};
 ghost use Rattle.whole_tool.specs.Usage.{Run, Stack, Dump, Gen, Lookup, Focus, Unknown, usage};
 ghost use Rattle.whole_tool.specs.declared.focusing.Question.{Question};
 
 use crate::carrier::Carrier;
 use crate::dump::dump;
-use crate::focusing::Question;
 use crate::loading::run_load;
 use crate::lookup::lookup;
-use crate::run::Stop;
-use crate::script::{End, run_to_end};
-use crate::status::{
-    ACCEPTED, LONG_SCRIPT, NO_MEMORY, REFUSED, SHELF_FAILED, SINK_FAILED, SOURCE_FAILED, USAGE,
-};
+use crate::script::run_to_end;
+use crate::status::{USAGE, status};
 use crate::usage::{Form, form_of};
 use std::alloc::Global;
 use tool_io::{Shelf, Sink, Source};
@@ -319,7 +315,7 @@ pub fn tool<S: Source, K: Sink, F: Shelf>(
         Some(Form::Dump(name)) => dump(alloc, name, shelf, sink),
         Some(Form::Gen(n)) => run_load(alloc, n, sink, work),
         Some(Form::Lookup { name, ids }) => lookup(alloc, name, ids, shelf, sink),
-        Some(Form::Focus(question)) => focus(alloc, question, shelf, source, sink, work),
+        Some(Form::Focus(question)) => question.carry_out(alloc, shelf, source, sink, work),
         None => USAGE,
     }
 }
@@ -401,53 +397,4 @@ fn stack<S: Source, K: Sink, F: Shelf>(
 {
     let mut run = crate::run::Run::new(alloc, Carrier::stacked());
     status(run_to_end(&mut run, source, shelf, sink, work))
-}
-
-/// Carries out the script on a source, and then answers a question.
-fn focus<S: Source, K: Sink, F: Shelf>(
-    alloc: Global,
-    question: Question,
-    shelf: &mut F,
-    source: &mut S,
-    sink: &mut K,
-    work: &mut Work,
-) -> u8
-    ensures asks { (files : Files) (script : List ℕ)
-        → F.files shelf.old ≡ Some files
-        → S.left source.old ≡ Some script
-        → AsksWith files script question (S.left source.new) (trace (K.state sink.old) work.old (F.fetches shelf.old))
-        (trace (K.state sink.new) work.new (F.fetches shelf.new)) result }
-    ensures known { IsOneOf result (0 ∷ 1 ∷ 3 ∷ 4 ∷ 5 ∷ 6 ∷ 7 ∷ []) }
-    ensures whole { result ≢ 3 → result ≢ 4 → result ≢ 6 → result ≢ 7 → IsComplete result ⊎ (result ≡ 5) }
-    ensures read_to_end { IsComplete result → IsAtEnd (S.left source.new) }
-    ensures taken { (taken : List ℕ)
-        × Consumes (S.left source.old) (S.left source.new) taken
-        × (length taken ≤ max_script + 1) }
-    ensures source_failed { S.faults source.new
-        ≡ (if result == 3 then raised (S.faults source.old) else S.faults source.old) }
-    ensures sink_failed { (K.state sink.new).faults
-        ≡ (if result == 4 then raised (K.state sink.old).faults else (K.state sink.old).faults) }
-    ensures shelf_failed { result ≢ 5
-        → F.faults shelf.new ≡ (if result == 6 then raised (F.faults shelf.old) else F.faults shelf.old) }
-    ensures shelf_later { F.faults shelf.old ≤ F.faults shelf.new }
-    ensures files_stay { F.files shelf.new ≡ F.files shelf.old }
-    ensures painted { work.old.painted ≤ work.new.painted }
-    ensures measured { min work.old.measured (2 ^ 64 - 1) ≤ work.new.measured }
-{
-    status(question.ask(alloc, source, shelf, sink, work))
-}
-
-/// The status of a run.
-fn status(outcome: Result<bool, End>) -> u8
-    ensures { result ≡ status_of outcome }
-{
-    match outcome {
-        Ok(true) => REFUSED,
-        Ok(false) => ACCEPTED,
-        Err(End::Source) => SOURCE_FAILED,
-        Err(End::Long) => LONG_SCRIPT,
-        Err(End::Stopped(Stop::Sink)) => SINK_FAILED,
-        Err(End::Stopped(Stop::NoMemory)) => NO_MEMORY,
-        Err(End::Stopped(Stop::Shelf)) => SHELF_FAILED,
-    }
 }

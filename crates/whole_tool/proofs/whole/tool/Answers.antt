@@ -54,28 +54,28 @@ returns-in-Some-Run-clause-works g c = λ script files run. c.run.ensures.works 
 pub returns-in-Some-Focus-clause-focus : goal.returns-in-Some-Focus-clause-focus
 returns-in-Some-Focus-clause-focus g c = λ script files question run short.
     let same = same_question _ c.in-Some-Focus.question question (rw c.in-Some-Focus.field-0-is at (rw c.in-Some-Focus.is at c.form_of.ensures.form)) run.words in
-    (rw same at (c.focus.ensures.asks files script run.shelf run.source)).writes short
+    (rw same at (c.carry_out.ensures.asks files script run.shelf run.source)).writes short
 
 pub returns-in-Some-Focus-clause-focus_refused : goal.returns-in-Some-Focus-clause-focus_refused
 returns-in-Some-Focus-clause-focus_refused g c = λ script files question run ended.
     let same = same_question _ c.in-Some-Focus.question question (rw c.in-Some-Focus.field-0-is at (rw c.in-Some-Focus.is at c.form_of.ensures.form)) run.words in
-    ((rw same at (c.focus.ensures.asks files script run.shelf run.source)).ended ended).1
+    ((rw same at (c.carry_out.ensures.asks files script run.shelf run.source)).ended ended).1
 
 pub returns-in-Some-Focus-clause-focus_ends : goal.returns-in-Some-Focus-clause-focus_ends
 returns-in-Some-Focus-clause-focus_ends g c = λ script files question run.
     let same = same_question _ c.in-Some-Focus.question question (rw c.in-Some-Focus.field-0-is at (rw c.in-Some-Focus.is at c.form_of.ensures.form)) run.words in
-    rw same at (c.focus.ensures.asks files script run.shelf run.source)
+    rw same at (c.carry_out.ensures.asks files script run.shelf run.source)
 
 pub returns-in-Some-Focus-clause-focus_worth : goal.returns-in-Some-Focus-clause-focus_worth
-returns-in-Some-Focus-clause-focus_worth g c = λ script files question run ended. ((c.focus.ensures.asks files script run.shelf run.source).ended ended).0.worth
+returns-in-Some-Focus-clause-focus_worth g c = λ script files question run ended. ((c.carry_out.ensures.asks files script run.shelf run.source).ended ended).0.worth
 
 pub returns-in-Some-Focus-clause-focus_complete : goal.returns-in-Some-Focus-clause-focus_complete
 returns-in-Some-Focus-clause-focus_complete g c = λ script files question run short no_read no_write no_fetch.
-    let asks = c.focus.ensures.asks files script run.shelf run.source in
-    c.focus.ensures.whole
-    (λ e. no_read (let failed = rw e at c.focus.ensures.source_failed in omega (arith, failed)))
-    (λ e. no_write (let failed = rw e at c.focus.ensures.sink_failed in omega (arith, failed)))
-    (λ e. no_fetch (let failed = rw e at c.focus.ensures.shelf_failed (λ five. omega (arith, five)) in omega (arith, failed)))
+    let asks = c.carry_out.ensures.asks files script run.shelf run.source in
+    c.carry_out.ensures.whole
+    (λ e. no_read (let failed = rw e at c.carry_out.ensures.source_failed in omega (arith, failed)))
+    (λ e. no_write (let failed = rw e at c.carry_out.ensures.sink_failed in omega (arith, failed)))
+    (λ e. no_fetch (let failed = rw e at c.carry_out.ensures.shelf_failed (λ five. omega (arith, five)) in omega (arith, failed)))
     (λ e. (let long = (asks.long e).0 in omega (arith, short, long)))
 
 pub returns-in-Some-Stack-clause-stack : goal.returns-in-Some-Stack-clause-stack

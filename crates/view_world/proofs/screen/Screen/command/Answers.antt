@@ -8,13 +8,13 @@ use Rattle.view_world.proofs.worlds.AfterLineLaws.{reported, sinkless, undone}
 use Rattle.view_world.proofs.screen.Screen.command.Goals as goal
 
 pub returns-clause-carried : goal.returns-clause-carried
-returns-clause-carried g c = rw c.in_ok-response.ensures.changed.0 c.recall.ensures.carried
+returns-clause-carried g c = rw c.in_ok-response.ensures.changed.0 c.report.ensures.carried
 
 pub returns-clause-memory : goal.returns-clause-memory
-returns-clause-memory g c none = absurd (rw none at c.recall.ensures.done)
+returns-clause-memory g c none = absurd (rw none at c.report.ensures.done)
 
 pub returns-clause-no_shelf : goal.returns-clause-no_shelf
-returns-clause-no_shelf g c failed = rw failed at c.recall.ensures.done
+returns-clause-no_shelf g c failed = rw failed at c.report.ensures.done
 
 pub returns-in_err-response-clause-reports : goal.returns-in_err-response-clause-reports
 returns-in_err-response-clause-reports g c done =
@@ -25,5 +25,5 @@ returns-in_err-response-clause-reports g c done =
 
 pub returns-clause-reports : goal.returns-clause-reports
 returns-clause-reports g c done =
-    reported c.carry_out.new.self c.recall.new.self (g.K.Sink.state c.args.sink.now) (g.K.Sink.state c.recall.new.sink) c.recall.result c.in_ok-response.response c.in_ok-response.ensures.changed.1 c.recall.ensures.same
-    c.recall.ensures.carried
+    reported c.carry_out.new.self c.report.new.self (g.K.Sink.state c.args.sink.now) (g.K.Sink.state c.report.new.sink) c.report.result c.in_ok-response.response c.in_ok-response.ensures.changed.1 c.report.ensures.same
+    c.report.ensures.carried

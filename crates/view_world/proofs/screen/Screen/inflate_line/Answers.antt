@@ -12,13 +12,13 @@ returns-in_err-response-clause-carried g c files at =
     writes_fault _ c.inflate.new.self (g.K.Sink.state c.args.sink.now) (g.K.Sink.state c.args.sink.now) c.in_err-response.field-0.0 c.from_residual.result e (c.in_err-response.ensures.changed files at)
 
 pub returns-clause-carried : goal.returns-clause-carried
-returns-clause-carried g c files at = let changed = c.in_ok-response.ensures.changed files at in rw changed.0 c.recall.ensures.carried
+returns-clause-carried g c files at = let changed = c.in_ok-response.ensures.changed files at in rw changed.0 c.report.ensures.carried
 
 pub returns-clause-shelf_failed : goal.returns-clause-shelf_failed
-returns-clause-shelf_failed g c = reported_counts _ _ c.recall.result c.recall.ensures.done c.in_ok-response.ensures.shelf_failed
+returns-clause-shelf_failed g c = reported_counts _ _ c.report.result c.report.ensures.done c.in_ok-response.ensures.shelf_failed
 
 pub returns-clause-asked : goal.returns-clause-asked
-returns-clause-asked g c failed = absurd (rw failed at c.recall.ensures.done)
+returns-clause-asked g c failed = absurd (rw failed at c.report.ensures.done)
 
 pub returns-in_err-response-clause-reports : goal.returns-in_err-response-clause-reports
 returns-in_err-response-clause-reports g c done =
@@ -28,5 +28,5 @@ returns-in_err-response-clause-reports g c done =
 
 pub returns-clause-reports : goal.returns-clause-reports
 returns-clause-reports g c done =
-    reported c.inflate.new.self c.recall.new.self (g.K.Sink.state c.args.sink.now) (g.K.Sink.state c.recall.new.sink) c.recall.result c.in_ok-response.response c.in_ok-response.ensures.reported c.recall.ensures.same
-    c.recall.ensures.carried
+    reported c.inflate.new.self c.report.new.self (g.K.Sink.state c.args.sink.now) (g.K.Sink.state c.report.new.sink) c.report.result c.in_ok-response.response c.in_ok-response.ensures.reported c.report.ensures.same
+    c.report.ensures.carried

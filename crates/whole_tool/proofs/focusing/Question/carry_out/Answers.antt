@@ -3,14 +3,14 @@ use Rattle.whole_tool.specs.Focus.{AsksWith}
 use Rattle.whole_tool.specs.Works.{trace}
 use Rattle.whole_tool.proofs.FocusLaws.{asks_with}
 use Rattle.whole_tool.proofs.ToolLaws.{ends_whole, shelf_by_status, shelf_later, sink_by_status, source_by_status}
-use Rattle.whole_tool.proofs.whole.focus.Goals as goal
+use Rattle.whole_tool.proofs.focusing.Question.carry_out.Goals as goal
 
 pub returns-clause-asks : goal.returns-clause-asks
 returns-clause-asks g c files script at_hand reported =
     let first = trace (g.K.Sink.state c.args.sink.now) c.args.work.now (g.F.Shelf.fetches c.args.shelf.now) in
     let last = trace (g.K.Sink.state c.ask.new.sink) c.ask.new.work (g.F.Shelf.fetches c.ask.new.shelf) in
-    subst (AsksWith files script c.args.question (g.S.Source.left c.ask.new.source) first last) (sym c.status.ensures)
-    (asks_with files script c.args.question _ first last c.ask.result (c.ask.ensures.asks.asks files script at_hand reported))
+    subst (AsksWith files script c.args.self (g.S.Source.left c.ask.new.source) first last) (sym c.status.ensures)
+    (asks_with files script c.args.self _ first last c.ask.result (c.ask.ensures.asks.asks files script at_hand reported))
 
 pub returns-clause-source_failed : goal.returns-clause-source_failed
 returns-clause-source_failed g c =

@@ -1,7 +1,7 @@
 use Rattle.std.proofs.Common.{refl}
 use Rattle.view_world.specs.replying.Responses.{response_text}
-use Rattle.view_world.proofs.screen.Screen.recall.Goals as goal
-use Rattle.view_world.proofs.screen.Screen.recall.Goals.{in-Ok, in-Err}
+use Rattle.view_world.proofs.screen.Screen.report.Goals as goal
+use Rattle.view_world.proofs.screen.Screen.report.Goals.{in-Ok, in-Err}
 
 pub returns-clause-carried : goal.returns-clause-carried
 returns-clause-carried g c =
