@@ -1,6 +1,7 @@
-"""Finds the words that docs/STYLE.md replaces, in comments, in pages and in the messages of the launcher and the tools.
+"""Finds the words that docs/STYLE.md replaces, in comments, in pages and in the messages of the launcher and the tools,
+and those that no name of crates/ has.
 
-What is in backquotes or in a block of a page is a name or an example, and is not looked at; nor is code.
+What is in backquotes or in a block of a page is a name or an example, and is not looked at there.
 """
 import io
 import os
@@ -29,8 +30,17 @@ WORDS = [
 ]
 PATTERNS = [(re.compile(r"\b(?:%s)(?!\w)" % words, re.I), better) for words, better in WORDS]
 
+# those that no name has as a part
+NAME_WORDS = set("tell tells telling told behind stand stands stood standing handed handing hands nobody somebody".split())
+PART = re.compile(r"[A-Z]?[a-z]+|[A-Z]+(?![a-z])")
+STRING = re.compile(r'"(?:\\.|[^"\\])*"')
+
 # a comment, where it is the end of a line or all of it
-MARKS = {".rt": re.compile(r"(?:^|\s)//[/!]?(.*)"), ".antt": re.compile(r"(?:^|\s)--(?: |$)(.*)")}
+MARKS = {
+    ".rt": re.compile(r"(?:^|\s)//[/!]?(.*)"),
+    ".antt": re.compile(r"(?:^|\s)--(?: |$)(.*)"),
+    ".edit": re.compile(r"(?:^|\s)//[/!]?(.*)"),
+}
 SPAN = re.compile(r"`[^`]*`")
 
 
@@ -98,6 +108,15 @@ def in_text(name, text):
                 yield line, match.group(), better
 
 
+def in_names(name, text):
+    """The names in a source file, and of the file itself, that have one of the words: the line and the word."""
+    mark = MARKS.get(os.path.splitext(name)[1])
+    for number, line in enumerate([name, *text.split("\n")] if mark else []):
+        comment = mark.search(line)
+        code = STRING.sub("", line[:comment.start()] if comment else line)
+        yield from ((number, part) for part in PART.findall(code) if part.lower() in NAME_WORDS)
+
+
 def problem(names):
     """Which words of some files have better ones, or nothing."""
     found = []
@@ -106,13 +125,14 @@ def problem(names):
             text = file.read()
         if name != "ci/words.py":
             found += ["%s:%d has '%s', better: %s" % (name, *it) for it in in_text(name, text)]
+            found += ["%s:%d has '%s' in a name" % (name, *it) for it in in_names(name, text)]
     more = "; and %d more" % (len(found) - 9) if len(found) > 9 else ""
     return "; ".join(found[:9]) + more
 
 
 def below(folder, endings):
-    for place, folders, names in sorted(os.walk(os.path.join(TOP, folder))):
-        folders[:] = [name for name in folders if name not in ("out", "__pycache__")]
+    for place, folders, names in os.walk(os.path.join(TOP, folder)):
+        folders[:] = sorted(name for name in folders if name not in ("out", "__pycache__"))
         yield from (os.path.relpath(os.path.join(place, name), TOP) for name in sorted(names) if name.endswith(endings))
 
 
@@ -130,14 +150,16 @@ def example():
              "So many bytes have gone, as far\n// as it is."]
     right = ["A view that is gone, seen behind a colour, as `told` says.", "So much text that a pointer has gone up."]
     missed = [text for text in wrong if not list(in_text("a.rt", "// " + text))]
+    missed += [text for text in ["fn is_told()", "IsBehind"] if not list(in_names("a.rt", text))]
     found = [text for text in right if list(in_text("a.rt", "// " + text))]
+    found += [text for text in ['put(b"nobody")', "a_standard // told"] if list(in_names("a.rt", text))]
     return "".join("; '%s' is taken" % text for text in missed) + "".join("; '%s' is not" % text for text in found)
 
 
 def checks():
     yield "words: the patterns themselves", example
     for name in sorted(os.listdir(os.path.join(TOP, "crates"))):
-        yield "words of crates/" + name, partial(problem, list(below("crates/" + name, (".rt", ".antt"))))
+        yield "words of crates/" + name, partial(problem, list(below("crates/" + name, tuple(MARKS))))
     yield "words of the pages", partial(problem, ["README.md", "CHANGELOG.md", *below("docs", ".md")])
     yield "words of the launcher and the gate", partial(problem, ["vindaesk", ".ci/run"])
     for folder in ("tools", "tools/vindaesk", "ci", "bench"):
