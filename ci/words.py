@@ -33,7 +33,8 @@ PATTERNS = [(re.compile(r"\b(?:%s)(?!\w)" % words, re.I), better) for words, bet
 # those that no name has as a part
 NAME_WORDS = set("tell tells telling told behind stand stands stood standing handed handing hands nobody somebody".split())
 PART = re.compile(r"[A-Z]?[a-z]+|[A-Z]+(?![a-z])")
-STRING = re.compile(r'"(?:\\.|[^"\\])*"')
+# texts, and names that the checker makes
+NO_NAME = re.compile(r'"(?:\\.|[^"\\])*"|\bc\.(?:behind-|\w+\.told\b)')
 
 # a comment, where it is the end of a line or all of it
 MARKS = {
@@ -113,7 +114,7 @@ def in_names(name, text):
     mark = MARKS.get(os.path.splitext(name)[1])
     for number, line in enumerate([name, *text.split("\n")] if mark else []):
         comment = mark.search(line)
-        code = STRING.sub("", line[:comment.start()] if comment else line)
+        code = NO_NAME.sub("", line[:comment.start()] if comment else line)
         yield from ((number, part) for part in PART.findall(code) if part.lower() in NAME_WORDS)
 
 

@@ -28,13 +28,13 @@ returns-then-end-piece-2-clause-lines c before s = fed_none-lines before c.args.
 
 pub returns-then-end-piece-2-clause-reached : goal.returns-then-end-piece-2-clause-reached
 returns-then-end-piece-2-clause-reached c before s = record {
-  begun = fed_none-reached before c.args.piece.now _ c.line_end-end.result c.line_end-end.ensures.place c.if-end-piece-2.true (held_now _ _ _ _ _ c.keep-len.ensures.front c.self.reported (ap (λ h. h.begun) c.self.view_is ∙ s.begun));
+  begun = fed_none-reached before c.args.piece.now _ c.line_end-end.result c.line_end-end.ensures.place c.if-end-piece-2.true (held_now _ _ _ _ _ c.keep-len.ensures.front c.self.told (ap (λ h. h.begun) c.self.view_is ∙ s.begun));
 }
 
 pub returns-then-len-gt-MAX_LINE-clause-lines : goal.returns-then-len-gt-MAX_LINE-clause-lines
 returns-then-len-gt-MAX_LINE-clause-lines c before s =
     fed_long-lines before c.args.piece.now (take c.keep-len.result c.keep-len.new.buffer) c.line_end-end.result c.line_end-end.ensures.place (omega (arith, c.line_end-end.ensures.within))
-    (held_now _ _ _ _ _ c.keep-len.ensures.front c.self.reported (ap (λ h. h.begun) c.self.view_is ∙ s.begun))
+    (held_now _ _ _ _ _ c.keep-len.ensures.front c.self.told (ap (λ h. h.begun) c.self.view_is ∙ s.begun))
     (omega (arith, length-take c.keep-len.result c.keep-len.new.buffer, c.keep-len.ensures.within))
 
 pub returns-then-len-gt-MAX_LINE-clause-reached : goal.returns-then-len-gt-MAX_LINE-clause-reached
@@ -45,7 +45,7 @@ returns-then-len-gt-MAX_LINE-clause-reached c before s = record {
 pub returns-clause-lines : goal.returns-clause-lines
 returns-clause-lines c before s =
     fed_line-lines before c.args.piece.now (take c.keep-len.result c.keep-len.new.buffer) c.line_end-end.result _ c.line_end-end.ensures.place (omega (arith, c.line_end-end.ensures.within))
-    (held_now _ _ _ _ _ c.keep-len.ensures.front c.self.reported (ap (λ h. h.begun) c.self.view_is ∙ s.begun))
+    (held_now _ _ _ _ _ c.keep-len.ensures.front c.self.told (ap (λ h. h.begun) c.self.view_is ∙ s.begun))
     (omega (arith, length-take c.keep-len.result c.keep-len.new.buffer, c.keep-len.ensures.within))
     (sym (take_take _ _ _ c.without_return_len-self-inside.ensures.within) ∙ c.without_return_len-self-inside.ensures.bytes)
 
