@@ -10,7 +10,7 @@ use crate::source::Source;
 use std::marker::Model;
 
 /// A source over bytes in memory, which fails at the calls that it was made to fail at.
-#[derive(Drop)]
+#[derive(Debug, Drop)]
 pub struct MemorySource {
     left: BytesLeft,
     calls: Calls,

@@ -3,7 +3,7 @@ ghost use Rattle.tool_io.specs.Counts.{one_more};
 ghost use Rattle.tool_io.specs.Fetched.{CountsFetch, Fetched};
 
 /// How a fetch ended.
-#[derive(Clone, Copy)]
+#[derive(Clone, Copy, Debug, PartialEq, Eq)]
 pub enum Found {
     /// The whole file was fetched.
     Whole,
@@ -14,7 +14,7 @@ pub enum Found {
 }
 
 /// Why a fetch did not end.
-#[derive(Clone, Copy, Debug)]
+#[derive(Clone, Copy, Debug, PartialEq, Eq)]
 pub enum ShelfFault {
     /// The shelf failed.
     Failed,
