@@ -2,6 +2,7 @@ mod EntryLaws
 mod Examples
 mod FoundLaws
 mod LimitExamples
+pub mod NoEntryLaws
 mod OffsetLaws
 pub mod RestoredLaws
 mod ReadingLaws

@@ -14,9 +14,13 @@ use view_tree::{Key, ViewTree};
 const FEW_ENTRIES: usize = 64;
 
 /// Whether some view has the id of an entry, and no view that suits the entry has it.
+#[tactic(auto, using(crate::proofs::NoEntryLaws::fits_all))]
 pub fn is_for_other_class(tree: &ViewTree, states: &States) -> bool
     ensures { result ≡ is_for_other_class states.now (rows (plain_of tree.now)) }
 {
+    if states.is_empty() {
+        return false;
+    }
     if states.count() <= FEW_ENTRIES {
         few_are_for_other_class(tree, states)
     } else {
@@ -25,6 +29,7 @@ pub fn is_for_other_class(tree: &ViewTree, states: &States) -> bool
 }
 
 /// The same of a state of few entries.
+#[inline(never)]
 fn few_are_for_other_class(tree: &ViewTree, states: &States) -> bool
     requires { length states.now ≤ FEW_ENTRIES }
     ensures { result ≡ is_for_other_class states.now (rows (plain_of tree.now)) }

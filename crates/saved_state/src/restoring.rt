@@ -45,8 +45,27 @@ pub fn restore(alloc: Global, tree: &mut ViewTree, states: &States) -> Result<()
     Ok(())
 }
 
-/// What a state gives the views of a tree, in preorder.
+/// What a state gives the views of a tree, in preorder. A state without an entry gives nothing.
+#[tactic(auto, using(crate::proofs::NoEntryLaws::gives_none))]
 fn copied_values(
+    alloc: Global,
+    tree: &ViewTree,
+    states: &States,
+) -> Result<Vec<(Key, Value)>, AllocError>
+    ensures values { IfOk result (λ values. values.items ≡ given_values states.now tree.now.tree (rows tree.now.tree)) }
+    ensures fit { IfOk result (λ values. All (λ set. IsValue set.1) values.items) }
+    ensures is_tree { IsTree tree.now }
+{
+    if states.is_empty() {
+        let _root = tree.root();
+        return Ok(Vec::new(alloc));
+    }
+    values_of_all(alloc, tree, states)
+}
+
+/// The same of any state.
+#[inline(never)]
+fn values_of_all(
     alloc: Global,
     tree: &ViewTree,
     states: &States,
@@ -101,6 +120,7 @@ fn set_values(tree: &mut ViewTree, values: Vec<(Key, Value)>)
 }
 
 /// The same of a view alone.
+#[inline(never)]
 fn set_value(tree: &mut ViewTree, view: Key, value: Value)
     requires live { IsLive tree.old view }
     requires fits { IsValue value }

@@ -1,5 +1,5 @@
 //! A saved state that was read.
-ghost use Rattle.std.specs.Prelude.{◌≡◌, ◌<◌, ◌≤◌, [], IfSome, length};
+ghost use Rattle.std.specs.Prelude.{◌≡◌, ◌↔◌, ◌<◌, ◌≤◌, true, [], IfSome, length};
 ghost use Rattle.saved_state.specs.Restoring.{FindsEntry, IsEntry, entry_at};
 ghost use Rattle.saved_state.specs.State.{IsState, IsValue};
 ghost use Rattle.saved_state.specs.declared.format.TheConstants.{MAX_ENTRIES, VERSION};
@@ -43,6 +43,14 @@ impl States {
         ensures { IsState VERSION self.now }
     {
         let _count = self.entries.len();
+    }
+
+    /// Whether there is no entry.
+    #[inline]
+    pub fn is_empty(&self) -> bool
+        ensures { (result ≡ true) ↔ (self.now ≡ []) }
+    {
+        self.entries.is_empty()
     }
 
     /// How many entries there are.

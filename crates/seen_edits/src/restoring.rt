@@ -62,8 +62,24 @@ pub fn restore_views(
     }
 }
 
-/// Adds what is seen of each view that a state gives something.
+/// Adds what is seen of each view that a state gives something: of none if it has no entry.
+#[tactic(auto, using(saved_state::proofs::NoEntryLaws::wants_none))]
 fn note_given(tree: &ViewTree, window: Size, states: &States, damage: &mut Damage)
+    ensures grew { LiesIn damage.old.rect damage.new.rect }
+    ensures noted { NotesGiven states.now window damage.new.rect tree.now }
+    ensures within { (box : Rect)
+        → LiesIn damage.old.rect box
+        → GivenIn states.now window box tree.now
+        → LiesIn damage.new.rect box }
+{
+    if !states.is_empty() {
+        note_all(tree, window, states, damage);
+    }
+}
+
+/// The same of any state.
+#[inline(never)]
+fn note_all(tree: &ViewTree, window: Size, states: &States, damage: &mut Damage)
     ensures grew { LiesIn damage.old.rect damage.new.rect }
     ensures noted { NotesGiven states.now window damage.new.rect tree.now }
     ensures within { (box : Rect)

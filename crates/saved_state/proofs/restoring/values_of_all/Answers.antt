@@ -4,7 +4,7 @@ use Rattle.view_tree.specs.Rows.{count_of_key}
 use Rattle.saved_state.specs.Restored.{given_values}
 use Rattle.saved_state.specs.declared.value.Value.{Value}
 use Rattle.saved_state.proofs.RestatedLaws.{given_on}
-use Rattle.saved_state.proofs.restoring.copied_values.Goals as goal
+use Rattle.saved_state.proofs.restoring.values_of_all.Goals as goal
 
 pub loop-next-preserved : goal.loop-next-preserved
 loop-next-preserved c =

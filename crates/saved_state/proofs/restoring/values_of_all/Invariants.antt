@@ -5,7 +5,7 @@ use Rattle.view_tree.specs.tree.Preorder.{rows_from}
 use Rattle.view_tree.specs.Views.{IsLive, IsTree}
 use Rattle.saved_state.specs.Restored.{given_values}
 use Rattle.saved_state.specs.State.{IsValue}
-use Rattle.saved_state.proofs.restoring.copied_values.Given as goal
+use Rattle.saved_state.proofs.restoring.values_of_all.Given as goal
 
 abbrev pub invariant-loop-next : goal.invariant-loop-next
 invariant-loop-next l = record {

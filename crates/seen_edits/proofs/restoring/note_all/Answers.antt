@@ -3,7 +3,7 @@ use Rattle.seen_edits.proofs.GivenLaws.{given_on, given_start}
 use Rattle.view_tree.proofs.forest.PreorderLaws.{rows_from_root}
 use Rattle.view_tree.specs.tree.Preorder.{rows_from}
 use Rattle.view_tree.specs.Rows.{count_of_key}
-use Rattle.seen_edits.proofs.restoring.note_given.Goals as goal
+use Rattle.seen_edits.proofs.restoring.note_all.Goals as goal
 
 pub loop-next-init : goal.loop-next-init
 loop-next-init c =

@@ -6,7 +6,7 @@ use Rattle.seen_edits.proofs.GivenLaws.{NotesBefore}
 use Rattle.seen_edits.specs.Scrolled.{GivenIn}
 use Rattle.view_tree.specs.tree.Preorder.{rows_from}
 use Rattle.view_tree.specs.Views.{IsLive}
-use Rattle.seen_edits.proofs.restoring.note_given.Given as goal
+use Rattle.seen_edits.proofs.restoring.note_all.Given as goal
 
 abbrev pub invariant-loop-next : goal.invariant-loop-next
 invariant-loop-next l = record {
