@@ -57,6 +57,7 @@ fn copied_values(
     ensures is_tree { IsTree tree.now }
 {
     if states.is_empty() {
+        // for what a look at the root says of the tree
         let _root = tree.root();
         return Ok(Vec::new(alloc));
     }
