@@ -5,7 +5,7 @@ use Rattle.std.specs.Prelude.{is_some}
 use Rattle.saved_state.specs.Restored.{given_values, wanted}
 use Rattle.saved_state.specs.Restoring.{is_for_other_class, is_unmet}
 use Rattle.saved_state.specs.State.{StateEntry}
-use Rattle.view_model.specs.Forest.{Forest, rows}
+use Rattle.view_model.specs.Forest.{Forest}
 use Rattle.view_model.specs.PlainTree.{PlainView}
 use Rattle.view_tree.specs.Rows.{Row}
 
