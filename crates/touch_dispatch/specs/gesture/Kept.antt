@@ -6,7 +6,7 @@ use Rattle.std.specs.Map.{lookup}
 use Rattle.indexmap.specs.IndexMap.{get as get_key, spare}
 use Rattle.touch_dispatch.specs.gesture.Gestures.{PlainGesture, no_drag}
 use Rattle.touch_dispatch.specs.Once.{AllDistinct}
-use Rattle.touch_dispatch.specs.contracts.marks.Marks.{the_row as marks_row}
+use Rattle.touch_dispatch.specs.contracts.gesture.marks.Marks.{the_row as marks_row}
 use Rattle.touch_dispatch.specs.declared.gesture.Gesture.TheInside.{Inside}
 use Rattle.touch_dispatch.specs.declared.gesture.marks.Marks.{Marks}
 use Rattle.touch_targets.specs.Captures.{is_target}
