@@ -186,7 +186,7 @@ def first_run(number):
     request is not one of its run."""
     ended = subprocess.run(
         ["rt", "try", "--test", "--fail-alloc", str(number), "--", SINK_TEST], text=True, stdout=subprocess.PIPE,
-        stderr=subprocess.STDOUT, cwd=os.path.join(TOP, "crates", "view_tool")
+        stderr=subprocess.STDOUT, cwd=os.path.join(TOP, "crates", "integration_tests")
     )
     found = re.search(r"left: \((\d+), (\[.*\])\)\n *right: \(0, (\[.*\])\)", ended.stdout)
     status, written, wanted = map(json.loads, found.groups()) if found else (None, [], [])
