@@ -3,5 +3,6 @@ pub mod BarLaws
 pub mod EscapeLaws
 pub mod FileNameLaws
 pub mod PlaceLaws
+pub mod PlainLaws
 pub mod TextLaws
 pub mod WordLaws

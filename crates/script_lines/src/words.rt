@@ -2,7 +2,8 @@
 //! or of a view, a gravity, a number or a weight.
 
 ghost use Rattle.std.specs.Prelude.{◌≡◌, ◌≤◌, length, IfOk};
-ghost use Rattle.std.specs.List.{prefix_len};
+ghost use Rattle.std.specs.Char.{is_ascii};
+ghost use Rattle.std.specs.List.{list_all, prefix_len};
 ghost use Rattle.std.specs.Str.{bytes_eq, is_utf8};
 ghost use Rattle.script_lines.specs.cutting.Lines.{is_space};
 ghost use Rattle.script_lines.specs.words.Words.{after_word, end_of, first_word, in_word, literal_in, map_ok, on_of, text_of, word_in, words};
@@ -103,11 +104,19 @@ pub fn end(bytes: &[u8]) -> Result<(), LineFault>
     Err(LineFault::Syntax)
 }
 
-/// Whether a line is valid UTF-8.
+/// Whether each byte is ASCII.
+fn all_ascii(bytes: &[u8]) -> bool
+    ensures { result ≡ list_all is_ascii bytes.now }
+{
+    bytes.iter().all(|b| b.is_ascii())
+}
+
+/// Whether a line is valid UTF-8. Most lines are ASCII, which is faster to see.
+#[tactic(auto, using(crate::proofs::texts::PlainLaws::utf8_of_ascii))]
 pub fn is_text(line: &[u8]) -> bool
     ensures { result ≡ is_utf8 line.now }
 {
-    std::str::from_utf8(line).is_ok()
+    all_ascii(line) || std::str::from_utf8(line).is_ok()
 }
 
 /// Bytes as a text, if they are valid UTF-8.

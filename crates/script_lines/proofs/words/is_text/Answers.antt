@@ -2,5 +2,5 @@ use Rattle.std.proofs.Common.{◌∙◌}
 use Rattle.script_lines.proofs.texts.TextLaws.{is_ok-is_utf8}
 use Rattle.script_lines.proofs.words.is_text.Goals as goal
 
-pub returns : goal.returns
-returns c = c.is_ok.ensures.value ∙ is_ok-is_utf8 c.from_utf8.result c.args.line.now _ _ c.from_utf8.ensures.cases
+pub returns-else-all_ascii : goal.returns-else-all_ascii
+returns-else-all_ascii c = c.is_ok.ensures.value ∙ is_ok-is_utf8 c.from_utf8.result c.args.line.now _ _ c.from_utf8.ensures.cases
