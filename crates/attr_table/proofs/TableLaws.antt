@@ -1,5 +1,5 @@
 -- A look into a table of the code.
-use Rattle.std.proofs.Common.{◌≡◌, ℕ, zero, suc, ◌+◌, ◌<◌, Bool, true, not, ap, cond, nat_lt, List, [], ◌∷◌, map, length, Some, slice_index_or, slice_get, position, refl, arith}
+use Rattle.std.proofs.Common.{◌≡◌, ℕ, zero, suc, ◌+◌, Bool, true, not, ap, cond, nat_lt, List, [], ◌∷◌, map, slice_get, position, refl}
 use Rattle.std.specs.Borrow.{Bor}
 use Rattle.std.specs.List.{list_all, prefix_len}
 use Rattle.std.specs.Option.{option_map_or}

@@ -1,6 +1,6 @@
 -- How long the script of a load is at most.
-use Rattle.std.proofs.Common.{◌≡◌, ℕ, zero, suc, ◌+◌, ◌*◌, ◌<◌, ◌≤◌, ◌^◌, List, [], ◌∷◌, ◌++◌, length, cond, refl, ap, sym, ◌∙◌, arith, length-append, inl, inr}
-use Rattle.std.specs.Prelude.{codes, decimal, ◌==◌, ◌%◌, Bool, true, false}
+use Rattle.std.proofs.Common.{◌≡◌, ℕ, zero, suc, ◌+◌, ◌*◌, ◌<◌, ◌≤◌, ◌^◌, List, length, refl, ap, arith, length-append, inl, inr}
+use Rattle.std.specs.Prelude.{codes, decimal, ◌==◌, ◌%◌}
 use Rattle.std.proofs.lemmas.Bool.{cases_Bool}
 use Rattle.std.proofs.lemmas.Fmt.{length-decimal-le}
 use Rattle.text_lines.specs.Hex.{eight_digits, hex_text}

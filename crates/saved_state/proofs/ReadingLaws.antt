@@ -1,12 +1,12 @@
 -- The fields of an entry, one after the other.
-use Rattle.std.proofs.Common.{◌≡◌, ℕ, ◌+◌, ◌≤◌, ◌<◌, true, false, Bool, cond, not, ◌||◌, ltb, List, length, take, drop, Result, Ok, Err, refl, sym, ap, ◌∙◌, arith, inl, inr}
-use Rattle.std.proofs.lemmas.Bool.{cases_Bool, le-ltb, lt-ltb}
+use Rattle.std.proofs.Common.{◌≡◌, ℕ, ◌+◌, ◌≤◌, List, length, take, drop, Result, Ok, Err, refl, sym, ap, inl, inr}
+use Rattle.std.proofs.lemmas.Bool.{cases_Bool, le-ltb}
 use Rattle.std.proofs.lemmas.List.{drop-drop}
 use Rattle.std.proofs.lemmas.Str.{IsUtf8-from_is_utf8, chars_from_encodes, is_utf8-from_IsUtf8}
-use Rattle.std.specs.Prelude.{IsUtf8, chars, encode_utf8_all}
+use Rattle.std.specs.Prelude.{IsUtf8, encode_utf8_all}
 use Rattle.std.specs.Str.{is_utf8}
 use Rattle.byteorder.specs.Endian.{little_number}
-use Rattle.saved_state.specs.State.{◌>>=◌, StateEntry, entry_of, id_of, kind_of, text_of, value_of, words_of}
+use Rattle.saved_state.specs.State.{entry_of, id_of, kind_of, text_of, value_of, words_of}
 use Rattle.saved_state.specs.declared.value.Value.{Value}
 
 -- an entry whose id was read

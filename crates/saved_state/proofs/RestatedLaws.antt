@@ -4,7 +4,7 @@ use Rattle.std.proofs.lemmas.Bool.{cases_Bool, cases_eq, eq-eqb, ne_eqb}
 use Rattle.std.proofs.lemmas.List.Elements.{All-append, All-cons, All-head, All-nil, All-tail, All-weaker}
 use Rattle.std.proofs.lemmas.List.Sums.{fold-append}
 use Rattle.std.specs.List.{All, fold}
-use Rattle.std.specs.Prelude.{◌==◌, if◌then◌else◌}
+use Rattle.std.specs.Prelude.{◌==◌}
 use Rattle.saved_state.specs.Restored.{given_values, paired, restated, wanted, with_text_at, with_text_of}
 use Rattle.saved_state.specs.Restoring.{given}
 use Rattle.saved_state.specs.State.{StateEntry}
@@ -16,7 +16,7 @@ use Rattle.view_tree.proofs.forest.NumberLaws.{count_of_key-put, put_absent}
 use Rattle.view_tree.proofs.forest.PreorderLaws.{key_count, key_count-rows, status}
 use Rattle.view_model.specs.PlainTree.{PlainView}
 use Rattle.view_tree.specs.tree.Preorder.{rows_from}
-use Rattle.view_tree.specs.Rows.{Row, changed_at_key, count_of_key, head_view, part_from}
+use Rattle.view_tree.specs.Rows.{Row, changed_at_key, count_of_key, head_view}
 
 -- what the views of two lists are given
 given_append : (entries : List StateEntry) (tree : Forest Row) (list more : List Row)

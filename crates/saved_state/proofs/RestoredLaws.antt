@@ -1,5 +1,5 @@
 -- What is kept with the views of a tree while they are given what a state has.
-use Rattle.std.proofs.Common.{◌≡◌, ◌≢◌, ℕ, ◌+◌, ◌<◌, ◌≤◌, ℤ, pos, Bool, true, false, Option, Some, None, refl, sym, ◌∙◌, ap, subst, arith, inl, inr, List, [], ◌∷◌, ◌++◌}
+use Rattle.std.proofs.Common.{◌≡◌, ◌≢◌, ℕ, ◌<◌, ◌≤◌, ℤ, pos, Bool, true, false, Option, Some, None, refl, sym, ◌∙◌, ap, subst, arith, inl, inr, List, [], ◌∷◌, ◌++◌}
 use Rattle.std.proofs.lemmas.Bool.{cases_Bool, cases_eq, eq-eqb, ne_eqb}
 use Rattle.std.proofs.lemmas.List.Elements.{All-head, All-tail, All-weaker}
 use Rattle.std.specs.List.{All, fold}
@@ -8,7 +8,7 @@ use mathlib.Core.Path.{fun_ext}
 use Rattle.kept_views.proofs.AskedViews.{asked_same, off_path}
 use Rattle.kept_views.proofs.Lines.{SameButOffset, put_kept}
 use Rattle.kept_views.proofs.Requested.{pressed_in, pressed_out}
-use Rattle.kept_views.specs.Kept.{IsConsistent, IsKept}
+use Rattle.kept_views.specs.Kept.{IsKept}
 use Rattle.kept_views.specs.Pressing.{path_of}
 use Rattle.saved_state.proofs.RestatedLaws.{put_once}
 use Rattle.saved_state.specs.Restored.{all_given, all_set, given_held, given_keys, given_values, moved_one, on_paths, paired, restated, set_by, wanted, with_text_at, with_text_of}
@@ -16,14 +16,14 @@ use Rattle.saved_state.specs.Restoring.{given}
 use Rattle.saved_state.specs.State.{StateEntry}
 use Rattle.saved_state.specs.declared.value.Value.{Value}
 use Rattle.saved_state.specs.declared.value.Value.TheVariants.{Offset, Text}
-use Rattle.view_model.specs.Forest.{Forest, Nothing, Branch, rows}
+use Rattle.view_model.specs.Forest.{Forest, Nothing, Branch}
 use Rattle.view_model.specs.PlainTree.{PlainView}
-use Rattle.view_tree.proofs.forest.PreorderLaws.{key_count, key_count-rows}
+use Rattle.view_tree.proofs.forest.PreorderLaws.{key_count}
 use Rattle.view_tree.proofs.values.GeometryLaws.{laid_along}
 use Rattle.view_tree.proofs.values.KeptLaws.{ancestors-put}
 use Rattle.view_tree.specs.tree.Requests.{among, asking, pressed, unforced}
 use Rattle.view_tree.specs.Rows.{Row, ancestors, count_of_key}
-use Rattle.view_tree.specs.Views.{Held, IsTree, Views, geometry_of, held_of, laid_at, laid_rows}
+use Rattle.view_tree.specs.Views.{Held, Views, geometry_of, held_of, laid_rows}
 
 moved_at : (view : ℕ) (offset : ℤ) (held : ℕ → Held) → moved_one view offset held view ≡ record (held view) { offset = offset }
 moved_at view offset held = rw (eq-eqb view view refl) refl

@@ -4,7 +4,7 @@ use Rattle.std.proofs.lemmas.List.Elements.{All-same}
 use Rattle.std.specs.List.{All, fold}
 use mathlib.Core.Path.{fun_ext}
 use Rattle.kept_views.specs.Kept.{IsConsistent, IsKept}
-use Rattle.saved_state.proofs.RestoredLaws.{IsLiveIn, all_kept, given_offsets, offset_by, set_at, set_given, set_more}
+use Rattle.saved_state.proofs.RestoredLaws.{IsLiveIn, all_kept, given_offsets, offset_by, set_given, set_more}
 use Rattle.saved_state.proofs.RestatedLaws.{all_restated, given_in}
 use Rattle.saved_state.specs.Restored.{all_given, all_set, given_values, restated, set_by, wanted, with_text_at, with_text_of}
 use Rattle.saved_state.specs.Restoring.{given, restored, with_value}
@@ -13,7 +13,7 @@ use Rattle.saved_state.specs.declared.value.Value.{Value}
 use Rattle.saved_state.specs.declared.value.Value.TheVariants.{Offset, Text}
 use Rattle.view_model.specs.Forest.{Forest, Nothing, Branch, rows}
 use Rattle.view_model.specs.PlainTree.{PlainView}
-use Rattle.view_tree.specs.Rows.{Row, count_of_key, head_view, part_from}
+use Rattle.view_tree.specs.Rows.{Row, count_of_key, head_view}
 use Rattle.view_tree.specs.Views.{Held, IsLive, IsTree, Views, held_of, plain_of, plain_rows, scrolled}
 use Rattle.view_tree.proofs.forest.KeyLaws.{Within, count_of_key-within, from_within, here, times_self}
 use Rattle.view_tree.proofs.forest.Forests.{Within-children_of_first, Within-later_siblings}

@@ -1,19 +1,18 @@
 -- A state that is read entry by entry, and one that was written.
-use Rattle.std.proofs.Common.{◌≡◌, ◌≢◌, ℕ, suc, ◌+◌, ◌-◌, ◌<◌, ◌≤◌, true, false, List, [], ◌∷◌, ◌++◌, length, take, drop, Result, Ok, Err, refl, sym, subst, ◌∙◌, ◌⊎◌, ap, arith, ltb, inl, inr, append_assoc, length-append, length-drop}
-use Rattle.std.proofs.lemmas.Bool.{eq-eqb, lt-ltb, le-ltb, ne_eqb}
+use Rattle.std.proofs.Common.{◌≡◌, ℕ, suc, ◌+◌, ◌-◌, ◌<◌, ◌≤◌, true, false, List, [], ◌∷◌, ◌++◌, length, take, drop, Result, Ok, Err, refl, sym, subst, ◌∙◌, ◌⊎◌, ap, arith, ltb, inl, inr, append_assoc, length-append, length-drop}
+use Rattle.std.proofs.lemmas.Bool.{lt-ltb, le-ltb, ne_eqb}
 use lib.Utf8.{scalars}
 use Rattle.std.proofs.lemmas.Str.{chars-encodes, is_utf8-from_IsUtf8}
 use Rattle.std.proofs.lemmas.List.{append-nil, drop-drop}
-use Rattle.std.specs.Prelude.{◌==◌, chars, encode_utf8_all, slice_index}
+use Rattle.std.specs.Prelude.{chars, encode_utf8_all}
 use Rattle.std.specs.Str.{is_utf8}
 use Rattle.std.specs.List.{flat_map}
-use Rattle.byteorder.specs.Endian.{little_bytes, little_number}
+use Rattle.byteorder.specs.Endian.{little_bytes}
 use Rattle.byteorder.specs.Numbers.{little_number-reads_back}
 use Rattle.saved_state.specs.Answers.{FailsAs, ReadAs, is_bad_at}
-use Rattle.saved_state.specs.State.{◌>>=◌, IsState, IsValueOf, RisesFrom, StateEntry, decoded, encoded_as, entries_of, entry_bytes, entry_of, entry_size, has_kind, head_of, id_of, kind_of, offset_of, text_of, value_bytes, value_of, words_of}
+use Rattle.saved_state.specs.State.{◌>>=◌, IsState, IsValueOf, RisesFrom, StateEntry, decoded, encoded_as, entries_of, entry_bytes, entry_of, entry_size, has_kind, head_of, id_of, kind_of, offset_of, text_of, words_of}
 use Rattle.view_model.specs.declared.fault.Fault.{Fault}
 use Rattle.view_model.specs.declared.fault.Fault.TheVariants as faults
-use Rattle.saved_state.specs.declared.value.Value.{Value}
 use Rattle.saved_state.specs.declared.value.Value.TheVariants.{Offset, Text}
 
 -- a list before another one, and the other one

@@ -1,5 +1,5 @@
 -- The characters of a text and its bytes, character by character.
-use Rattle.std.proofs.Common.{◌≡◌, ℕ, ◌+◌, ◌<◌, ◌++◌, ◌∷◌, [], List, length, take, true, false, get_or, Bool, ◌&&◌, refl, sym, ap, subst, ◌∙◌, arith, append_assoc, length-append}
+use Rattle.std.proofs.Common.{◌≡◌, ℕ, ◌+◌, ◌<◌, ◌++◌, ◌∷◌, [], List, length, take, true, false, get_or, Bool, ◌&&◌, refl, sym, ap, subst, ◌∙◌}
 use Rattle.std.proofs.lemmas.List.{append-nil, take_more}
 use Rattle.std.proofs.lemmas.Str.{encodes-append, encodes_same}
 use Rattle.std.specs.Prelude.{IsUtf8, encode_utf8, encode_utf8_all}

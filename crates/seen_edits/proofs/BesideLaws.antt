@@ -1,7 +1,7 @@
 -- What an edit of a view leaves beside it, where a direction that it sets goes down the tree.
 use Rattle.std.proofs.Common.{◌≡◌, ◌≢◌, ℕ, Bool, true, false, refl, sym, ap, ◌∙◌, subst, arith, inl, inr}
 use Rattle.std.proofs.lemmas.Bool.{cases_eq, eq-eqb, ne_eqb}
-use Rattle.std.specs.Prelude.{◌==◌, if◌then◌else◌}
+use Rattle.std.specs.Prelude.{if◌then◌else◌}
 use Rattle.seen_edits.proofs.StillLaws.{AreStill}
 use Rattle.seen_parts.proofs.ChangeLaws.{cut_changed}
 use Rattle.seen_parts.specs.Meeting.{canvas_around}

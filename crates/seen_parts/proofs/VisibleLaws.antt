@@ -1,5 +1,5 @@
 -- What is seen of a view lies in its canvas, and the canvas of its children in what is seen of it.
-use Rattle.std.proofs.Common.{ℤ, ◌+ℤ◌, Bool, true, false, Option, Some, None, refl}
+use Rattle.std.proofs.Common.{◌+ℤ◌, Bool, true, false, Option, Some, None, refl}
 use Rattle.std.specs.Prelude.{if◌then◌else◌}
 use Rattle.geom_core.specs.declared.geometry.Rect.{Rect}
 use Rattle.geom_core.specs.Rects.{meet_of}

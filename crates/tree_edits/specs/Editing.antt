@@ -8,7 +8,6 @@ use Rattle.view_model.specs.declared.changes.Change.TheVariants as change
 use Rattle.view_model.specs.declared.changes.Flag.{Flag}
 use Rattle.view_model.specs.declared.changes.Flag.TheVariants as flag
 use Rattle.view_model.specs.declared.kinds.Class.{Class}
-use Rattle.view_model.specs.declared.kinds.Class.TheVariants as class
 use Rattle.view_model.specs.declared.refusal.Member.TheVariants as member
 use Rattle.view_model.specs.Cycles.{first_cycle}
 use Rattle.view_model.specs.Directed.{directed, rtl_at}

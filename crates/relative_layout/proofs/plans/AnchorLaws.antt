@@ -11,7 +11,7 @@ use Rattle.view_model.specs.declared.relative.Axis.TheVariants.{Horizontal, Vert
 use Rattle.view_model.specs.declared.relative.Tie.{Tie}
 use Rattle.view_model.specs.declared.relative.Tie.TheVariants.{Before, After, AlignNear, AlignFar}
 use Rattle.view_model.specs.declared.relative.Link.{Link}
-use Rattle.view_model.specs.declared.verbs.TheConstants.{LEFT_OF, RIGHT_OF, ALIGN_LEFT, ALIGN_RIGHT, START_OF, END_OF, ALIGN_START, ALIGN_END}
+use Rattle.view_model.specs.declared.verbs.TheConstants.{START_OF, END_OF, ALIGN_START, ALIGN_END}
 use Rattle.view_model.specs.Direction.{left_of_two, right_of_two}
 use Rattle.view_model.specs.Orders.{IsAnchorsFirst, Reaches, AtOnce, Through}
 use Rattle.view_model.specs.SiblingRules.{anchor_id, anchor_of, anchor_within, form_of, last_with_id, leads, named_sibling, names, other_than, shown_or, value_of}

@@ -1,9 +1,8 @@
 -- The fields of a tree once a view has got a direction, and what inherits from it has turned.
-use Rattle.std.proofs.Common.{◌≡◌, ◌≢◌, ℕ, suc, ◌+◌, ◌<◌, ◌≤◌, ◌^◌, Bool, true, false, List, [], ◌∷◌, Option, Some, None, IsSome, slice_set, refl, sym, ◌∙◌, ap, subst, arith, inl, inr}
+use Rattle.std.proofs.Common.{◌≡◌, ℕ, suc, ◌<◌, ◌≤◌, Bool, true, false, List, [], Option, Some, None, IsSome, slice_set, refl, sym, ◌∙◌, ap, subst, arith, inl, inr}
 use Rattle.std.proofs.lemmas.Grind.{common_steps}
 use Rattle.std.proofs.lemmas.Bool.{cases_eq}
-use Rattle.std.specs.Prelude.{◌==◌, if◌then◌else◌, count_by, is_some, nat_eq, slice_index_or}
-use Rattle.indexmap.specs.IndexMap.{get as get_key}
+use Rattle.std.specs.Prelude.{◌==◌, if◌then◌else◌, count_by, is_some, slice_index_or}
 use Rattle.slab.specs.Slab.{Slab, Updates, get, slab_len, with_value}
 use Rattle.slab.proofs.SlabLemmas.{Updates-with_value}
 use Rattle.view_model.specs.declared.limits.TheConstants.{MAX_VIEWS}
@@ -14,9 +13,9 @@ use Rattle.view_model.specs.Direction.{dir}
 use Rattle.view_model.specs.Forest.{Forest, Nothing, Branch, count_of}
 use Rattle.view_model.specs.PlainTree.{PlainView}
 use Rattle.view_tree.specs.tree.Directions.{directed_rows, is_rtl_above, with_direction}
-use Rattle.view_tree.specs.node.Nodes.{IsPlanted, IsSoundTree, PlainNode, RepresentsPart, RepresentsTree, forest, held_in, holders_of, links_at, links_in, links_of, tree_of, value_of}
+use Rattle.view_tree.specs.node.Nodes.{IsPlanted, IsSoundTree, PlainNode, RepresentsTree, forest, held_in, links_at, links_in, tree_of, value_of}
 use Rattle.view_tree.specs.groups.Ordering.{HasNoOther, IsGrouped, group_at}
-use Rattle.view_tree.specs.Rows.{Row, changed_at_key, count_of_key, first_key, first_tree, key_where, later_siblings, part_from}
+use Rattle.view_tree.specs.Rows.{Row, changed_at_key, count_of_key, first_tree, key_where, part_from}
 use Rattle.view_tree.specs.node.Turning.{HaveTurned, IsPart, RunsBelow, part_at}
 use Rattle.view_tree.specs.tree.Requests.{among, forced_one, pressed}
 use Rattle.view_tree.specs.Views.{AreDirected, Held, IsLive, IsTree, Views, held_of, held_or, number_of, plain_of, plain_rows}
@@ -24,7 +23,7 @@ use Rattle.view_tree.specs.declared.node.Node.{Node}
 use Rattle.view_tree.specs.declared.tree.ViewTree.TheInside.{Inside}
 use Rattle.view_tree.proofs.forest.DirectedLaws.{directed-rows, directed-within}
 use Rattle.view_tree.proofs.forest.Forests.{RepresentsPart-within, count-within, forest_is, some_is, tree_is}
-use Rattle.view_tree.proofs.forest.KeyLaws.{Located, count_of_key-within, here, located, zero_or_more}
+use Rattle.view_tree.proofs.forest.KeyLaws.{count_of_key-within, here, located, zero_or_more}
 use Rattle.view_tree.proofs.forest.NumberLaws.{count_of_key-put}
 use Rattle.view_tree.proofs.forest.PlainLaws.{agree_live, plain-change_facts, plain_along}
 use Rattle.view_tree.proofs.nodes.ChangedTree.{put_represents}

@@ -1,22 +1,18 @@
 -- What is kept of views that turn: layout is requested at each that runs another way.
-use Rattle.std.proofs.Common.{◌≡◌, ◌≢◌, ℕ, ◌+◌, ◌<◌, ◌≤◌, Bool, true, false, List, [], ◌∷◌, ◌++◌, Option, Some, None, refl, sym, ◌∙◌, ap, subst, arith, inl, inr}
-use mathlib.Core.Path.{fun_ext}
+use Rattle.std.proofs.Common.{◌≡◌, ◌≢◌, ℕ, ◌<◌, ◌≤◌, Bool, true, false, List, [], ◌∷◌, ◌++◌, Option, Some, None, refl, sym, ◌∙◌, ap, subst, arith, inl, inr}
 use Rattle.std.proofs.lemmas.Bool.{cases_Bool, cases_eq, eq-eqb, ne_eqb}
 use Rattle.std.specs.Prelude.{◌==◌, if◌then◌else◌, map, not, option_map}
-use Rattle.view_model.specs.declared.facts.Facts.{Facts}
 use Rattle.view_model.specs.Direction.{dir}
 use Rattle.view_model.specs.Directed.{turned}
 use Rattle.view_model.specs.Forest.{Forest, Nothing, Branch}
-use Rattle.view_tree.specs.node.Nodes.{PlainNode, RepresentsPart, held_by, held_in, links_for, links_in, links_of}
-use Rattle.view_tree.specs.tree.Requests.{among, asking, forced_one, pressed, requested, unforced}
-use Rattle.view_tree.specs.Rows.{Row, ancestors, around, count_of_key}
+use Rattle.view_tree.specs.node.Nodes.{PlainNode, RepresentsPart, held_by, held_in, links_for, links_in}
+use Rattle.view_tree.specs.tree.Requests.{among, forced_one}
+use Rattle.view_tree.specs.Rows.{Row, count_of_key}
 use Rattle.view_tree.specs.node.Turning.{HaveTurned, running_node, runs_so, turned_node}
-use Rattle.view_tree.specs.Views.{AreDirected, Held}
+use Rattle.view_tree.specs.Views.{Held}
 use Rattle.view_tree.specs.declared.node.Node.{Node}
-use Rattle.view_tree.proofs.forest.Forests.{Within-children_of_first, Within-later_siblings}
-use Rattle.view_tree.proofs.forest.KeyLaws.{Within, count_of_key-within, here, in_after, in_below, times_self, zero_or_more}
+use Rattle.view_tree.proofs.forest.KeyLaws.{zero_or_more}
 use Rattle.view_tree.proofs.nodes.NodeReads.{says}
-use Rattle.view_tree.proofs.nodes.TurnedNodes.{runs_same}
 
 -- the keys of those that run another way
 abbrev pub turned_keys : Bool → Forest Row → List ℕ

@@ -1,16 +1,13 @@
 -- A tree whose views have turned with their parents.
-use Rattle.std.proofs.Common.{◌≡◌, ◌≢◌, ℕ, suc, ◌+◌, ◌<◌, ◌≤◌, pos, Bool, true, false, List, [], ◌∷◌, length, Option, Some, None, refl, sym, ◌∙◌, ap, subst, arith, inl, inr}
-use Rattle.std.proofs.lemmas.Bool.{cases_Bool, cases_eq, eq-eqb, ne_eqb}
+use Rattle.std.proofs.Common.{◌≡◌, ℕ, Bool, false, List, [], ◌∷◌, refl, sym, ◌∙◌, ap, inl, inr}
+use Rattle.std.proofs.lemmas.Bool.{cases_Bool}
 use Rattle.std.specs.Prelude.{◌==◌, if◌then◌else◌}
 use Rattle.view_model.specs.Classes.{is_group, is_relative}
-use Rattle.view_model.specs.Cycles.{each, link_of, links_in, numbers_in}
+use Rattle.view_model.specs.Cycles.{each, link_of}
 use Rattle.view_model.specs.declared.placing.Direction.{Direction}
-use Rattle.view_model.specs.declared.relative.Link.{Link}
-use Rattle.view_model.specs.declared.facts.Rules.{Rules}
-use Rattle.view_model.specs.declared.kinds.Class.{Class}
-use Rattle.view_model.specs.Forest.{Forest, Nothing, Branch, EveryRow, count_of, sum_of}
+use Rattle.view_model.specs.Forest.{Forest, Nothing, Branch, count_of, sum_of}
 use Rattle.view_model.specs.PlainTree.{PlainView}
-use Rattle.view_tree.specs.tree.Directions.{directed_rows, row_running, with_direction}
+use Rattle.view_tree.specs.tree.Directions.{directed_rows, with_direction}
 use Rattle.view_tree.specs.node.Nodes.{has_id, holders_of}
 use Rattle.view_tree.specs.groups.Ordering.{HasNoOther, IsGrouped, is_layout}
 use Rattle.view_tree.specs.Rows.{Row, around, changed_at_key, count_of_key, count_of_number, count_where, key_where, keys_where, later_siblings}

@@ -1,18 +1,17 @@
 -- A tree of which one view has got a direction, once the views that inherit from it have turned.
-use Rattle.std.proofs.Common.{◌≡◌, ◌≢◌, ℕ, suc, ◌+◌, ◌<◌, ◌≤◌, Bool, true, false, List, [], ◌∷◌, Option, Some, None, refl, sym, ◌∙◌, ap, subst, arith, inl, inr}
+use Rattle.std.proofs.Common.{◌≡◌, ℕ, ◌+◌, ◌<◌, ◌≤◌, Bool, false, List, ◌∷◌, Option, Some, None, refl, sym, ◌∙◌, ap, subst, arith, inl, inr}
 use Rattle.std.proofs.lemmas.Bool.{cases_Bool, cases_eq, eq-eqb, ne_eqb}
 use Rattle.std.specs.Prelude.{◌==◌, if◌then◌else◌, option_map}
 use Rattle.view_model.specs.declared.placing.Direction.{Direction}
 use Rattle.view_model.specs.Direction.{dir}
 use Rattle.view_model.specs.Forest.{Forest, Nothing, Branch, or_else}
-use Rattle.view_model.specs.PlainTree.{PlainView}
 use Rattle.view_tree.specs.tree.Directions.{first_runs, with_direction}
 use Rattle.view_tree.specs.node.Nodes.{PlainNode, RepresentsPart, links_for, links_in}
 use Rattle.view_tree.specs.Rows.{Row, around, changed_at_key, count_of_key, first_tree, head_view, part_from}
 use Rattle.view_tree.specs.node.Turning.{HaveTurned, turned_node}
 use Rattle.view_tree.specs.Views.{AreDirected}
 use Rattle.view_tree.specs.declared.node.Node.{Node}
-use Rattle.view_tree.proofs.forest.Forests.{Within-children_of_first, Within-later_siblings, count_alone, times_from}
+use Rattle.view_tree.proofs.forest.Forests.{Within-children_of_first, Within-later_siblings, times_from}
 use Rattle.view_tree.proofs.forest.KeyLaws.{Within, absent, from_within, or_else_live, times_self, zero_or_more}
 use Rattle.view_tree.proofs.forest.NumberLaws.{put_absent}
 use Rattle.view_tree.proofs.forest.Walks.{count_of_key-parts}

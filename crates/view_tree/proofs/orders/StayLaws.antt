@@ -1,7 +1,7 @@
 -- Orders that stay right when a child gets another id or other rules.
 use Rattle.std.proofs.Common.{◌≡◌, ◌≢◌, ◌⊎◌, ℕ, zero, suc, ◌+◌, ◌-◌, ◌<◌, ◌≤◌, Bool, true, false, List, length, get_or, refl, sym, ◌∙◌, ap, subst, arith, inl, inr}
 use Rattle.std.proofs.lemmas.Bool.{cases_Bool, eqb-true, true≢false}
-use Rattle.std.specs.Prelude.{◌==◌, if◌then◌else◌, Option, Some, None, Result, Ok, Err}
+use Rattle.std.specs.Prelude.{◌==◌, Option, Some, None, Result, Ok, Err}
 use Rattle.relative_layout.specs.ordering.Naming.{padded_ids}
 use Rattle.relative_layout.proofs.orders.NamingLaws.{leads_from, leads_inside, leads_parts, leads_whole, names-at, names-some}
 use Rattle.view_model.specs.Classes.{is_relative}

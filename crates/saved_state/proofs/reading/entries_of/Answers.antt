@@ -1,4 +1,4 @@
-use Rattle.std.proofs.Common.{ℕ, ◌+◌, ◌-◌, ◌<◌, ◌∷◌, ◌++◌, [], Fits, List, arith, ap, sym, ◌∙◌, drop, w16}
+use Rattle.std.proofs.Common.{ℕ, ◌+◌, ◌-◌, ◌∷◌, ◌++◌, [], Fits, List, arith, ap, sym, ◌∙◌, drop, w16}
 use Rattle.std.proofs.lemmas.Result.{err_from_is_err_and}
 use Rattle.saved_state.specs.State.{StateEntry, entries_of, entry_of}
 use Rattle.saved_state.proofs.FoundLaws.{state_read}

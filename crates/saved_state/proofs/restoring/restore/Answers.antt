@@ -1,4 +1,4 @@
-use Rattle.std.proofs.Common.{◌≡◌, ℕ, sym, subst}
+use Rattle.std.proofs.Common.{sym, subst}
 use Rattle.saved_state.proofs.OffsetLaws.{restored_fits}
 use Rattle.saved_state.proofs.RestoredLaws.{restored_geometry, restored_off}
 use Rattle.saved_state.proofs.RestoringLaws.{came, reported, values_consistent, values_live, values_plain}

@@ -1,13 +1,12 @@
-use Rattle.std.proofs.Common.{◌≡◌, ◌≤◌, ◌<◌, ℕ, ℤ, Some, pos, refl, sym, ap, subst, ◌∙◌, arith, w32}
+use Rattle.std.proofs.Common.{◌≡◌, ◌≤◌, ℕ, ℤ, Some, pos, sym, ap, subst, ◌∙◌, arith, w32}
 use Rattle.std.proofs.lemmas.Int.{to_z_pos}
-use Rattle.view_model.specs.Forest.{Forest}
 use Rattle.view_tree.proofs.forest.NumberLaws.{count_of_key-put}
 use Rattle.view_tree.proofs.values.KeptLaws.{ancestors-put}
-use Rattle.view_tree.specs.Rows.{Row, ancestors, count_of_key}
+use Rattle.view_tree.specs.Rows.{ancestors, count_of_key}
 use Rattle.view_tree.specs.Views.{held_of}
 use Rattle.saved_state.specs.Restored.{moved_one, with_text_of}
 use Rattle.saved_state.specs.State.{IsValue}
-use Rattle.saved_state.specs.declared.value.Value.TheVariants.{Offset, Text}
+use Rattle.saved_state.specs.declared.value.Value.TheVariants.{Text}
 use Rattle.saved_state.proofs.RestoredLaws.{one_asked}
 use Rattle.saved_state.proofs.RestatedLaws.{same_put}
 use Rattle.saved_state.proofs.restoring.set_value.Goals as goal

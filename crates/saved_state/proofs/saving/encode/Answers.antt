@@ -1,4 +1,4 @@
-use Rattle.std.proofs.Common.{rules, ◌≡◌, ◌<◌, ℕ, List, Some, ◌∷◌, ◌++◌, ◌∙◌, ap, map, length}
+use Rattle.std.proofs.Common.{rules, ◌≡◌, ◌<◌, List, Some, ◌∷◌, ◌++◌, ◌∙◌, ap, map, length}
 use Rattle.std.proofs.lemmas.Map.Iter.{iter_end, iter_turn}
 use Rattle.std.specs.List.{flat_map, slice_get}
 use Rattle.std.specs.Map.Iter.{deref_pair}

@@ -1,4 +1,4 @@
-use Rattle.std.proofs.Common.{sym, ap, ◌∙◌, ℤ}
+use Rattle.std.proofs.Common.{sym, ap, ◌∙◌}
 use Rattle.damage_rect.proofs.RectLaws.{in_hull_first, outside_second}
 use Rattle.geom_core.specs.Rects.{holds}
 use Rattle.geom_core.specs.declared.geometry.Rect.{Rect}

@@ -1,7 +1,6 @@
 use Rattle.std.proofs.Common.{◌<◌, ap, length, subst, sym, ◌∙◌}
 use Rattle.std.proofs.lemmas.List.{get_or_default}
 use Rattle.saved_state.proofs.EntryLaws.{values_fit}
-use Rattle.saved_state.specs.Restoring.{entry_at}
 use Rattle.saved_state.specs.State.{IsValue, StateEntry}
 use Rattle.saved_state.specs.declared.format.TheConstants.{VERSION}
 use Rattle.saved_state.specs.declared.value.Value.TheVariants.{Offset}

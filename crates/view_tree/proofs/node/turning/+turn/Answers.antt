@@ -1,4 +1,4 @@
-use Rattle.std.proofs.Common.{◌≡◌, ◌≢◌, ◌∙◌, Bool, true, false, None, sym, ap, subst, arith}
+use Rattle.std.proofs.Common.{◌≡◌, ◌≢◌, ◌∙◌, Bool, true, false, None, sym, subst, arith}
 use Rattle.std.specs.Cmp.{booleans_Decides}
 use Rattle.slab.specs.Slab.{get}
 use Rattle.view_tree.specs.Rows.{children_of_first}

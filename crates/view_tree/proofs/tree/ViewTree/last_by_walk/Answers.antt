@@ -1,9 +1,9 @@
-use Rattle.std.proofs.Common.{◌≡◌, ◌∙◌, true, false, Some, ap, sym}
+use Rattle.std.proofs.Common.{◌≡◌, ◌∙◌, true, false, ap, sym}
 use Rattle.std.proofs.lemmas.Bool.{eq-eqb, ne_eqb}
 use Rattle.view_model.specs.declared.facts.Facts.{Facts}
 use Rattle.view_tree.specs.node.Nodes.{has_id}
 use Rattle.view_tree.specs.Rows.{children_of_first, head_view, part_from}
-use Rattle.view_tree.proofs.orders.BackSearch.{BackSearch, SearchTo, search_ended, search_found, search_on, search_start}
+use Rattle.view_tree.proofs.orders.BackSearch.{SearchTo, search_ended, search_found, search_on, search_start}
 use Rattle.view_tree.proofs.tree.ViewTree.last_by_walk.Goals as goal
 use Rattle.view_tree.proofs.tree.ViewTree.last_by_walk.Goals.{After-previous-next}
 

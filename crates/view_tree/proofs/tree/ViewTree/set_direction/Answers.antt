@@ -6,7 +6,7 @@ use Rattle.view_model.specs.PlainTree.{PlainView}
 use Rattle.view_tree.specs.tree.Directions.{directed_rows, with_direction}
 use Rattle.view_tree.specs.tree.Requests.{asking, pressed}
 use Rattle.view_tree.specs.Rows.{Row, changed_at_key, count_of_key, head_view, part_from}
-use Rattle.view_tree.specs.Views.{AreDirected, Held, IsLive, IsTree, Views, held_of, number_of, plain_of, plain_rows}
+use Rattle.view_tree.specs.Views.{AreDirected, Held, IsLive, Views, held_of, number_of, plain_rows}
 use Rattle.view_tree.proofs.forest.PlainLaws.{plain_along}
 use Rattle.view_tree.proofs.nodes.NodeReads.{contains_live, is_tree}
 use Rattle.view_tree.proofs.nodes.TurnedFields.{can_turn, held-turned-all, plain-turned, sound-turned, tree-turned}

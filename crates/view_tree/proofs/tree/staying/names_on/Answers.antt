@@ -1,4 +1,4 @@
-use Rattle.std.proofs.Common.{◌≡◌, ◌∙◌, ℕ, List, ap, arith, below_more, get_or, sym}
+use Rattle.std.proofs.Common.{◌∙◌, ℕ, List, ap, arith, below_more, get_or}
 use Rattle.view_tree.proofs.orders.StayLaws.{names_not}
 use Rattle.view_tree.proofs.tree.staying.names_on.Goals as goal
 
