@@ -1,6 +1,6 @@
 -- What is written of resources in a table.
 use Rattle.std.proofs.Common.{◌≡◌, ℕ, List, [], ◌∷◌, ◌++◌, refl, ap, sym, subst, ◌∙◌, arith}
-use Rattle.std.specs.Prelude.{codes, false, map, Result, Ok, Err, string_bytes}
+use Rattle.std.specs.Prelude.{codes, false, Result, Ok, Err, string_bytes}
 use Rattle.std.specs.declared.alloc.Global.{Global}
 use Rattle.std.specs.declared.string.String.{String}
 use Rattle.std.proofs.lemmas.List.Folds.{flat_map-map}

@@ -1,21 +1,23 @@
 //! Which view gets the focus next, after a script.
 
-ghost use Rattle.std.specs.Prelude.{◌≡◌, ◌≢◌, ◌==◌, ℕ, ◌+◌, ◌≤◌, ◌-◌, ◌^◌, ◌⊎◌, List, [], ◌∷◌, IfErr, IfSome, Some, if◌then◌else◌, length, min};
+ghost use Rattle.std.specs.Prelude.{◌≡◌, ◌≢◌, ◌==◌, ℕ, ◌+◌, ◌≤◌, ◌-◌, ◌^◌, ◌⊎◌, List, [], ◌∷◌, IfErr, IfSome, Option, Some, if◌then◌else◌, length, min};
 ghost use Rattle.std.specs.Io.KnownBytes.{Consumes, IsAtEnd};
 ghost use Rattle.std.specs.Option.{option_map};
 ghost use Rattle.text_lines.specs.BufferedText.{Sends};
 ghost use Rattle.text_lines.specs.Delivered.{Delivered};
 ghost use Rattle.tool_io.specs.Counts.{raised};
 ghost use Rattle.tool_io.specs.Fetched.{Files};
-ghost use Rattle.whole_tool.specs.Carried.{world_in};
-ghost use Rattle.whole_tool.specs.Carrier.{carried_of};
+ghost use Rattle.whole_tool.specs.Carried.{Alone, world_in};
+ghost use Rattle.whole_tool.specs.Carrier.{carried_of, next_of};
 ghost use Rattle.whole_tool.specs.Focus.{AsksFrom, AsksWith, IsNamed, answer_of, answer_text, found_text, refused_question};
+ghost use Rattle.whole_tool.specs.Run.{HasReadUpTo};
 ghost use Rattle.whole_tool.specs.Script.{CountsEnd, ends_counted, reads_counted};
 ghost use Rattle.whole_tool.specs.Tool.{IsComplete, IsOneOf};
 ghost use Rattle.whole_tool.specs.Transcript.{max_script};
-ghost use Rattle.whole_tool.specs.Works.{trace};
+ghost use Rattle.whole_tool.specs.Works.{Trace, trace};
 ghost use Rattle.view_tree.specs.Views.{IsLive, number_of};
 ghost use Rattle.view_world.specs.world.KeyedWorld.{world_of};
+ghost use Rattle.view_world.specs.world.World.{empty_world};
 
 use crate::carrier::Carrier;
 use crate::refusals::{put_counted, put_refused};
@@ -71,19 +73,24 @@ impl Question {
         ensures painted { work.old.painted ≤ work.new.painted }
         ensures measured { min work.old.measured (2 ^ 64 - 1) ≤ work.new.measured }
     {
-        status(self.ask(alloc, source, shelf, sink, work))
+        let mut run = Run::new(alloc, Carrier::alone(alloc));
+        status(self.ask(&mut run, source, shelf, sink, work))
     }
 
-    /// Carries out the script on a source and, if it was read to its end, answers the question. Returns whether a line
-    /// or the question was refused.
-    pub fn ask<S: Source, K: Sink, F: Shelf>(
+    /// Carries out the script on a source, by a run of no lines yet, and, if it was read to its end, answers the
+    /// question. Returns whether a line or the question was refused.
+    fn ask<S: Source, K: Sink, F: Shelf>(
         self,
-        alloc: Global,
+        run: &mut Run,
         source: &mut S,
         shelf: &mut F,
         sink: &mut K,
         work: &mut Work,
     ) -> Result<bool, End>
+        requires start { carried_of run.old.runner.carrier ≡ Alone empty_world }
+        requires following { (files : Option Files) (first : Trace)
+            → HasReadUpTo (carried_of run.old.runner.carrier) files first first run.old [] }
+        requires numbers { next_of run.old.runner.carrier ≡ 1 }
         ensures asks { AsksFrom (F.files shelf.old) self
             (S.left source.old) (S.left source.new) (trace (K.state sink.old) work.old (F.fetches shelf.old))
             (trace (K.state sink.new) work.new (F.fetches shelf.new)) result }
@@ -94,8 +101,7 @@ impl Question {
         ensures source_failed { S.faults source.new ≡ reads_counted result (S.faults source.old) }
         ensures sink_failed { (K.state sink.new).faults ≡ ends_counted result (K.state sink.old).faults }
     {
-        let mut run = Run::new(alloc, Carrier::alone(alloc));
-        let refused = run_to_end(&mut run, source, shelf, sink, work)?;
+        let refused = run_to_end(run, source, shelf, sink, work)?;
         let answer = answer_in(run.carrier(), self);
         let unanswered = answer.is_err();
         match write_answer(sink, answer) {

@@ -1,6 +1,6 @@
 //! The load, run in a world of its own.
 
-ghost use Rattle.std.specs.Prelude.{◌≡◌, ◌≢◌, ◌≤◌, ◌^◌, ◌==◌, min, false, ◌-◌, [], ◌∷◌, None, Some, IfOk, IfErr, IfSome, length, if◌then◌else◌};
+ghost use Rattle.std.specs.Prelude.{◌≡◌, ◌≢◌, ◌≤◌, ◌^◌, ◌==◌, min, false, ◌-◌, [], ◌∷◌, None, Some, IfOk, IfErr, IfSome, Option, length, if◌then◌else◌};
 ghost use Rattle.hex.specs.Hex.{encode_lower};
 ghost use Rattle.load_maker.specs.Load.{load};
 ghost use Rattle.script_lines.specs.cutting.Lines.{lines_of};
@@ -8,14 +8,17 @@ ghost use Rattle.sha2.specs.Sha256.{sha256};
 ghost use Rattle.text_lines.specs.BufferedText.{Sends};
 ghost use Rattle.text_lines.specs.Delivered.{Delivered};
 ghost use Rattle.tool_io.specs.Counts.{raised};
+ghost use Rattle.tool_io.specs.Fetched.{Files};
 ghost use Rattle.whole_tool.specs.Carried.{Alone};
+ghost use Rattle.whole_tool.specs.Carrier.{carried_of, next_of};
 ghost use Rattle.whole_tool.specs.Dump.{Dumps};
+ghost use Rattle.whole_tool.specs.declared.run.LineRunner.{LineRunner};
 ghost use Rattle.whole_tool.specs.Gen.{gen_outcome, gen_page, outcome_text};
-ghost use Rattle.whole_tool.specs.Run.{HasCarriedOut};
+ghost use Rattle.whole_tool.specs.Run.{HasCarriedOut, HasReadUpTo};
 ghost use Rattle.whole_tool.specs.Tally.{costs_of_script, tally_from};
 ghost use Rattle.whole_tool.specs.Tool.{IsOneOf};
 ghost use Rattle.whole_tool.specs.Transcript.{after_lines, max_script};
-ghost use Rattle.whole_tool.specs.Works.{WorksPart};
+ghost use Rattle.whole_tool.specs.Works.{Trace, WorksPart};
 ghost use Rattle.view_world.specs.frames.Watched.{IsWorth};
 ghost use Rattle.view_world.specs.world.World.{empty_world};
 
@@ -77,32 +80,62 @@ fn load_outcome(alloc: Global, n: u32, work: &mut Work) -> Option<Outcome>
         return None;
     };
     match carried_out(alloc, script.as_slice(), &mut page, work) {
-        Ok(run) => Some(outcome_of(&run, &page)),
+        Ok(outcome) => Some(outcome),
         Err(_) => None,
     }
 }
 
-/// A whole script, carried out without files.
+/// The results of a whole script that is carried out without files.
 fn carried_out(
     alloc: Global,
     script: &[u8],
     page: &mut MemorySink,
     work: &mut Work,
-) -> Result<Run, Stop>
+) -> Result<Outcome, Stop>
     requires short { length script.now ≤ max_script }
     ensures stopped { IfErr result (λ stop. WorksPart [] work.old work.new (lines_of script.now)) }
-    ensures runs { IfOk result
-        (λ run. HasCarriedOut (record { gone = Some page.old.gone; work = work.old; fetches = None })
-        (record { gone = Some page.new.gone; work = work.new; fetches = None }) run.runner
+    ensures runs { IfOk result (λ outcome. (runner : LineRunner)
+        × HasCarriedOut (record { gone = Some page.old.gone; work = work.old; fetches = None })
+        (record { gone = Some page.new.gone; work = work.new; fetches = None }) runner
+        (after_lines [] (lines_of script.now)) (tally_from (Alone empty_world) [] (lines_of script.now))
+        × (outcome ≡ record { lines = runner.lines; refused = runner.refused; digest = sha256 page.new.gone })) }
+    ensures painted { work.old.painted ≤ work.new.painted }
+    ensures measured { min work.old.measured (2 ^ 64 - 1) ≤ work.new.measured }
+{
+    let mut run = Run::new(alloc, Carrier::alone(alloc));
+    carry_out(alloc, &mut run, script, page, work)
+}
+
+/// The same by a run of no lines yet.
+fn carry_out(
+    alloc: Global,
+    run: &mut Run,
+    script: &[u8],
+    page: &mut MemorySink,
+    work: &mut Work,
+) -> Result<Outcome, Stop>
+    requires short { length script.now ≤ max_script }
+    requires start { carried_of run.old.runner.carrier ≡ Alone empty_world }
+    requires following { (files : Option Files) (first : Trace)
+        → HasReadUpTo (carried_of run.old.runner.carrier) files first first run.old [] }
+    requires numbers { next_of run.old.runner.carrier ≡ 1 }
+    ensures stopped { IfErr result (λ stop. WorksPart [] work.old work.new (lines_of script.now)) }
+    ensures runs { IfOk result (λ outcome.
+        HasCarriedOut (record { gone = Some page.old.gone; work = work.old; fetches = None })
+        (record { gone = Some page.new.gone; work = work.new; fetches = None }) run.new.runner
         (after_lines [] (lines_of script.now)) (tally_from (Alone empty_world) [] (lines_of script.now))) }
+    ensures outcome { IfOk result (λ outcome. outcome ≡ record {
+      lines = run.new.runner.lines;
+      refused = run.new.runner.refused;
+      digest = sha256 page.new.gone;
+    }) }
     ensures painted { work.old.painted ≤ work.new.painted }
     ensures measured { min work.old.measured (2 ^ 64 - 1) ≤ work.new.measured }
 {
     let mut shelf = SteadyShelf::new(Vec::new(alloc));
-    let mut run = Run::new(alloc, Carrier::alone(alloc));
     run.piece(script, &mut shelf, page, work)?;
     run.finish(&mut shelf, page, work)?;
-    Ok(run)
+    Ok(outcome_of(run, page))
 }
 
 /// The results of a script that was carried out, of which this is the page.

@@ -1,8 +1,8 @@
-use Rattle.std.proofs.Common.{◌≡◌, not, ap, sym, ◌∙◌}
+use Rattle.std.proofs.Common.{not, ap, sym, ◌∙◌}
 use Rattle.std.specs.Option.{option_map}
 use Rattle.std.specs.Prelude.{Ok}
 use Rattle.view_tree.specs.Views.{number_of}
-use Rattle.view_world.specs.screen.KeyedScreen.{KeyedScreen, world_of}
+use Rattle.view_world.specs.screen.KeyedScreen.{world_of}
 use Rattle.view_world.specs.declared.screen.stage.Stage.TheVariants.{Unsettled, Settled}
 use Rattle.whole_tool.proofs.FocusLaws.{answer-no_frame, answer-no_root, answer-no_view, answer-no_window, answer-stage, answer-view}
 use Rattle.whole_tool.proofs.focusing.answer.Goals as goal

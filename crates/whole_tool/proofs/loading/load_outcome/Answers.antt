@@ -11,17 +11,17 @@ use Rattle.whole_tool.proofs.loading.load_outcome.Goals as goal
 pub returns-in-Ok-carried_out-clause-value : goal.returns-in-Ok-carried_out-clause-value
 returns-in-Ok-carried_out-clause-value c =
     let empty : c.new-page.result.gone ≡ [] = ap (λ (sink : ListedSink). sink.gone) c.new-page.ensures in
-    outcome_is c.args.n c.as_slice.result.now c.carried_out.new.page.gone _ _ c.in-Ok-carried_out.run'.runner c.outcome_of.result c.outcome_of.ensures (c.as_slice.ensures.value ∙ c.in-Ok.ensures.load)
-    (rw empty at c.in-Ok-carried_out.ensures.runs)
+    outcome_is c.args.n c.as_slice.result.now c.carried_out.new.page.gone _ _ c.in-Ok-carried_out.ensures.runs.0 _ c.in-Ok-carried_out.ensures.runs.2 (c.as_slice.ensures.value ∙ c.in-Ok.ensures.load)
+    (rw empty at c.in-Ok-carried_out.ensures.runs.1)
 
 pub returns-in-Ok-carried_out-clause-worth : goal.returns-in-Ok-carried_out-clause-worth
 returns-in-Ok-carried_out-clause-worth c =
-    load_worth c.args.n c.as_slice.result.now _ _ (c.as_slice.ensures.value ∙ c.in-Ok.ensures.load) c.in-Ok-carried_out.ensures.runs.tallied.worth
+    load_worth c.args.n c.as_slice.result.now _ _ (c.as_slice.ensures.value ∙ c.in-Ok.ensures.load) c.in-Ok-carried_out.ensures.runs.1.tallied.worth
 
 pub returns-in-Ok-carried_out-clause-works : goal.returns-in-Ok-carried_out-clause-works
 returns-in-Ok-carried_out-clause-works c =
     load_works c.args.n c.as_slice.result.now _ _ (c.as_slice.ensures.value ∙ c.in-Ok.ensures.load)
-    (record { done = lines_of c.as_slice.result.now; left = []; all = append-nil (lines_of c.as_slice.result.now); worth = c.in-Ok-carried_out.ensures.runs.tallied.worth })
+    (record { done = lines_of c.as_slice.result.now; left = []; all = append-nil (lines_of c.as_slice.result.now); worth = c.in-Ok-carried_out.ensures.runs.1.tallied.worth })
 
 pub returns-in_default-clause-works : goal.returns-in_default-clause-works
 returns-in_default-clause-works c = works_none (Alone empty_world) [] _ _

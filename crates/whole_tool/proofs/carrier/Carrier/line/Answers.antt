@@ -7,7 +7,7 @@ use Rattle.stack_worlds.specs.PlainStack.{stack_step}
 use Rattle.view_world.specs.world.KeyedWorld.{world_of}
 use Rattle.view_world.specs.world.Step.{step}
 use Rattle.whole_tool.specs.Carried.{Alone, Stacked, BytesWant, Refused, asked_by_bytes, reply_to_bytes}
-use Rattle.whole_tool.specs.Carrier.{WritesLine, carried_of, next_of}
+use Rattle.whole_tool.specs.Carrier.{WritesLine, carried_of}
 use Rattle.whole_tool.specs.Run.{HasTallied}
 use Rattle.whole_tool.specs.declared.carrier.Carrier.{Carrier}
 use Rattle.whole_tool.proofs.CarrierLaws.{have_numbers, numbers_after, same_stack, same_world, writes_stack, writes_world}

@@ -5,17 +5,15 @@ use Rattle.tool_io.specs.Counts.{raised}
 use Rattle.whole_tool.specs.Works.{trace}
 use Rattle.whole_tool.proofs.FocusLaws.{asks_answered, asks_cut}
 use Rattle.whole_tool.proofs.focusing.Question.ask.Goals as goal
-use Rattle.whole_tool.specs.Carried.{Alone, world_in}
+use Rattle.whole_tool.specs.Carried.{world_in}
 use Rattle.whole_tool.specs.Carrier.{carried_of}
 use Rattle.whole_tool.specs.declared.carrier.Carrier.{Carrier}
-use Rattle.view_world.specs.world.World.{empty_world}
 
 pub returns-in_err-refused-clause-asks : goal.returns-in_err-refused-clause-asks
 returns-in_err-refused-clause-asks g c =
     let p = err_from_is_err_and c.from_residual.result c.from_residual.ensures.1 in
     let e : c.from_residual.result ≡ Err c.in_err-refused.field-0.0 = p.1 ∙ ap Err p.2 in
-    let from : carried_of c.new-run.result.runner.carrier ≡ Alone empty_world = ap carried_of c.new-run.ensures.carrier ∙ c.alone.ensures.start in
-    let runs = rw from at c.in_err-refused.ensures.runs in
+    let runs = rw c.requires.start at c.in_err-refused.ensures.runs in
     rw e (record {
       asks = λ files script at_hand reported. inl (runs.runs files script at_hand reported);
       end = tt;
@@ -44,9 +42,8 @@ returns-in_err-refused-clause-shelf_failed g c =
 
 pub returns-in-Ok-clause-asks : goal.returns-in-Ok-clause-asks
 returns-in-Ok-clause-asks g c =
-    let from : carried_of c.new-run.result.runner.carrier ≡ Alone empty_world = ap carried_of c.new-run.ensures.carrier ∙ c.alone.ensures.start in
-    let runs = rw from at c.in_ok-refused.ensures.runs in
-    let made = rw from at c.in_ok-refused.ensures.world in
+    let runs = rw c.requires.start at c.in_ok-refused.ensures.runs in
+    let made = rw c.requires.start at c.in_ok-refused.ensures.world in
     let first = trace (g.K.Sink.state c.args.sink.now) c.args.work.now (g.F.Shelf.fetches c.args.shelf.now) in
     let mid = trace (g.K.Sink.state c.run_to_end.new.sink) c.run_to_end.new.work (g.F.Shelf.fetches c.run_to_end.new.shelf) in
     let left = g.S.Source.left c.run_to_end.new.source in
@@ -63,11 +60,10 @@ returns-in-Ok-clause-asks g c =
 pub returns-in-Ok-clause-sink_failed : goal.returns-in-Ok-clause-sink_failed
 returns-in-Ok-clause-sink_failed g c = c.in-Ok.ensures.counted ∙ c.in_ok-refused.ensures.sink_failed
 
-pub returns-clause-asks : goal.returns-clause-asks
-returns-clause-asks g c =
-    let from : carried_of c.new-run.result.runner.carrier ≡ Alone empty_world = ap carried_of c.new-run.ensures.carrier ∙ c.alone.ensures.start in
-    let runs = rw from at c.in_ok-refused.ensures.runs in
-    let made = rw from at c.in_ok-refused.ensures.world in
+pub returns-in-Err-clause-asks : goal.returns-in-Err-clause-asks
+returns-in-Err-clause-asks g c =
+    let runs = rw c.requires.start at c.in_ok-refused.ensures.runs in
+    let made = rw c.requires.start at c.in_ok-refused.ensures.world in
     let first = trace (g.K.Sink.state c.args.sink.now) c.args.work.now (g.F.Shelf.fetches c.args.shelf.now) in
     let mid = trace (g.K.Sink.state c.run_to_end.new.sink) c.run_to_end.new.work (g.F.Shelf.fetches c.run_to_end.new.shelf) in
     let left = g.S.Source.left c.run_to_end.new.source in
@@ -81,5 +77,5 @@ returns-clause-asks g c =
       most = runs.most;
     }
 
-pub returns-clause-sink_failed : goal.returns-clause-sink_failed
-returns-clause-sink_failed g c = c.in-Err.ensures.counted ∙ ap raised c.in_ok-refused.ensures.sink_failed
+pub returns-in-Err-clause-sink_failed : goal.returns-in-Err-clause-sink_failed
+returns-in-Err-clause-sink_failed g c = c.in-Err.ensures.counted ∙ ap raised c.in_ok-refused.ensures.sink_failed

@@ -1,7 +1,9 @@
-use Rattle.std.proofs.Common.{sym, subst, ◌∙◌}
+use Rattle.std.proofs.Common.{ap, sym, subst, ◌∙◌}
+use Rattle.whole_tool.specs.Carrier.{carried_of}
 use Rattle.whole_tool.specs.Focus.{AsksWith}
 use Rattle.whole_tool.specs.Works.{trace}
 use Rattle.whole_tool.proofs.FocusLaws.{asks_with}
+use Rattle.whole_tool.proofs.StatusLaws.{ends_known, ends_read}
 use Rattle.whole_tool.proofs.ToolLaws.{ends_whole, shelf_by_status, shelf_later, sink_by_status, source_by_status}
 use Rattle.whole_tool.proofs.focusing.Question.carry_out.Goals as goal
 
@@ -31,3 +33,12 @@ returns-clause-shelf_later g c = shelf_later c.ask.result _ _ c.ask.ensures.shel
 
 pub returns-clause-whole : goal.returns-clause-whole
 returns-clause-whole g c = rw c.status.ensures (ends_whole c.ask.result)
+
+pub ask-requires-clause-start : goal.ask-requires-clause-start
+ask-requires-clause-start g c = ap carried_of c.new-run.ensures.carrier ∙ c.alone.ensures.start
+
+pub returns-clause-known : goal.returns-clause-known
+returns-clause-known g c = rw c.status.ensures (ends_known c.ask.result)
+
+pub returns-clause-read_to_end : goal.returns-clause-read_to_end
+returns-clause-read_to_end g c = rw c.status.ensures (ends_read c.ask.result (g.S.Source.left c.ask.new.source) c.ask.ensures.asks.end)

@@ -1,12 +1,10 @@
-use Rattle.std.proofs.Common.{[], refl, arith, ap, subst, sym, ◌∙◌, Option, List, ℕ}
+use Rattle.std.proofs.Common.{arith, ap, subst, sym, ◌∙◌, Option, List, ℕ}
 use Rattle.std.specs.Io.KnownBytes.{Appends}
 use Rattle.std.specs.Prelude.{Err}
 use Rattle.text_lines.specs.Prefix.{AppendsPrefix}
 use Rattle.view_model.specs.Refusals.{plain_refusal}
-use Rattle.whole_tool.specs.Carried.{Carried}
 use Rattle.whole_tool.specs.Refusals.{refused_line}
 use Rattle.whole_tool.specs.Run.{line_now}
-use Rattle.whole_tool.specs.Transcript.{MayWant}
 use Rattle.whole_tool.specs.Works.{trace}
 use Rattle.whole_tool.specs.Tally.{tally_from}
 use Rattle.whole_tool.proofs.RunLaws.{after_from-lines, carried_refused, carried_sink, done_at, done_part, not_done, not_done_fetch, not_done_memory, passed_line, refused_at, refused_part, works_before, works_to_fetch}
