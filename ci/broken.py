@@ -1,5 +1,5 @@
-"""Layout files with a wrong number in a header, and layouts that are nested too deeply: the line `inflate` refuses them
-by the number and the place that docs/FORMATS.md has, and leaves all as it was.
+"""Layout files with a wrong number in a header, layouts that are nested too deeply, and layouts with elements that are
+refused: the line `inflate` refuses them by the number and the place that docs/FORMATS.md has, and leaves all as it was.
 
 Each number of four bytes in the header of a chunk of examples/a.xml is replaced by 0, and by the greatest number. Where
 the file is refused, the bounds of the views, the picture and the number of the next view are those of before; where the
@@ -43,6 +43,7 @@ digest
 """
 DIGEST = hashlib.sha256(bytes.fromhex("336699") * 64).hexdigest()
 ROOT = "v1 0 0 8 8"
+SIZES = ("android:layout_width", "android:layout_height")
 FRAME = '<FrameLayout %s android:layout_width="match_parent" android:layout_height="match_parent">'
 NAMESPACE = 'xmlns:android="http://schemas.android.com/apk/res/android"'
 MAX_DEPTH = 32
@@ -86,12 +87,16 @@ def replaced(at, number, why):
     return difference(*answer(why), *over(made, INFLATING))
 
 
-def nested(count):
-    """A file of `count` views, each of them around the next."""
-    source = FRAME % NAMESPACE + FRAME % "" * (count - 1) + "</FrameLayout>" * count
-    nodes, wrong = sources.read(source.encode(), "nested", names.Names(b"", "ids"))
+def compiled(source):
+    """The file of this source."""
+    nodes, wrong = sources.read(source.encode(), "a.xml", names.Names(b"", "ids"))
     assert not wrong, wrong
     return compiling.compiled(nodes)
+
+
+def nested(count):
+    """A file of `count` views, each of them around the next."""
+    return compiled(FRAME % NAMESPACE + FRAME % "" * (count - 1) + "</FrameLayout>" * count)
 
 
 def refuses_too_many():
@@ -112,9 +117,32 @@ def counts_the_views_around():
     return difference(*wanted, *over(nested(MAX_DEPTH), INFLATING))
 
 
+def reports_the_first_element_that_is_refused():
+    """The second element refers to a resource, and the third is no view: which is refused depends on the resource."""
+    inside = '<View %s="1px" %s="@7f050001"/><style %s="1px" %s="1px"/>' % (SIZES * 2)
+    script = b"window 8 8\ninflate a.xml\nres @7f050001 dimen 1 px\ninflate a.xml\nbounds\n"
+    wanted = b"line 2: refused 12 Unresolved element 2\nline 4: refused 23 UnknownClass element 3\n"
+    wanted += b"line 5: refused 34 NoRoot\n"
+    return difference(wanted, 1, *over(compiled(FRAME % NAMESPACE + inside + "</FrameLayout>"), script))
+
+
+def reports_a_circle_by_its_elements():
+    """The second element and the fourth are each to the right of the other: by ids, of which the last view counts."""
+    tied = 'android:id="@7f08000%d" android:layout_toRightOf="@7f08000%d"'
+    size = '%s="1px" %s="1px"' % SIZES
+    inside = '<FrameLayout %s %s><View android:id="@7f080002" %s/></FrameLayout>' % (tied % (1, 2), size, size)
+    inside += "<View %s %s/>" % (tied % (2, 1), size)
+    group = '<RelativeLayout %s %s="match_parent" %s="match_parent">' % (NAMESPACE, *SIZES)
+    wanted = b"line 2: refused 18 Cycle horizontal e2 e4\nline 3: refused 34 NoRoot\n"
+    script = b"window 8 8\ninflate a.xml\nbounds\n"
+    return difference(wanted, 1, *over(compiled(group + inside + "</RelativeLayout>"), script))
+
+
 def checks():
     for at, of_zero, of_greatest in fields():
         yield "broken files: 0 at %d" % at, partial(replaced, at, 0, of_zero)
         yield "broken files: the greatest number at %d" % at, partial(replaced, at, GREATEST, of_greatest)
     for check in (refuses_too_many, adds_as_many_as_fit, counts_the_views_around):
         yield "broken files: nested views, " + check.__name__.replace("_", " "), check
+    for check in (reports_the_first_element_that_is_refused, reports_a_circle_by_its_elements):
+        yield "broken files: " + check.__name__.replace("_", " "), check

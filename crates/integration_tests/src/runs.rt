@@ -239,17 +239,17 @@ const RUNS: [Run; 28] = [
     Run { script: BLUNDERING, reads: &[], writes: &[], status: 1, text: BLUNDERED },
 ];
 
-/// States of both versions that are read, texts that are restored, and the greatest pointer.
+/// More of them, since a constant has a limit of expressions.
 #[rattlefmt::skip]
-const RESTORED: [Run; 3] = [
+const MORE_RUNS: [Run; 7] = [
     Run { script: GREATEST, reads: &[], writes: &[], status: 1, text: GREATEST_DOWN },
+    // States of both versions are read.
     Run { script: READING_FIRST, reads: &[], writes: &[], status: 1, text: FIRST_READ },
     Run { script: TEXTS, reads: &[], writes: &[], status: 0, text: TEXTS_RESTORED },
-];
-
-/// Runs in which a view has to be laid out again that was not edited.
-#[rattlefmt::skip]
-const REPEATED: [Run; 2] = [
+    // An offset is for a scroll view.
+    Run { script: b"add root FrameLayout 9 9\nid v1 @7f080001\nrestore 56530101000100087f011e000000\n", reads: &[], writes: &[], status: 1, text: b"v1\nline 3: refused 27 StateClass\n" },
+    // The largest window.
+    Run { script: b"window 4096 4096\nadd root View match match\nframe\nbounds\n", reads: &[], writes: &[], status: 0, text: b"v1\nsettled 0\nv1 0 0 4096 4096\n" },
     // A hook changes a view that the pass had no reason to look at again.
     Run { script: REACHING, reads: &[], writes: &[], status: 0, text: REACHED },
     // A rule of a view that is gone moves a sibling.
@@ -636,20 +636,9 @@ fn scripts_are_carried_out(rt: HostRuntime) -> Result<(), Fail> {
 }
 
 #[test]
-fn states_are_read_and_restored(rt: HostRuntime) -> Result<(), Fail> {
+fn more_scripts_are_carried_out(rt: HostRuntime) -> Result<(), Fail> {
     let alloc = rt.alloc();
-    for run in &RESTORED {
-        let script = Vec::from_slice(alloc, run.script)?;
-        let (status, gone) = run_ended(alloc, script, 16, run.reads, run.writes)?;
-        assert_eq!(rt; (status, gone.as_slice()), (run.status, run.text));
-    }
-    Ok(())
-}
-
-#[test]
-fn views_are_laid_out_again(rt: HostRuntime) -> Result<(), Fail> {
-    let alloc = rt.alloc();
-    for run in &REPEATED {
+    for run in &MORE_RUNS {
         let script = Vec::from_slice(alloc, run.script)?;
         let (status, gone) = run_ended(alloc, script, 16, run.reads, run.writes)?;
         assert_eq!(rt; (status, gone.as_slice()), (run.status, run.text));
