@@ -5,6 +5,8 @@ use Rattle.std.proofs.lemmas.Bool.Decides.{nat_tests}
 use Rattle.std.proofs.lemmas.List.{length-map}
 use Rattle.std.specs.Option.{option_and_then, option_map}
 use Rattle.std.specs.Prelude.{ℤ, ◌==◌, if◌then◌else◌, slice_index_or}
+use Rattle.measure_pass.specs.Replacing.{instead_of}
+use Rattle.measure_pass.specs.declared.anchors.Search.{Search}
 use Rattle.measure_pass.specs.Siblings.{IsKidAt, edge_on, first_child, first_span, kept_spans, kids_in}
 use Rattle.measure_pass.proofs.Places.{kid_at}
 use Rattle.measure_pass.proofs.SiblingTurns.{links_same}
@@ -227,6 +229,24 @@ walk_start tree list kids rtl axis tie kid place left size part = record {
   same = ap (λ left. anchor_within left (λ sibling. is_shown (child_at kids sibling).facts) (named_sibling rtl axis tie (links_of kids)) place)
       (size ∙ sym (length-map kids (λ (kid : Child). link_of kid.facts)));
 }
+
+-- the walk from a gone sibling on
+pub walk_past : (tree list : Forest Row) (search : Search) (gone place left : ℕ) → left ≡ length (kids_in list) - 1 → part_from gone tree ≡ siblings_from place list
+    → AnchorWalk tree list (λ sibling. is_shown (child_at (kids_in list) sibling).facts) (named_sibling search.rtl search.axis search.tie (links_of (kids_in list))) (instead_of search (kids_in list) place) gone left
+walk_past tree list search gone place left size part = record {
+  here = place;
+  part = part;
+  same = ap (λ left. anchor_within left (λ sibling. is_shown (child_at (kids_in list) sibling).facts) (named_sibling search.rtl search.axis search.tie (links_of (kids_in list))) place) size;
+}
+
+-- who is a child has siblings
+pub some_kids : (tree list : Forest Row) (key place : ℕ) → 0 < count_of_key key tree → part_from key tree ≡ siblings_from place list → 0 < length (kids_in list)
+some_kids tree Nothing key place live part = let x = located key tree live in absurd (nothing_from place x.row x.kids x.siblings (sym x.is ∙ part))
+  where
+    nothing_from : (place : ℕ) (row : Row) (kids siblings : Forest Row) → Branch row kids siblings ≡ siblings_from place Nothing → ⊥
+    nothing_from zero row kids siblings same = absurd (cc)
+    nothing_from (suc place) row kids siblings same = nothing_from place row kids siblings same
+some_kids tree (Branch row kids siblings) key place live part = omega arith
 
 pub walk_none : (tree list : Forest Row) (shown : ℕ → Bool) (named : ℕ → Option ℕ) (anchor : Option ℕ) (at left : ℕ) (w : AnchorWalk tree list shown named anchor at left)
     → IsKidAt tree list (named w.here) None → IsKidAt tree list anchor None

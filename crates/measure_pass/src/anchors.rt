@@ -1,6 +1,7 @@
 //! The anchors of a child of a relative layout: the siblings to which it is tied, found by their ids.
 ghost use Rattle.std.specs.Prelude.{◌≡◌, ℕ, IfSome};
 ghost use Rattle.measure_pass.specs.Measured.{kids_from};
+ghost use Rattle.measure_pass.specs.Replacing.{AreReplaced, IsReplaced, instead_of};
 ghost use Rattle.measure_pass.specs.Siblings.{IsKidAt, edge_on, first_span, kept_spans, kids_in};
 ghost use Rattle.view_model.specs.declared.kinds.Class.TheVariants.{RelativeLayout};
 ghost use Rattle.view_model.specs.Facts.{is_shown, layout_facts};
@@ -10,71 +11,127 @@ ghost use Rattle.view_model.specs.SiblingRules.{anchor_of, named_sibling};
 ghost use Rattle.view_tree.specs.Rows.{head_view, part_from, siblings_from};
 ghost use Rattle.view_tree.specs.Views.{IsLive, class_of, held_of, state_of};
 
+use crate::replacements::{Replacement, Replacements};
 use crate::siblings::turns;
 use view_model::{Anchor, Anchors, Axis, Tie};
 use view_tree::{Key, ViewTree};
 
-/// An axis of a group, and whether the group runs from right to left.
+/// A turn in a phase of a relative layout: of this child of this group, on this axis; the group runs from right to left
+/// or not.
 #[derive(Clone, Copy)]
-struct GroupAxis {
-    axis: Axis,
-    rtl: bool,
+pub struct Turn {
+    pub view: Key,
+    pub kid: Key,
+    pub axis: Axis,
+    pub rtl: bool,
 }
 
-/// The anchors of a child on an axis, with the sides that are kept of them, in a group of this direction. What the
-/// search works with leaves the stack before the child is measured.
+impl Turn {
+    /// What the anchor of a tie is searched by.
+    fn search(self, tie: Tie) -> Search
+        ensures { result ≡ record { view = self.view; axis = self.axis; rtl = self.rtl; tie = tie } }
+    {
+        Search {
+            view: self.view,
+            axis: self.axis,
+            rtl: self.rtl,
+            tie,
+        }
+    }
+}
+
+/// What an anchor is searched by: a tie of children of this group, on this axis; the group runs from right to left or
+/// not.
+#[derive(Clone, Copy)]
+pub struct Search {
+    pub view: Key,
+    pub axis: Axis,
+    pub rtl: bool,
+    pub tie: Tie,
+}
+
+/// The anchors of a child on an axis, with the sides that are kept of them. What the search works with leaves the stack
+/// before the child is measured.
 #[inline(never)]
-pub fn anchors_of(tree: &ViewTree, view: Key, kid: Key, rtl: bool, axis: Axis) -> Anchors
-    requires live { IsLive tree.now view }
-    requires siblings { class_of tree.now view ≡ RelativeLayout }
-    requires kid { IsLive tree.now kid }
-    ensures { (place : ℕ)
-        → part_from kid tree.now.tree ≡ siblings_from place (kids_from view tree.now.tree)
-        → result ≡ anchors_by rtl axis (kids_in (kids_from view tree.now.tree))
-        (kept_spans axis (held_of tree.now) (kids_from view tree.now.tree)) place }
+pub fn anchors_of(tree: &ViewTree, turn: Turn, replaced: &mut Replacements) -> Anchors
+    requires live { IsLive tree.now turn.view }
+    requires siblings { class_of tree.now turn.view ≡ RelativeLayout }
+    requires kid { IsLive tree.now turn.kid }
+    requires replaced { AreReplaced tree.now.tree turn.view turn.axis turn.rtl replaced.old }
+    ensures anchors { (place : ℕ)
+        → part_from turn.kid tree.now.tree ≡ siblings_from place (kids_from turn.view tree.now.tree)
+        → result ≡ anchors_by turn.rtl turn.axis (kids_in (kids_from turn.view tree.now.tree))
+        (kept_spans turn.axis (held_of tree.now) (kids_from turn.view tree.now.tree)) place }
+    ensures replaced { AreReplaced tree.now.tree turn.view turn.axis turn.rtl replaced.new }
 {
-    let along = GroupAxis { axis, rtl };
+    let kid = turn.kid;
     Anchors {
-        before: anchor_of(tree, view, kid, along, Tie::Before),
-        after: anchor_of(tree, view, kid, along, Tie::After),
-        align_near: anchor_of(tree, view, kid, along, Tie::AlignNear),
-        align_far: anchor_of(tree, view, kid, along, Tie::AlignFar),
+        before: anchor_of(tree, turn.search(Tie::Before), kid, &mut replaced.before),
+        after: anchor_of(tree, turn.search(Tie::After), kid, &mut replaced.after),
+        align_near: anchor_of(
+            tree,
+            turn.search(Tie::AlignNear),
+            kid,
+            &mut replaced.align_near,
+        ),
+        align_far: anchor_of(
+            tree,
+            turn.search(Tie::AlignFar),
+            kid,
+            &mut replaced.align_far,
+        ),
     }
 }
 
 /// The anchor to which a rule ties a child, if there is one. Most children have no such rule, which is seen without a
 /// look-up.
 #[inline(always)]
-fn anchor_of(tree: &ViewTree, view: Key, kid: Key, along: GroupAxis, tie: Tie) -> Option<Anchor>
-    requires live { IsLive tree.now view }
-    requires siblings { class_of tree.now view ≡ RelativeLayout }
+fn anchor_of(
+    tree: &ViewTree,
+    search: Search,
+    kid: Key,
+    last: &mut Option<Replacement>,
+) -> Option<Anchor>
+    requires live { IsLive tree.now search.view }
+    requires siblings { class_of tree.now search.view ≡ RelativeLayout }
     requires kid { IsLive tree.now kid }
-    ensures { (place : ℕ)
-        → part_from kid tree.now.tree ≡ siblings_from place (kids_from view tree.now.tree)
-        → result ≡ anchor_by along.rtl along.axis (kids_in (kids_from view tree.now.tree))
-        (kept_spans along.axis (held_of tree.now) (kids_from view tree.now.tree)) tie place }
+    requires last { IfSome last.old (IsReplaced tree.now.tree search) }
+    ensures anchor { (place : ℕ)
+        → part_from kid tree.now.tree ≡ siblings_from place (kids_from search.view tree.now.tree)
+        → result ≡ anchor_by search.rtl search.axis (kids_in (kids_from search.view tree.now.tree))
+        (kept_spans search.axis (held_of tree.now) (kids_from search.view tree.now.tree)) search.tie place }
+    ensures last { IfSome last.new (IsReplaced tree.now.tree search) }
 {
-    let id = tie.anchor_id(along.rtl, along.axis, &tree.facts(kid).rules);
+    let id = search
+        .tie
+        .anchor_id(search.rtl, search.axis, &tree.facts(kid).rules);
     if id == 0 {
         return None;
     }
-    named_anchor(tree, view, kid, along, tie)
+    named_anchor(tree, search, kid, last)
 }
 
 /// The same by a search, whether the child has such a rule or not.
 #[inline(never)]
-fn named_anchor(tree: &ViewTree, view: Key, kid: Key, along: GroupAxis, tie: Tie) -> Option<Anchor>
-    requires live { IsLive tree.now view }
-    requires siblings { class_of tree.now view ≡ RelativeLayout }
+fn named_anchor(
+    tree: &ViewTree,
+    search: Search,
+    kid: Key,
+    last: &mut Option<Replacement>,
+) -> Option<Anchor>
+    requires live { IsLive tree.now search.view }
+    requires siblings { class_of tree.now search.view ≡ RelativeLayout }
     requires kid { IsLive tree.now kid }
-    ensures { (place : ℕ)
-        → part_from kid tree.now.tree ≡ siblings_from place (kids_from view tree.now.tree)
-        → result ≡ anchor_by along.rtl along.axis (kids_in (kids_from view tree.now.tree))
-        (kept_spans along.axis (held_of tree.now) (kids_from view tree.now.tree)) tie place }
+    requires last { IfSome last.old (IsReplaced tree.now.tree search) }
+    ensures anchor { (place : ℕ)
+        → part_from kid tree.now.tree ≡ siblings_from place (kids_from search.view tree.now.tree)
+        → result ≡ anchor_by search.rtl search.axis (kids_in (kids_from search.view tree.now.tree))
+        (kept_spans search.axis (held_of tree.now) (kids_from search.view tree.now.tree)) search.tie place }
+    ensures last { IfSome last.new (IsReplaced tree.now.tree search) }
 {
-    match anchor_key(tree, view, kid, along, tie) {
+    match anchor_key(tree, search, kid, last) {
         None => None,
-        Some(anchor) => Some(anchor_with(tree, anchor, along.axis)),
+        Some(anchor) => Some(anchor_with(tree, anchor, search.axis)),
     }
 }
 
@@ -114,22 +171,74 @@ fn kept_span(tree: &ViewTree, kid: Key, axis: Axis) -> (i32, i32)
 
 /// The sibling to which a rule ties a child. If the one that it names is gone, it is the one that is named by that
 /// one's rule, and so on.
-fn anchor_key(tree: &ViewTree, view: Key, kid: Key, along: GroupAxis, tie: Tie) -> Option<Key>
-    requires live { IsLive tree.now view }
-    requires siblings { class_of tree.now view ≡ RelativeLayout }
+fn anchor_key(
+    tree: &ViewTree,
+    search: Search,
+    kid: Key,
+    last: &mut Option<Replacement>,
+) -> Option<Key>
+    requires live { IsLive tree.now search.view }
+    requires siblings { class_of tree.now search.view ≡ RelativeLayout }
     requires kid { IsLive tree.now kid }
+    requires last { IfSome last.old (IsReplaced tree.now.tree search) }
     ensures key { (place : ℕ)
-        → part_from kid tree.now.tree ≡ siblings_from place (kids_from view tree.now.tree)
-        → IsKidAt tree.now.tree (kids_from view tree.now.tree)
-        (anchor_of along.rtl along.axis tie (links_of (kids_in (kids_from view tree.now.tree)))
-        (λ sibling. is_shown (child_at (kids_in (kids_from view tree.now.tree)) sibling).facts)
+        → part_from kid tree.now.tree ≡ siblings_from place (kids_from search.view tree.now.tree)
+        → IsKidAt tree.now.tree (kids_from search.view tree.now.tree)
+        (anchor_of search.rtl search.axis search.tie (links_of (kids_in (kids_from search.view tree.now.tree)))
+        (λ sibling. is_shown (child_at (kids_in (kids_from search.view tree.now.tree)) sibling).facts)
         place) result }
     ensures live { IfSome result (λ kid. IsLive tree.now kid) }
+    ensures last { IfSome last.new (IsReplaced tree.now.tree search) }
 {
-    let mut at = kid;
-    let mut left = turns(tree, view);
+    let Some(named) = named_sibling(tree, search, kid) else {
+        return None;
+    };
+    if tree.facts(named).is_shown() {
+        return Some(named);
+    }
+    replacement_of(tree, search, named, last)
+}
+
+/// The sibling that is used instead of a gone one, to which another one is tied.
+#[inline(never)]
+fn replacement_of(
+    tree: &ViewTree,
+    search: Search,
+    gone: Key,
+    last: &mut Option<Replacement>,
+) -> Option<Key>
+    requires live { IsLive tree.now search.view }
+    requires siblings { class_of tree.now search.view ≡ RelativeLayout }
+    requires gone { IsLive tree.now gone }
+    requires last { IfSome last.old (IsReplaced tree.now.tree search) }
+    ensures replaced { IsReplaced tree.now.tree search (record { gone = gone; by = result }) }
+    ensures last { IfSome last.new (IsReplaced tree.now.tree search) }
+{
+    if let Some(replaced) = *last {
+        if replaced.gone == gone {
+            return replaced.by;
+        }
+    }
+    let by = past_gone(tree, search, gone);
+    *last = Some(Replacement { gone, by });
+    by
+}
+
+/// The same by a walk over the gone siblings.
+fn past_gone(tree: &ViewTree, search: Search, gone: Key) -> Option<Key>
+    requires live { IsLive tree.now search.view }
+    requires siblings { class_of tree.now search.view ≡ RelativeLayout }
+    requires gone { IsLive tree.now gone }
+    ensures key { (place : ℕ)
+        → part_from gone tree.now.tree ≡ siblings_from place (kids_from search.view tree.now.tree)
+        → IsKidAt tree.now.tree (kids_from search.view tree.now.tree)
+        (instead_of search (kids_in (kids_from search.view tree.now.tree)) place) result }
+    ensures live { IfSome result (λ kid. IsLive tree.now kid) }
+{
+    let mut at = gone;
+    let mut left = turns(tree, search.view).saturating_sub(1);
     while left > 0 {
-        let Some(named) = named_sibling(tree, view, at, along, tie) else {
+        let Some(named) = named_sibling(tree, search, at) else {
             return None;
         };
         if tree.facts(named).is_shown() {
@@ -142,18 +251,21 @@ fn anchor_key(tree: &ViewTree, view: Key, kid: Key, along: GroupAxis, tie: Tie) 
 }
 
 /// The sibling that a child's own rule names: the last child with the id, if it is not the child itself.
-fn named_sibling(tree: &ViewTree, view: Key, kid: Key, along: GroupAxis, tie: Tie) -> Option<Key>
-    requires live { IsLive tree.now view }
-    requires siblings { class_of tree.now view ≡ RelativeLayout }
+fn named_sibling(tree: &ViewTree, search: Search, kid: Key) -> Option<Key>
+    requires live { IsLive tree.now search.view }
+    requires siblings { class_of tree.now search.view ≡ RelativeLayout }
     requires kid { IsLive tree.now kid }
     ensures key { (place : ℕ)
-        → part_from kid tree.now.tree ≡ siblings_from place (kids_from view tree.now.tree)
-        → IsKidAt tree.now.tree (kids_from view tree.now.tree)
-        (named_sibling along.rtl along.axis tie (links_of (kids_in (kids_from view tree.now.tree))) place) result }
+        → part_from kid tree.now.tree ≡ siblings_from place (kids_from search.view tree.now.tree)
+        → IsKidAt tree.now.tree (kids_from search.view tree.now.tree)
+        (named_sibling search.rtl search.axis search.tie (links_of (kids_in (kids_from search.view tree.now.tree)))
+        place) result }
     ensures live { IfSome result (λ kid. IsLive tree.now kid) }
 {
-    let id = tie.anchor_id(along.rtl, along.axis, &tree.facts(kid).rules);
-    let Some(named) = tree.last_child_with_id(view, id) else {
+    let id = search
+        .tie
+        .anchor_id(search.rtl, search.axis, &tree.facts(kid).rules);
+    let Some(named) = tree.last_child_with_id(search.view, id) else {
         return None;
     };
     if named == kid { None } else { Some(named) }

@@ -3,6 +3,7 @@ ghost use Rattle.std.specs.Prelude.{◌≡◌, ℕ, [], List};
 ghost use Rattle.kept_views.specs.Kept.{Ready};
 ghost use Rattle.measure_pass.specs.Courses.{IsMeasuredBelow};
 ghost use Rattle.measure_pass.specs.Measured.{KeepsRest, kids_from, tree_from};
+ghost use Rattle.measure_pass.specs.Replacing.{AreReplaced};
 ghost use Rattle.measure_pass.specs.Siblings.{AfterTurn, AfterTurns, FirstHasSize, FirstIsKnown, HaveSizes, TurnIsFixed, kept_spans, kids_in, order_on, phase_of};
 ghost use Rattle.relative_layout.specs.plan.RelativePlan.{RepresentsRelative};
 ghost use Rattle.view_model.specs.declared.facts.Facts.{Facts as FactsValue};
@@ -14,9 +15,10 @@ ghost use Rattle.view_tree.specs.groups.Ordering.{AreOrders};
 ghost use Rattle.view_tree.specs.Rows.{part_from, siblings_from, views_of};
 ghost use Rattle.view_tree.specs.Views.{IsLive, IsTree, class_of, held_of, orders_of};
 
-use crate::anchors::anchors_of;
+use crate::anchors::{Turn, anchors_of};
 use crate::measuring::keeping::Outcome;
 use crate::measuring::measure;
+use crate::replacements::Replacements;
 use crate::siblings::{edges_before, keep_edges, kid_in_turn, settle, turns};
 use geom_core::Spec;
 use relative_layout::RelativePlan;
@@ -79,30 +81,38 @@ fn measure_turns(
     ensures sizes { HaveSizes (held_of tree.new) (kids_from view tree.old.tree) }
     ensures rest { KeepsRest tree.old tree.new (kids_from view tree.old.tree) work.old work.new }
 {
+    let rtl = plan.is_rtl();
+    let mut replaced = Replacements::none();
     for turn in 0..turns(tree, view) {
         let kid = kid_in_turn(tree, view, axis, turn);
-        measure_in_turn(tree, Turn { view, kid, axis }, plan, work);
+        let turn = Turn {
+            view,
+            kid,
+            axis,
+            rtl,
+        };
+        measure_in_turn(tree, turn, plan, &mut replaced, work);
     }
-}
-
-/// A turn in a phase of a relative layout: of this child of this group, on this axis.
-#[derive(Clone, Copy)]
-struct Turn {
-    view: Key,
-    kid: Key,
-    axis: Axis,
 }
 
 /// Measures a child of a relative layout in its turn, if it takes part in layout, and keeps its sides.
 #[cycle(measure)]
-fn measure_in_turn(tree: &mut ViewTree, turn: Turn, plan: &mut RelativePlan, work: &mut Work)
+fn measure_in_turn(
+    tree: &mut ViewTree,
+    turn: Turn,
+    plan: &mut RelativePlan,
+    replaced: &mut Replacements,
+    work: &mut Work,
+)
     requires live { IsLive tree.old turn.view }
     requires siblings { class_of tree.old turn.view ≡ RelativeLayout }
     requires kid { IsLive tree.old turn.kid }
     requires ready { Ready (held_of tree.old) (tree_from turn.kid tree.old.tree) }
+    requires replaced { AreReplaced tree.old.tree turn.view turn.axis turn.rtl replaced.old }
     ensures turn { (own : FactsValue) (specs : Specs) (past : List (List Spanned)) (taken : List Spanned) (place : ℕ)
         → RepresentsRelative plan.old own specs past taken
         → phase_axis past ≡ turn.axis
+        → turn.rtl ≡ own.rtl
         → part_from turn.kid tree.old.tree ≡ siblings_from place (kids_from turn.view tree.old.tree)
         → TurnIsFixed turn.axis own specs (kids_in (kids_from turn.view tree.old.tree))
         (kept_spans turn.axis (held_of tree.old) (kids_from turn.view tree.old.tree)) place
@@ -113,6 +123,7 @@ fn measure_in_turn(tree: &mut ViewTree, turn: Turn, plan: &mut RelativePlan, wor
         (phase_of turn.axis own specs (kids_in (kids_from turn.view tree.old.tree)))
         (kids_in (kids_from turn.view tree.old.tree)) place (held_of tree.old) (held_of tree.new)
         (part_from turn.kid tree.old.tree) work.old.measured work.new.measured }
+    ensures replaced { AreReplaced tree.old.tree turn.view turn.axis turn.rtl replaced.new }
     ensures size { FirstHasSize (held_of tree.new) (part_from turn.kid tree.old.tree) }
     ensures rest { KeepsRest tree.old tree.new (tree_from turn.kid tree.old.tree) work.old work.new }
 {
@@ -120,7 +131,7 @@ fn measure_in_turn(tree: &mut ViewTree, turn: Turn, plan: &mut RelativePlan, wor
     if !tree.facts(kid).is_shown() {
         return;
     }
-    let anchors = &anchors_of(tree, turn.view, kid, plan.is_rtl(), turn.axis);
+    let anchors = &anchors_of(tree, turn, replaced);
     let edges = edges_before(tree, kid, turn.axis);
     let (across, down) = plan.ask(tree.facts(kid), edges, anchors);
     let got = measure(tree, kid, across, down, work);

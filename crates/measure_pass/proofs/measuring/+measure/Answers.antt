@@ -609,6 +609,7 @@ relative::measure_turns-loop-turn-init t c =
       turning = λ own specs past represents is known. turning_start c.args.plan.now c.args.axis own specs past order (held_of c.args.tree.now) list c.args.work.now.measured represents known;
       sizes = λ q small. absurd (omega arith);
       rest = rest_none c.args.tree.now list c.args.work.now c.requires.ready;
+      replaced = rw c.none-replaced.ensures (tt, tt, tt, tt);
     }
 
 pub relative::measure_turns-returns-clause-sizes : goal.relative::measure_turns-returns-clause-sizes
@@ -644,12 +645,13 @@ relative::measure_turns-loop-turn-preserved t c =
           let phase = phase_of c.args.axis own specs (kids_in list) in
           let so_far = i.turning own specs past represents axis known in
           let fixed = turn_fixed c.args.axis own specs old list orders turn c.turns-turn-end.ensures.ordered inside so_far.over in
-          let turned = rw same.tree at (m.turn own specs past (spanned_in (kids_in list) phase.spans (take turn order)) (get_or order turn 0) so_far.plan_represents axis) in
+          let turned = rw same.tree at (m.turn own specs past (spanned_in (kids_in list) phase.spans (take turn order)) (get_or order turn 0) so_far.plan_represents axis (c.is_rtl-rtl.ensures own specs past [] represents)) in
           let after = rw part at (turned part fixed (rw part (so_far.ahead turn (omega arith) inside))) in
           turning_on c.loop-turn.plan c.measure_in_turn.new.plan c.args.axis own specs past order turn (held_of c.args.tree.now) old new list c.args.work.now.measured c.loop-turn.work.measured
           c.measure_in_turn.new.work.measured inside is.anchors.once once others so_far after;
       sizes = sizes_on old new list order turn inside is.anchors.once once others i.sizes (rw part at (rw same.tree at m.size));
       rest = rest_at c.args.tree.now c.loop-turn.tree c.measure_in_turn.new.tree list (get_or order turn 0) c.args.work.now c.loop-turn.work c.measure_in_turn.new.work once i.rest rest;
+      replaced = rw same.tree at m.replaced;
     }
 
 pub relative::measure_turns-measure_in_turn-requires : goal.relative::measure_turns-measure_in_turn-requires
@@ -662,7 +664,7 @@ relative::measure_turns-measure_in_turn-requires t c =
     let fewer : count_of (first_tree (part_from c.kid_in_turn-kid.result tree)) < count_of (first_tree (part_from c.args.view tree)) =
     rw kid (let few = count_in_list list (slice_index (order_on c.args.axis (orders_of c.args.tree.now c.args.view)) c.loop-turn.turn) in let below = live_below c.args.view tree c.requires.live in omega arith) in
     let ready = Ready-place (held_of c.loop-turn.tree) (slice_index (order_on c.args.axis (orders_of c.args.tree.now c.args.view)) c.loop-turn.turn) list i.ready in
-    rw i.same.tree (omega arith, (c.requires.live, (c.requires.siblings, (live, rw kid ready))))
+    rw i.same.tree (omega arith, (c.requires.live, (c.requires.siblings, (live, (rw kid ready, c.loop-turn.invariant.replaced)))))
 
 pub relative::measure_in_turn-returns-then-not-is_shown-clause-rest : goal.relative::measure_in_turn-returns-then-not-is_shown-clause-rest
 relative::measure_in_turn-returns-then-not-is_shown-clause-rest t c = rest_none c.args.tree.now (tree_from c.args.turn.kid c.args.tree.now.tree) c.args.work.now c.requires.ready
@@ -693,7 +695,7 @@ relative::measure_in_turn-returns-clause-rest t c =
     }
 
 pub relative::measure_in_turn-returns-then-not-is_shown-clause-turn : goal.relative::measure_in_turn-returns-then-not-is_shown-clause-turn
-relative::measure_in_turn-returns-then-not-is_shown-clause-turn t c = λ own specs past taken place represents is part fixed known.
+relative::measure_in_turn-returns-then-not-is_shown-clause-turn t c = λ own specs past taken place represents is rtl part fixed known.
     let tree = c.args.tree.now.tree in
     let list = children_of_first (part_from c.args.turn.view tree) in
     let x = located c.args.turn.kid tree c.requires.kid in
@@ -701,7 +703,7 @@ relative::measure_in_turn-returns-then-not-is_shown-clause-turn t c = λ own spe
     rw x.is (turn_gone c.args.turn.axis own specs past taken list place x.row x.kids x.siblings (sym x.is ∙ part) c.args.plan.now (held_of c.args.tree.now) c.args.work.now.measured (rw x.is at gone) represents)
 
 pub relative::measure_in_turn-returns-clause-turn : goal.relative::measure_in_turn-returns-clause-turn
-relative::measure_in_turn-returns-clause-turn t c = λ own specs past taken place represents is part fixed known.
+relative::measure_in_turn-returns-clause-turn t c = λ own specs past taken place represents is rtl part fixed known.
     let tree = c.args.tree.now.tree in
     let list = children_of_first (part_from c.args.turn.view tree) in
     let kids = kids_in list in
@@ -721,7 +723,7 @@ relative::measure_in_turn-returns-clause-turn t c = λ own specs past taken plac
     (held_of c.args.tree.now) (held_of c.measure-got.new.tree) (held_of c.keep_edges.new.tree) (facts_in (part_from c.args.turn.kid tree)) c.edges_before-edges.result c.take-edges.result c.anchors_of.result asked
     c.measure-got.result c.args.work.now.measured c.measure-got.new.work.measured is fixed (rw x.is at shown) (rw x.is refl)
     (edges_known c.args.turn.axis own specs kids (held_of c.args.tree.now) c.args.turn.kid tree place c.edges_before-edges.result c.requires.kid shown c.edges_before-edges.ensures.first c.edges_before-edges.ensures.second known)
-    (rw (c.is_rtl.ensures own specs past taken represents) at (c.anchors_of.ensures place part)) (rw facts_is at (c.ask.ensures own specs past taken represents)) (rw x.is at m.size) (rw (m.same.tree, x.is) at m.measured.sized)
+    (rw rtl at (c.anchors_of.ensures.anchors place part)) (rw facts_is at (c.ask.ensures own specs past taken represents)) (rw x.is at m.size) (rw (m.same.tree, x.is) at m.measured.sized)
     (subst (λ key. specs_of (held_of c.measure-got.new.tree key).state ≡ asked) (sym x.key_is) m.measured.last)
     (rw still at (c.take-edges.ensures.edges own specs past taken represents)) (rw still at (c.take-edges.ensures.taken own specs past taken represents)) wrote
     (let o = once x.row.key in omega arith)

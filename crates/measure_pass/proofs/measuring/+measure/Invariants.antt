@@ -2,6 +2,7 @@ use Rattle.std.proofs.Common.{◌≡◌, ◌+◌, ◌*◌, ◌<◌, ℕ, [], Lis
 use Rattle.std.specs.Prelude.{slice_index}
 use Rattle.measure_pass.specs.Measured.{KeepsRest, kids_from, tree_from}
 use Rattle.measure_pass.specs.Plans.{Frame, Linear, Scroll}
+use Rattle.measure_pass.specs.Replacing.{AreReplaced}
 use Rattle.measure_pass.specs.Siblings.{FirstHasSize, FirstIsKnown, kids_in, order_on, phase_of}
 use Rattle.measure_pass.proofs.PlanWalk.{PlanWalk}
 use Rattle.measure_pass.proofs.SiblingTurns.{Turning}
@@ -108,6 +109,7 @@ invariant-relative::measure_turns-loop-turn l =
           → Turning l.plan l.axis own specs past order l.turn start now list l.fn.work.measured l.work.measured;
       sizes : (q : ℕ) → q < l.turn → FirstHasSize now (siblings_from (slice_index order q) list);
       rest : KeepsRest l.fn.tree l.tree list l.fn.work l.work;
+      replaced : AreReplaced l.fn.tree.tree l.view l.axis l.rtl l.replaced;
     }
 
 abbrev pub decreases-relative::measure_in_turn : goal.decreases-relative::measure_in_turn
