@@ -30,6 +30,11 @@ def windows(n):
     return views + b"".join(b"window %d 48\nframe\n" % (64 + k % 16) for k in range(n))
 
 
+def windows_of_one_size(n):
+    """A window of 2048 by 2048 pixels, again and again."""
+    return b"window 2048 2048\n" * n
+
+
 def edited_frames(n):
     """A frame after each of this many edits, of one view or another of 4096, each with up to 31 views around it."""
     lines = [nested(4096)]
@@ -125,6 +130,14 @@ def frames_of_small_views(n):
         lines.append(b"add v1 View 12 9\nmargins v%d %d %d 0 0\n" % (number, at % 80 * 12, at // 80 * 18))
         lines.append(b"bg v%d #ff%06x\n" % (number, at * 4099 % 0x1000000))
     return b"".join(lines) + b"".join(b"bg v1 #ff%06x\nframe\n" % k for k in range(n))
+
+
+def frames_of_a_small_view(n):
+    """60 rows of 64 views of 8 by 8 pixels, one of which gets another colour before each frame."""
+    lines = [b"window 640 480\nadd root LinearLayout match match\norient v1 vertical\n"]
+    lines += [b"add v1 LinearLayout match 8\n" + b"add v%d View 8 8\n" % (2 + 65 * row) * 64 for row in range(60)]
+    edits = [b"bg v%d #ff%06x\nframe\n" % (3 + 65 * (k * 7 % 60) + k % 64, k * 4099 % 0x1000000) for k in range(n)]
+    return b"".join(lines + edits)
 
 
 def frames_of_a_page(n):
@@ -265,6 +278,37 @@ def rules_in_a_group(children):
     places = [k * 7 % (children - 1) for k in range(2000)]
     lines = [b"rule v%d right_of @%x\n" % (3 + place, 1 + place) for place in places]
     return group(children, False, b"".join(lines) + b"frame\n")
+
+
+def gone_in_a_chain(children):
+    """A relative layout, half of whose children are gone and in a chain; the others are tied to its end. Elsewhere half of the ids
+    are held once more."""
+    half = children // 2
+    lines = [b"window 100 100\nadd root FrameLayout match match\nadd v1 RelativeLayout match match\nadd v1 FrameLayout match match\n"]
+    lines += [b"add v2 View 1 1\nid v%d @%x\n" % (3 + number, number) for number in range(1, children + 1)]
+    lines += [b"add v3 View 1 1\nid v%d @%x\n" % (3 + children + number, number) for number in range(1, half + 1)]
+    lines += [b"visible v%d gone\nrule v%d right_of @%x\n" % (3 + number, 3 + number, number - 1) for number in range(1, half + 1)]
+    lines += [b"rule v%d right_of @%x\n" % (3 + number, half) for number in range(half + 1, children + 1)]
+    return b"".join(lines) + b"frame\n"
+
+
+def rules_of_one_id(children):
+    """The first child names the id that all others have, and no longer, 100 times."""
+    lines = [b"window 100 100\nadd root RelativeLayout match match\nadd v1 View 1 1\n"]
+    lines += [b"add v1 View 1 1\nid v%d @5\n" % (2 + number) for number in range(1, children)]
+    return b"".join(lines) + b"rule v2 right_of @5\nrule v2 right_of @0\n" * 100 + b"frame\n"
+
+
+def ids_in_a_group(children):
+    """2000 new ids for children that no rule ties."""
+    lines = [b"window 100 100\nadd root RelativeLayout match match\n" + b"add v1 View 1 1\n" * children]
+    lines += [b"id v%d @%x\n" % (2 + k % children, 1 + k) for k in range(2000)]
+    return b"".join(lines) + b"frame\n"
+
+
+def restores(n):
+    """Lines that restore a state, and none is saved."""
+    return b"window 9 9\nadd root FrameLayout match match\n" + b"restore\n" * n
 
 
 def short_edits(mib):
