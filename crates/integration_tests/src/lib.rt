@@ -3,8 +3,6 @@
 #![tactic(auto)]
 
 #[cfg(test)]
-mod attributes;
-#[cfg(test)]
 mod layout_files;
 #[cfg(test)]
 mod runs;
