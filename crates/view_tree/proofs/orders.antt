@@ -5,6 +5,7 @@ pub mod CycleLists
 pub mod FirstCycles
 pub mod GroupLaws
 pub mod GroupReads
+pub mod HighestLaws
 pub mod IdPlaces
 pub mod ListLaws
 pub mod OnlyLayouts

@@ -1,5 +1,6 @@
 -- The kept orders of relative layouts.
 pub mod Cycles
+pub mod Highest
 pub mod Ordering
 pub mod Places
 pub mod Staying

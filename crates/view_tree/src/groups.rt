@@ -1,29 +1,34 @@
 //! What is kept of the children of relative layouts, by the numbers of these: `places` changes an order, `kids` gathers
-//! the children of a sapling's layouts.
+//! the children of a sapling's layouts, `highest` has the highest ids that rules name, and `ordered` a child in an order.
 ghost use Rattle.std.specs.Prelude.{◌≡◌, ◌≢◌, ◌≤◌, ◌<◌, ◌+◌, ◌^◌, ℕ, length, true, None, Some, IfSome, OnOk, option_map, if◌then◌else◌, nat_eq};
 ghost use Rattle.indexmap.specs.IndexMap.{get as held_at, spare};
 ghost use Rattle.view_model.specs.Refusals.{IsRefusedExactlyFor};
 ghost use Rattle.view_model.specs.Classes.{is_relative};
 ghost use Rattle.view_tree.specs.tree.Grafting.{noted};
-ghost use Rattle.view_tree.specs.groups.Ordering.{HasKidRoom, IsTaken, IsTakenAt, group_at, no_group, orders_in, place_in, plain_group, plain_orders, with_kid, with_orders};
+ghost use Rattle.view_tree.specs.groups.Ordering.{HasKidRoom, IsRuled, IsRuledAt, IsTaken, IsTakenAt, group_at, no_group, orders_in, place_in, plain_group, plain_orders, with_kid};
 
+pub mod highest;
 pub mod kids;
+pub mod ordered;
 pub mod places;
 
 use crate::fault::AttachFault;
+use crate::groups::highest::{higher, highest_in};
 use crate::groups::places::{add_place, remove_place};
 use indexmap::IndexMap;
 use relative_layout::Orders;
 use std::alloc::{AllocError, Global};
-use view_model::Class;
+use view_model::{Class, Rules};
 
 /// What is kept of the children of a relative layout: the orders in which they are measured, as places among the
 /// children, and the children's numbers in list order. This list turns the places of the orders into views without a
-/// walk, and is part of the kept orders; no other view has a list of its children.
+/// walk, and is part of the kept orders; no other view has a list of its children. The rules of no child name an id above
+/// `highest`.
 #[derive(Drop)]
 pub struct Group {
     pub orders: Orders,
     pub kids: Vec<u64>,
+    pub highest: u32,
 }
 
 /// Takes the memory for one more child.
@@ -171,6 +176,7 @@ fn empty_group(alloc: Global) -> Group
             down: Vec::new(alloc),
         },
         kids: Vec::new(alloc),
+        highest: 0,
     }
 }
 
@@ -213,23 +219,34 @@ pub fn leave_group(groups: &mut IndexMap<u64, Group>, parent: Option<u64>, numbe
     groups.swap_remove(&number);
 }
 
-/// Sets the orders of the relative layout of a number; if none are given, nothing changes.
-pub fn set_orders(groups: &mut IndexMap<u64, Group>, number: Option<u64>, orders: Option<Orders>)
-    ensures own { (k : ℕ) (new : Orders)
+/// Records that a child of the relative layout of a number has other rules, for which these are the orders; if none are
+/// given, those that are kept stay.
+pub fn set_orders(
+    groups: &mut IndexMap<u64, Group>,
+    number: Option<u64>,
+    orders: Option<Orders>,
+    rules: &Rules,
+)
+    ensures own { (k : ℕ)
         → number ≡ Some k
-        → orders ≡ Some new
-        → group_at groups.new k ≡ option_map (with_orders (plain_orders new)) (group_at groups.old k) }
+        → IsRuledAt (option_map plain_orders orders) rules.now (group_at groups.old k) (group_at groups.new k) }
     ensures others { (k : ℕ) → number ≢ Some k → group_at groups.new k ≡ group_at groups.old k }
-    ensures none { orders ≡ None → (k : ℕ) → group_at groups.new k ≡ group_at groups.old k }
     ensures unused { (k : ℕ) → group_at groups.old k ≡ None → group_at groups.new k ≡ None }
 {
-    let Some(orders) = orders else {
-        return;
-    };
     let Some(number) = number else {
         return;
     };
     if let Some(group) = groups.get_mut(&number) {
+        rule_kid(group, orders, rules);
+    }
+}
+
+/// The same in the group.
+fn rule_kid(group: &mut Group, orders: Option<Orders>, rules: &Rules)
+    ensures { IsRuled (option_map plain_orders orders) rules.now (plain_group group.old) (plain_group group.new) }
+{
+    group.highest = higher(group.highest, highest_in(rules));
+    if let Some(orders) = orders {
         group.orders = orders;
     }
 }

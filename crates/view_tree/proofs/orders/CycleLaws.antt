@@ -1,6 +1,7 @@
 -- Cycles of relative layouts, and new orders of the children of one.
 use Rattle.std.proofs.Common.{◌≡◌, ◌≢◌, ◌⊎◌, ℕ, ◌<◌, ◌≤◌, ◌+◌, true, List, [], ◌∷◌, ◌++◌, append_assoc, length, Option, Some, None, refl, sym, ◌∙◌, ap, subst, arith, inl, inr}
-use Rattle.std.proofs.lemmas.Bool.{cases_eq, eq-eqb, eqb-true, ne_eqb}
+use Rattle.std.proofs.lemmas.Bool.{cases_Bool, cases_eq, eq-eqb, eqb-true, ne_eqb}
+use Rattle.std.specs.Option.{unwrap_or}
 use mathlib.Core.Path.{fun_ext}
 use Rattle.std.specs.declared.alloc.Global.{Global}
 use Rattle.relative_layout.specs.declared.ordering.OrderFault.TheVariants as order
@@ -23,15 +24,16 @@ use Rattle.view_tree.specs.Faults.{IsRefusedOrCyclic}
 use Rattle.view_tree.specs.node.Nodes.{PlainNode, RepresentsPart, RepresentsTree}
 use Rattle.view_model.specs.Classes.{is_relative}
 use Rattle.view_model.specs.Cycles.{cycle_below, first_cycle, link_of, links_in, numbers_in}
-use Rattle.view_tree.specs.groups.Ordering.{AreOrders, IsGrouped, IsGroupedAt, IsKeptOf, PlainGroup, PlainOrders, link_or, linked_in, plain_orders, with_orders}
+use Rattle.view_tree.specs.groups.Ordering.{AreOrders, IsGrouped, IsGroupedAt, IsKeptOf, IsRuledAt, PlainGroup, PlainOrders, link_or, linked_in, plain_orders}
 use Rattle.view_tree.specs.Rows.{Row, children_of_first, count_of_key, count_of_number, head_view, later_siblings, part_from, views_of}
-use Rattle.view_tree.specs.Views.{Held, IsLive, IsTree, Views, class_of, group_number, held_of, number_of, plain_of, plain_rows, scrolled}
+use Rattle.view_tree.specs.Views.{Held, IsLive, IsTree, Views, class_of, group_number, held_of, number_of, orders_under, plain_of, plain_rows, scrolled}
 use Rattle.view_tree.proofs.forest.Forests.{some_is}
 use Rattle.view_tree.proofs.forest.KeyLaws.{Agree, Within, from_within, here, in_after, in_below, located, number-within, zero_or_more}
 use Rattle.view_tree.proofs.forest.PlainLaws.{agree_live}
 use Rattle.view_tree.proofs.orders.FirstCycles.{HaveCyclesAt, first_at, reported_is}
+use Rattle.view_tree.proofs.orders.HighestLaws.{above_changed, named_more}
 use Rattle.view_tree.proofs.orders.ListLaws.{IsAmong, among_or_not, among_times, edited_nowhere, each-changed_below, every_by, length-each, times_in}
-use Rattle.view_tree.proofs.orders.RowLaws.{at_within, count_within, each-plain, every_within, few_numbers, group_number-own, numbered_at, numbers-plain, times-plain}
+use Rattle.view_tree.proofs.orders.RowLaws.{at_within, count_within, each-plain, every_within, few_numbers, group_number-own, numbered_at, numbers-plain, orders_or, times-plain}
 use Rattle.view_tree.proofs.orders.TreeLaws.{Groups, HasParent, Owes, grouped-edited, kept_along}
 
 -- if there are orders, there are no cycles
@@ -162,10 +164,16 @@ not_parent views key parent is found same =
     rw (eq-eqb found.row.view.number found.row.view.number refl) refl in
     omega arith
 
-kept-ruled : (old new : Forest PlainView) (group : Option PlainGroup) (orders : PlainOrders) → numbers_in new ≡ numbers_in old → AreOrders (links_in new) orders → IsKeptOf old group
-    → IsKeptOf new (option_map (with_orders orders) group)
-kept-ruled old new None orders numbers are kept = absurd kept
-kept-ruled old new (Some group) orders numbers are kept = record { numbers = kept.numbers ∙ sym numbers; orders = are }
+kept-ruled : (number : ℕ) (link : Link) (change : PlainView → PlainView) (list : Forest PlainView) (old new : Option PlainGroup) (orders : Option PlainOrders)
+    → ((view : PlainView) → (change view).number ≡ view.number) → ((view : PlainView) → link_of (change view) ≡ link) → AreOrders (links_in (changed number change list)) (unwrap_or orders (orders_or old))
+    → IsRuledAt orders link.rules old new → IsKeptOf list old → IsKeptOf (changed number change list) new
+kept-ruled number link change list None new orders same reads are ruled kept = absurd kept
+kept-ruled number link change list (Some old) None orders same reads are ruled kept = absurd ruled
+kept-ruled number link change list (Some old) (Some new) orders same reads are ruled kept = record {
+  numbers = ruled.kids ∙ kept.numbers ∙ sym (numbers-changed number change list same);
+  orders = subst (AreOrders (links_in (changed number change list))) (sym ruled.sorted) are;
+  highest = above_changed number new.highest link change list reads ruled.own (named_more (links_in list) old.highest new.highest kept.highest ruled.others);
+}
 
 once : (views : Views) (key : ℕ) → IsTree views → times_in (number_of views key) (plain_of views) ≤ 1
 once views key is = let n = is.numbers (number_of views key) in rw (times-plain (held_of views) (number_of views key) views.tree) n
@@ -270,9 +278,9 @@ module _ (at now : Groups) (views new : Views) (key : ℕ) (link : Link) (change
       subst (λ (groups : Groups). IsGrouped groups (plain_of new)) (sym (fun_ext stays))
       (subst (IsGrouped at) (sym plain) (grouped-apart at (number_of views key) change (plain_of views) (once views key is) class same has grouped))
 
-  module _ (parent : ℕ) (orders : PlainOrders) (above : IsLive views parent) (found : FoundChild (held_of views) views.tree (number_of views key) (Some parent))
-      (are : AreOrders (links_below views parent (number_of views key) link) orders)
-      (own : now (number_of views parent) ≡ option_map (with_orders orders) (at (number_of views parent))) (others : (k : ℕ) → number_of views parent ≢ k → now k ≡ at k)
+  module _ (parent : ℕ) (orders : Option PlainOrders) (above : IsLive views parent) (found : FoundChild (held_of views) views.tree (number_of views key) (Some parent))
+      (are : AreOrders (links_below views parent (number_of views key) link) (unwrap_or orders (orders_or (at (number_of views parent)))))
+      (own : IsRuledAt orders link.rules (at (number_of views parent)) (now (number_of views parent))) (others : (k : ℕ) → number_of views parent ≢ k → now k ≡ at k)
       (has : EveryBranch (λ (view : PlainView) (kids : Forest PlainView). HasParent (number_of views key) (Some (number_of views parent)) view kids) (plain_of views)) where
     owes : EveryBranch (λ (view : PlainView) (kids : Forest PlainView). Owes at now (number_of views key) (λ view kids siblings. Branch (change view) kids siblings) view kids) (plain_of views)
     owes = every_within (λ (view : PlainView) (kids : Forest PlainView). Owes at now (number_of views key) (λ view kids siblings. Branch (change view) kids siblings) view kids) (held_of views) views.tree
@@ -280,11 +288,10 @@ module _ (at now : Groups) (views new : Views) (key : ℕ) (link : Link) (change
           λ isnt kept relative. elim (cases_eq row.view.number (number_of views parent)) [
             | inl is_parent ↦
                 let part = numbered_at views parent row kids siblings is above within is_parent in
-                subst (IsKeptOf (changed (number_of views key) change (plain_rows (held_of views) kids)))
-                (sym (ap now is_parent ∙ own ∙ ap (λ k. option_map (with_orders orders) (at k)) (sym is_parent)))
-                (kept-ruled (plain_rows (held_of views) kids) (changed (number_of views key) change (plain_rows (held_of views) kids)) (at row.view.number) orders
-                (numbers-changed (number_of views key) change (plain_rows (held_of views) kids) same)
-                (subst (λ links. AreOrders links orders) (sym (links_then views key link change is reads parent row kids siblings within part)) are) (kept relative))
+                kept-ruled (number_of views key) link change (plain_rows (held_of views) kids) (at row.view.number) (now row.view.number) orders same reads
+                (subst (λ k. AreOrders (links_in (changed (number_of views key) change (plain_rows (held_of views) kids))) (unwrap_or orders (orders_or (at k)))) (sym is_parent)
+                (subst (λ links. AreOrders links (unwrap_or orders (orders_or (at (number_of views parent))))) (sym (links_then views key link change is reads parent row kids siblings within part)) are))
+                (subst (λ k. IsRuledAt orders link.rules (at k) (now k)) (sym is_parent) own) (kept relative)
             | inr is_other ↦
                 let away : IsAmong (number_of views key) (plain_rows (held_of views) kids) → ⊥ =
                 λ among. is_other (sym (some_is (at_within (HasParent (number_of views key) (Some (number_of views parent))) (held_of views) row kids siblings within has relative among))) in
@@ -309,24 +316,33 @@ module _ (at now : Groups) (views new : Views) (key : ℕ) (link : Link) (change
 -- a view has another id and other rules, and its parent the orders for them, if it is a relative layout
 pub grouped-ruled : (at now : Groups) (views new : Views) (key : ℕ) (link : Link) (change : PlainView → PlainView) → IsTree views → IsLive views key
     → ((view : PlainView) → (change view).class ≡ view.class) → ((view : PlainView) → (change view).number ≡ view.number) → ((view : PlainView) → link_of (change view) ≡ link)
-    → plain_of new ≡ changed (number_of views key) change (plain_of views) → IsGrouped at (plain_of views)
+    → plain_of new ≡ changed (number_of views key) change (plain_of views) → IsGrouped at (plain_of views) → ((k : ℕ) → orders_under views k ≡ orders_or (at k))
     → (above : Option ℕ) (orders : Option Orders) → IfSome above (λ parent. IsLive views parent)
     → ((parent : ℕ) → above ≡ Some parent → FoundChild (held_of views) views.tree (number_of views key) (Some parent))
     → EveryBranch (λ (view : PlainView) (kids : Forest PlainView). HasParent (number_of views key) (group_number views above) view kids) (plain_of views)
     → AreNewOrders views key link above (Ok orders)
-    → ((k : ℕ) (new : Orders) → group_number views above ≡ Some k → orders ≡ Some new → now k ≡ option_map (with_orders (plain_orders new)) (at k))
-    → ((k : ℕ) → group_number views above ≢ Some k → now k ≡ at k) → (orders ≡ None → (k : ℕ) → now k ≡ at k) → IsGrouped now (plain_of new)
-grouped-ruled at now views new key link change is live class same reads plain grouped None None up found has reported own others none =
-    grouped-alone at now views new key link change is live class same reads plain grouped (none refl) has
-grouped-ruled at now views new key link change is live class same reads plain grouped None (Some orders) up found has reported own others none = absurd reported
-grouped-ruled at now views new key link change is live class same reads plain grouped (Some parent) None up found has reported own others none =
-    let apart : group_number views (Some parent) ≡ None = rw reported refl in
-    grouped-alone at now views new key link change is live class same reads plain grouped (none refl)
-    (subst (λ (group : Option ℕ). EveryBranch (λ (view : PlainView) (kids : Forest PlainView). HasParent (number_of views key) group view kids) (plain_of views)) apart has)
-grouped-ruled at now views new key link change is live class same reads plain grouped (Some parent) (Some orders) up found has reported own others none =
+    → ((k : ℕ) → group_number views above ≡ Some k → IsRuledAt (option_map plain_orders orders) link.rules (at k) (now k))
+    → ((k : ℕ) → group_number views above ≢ Some k → now k ≡ at k) → IsGrouped now (plain_of new)
+grouped-ruled at now views new key link change is live class same reads plain grouped kept None None up found has reported own others =
+    grouped-alone at now views new key link change is live class same reads plain grouped (λ k. others k (λ e. cc)) has
+grouped-ruled at now views new key link change is live class same reads plain grouped kept None (Some orders) up found has reported own others = absurd reported
+grouped-ruled at now views new key link change is live class same reads plain grouped kept (Some parent) None up found has reported own others =
+    elim (cases_Bool (is_relative (class_of views parent))) [
+      | inl relative ↦
+          let mine = group_number-own views parent relative in
+          grouped-with at now views new key link change is live class same reads plain grouped parent None up (found parent refl)
+          (subst (AreOrders (links_below views parent (number_of views key) link)) (kept (number_of views parent)) (reported relative))
+          (own (number_of views parent) mine) (λ k ne. others k (λ e. ne (some_is (sym mine ∙ e))))
+          (subst (λ (group : Option ℕ). EveryBranch (λ (view : PlainView) (kids : Forest PlainView). HasParent (number_of views key) group view kids) (plain_of views)) mine has)
+      | inr other ↦
+          let apart : group_number views (Some parent) ≡ None = rw other refl in
+          grouped-alone at now views new key link change is live class same reads plain grouped (λ k. others k (λ e. let none : None ≡ Some k = sym apart ∙ e in cc))
+          (subst (λ (group : Option ℕ). EveryBranch (λ (view : PlainView) (kids : Forest PlainView). HasParent (number_of views key) group view kids) (plain_of views)) apart has)
+    ]
+grouped-ruled at now views new key link change is live class same reads plain grouped kept (Some parent) (Some orders) up found has reported own others =
     let mine = group_number-own views parent reported.0 in
-    grouped-with at now views new key link change is live class same reads plain grouped parent (plain_orders orders) up (found parent refl) reported.1
-    (own (number_of views parent) orders mine refl) (λ k ne. others k (λ e. ne (some_is (sym mine ∙ e))))
+    grouped-with at now views new key link change is live class same reads plain grouped parent (Some (plain_orders orders)) up (found parent refl) reported.1
+    (own (number_of views parent) mine) (λ k ne. others k (λ e. ne (some_is (sym mine ∙ e))))
     (subst (λ (group : Option ℕ). EveryBranch (λ (view : PlainView) (kids : Forest PlainView). HasParent (number_of views key) group view kids) (plain_of views)) mine has)
 
 -- the reason why there are none is the reason why the tree is refused

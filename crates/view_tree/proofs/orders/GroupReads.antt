@@ -7,6 +7,7 @@ use Rattle.view_tree.specs.declared.tree.ViewTree.TheInside.{Inside}
 use Rattle.view_tree.specs.node.Nodes.{IsSoundTree, value_of}
 use Rattle.view_model.specs.Classes.{is_relative}
 use Rattle.view_model.specs.Cycles.{links_in, numbers_in}
+use Rattle.view_tree.specs.groups.Highest.{IsAboveNamed}
 use Rattle.view_tree.specs.groups.Ordering.{AreOrders, IsGroupOf, IsGrouped, IsKeptOf, group_at, plain_group, plain_orders}
 use Rattle.view_tree.specs.Rows.{children_of_first, part_from, views_of}
 use Rattle.view_tree.specs.Views.{IsLive, Views, class_of, held_of, number_of, orders_of, plain_of, plain_rows}
@@ -35,6 +36,9 @@ module _ (a : Inside) (v : Views) (key number : ℕ) (sound : IsSoundTree a) (e 
 
     pub orders_found : AreOrders (links_in (views_of (children_of_first (part_from key v.tree)))) (plain_orders group.orders)
     orders_found = subst (λ links. AreOrders links (plain_orders group.orders)) (links-plain (held_of v) (children_of_first (part_from key v.tree))) own.orders
+
+    pub highest_found : IsAboveNamed group.highest (links_in (views_of (children_of_first (part_from key v.tree))))
+    highest_found = subst (IsAboveNamed group.highest) (links-plain (held_of v) (children_of_first (part_from key v.tree))) own.highest
 
     pub orders_value : orders_of v key ≡ plain_orders group.orders
     orders_value = orders_are v key a.groups.entries (plain_group group) (ap (λ (v : Views). v.orders) (sym e)) (subst (λ n. option_map plain_group (lookup (nat_eq n) a.groups.entries) ≡ Some (plain_group group)) is has)

@@ -166,7 +166,7 @@ no_order r = record {
 
 grouped_single : (groups : Groups) (view : PlainView) → (is_relative view.class ≡ true → groups view.number ≡ Some no_group) → IsGrouped groups (single view)
 grouped_single groups view own = (
-  λ relative. subst (IsKeptOf Nothing) (sym (own relative)) (record { numbers = refl; orders = record { across = no_order _; down = no_order _ } }),
+  λ relative. subst (IsKeptOf Nothing) (sym (own relative)) (record { numbers = refl; orders = record { across = no_order _; down = no_order _ }; highest = λ place small. absurd (omega arith) }),
   tt,
   tt,
 )

@@ -18,6 +18,7 @@ use Rattle.view_model.specs.SiblingRules.{leads, names, no_link}
 use Rattle.view_model.specs.Classes.{is_relative}
 use Rattle.view_model.specs.Cycles.{link_of, links_in, numbers_in}
 use Rattle.view_tree.specs.groups.Ordering.{AreOrders, IsGroupOf, IsGrouped, IsGroupedAt, IsKeptOf, IsTakenAt, IsWithoutKid, PlainGroup, place_in, with_kid}
+use Rattle.view_tree.specs.groups.Highest.{IsAboveNamed, IsAboveRules}
 use Rattle.view_tree.specs.groups.Places.{IsLowered, StaysWithin, passing}
 use Rattle.view_tree.proofs.forest.ForestLaws.{every_branch-joined}
 use Rattle.view_tree.proofs.orders.ListLaws.{IsAmong, among_or_not, each-changed, each-grown, each-joined, each-pruned, each-pruned_below, edited_nowhere, every_below, every_both, every_by, length-each, place_past, place_within, times_in}
@@ -29,6 +30,7 @@ kept_along old new None links numbers kept = absurd kept
 kept_along old new (Some group) links numbers kept = record {
   numbers = kept.numbers ∙ sym numbers;
   orders = subst (λ (links : List Link). AreOrders links group.orders) (sym links) kept.orders;
+  highest = subst (IsAboveNamed group.highest) (sym links) kept.highest;
 }
 
 abbrev pub Groups : Type 0
@@ -85,6 +87,13 @@ leads-remove axis kids i h = λ a b e.
     leads_whole axis kids (passing i a) (passing i b) (λ same. parts.0 (passing_injective i a b same))
     (rw (← at_passing kids i a h, ← at_passing kids i b h) parts.1)
 
+-- no child that stays names an id above those of before
+above-remove : (highest : ℕ) (links : List Link) (i : ℕ) → i < length links → IsAboveNamed highest links → IsAboveNamed highest (remove links i)
+above-remove highest links i h above place small =
+    let size = length-remove links i h in
+    subst (λ (link : Link). IsAboveRules highest link.rules) (sym (at_passing links i place h))
+    (above (passing i place) (elim (passes i place) [ inl w ↦ let same = w.1 in omega arith | inr w ↦ let same = w.1 in omega arith ]))
+
 -- an order of the children, lowered, is one of those that stay
 order-lowered : (axis : Axis) (links : List Link) (place : ℕ) (old new : List ℕ) → place < length links → IsOrder (leads axis links) (length links) old → IsLowered place old new
     → IsOrder (leads axis (remove links place)) (length (remove links place)) new
@@ -107,6 +116,8 @@ group-without number kids old new among taken is =
         down = order-lowered Vertical (links_in kids) place old.orders.down new.orders.down small is.orders.down
             (subst (λ at. IsLowered at old.orders.down new.orders.down) same taken.down);
       });
+      highest = subst (λ highest. IsAboveNamed highest (links_in (pruned number kids))) (sym taken.highest)
+          (subst (IsAboveNamed old.highest) (sym links) (above-remove old.highest (links_in kids) place small is.highest));
     }
 
 -- the group of a view one of whose children is removed, or none
@@ -226,6 +237,19 @@ module _ (axis : Axis) (links : List Link) (link : Link) (id : link.id ≡ 0) (r
   order-with : (old : List ℕ) → IsOrder (leads axis links) (length links) old → IsOrder (leads axis all) (length all) (old ++ length links ∷ [])
   order-with old is = subst (λ count. IsOrder (leads axis all) count (old ++ length links ∷ [])) (sym size) (IsOrder-add (leads axis links) (leads axis all) (length links) old ties is)
 
+-- a child that names none names none above another
+above-with : (highest : ℕ) (links : List Link) (link : Link) → link.rules.values ≡ replicate 21 0 → IsAboveNamed highest links → IsAboveNamed highest (links ++ link ∷ [])
+above-with highest links link rules above place small =
+    let size = length-append links (link ∷ []) in
+    elim (cases_lt place (length links)) [
+      | inl lt ↦ subst (λ (link : Link). IsAboveRules highest link.rules) (sym (get_or_append_left links (link ∷ []) no_link place lt)) (above place lt)
+      | inr le ↦
+          let at : place ≡ length links = omega arith in
+          λ axis id named.
+          let own : names axis link.rules id ≡ true = subst (λ (link : Link). names axis link.rules id ≡ true) (get_or_push links link no_link place (sym at)) named in
+          absurd (let none = names_none axis link.rules id rules in cc)
+    ]
+
 pub group-with : (kids : Forest PlainView) (view : PlainView) (group : PlainGroup) → view.facts.id ≡ 0 → view.facts.rules.values ≡ replicate 21 0 → IsGroupOf kids group
     → IsGroupOf (joined kids (single view)) (with_kid view.number group)
 group-with kids view group id rules is =
@@ -237,6 +261,7 @@ group-with kids view group id rules is =
         across = rw size (order-with Horizontal (links_in kids) (link_of view) id rules group.orders.across is.orders.across);
         down = rw size (order-with Vertical (links_in kids) (link_of view) id rules group.orders.down is.orders.down);
       });
+      highest = subst (IsAboveNamed group.highest) (sym links) (above-with group.highest (links_in kids) (link_of view) rules is.highest);
     }
 
 -- what a change of the view of a number leaves of it

@@ -17,7 +17,7 @@ use Rattle.view_model.specs.Classes.{is_relative}
 use Rattle.view_model.specs.Cycles.{links_in, numbers_in}
 use Rattle.view_tree.specs.groups.Ordering.{AreOrders, linked_in, plain_orders}
 use Rattle.view_tree.specs.Rows.{children_of_first, part_from, views_of}
-use Rattle.view_tree.specs.Views.{Views, class_of, number_of}
+use Rattle.view_tree.specs.Views.{Views, class_of, number_of, orders_of}
 
 -- no child reaches itself, on either axis
 pub record IsFree (links : List Link) : Type 0 where
@@ -54,12 +54,12 @@ abbrev pub links_below : Views → ℕ → ℕ → Link → List Link
 links_below views parent number link = linked_in number link (views_of (children_of_first (part_from parent views.tree)))
 
 -- orders of the children of a view's parent, once the view has another id and other rules, or why there are none; if
--- the parent is no relative layout there is nothing to put in order
+-- the parent is no relative layout there is nothing to put in order, and no new orders where those of before stay right
 abbrev pub AreNewOrders : Views → ℕ → Link → Option ℕ → Result (Option Orders) Fault → Type 0
 AreNewOrders views view link None (Ok None) = Unit {0}
 AreNewOrders views view link None (Ok (Some orders)) = ⊥
 AreNewOrders views view link None (Err fault) = ⊥
-AreNewOrders views view link (Some parent) (Ok None) = is_relative (class_of views parent) ≡ false
+AreNewOrders views view link (Some parent) (Ok None) = is_relative (class_of views parent) ≡ true → AreOrders (links_below views parent (number_of views view) link) (orders_of views parent)
 AreNewOrders views view link (Some parent) (Ok (Some orders)) = (is_relative (class_of views parent) ≡ true) × AreOrders (links_below views parent (number_of views view) link) (plain_orders orders)
 AreNewOrders views view link (Some parent) (Err (fault.Refused refusal)) =
     (is_relative (class_of views parent) ≡ true)

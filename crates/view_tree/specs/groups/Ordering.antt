@@ -1,6 +1,7 @@
 -- The orders in which relative layouts measure their children, and what is kept of these beside the tree.
 use Rattle.std.specs.Prelude.{ℕ, suc, ◌≡◌, ◌<◌, ◌≤◌, ◌==◌, ◌++◌, Bool, true, false, List, [], ◌∷◌, length, map, if◌then◌else◌, Option, Some, None, nat_eq, option_map}
 use Rattle.std.specs.List.{remove}
+use Rattle.std.specs.Option.{unwrap_or}
 use Rattle.std.specs.Vec.{vec_capacity, vec_len}
 use Rattle.std.specs.declared.hash.BuildHasherDefault.{BuildHasherDefault}
 use Rattle.std.specs.declared.hash.FoldHasher.{FoldHasher}
@@ -8,6 +9,7 @@ use Rattle.indexmap.specs.IndexMap.{IndexMap, get}
 use Rattle.relative_layout.specs.declared.ordering.Orders.{Orders}
 use Rattle.view_model.specs.Classes.{is_relative}
 use Rattle.view_model.specs.Cycles.{each, link_of, links_in, numbers_in}
+use Rattle.view_model.specs.declared.facts.Rules.{Rules}
 use Rattle.view_model.specs.declared.relative.Axis.TheVariants.{Horizontal, Vertical}
 use Rattle.view_model.specs.declared.relative.Link.{Link}
 use Rattle.view_model.specs.Forest.{Forest, EveryBranch}
@@ -15,6 +17,7 @@ use Rattle.view_model.specs.Orders.{IsOrder}
 use Rattle.view_model.specs.PlainTree.{PlainView}
 use Rattle.view_model.specs.SiblingRules.{leads}
 use Rattle.view_tree.specs.declared.groups.Group.{Group}
+use Rattle.view_tree.specs.groups.Highest.{IsAboveNamed, IsAboveRules}
 use Rattle.view_tree.specs.groups.Places.{IsLowered}
 use Rattle.view_tree.specs.Rows.{Row, count_where}
 
@@ -41,16 +44,18 @@ pub record AreOrders (links : List Link) (orders : PlainOrders) : Type 0 where
   pub across : IsOrder (leads Horizontal links) (length links) orders.across
   pub down : IsOrder (leads Vertical links) (length links) orders.down
 
--- what is kept of the children of a relative layout: their orders, and their numbers in list order
+-- what is kept of the children of a relative layout: their orders, their numbers in list order, and an id that no rules
+-- of theirs exceed
 pub record PlainGroup : Type 0 where
   pub orders : PlainOrders
   pub kids : List ℕ
+  pub highest : ℕ
 
 abbrev pub plain_group : Group → PlainGroup
-plain_group group = record { orders = plain_orders group.orders; kids = group.kids.items }
+plain_group group = record { orders = plain_orders group.orders; kids = group.kids.items; highest = group.highest }
 
 abbrev pub no_group : PlainGroup
-no_group = record { orders = no_orders; kids = [] }
+no_group = record { orders = no_orders; kids = []; highest = 0 }
 
 -- what a table of groups has under a number
 abbrev pub group_at : IndexMap ℕ Group (BuildHasherDefault FoldHasher) → ℕ → Option PlainGroup
@@ -71,11 +76,21 @@ abbrev pub with_kid : ℕ → PlainGroup → PlainGroup
 with_kid kid group = record {
   orders = record { across = group.orders.across ++ length group.kids ∷ []; down = group.orders.down ++ length group.kids ∷ [] };
   kids = group.kids ++ kid ∷ [];
+  highest = group.highest;
 }
 
--- a group with other orders
-abbrev pub with_orders : PlainOrders → PlainGroup → PlainGroup
-with_orders orders group = record group { orders = orders }
+-- how other rules of one child change a group, for which these are the orders, or those of before
+pub record IsRuled (orders : Option PlainOrders) (rules : Rules) (old new : PlainGroup) : Type 0 where
+  pub sorted : new.orders ≡ unwrap_or orders old.orders
+  pub kids : new.kids ≡ old.kids
+  pub others : old.highest ≤ new.highest
+  pub own : IsAboveRules new.highest rules
+
+-- the same of what a table has under a number
+abbrev pub IsRuledAt : Option PlainOrders → Rules → Option PlainGroup → Option PlainGroup → Type 0
+IsRuledAt orders rules None new = new ≡ None
+IsRuledAt orders rules (Some old) None = ⊥
+IsRuledAt orders rules (Some old) (Some new) = IsRuled orders rules old new
 
 -- where a number is in a list, or the length if it is not
 abbrev pub place_in : ℕ → List ℕ → ℕ
@@ -87,6 +102,7 @@ pub record IsWithoutKid (kid : ℕ) (old new : PlainGroup) : Type 0 where
   pub kids : new.kids ≡ remove old.kids (place_in kid old.kids)
   pub across : IsLowered (place_in kid old.kids) old.orders.across new.orders.across
   pub down : IsLowered (place_in kid old.kids) old.orders.down new.orders.down
+  pub highest : new.highest ≡ old.highest
 
 -- how the removal of a view changes a group: it loses the child, if the view was one
 abbrev pub IsTaken : ℕ → PlainGroup → PlainGroup → Type 0
@@ -104,6 +120,7 @@ IsTakenAt kid (Some old) (Some new) = IsTaken kid old new
 pub record IsGroupFor (links : List Link) (kids : List ℕ) (group : PlainGroup) : Type 0 where
   pub numbers : group.kids ≡ kids
   pub orders : AreOrders links group.orders
+  pub highest : IsAboveNamed group.highest links
 
 abbrev pub IsKeptFor : List Link → List ℕ → Option PlainGroup → Type 0
 IsKeptFor links kids None = ⊥

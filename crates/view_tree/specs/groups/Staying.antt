@@ -1,30 +1,43 @@
 -- What keeps the orders of a relative layout right when a child gets another id or other rules.
-use Rattle.std.specs.Prelude.{◌≡◌, ◌⊎◌, ℕ, ◌<◌, ◌-◌, false, List, length, slice_index, Option, Some, None, Result, Ok, Err}
-use Rattle.relative_layout.specs.declared.ordering.Orders.{Orders}
+use Rattle.std.specs.Prelude.{◌≡◌, ◌⊎◌, ℕ, ◌<◌, ◌-◌, false, List, length, slice_index}
 use Rattle.view_model.specs.Forest.{Forest, Nothing, Branch}
 use Rattle.view_model.specs.SiblingRules.{names}
 use Rattle.view_model.specs.declared.relative.Axis.TheVariants.{Horizontal, Vertical}
-use Rattle.view_model.specs.declared.fault.Fault.{Fault}
-use Rattle.view_model.specs.declared.fault.Fault.TheVariants as fault
-use Rattle.view_tree.specs.groups.Ordering.{PlainOrders, plain_orders}
 use Rattle.view_tree.specs.Rows.{Row}
-
--- each id of the second list is 0, or the one of the first list at its place
-abbrev pub AddsNone : List ℕ → List ℕ → Type 0
-AddsNone before after = (k : ℕ) → k < 8 → (slice_index after k ≡ 0) ⊎ (slice_index after k ≡ slice_index before k)
 
 -- the last place of an order is that of a number
 abbrev pub IsLastIn : ℕ → List ℕ → List ℕ → Type 0
 IsLastIn number numbers order = (0 < length order) × (slice_index numbers (slice_index order (length order - 1)) ≡ number)
 
+-- the child of a number has this place, in the list of children and in an order
+pub record IsInOwnPlace (number : ℕ) (numbers order : List ℕ) (place : ℕ) : Type 0 where
+  pub inside : place < length order
+  pub stays : slice_index order place ≡ place
+  pub is : slice_index numbers place ≡ number
+
+-- the child of the first number comes before that of the second
+pub record IsBefore (first second : ℕ) (numbers order : List ℕ) : Type 0 where
+  pub early : ℕ
+  pub late : ℕ
+  pub less : early < late
+  pub before : IsInOwnPlace first numbers order early
+  pub after : IsInOwnPlace second numbers order late
+
+-- each view of a list that has this id comes before that of a number
+abbrev pub AreBefore : ℕ → ℕ → List ℕ → List ℕ → Forest Row → Type 0
+AreBefore id number numbers order Nothing = Unit {0}
+AreBefore id number numbers order (Branch row kids siblings) =
+    (row.view.facts.id ≡ id → IsBefore row.view.number number numbers order) × AreBefore id number numbers order siblings
+
+-- an id is 0 or the one of before, or all views of a list that have it come before that of a number
+abbrev pub MayName : ℕ → ℕ → ℕ → List ℕ → List ℕ → Forest Row → Type 0
+MayName before id number numbers order list = (id ≡ 0) ⊎ (id ≡ before) ⊎ AreBefore id number numbers order list
+
+-- so are all ids of the second list, by those of the first
+abbrev pub MayNameAll : List ℕ → List ℕ → ℕ → List ℕ → List ℕ → Forest Row → Type 0
+MayNameAll before after number numbers order list = (k : ℕ) → k < 8 → MayName (slice_index before k) (slice_index after k) number numbers order list
+
 -- no view of a list names this id, on either axis
 abbrev pub NamesNone : ℕ → Forest Row → Type 0
 NamesNone id Nothing = Unit {0}
 NamesNone id (Branch row kids siblings) = (names Horizontal row.view.facts.rules id ≡ false) × (names Vertical row.view.facts.rules id ≡ false) × NamesNone id siblings
-
--- these orders, unless memory runs out
-abbrev pub AreSameOrders : PlainOrders → Result (Option Orders) Fault → Type 0
-AreSameOrders old (Ok None) = ⊥
-AreSameOrders old (Ok (Some orders)) = plain_orders orders ≡ old
-AreSameOrders old (Err (fault.Refused refusal)) = ⊥
-AreSameOrders old (Err fault.NoMemory) = Unit {0}

@@ -7,6 +7,7 @@ ghost use Rattle.view_tree.specs.tree.Grafting.{IsGroupOrCycle};
 
 use crate::fault::AttachFault;
 use crate::groups::Group;
+use crate::groups::highest::highest_named;
 use relative_layout::{OrderFault, order};
 use std::alloc::{AllocError, Global};
 use view_model::refusals::CYCLE;
@@ -52,6 +53,7 @@ pub fn group_of(alloc: Global, kids: Kids, next: u64) -> Result<Group, AttachFau
     match order(alloc, &kids.links) {
         Ok(orders) => Ok(Group {
             orders,
+            highest: highest_named(&kids.links),
             kids: kids.numbers,
         }),
         Err(OrderFault::NoMemory) => Err(AttachFault::NoMemory),

@@ -2,13 +2,12 @@
 ghost use Rattle.std.specs.Prelude.{◌≡◌, ◌≢◌, ◌<◌, ℕ, true, length, map, slice_get, slice_index, None, Some, IfOk, IfSome, OnOk, OnErr};
 ghost use Rattle.view_model.specs.PlainTree.{with_facts};
 ghost use Rattle.view_tree.specs.groups.Cycles.{AreNewOrders, IsReportedFrom, view_member};
-ghost use Rattle.view_tree.specs.groups.Staying.{AreSameOrders};
 ghost use Rattle.view_tree.specs.Faults.{IsRefusedOrCyclic};
 ghost use Rattle.view_model.specs.Classes.{is_relative};
 ghost use Rattle.view_model.specs.Cycles.{first_cycle, link_of, numbers_in};
 ghost use Rattle.view_tree.specs.groups.Ordering.{link_or, linked_in};
 ghost use Rattle.view_tree.specs.Rows.{ancestors, changed_at_key, children_of_first, part_from, views_of};
-ghost use Rattle.view_tree.specs.Views.{IsLive, class_of, group_number, held_of, number_of, orders_of, orders_under, plain_of, view_at};
+ghost use Rattle.view_tree.specs.Views.{IsLive, class_of, group_number, held_of, number_of, orders_under, plain_of, view_at};
 
 use super::{Key, ViewTree};
 use crate::fault::AttachFault;
@@ -47,7 +46,7 @@ impl ViewTree {
         };
         let before = self.nodes[view].facts.id;
         rename(&mut self.ids, view, before, id)?;
-        set_orders(&mut self.groups, group, orders);
+        set_orders(&mut self.groups, group, orders, &rules);
         let node = &mut self.nodes[view];
         node.facts.id = id;
         node.facts.rules = rules;
@@ -55,7 +54,7 @@ impl ViewTree {
     }
 
     /// The orders of a relative layout, once a child of it has another id and other rules; none if its parent is no
-    /// relative layout.
+    /// relative layout, or if those that are kept stay right.
     fn new_orders(
         &self,
         above: Option<Key>,
@@ -73,7 +72,7 @@ impl ViewTree {
             return Ok(None);
         }
         if self.stays_in_order(parent, view, &link) {
-            return self.same_orders(parent);
+            return Ok(None);
         }
         let Ok(links) = self.links_with(parent, self.number(view), link) else {
             return Err(AttachFault::NoMemory);
@@ -82,18 +81,6 @@ impl ViewTree {
             Ok(orders) => Ok(Some(orders)),
             Err(OrderFault::NoMemory) => Err(AttachFault::NoMemory),
             Err(OrderFault::Cycle { down, members }) => Err(self.reported(parent, down, &members)),
-        }
-    }
-
-    /// The kept orders of a relative layout, for which they stay right.
-    fn same_orders(&self, parent: Key) -> Result<Option<Orders>, AttachFault>
-        requires live { IsLive self.now parent }
-        requires relative { is_relative (class_of self.now parent) ≡ true }
-        ensures { AreSameOrders (orders_of self.now parent) result }
-    {
-        match self.copied_orders(parent) {
-            Ok(orders) => Ok(Some(orders)),
-            Err(_) => Err(AttachFault::NoMemory),
         }
     }
 

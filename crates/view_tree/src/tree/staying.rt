@@ -1,25 +1,26 @@
 //! Kept orders that stay right when a child of a relative layout gets another id or other rules.
-ghost use Rattle.std.specs.Prelude.{◌≡◌, ◌<◌, ℕ, ◌⊎◌, IfOk, false, length, slice_index, true};
-ghost use Rattle.relative_layout.specs.ordering.Naming.{padded_ids};
+ghost use Rattle.std.specs.Prelude.{◌≡◌, ◌<◌, ℕ, ◌⊎◌, false, length, slice_index, true};
 ghost use Rattle.view_model.specs.Classes.{is_relative};
+ghost use Rattle.view_model.specs.Cycles.{links_in};
 ghost use Rattle.view_model.specs.SiblingRules.{names};
 ghost use Rattle.view_model.specs.declared.relative.Axis.TheVariants.{Horizontal, Vertical};
 ghost use Rattle.view_tree.specs.groups.Cycles.{links_below};
-ghost use Rattle.view_tree.specs.groups.Ordering.{AreOrders, plain_orders};
-ghost use Rattle.view_tree.specs.Rows.{children_of_first, part_from};
-ghost use Rattle.view_tree.specs.groups.Staying.{AddsNone, IsLastIn, NamesNone};
-ghost use Rattle.view_tree.specs.Views.{IsLive, class_of, number_of, orders_of};
+ghost use Rattle.view_tree.specs.groups.Ordering.{AreOrders};
+ghost use Rattle.view_tree.specs.Rows.{children_of_first, part_from, views_of};
+ghost use Rattle.view_tree.specs.groups.Highest.{IsAboveNamed};
+ghost use Rattle.view_tree.specs.groups.Staying.{AreBefore, IsBefore, IsLastIn, MayName, MayNameAll, NamesNone};
+ghost use Rattle.view_tree.specs.Views.{IsLive, class_of, number_of, orders_of, view_at};
 
 use super::{Key, ViewTree};
 use crate::groups::Group;
-use relative_layout::{Orders, named_ids};
-use std::alloc::AllocError;
+use crate::groups::ordered::OrderedKid;
+use relative_layout::named_ids;
 use view_model::{Axis, Link, Rules};
 
 impl ViewTree {
     /// Whether a quick look shows that the kept orders of a relative layout stay right once a child of it has another id
-    /// and other rules: it names only siblings that it named before or comes last, and no child names its new id.
-    pub fn stays_in_order(&self, parent: Key, view: Key, link: &Link) -> bool
+    /// and other rules: it comes last or after all that it newly names, and no child names its new id.
+    pub(crate) fn stays_in_order(&self, parent: Key, view: Key, link: &Link) -> bool
         requires live { IsLive self.now view }
         requires above { IsLive self.now parent }
         requires relative { is_relative (class_of self.now parent) ≡ true }
@@ -29,26 +30,40 @@ impl ViewTree {
         let Some(group) = self.groups.get(&self.number(parent)) else {
             return false;
         };
-        let number = self.number(view);
         let own = self.link(view);
-        let across = is_last_across(group, number);
-        let down = is_last_down(group, number);
-        if !follows(across, Axis::Horizontal, &own.rules, &link.rules) {
+        if !self.is_unnamed(parent, group.highest, own.id, link.id) {
             return false;
         }
-        if !follows(down, Axis::Vertical, &own.rules, &link.rules) {
+        let across = ordered_across(group, self.number(view));
+        if !self.follows(
+            parent,
+            &across,
+            named_ids(Axis::Horizontal, &own.rules),
+            named_ids(Axis::Horizontal, &link.rules),
+        ) {
             return false;
         }
-        self.is_unnamed(parent, own.id, link.id)
+        let down = ordered_down(group, self.number(view));
+        self.follows(
+            parent,
+            &down,
+            named_ids(Axis::Vertical, &own.rules),
+            named_ids(Axis::Vertical, &link.rules),
+        )
     }
 
-    /// Whether an id is that of before, or no child names it.
-    fn is_unnamed(&self, parent: Key, before: u32, id: u32) -> bool
-        requires { IsLive self.now parent }
+    /// Whether an id is that of before, or no child names it; none names one above the highest.
+    fn is_unnamed(&self, parent: Key, highest: u32, before: u32, id: u32) -> bool
+        requires live { IsLive self.now parent }
+        requires highest { IsAboveNamed highest
+            (links_in (views_of (children_of_first (part_from parent self.now.tree)))) }
         ensures { result ≡ true
             → (id ≡ before) ⊎ NamesNone id (children_of_first (part_from parent self.now.tree)) }
     {
         if id == before {
+            return true;
+        }
+        if id > highest {
             return true;
         }
         let mut next = self.first(parent);
@@ -61,82 +76,100 @@ impl ViewTree {
         true
     }
 
-    /// A copy of the kept orders of a relative layout.
-    pub fn copied_orders(&self, view: Key) -> Result<Orders, AllocError>
-        requires live { IsLive self.now view }
-        requires relative { is_relative (class_of self.now view) ≡ true }
-        ensures { IfOk result (λ orders. plain_orders orders ≡ orders_of self.now view) }
+    /// Whether a child may name ids in place of those of before where it is in an order: at the end, or where each
+    /// sibling that it newly names comes before it.
+    fn follows(&self, parent: Key, kid: &OrderedKid, before: [u32; 8], ids: [u32; 8]) -> bool
+        requires live { IsLive self.now parent }
+        requires inside { (p : ℕ)
+            → p < length kid.now.order.now
+            → slice_index kid.now.order.now p < length kid.now.kids.now }
+        ensures { result ≡ true → IsLastIn kid.now.number kid.now.kids.now kid.now.order.now
+            ⊎ MayNameAll before ids kid.now.number kid.now.kids.now kid.now.order.now
+            (children_of_first (part_from parent self.now.tree)) }
     {
-        let mut across = Vec::new(*self.groups.allocator());
-        let mut down = Vec::new(*self.groups.allocator());
-        match self.groups.get(&self.number(view)) {
-            None => unreachable!(),
-            Some(group) => {
-                across.extend_from_slice(&group.orders.across)?;
-                down.extend_from_slice(&group.orders.down)?;
-                Ok(Orders { across, down })
+        if kid.is_last() {
+            return true;
+        }
+        for k in 0..8 {
+            if !self.may_name(parent, kid, before[k], ids[k]) {
+                return false;
             }
         }
+        true
     }
-}
 
-/// Whether the child of a number comes last across.
-fn is_last_across(group: &Group, number: u64) -> bool
-    requires { (p : ℕ)
-        → p < length group.now.orders.across.items
-        → slice_index group.now.orders.across.items p < length group.now.kids.items }
-    ensures { result ≡ true → IsLastIn number group.now.kids.items group.now.orders.across.items }
-{
-    is_last(&group.orders.across, &group.kids, number)
-}
-
-/// Whether the child of a number comes last down.
-fn is_last_down(group: &Group, number: u64) -> bool
-    requires { (p : ℕ)
-        → p < length group.now.orders.down.items
-        → slice_index group.now.orders.down.items p < length group.now.kids.items }
-    ensures { result ≡ true → IsLastIn number group.now.kids.items group.now.orders.down.items }
-{
-    is_last(&group.orders.down, &group.kids, number)
-}
-
-/// Whether the last place of an order is that of the child of a number.
-fn is_last(order: &[u32], kids: &[u64], number: u64) -> bool
-    requires { (p : ℕ) → p < length order.now → slice_index order.now p < length kids.now }
-    ensures { result ≡ true → IsLastIn number kids.now order.now }
-{
-    if order.is_empty() {
-        return false;
-    }
-    kids[order[order.len() - 1] as usize] == number
-}
-
-/// Whether a child may follow these rules in place of its own where it is: at the end, or where it names no other id
-/// than before.
-fn follows(last: bool, axis: Axis, own: &Rules, rules: &Rules) -> bool
-    ensures { result ≡ true → last ≡ false → AddsNone (padded_ids axis own.now) (padded_ids axis rules.now) }
-{
-    if last {
-        return true;
-    }
-    let before = named_ids(axis, own);
-    let after = named_ids(axis, rules);
-    for k in 0..8 {
-        if is_new(before[k], after[k]) {
-            return false;
+    /// Whether a child may name an id in place of that of before where it is in an order; 0 names nothing.
+    fn may_name(&self, parent: Key, kid: &OrderedKid, before: u32, id: u32) -> bool
+        requires { IsLive self.now parent }
+        ensures { result ≡ true → MayName before id kid.now.number kid.now.kids.now kid.now.order.now
+            (children_of_first (part_from parent self.now.tree)) }
+    {
+        let _ = &self.nodes;
+        if id == 0 {
+            return true;
+        }
+        if id == before {
+            return true;
+        }
+        match self.only_holder(id) {
+            Some(only) => kid.is_after(self.number(only)),
+            None => self.is_after_all(parent, kid, id),
         }
     }
-    true
+
+    /// Whether a child comes after all children with an id.
+    fn is_after_all(&self, parent: Key, kid: &OrderedKid, id: u32) -> bool
+        requires { IsLive self.now parent }
+        ensures { result ≡ true → AreBefore id kid.now.number kid.now.kids.now kid.now.order.now
+            (children_of_first (part_from parent self.now.tree)) }
+    {
+        let mut next = self.first(parent);
+        while let Some(sibling) = next {
+            if !self.is_after_named(sibling, kid, id) {
+                return false;
+            }
+            next = self.next(sibling);
+        }
+        true
+    }
+
+    /// Whether a child comes after a sibling, if that has an id.
+    fn is_after_named(&self, sibling: Key, kid: &OrderedKid, id: u32) -> bool
+        requires { IsLive self.now sibling }
+        ensures { result ≡ true → (view_at self.now sibling).facts.id ≡ id
+            → IsBefore (number_of self.now sibling) kid.now.number kid.now.kids.now kid.now.order.now }
+    {
+        if self.facts(sibling).id != id {
+            return true;
+        }
+        kid.is_after(self.number(sibling))
+    }
 }
 
-/// Whether an id that is named is not the one before; 0 names nothing.
-fn is_new(before: u32, id: u32) -> bool
-    ensures { result ≡ false → (id ≡ 0) ⊎ (id ≡ before) }
+/// The child of a number in the order across.
+fn ordered_across(group: &Group, number: u64) -> OrderedKid<'_>
+    ensures order { result.order.now ≡ group.now.orders.across.items }
+    ensures kids { result.kids.now ≡ group.now.kids.items }
+    ensures number { result.number ≡ number }
 {
-    if id == 0 {
-        return false;
+    OrderedKid {
+        order: &group.orders.across,
+        kids: &group.kids,
+        number,
     }
-    id != before
+}
+
+/// The child of a number in the order down.
+fn ordered_down(group: &Group, number: u64) -> OrderedKid<'_>
+    ensures order { result.order.now ≡ group.now.orders.down.items }
+    ensures kids { result.kids.now ≡ group.now.kids.items }
+    ensures number { result.number ≡ number }
+{
+    OrderedKid {
+        order: &group.orders.down,
+        kids: &group.kids,
+        number,
+    }
 }
 
 /// Whether rules name an id on either axis; 0 names nothing.

@@ -11,6 +11,7 @@ returns-then-place-len c =
         kids = c.remove.ensures.items ∙ ap (remove c.args.group.now.kids.items) at;
         across = subst (λ place. IsLowered place c.args.group.now.orders.across.items c.remove_place.new.order.items) at c.remove_place.ensures;
         down = subst (λ place. IsLowered place c.args.group.now.orders.down.items c.remove_place-then-place-len.new.order.items) at c.remove_place-then-place-len.ensures;
+        highest = refl;
       },
       λ out. absurd (let small = c.if-place-len.true in let size = c.len.ensures in let full = c.deref.ensures.len in let same = ap length c.deref.ensures.value in omega arith),
     )

@@ -5,6 +5,7 @@ use Rattle.relative_layout.specs.ordering.Sorting.{IsFaultOf}
 use Rattle.view_model.specs.Cycles.{member_from}
 use Rattle.view_model.specs.declared.relative.Link.{Link}
 use Rattle.view_tree.specs.groups.Cycles.{IsFree, IsReportedFrom}
+use Rattle.view_tree.specs.groups.Highest.{IsAboveNamed}
 use Rattle.view_tree.specs.groups.Ordering.{AreOrders, plain_orders}
 use Rattle.view_tree.proofs.orders.CycleLists.{none_of, reported_is}
 use Rattle.view_tree.proofs.groups.kids.group_of.Goals as goal
@@ -17,6 +18,7 @@ returns-in-Ok c =
       record {
         numbers = refl;
         orders = subst (λ (links : List Link). AreOrders links (plain_orders c.in-Ok.orders)) c.deref.ensures.value (record { across = e.across; down = e.down });
+        highest = subst (IsAboveNamed c.highest_named.result) c.deref-in-Ok.ensures.value c.highest_named.ensures;
       },
     )
 

@@ -5,6 +5,7 @@ use Rattle.view_model.specs.declared.relative.Axis.TheVariants.{Horizontal, Vert
 use Rattle.view_tree.specs.Rows.{children_of_first, part_from}
 use Rattle.view_tree.specs.groups.Staying.{NamesNone}
 use Rattle.view_tree.proofs.forest.Walks.{walk_falls, walk_on, walk_start}
+use Rattle.view_tree.proofs.orders.HighestLaws.{none_above}
 use Rattle.view_tree.proofs.orders.StayLaws.{none_more}
 use Rattle.view_tree.proofs.tree.ViewTree.is_unnamed.Goals as goal
 
@@ -34,3 +35,6 @@ loop-next-preserved c =
 
 pub returns : goal.returns
 returns c = λ _. inr ((rw c.in_default.is at c.loop-next.invariant).none tt)
+
+pub returns-then-id-highest : goal.returns-then-id-highest
+returns-then-id-highest c = λ _. inr (none_above c.args.id c.args.highest (children_of_first (part_from c.args.parent c.args.self.now.tree)) c.requires.highest c.if-id-highest.true)

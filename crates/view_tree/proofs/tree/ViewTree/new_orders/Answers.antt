@@ -1,4 +1,4 @@
-use Rattle.std.proofs.Common.{◌≡◌, ◌∙◌, ap, arith, length, sym, true}
+use Rattle.std.proofs.Common.{◌≡◌, ◌∙◌, ap, arith, false, length, sym}
 use Rattle.view_tree.specs.groups.Ordering.{link_or}
 use Rattle.view_tree.specs.Rows.{children_of_first, part_from, views_of}
 use Rattle.view_tree.proofs.orders.CycleLaws.{few_links, members_within}
@@ -7,13 +7,16 @@ use Rattle.relative_layout.specs.ordering.Sorting.{IsFaultOf}
 use Rattle.view_tree.proofs.orders.ListLaws.{length-each}
 use Rattle.view_model.specs.Classes.{is_relative}
 use Rattle.view_tree.specs.Views.{class_of}
-use Rattle.view_tree.proofs.orders.StayLaws.{same_new}
 use Rattle.view_tree.proofs.tree.ViewTree.new_orders.Goals as goal
 
 pub returns-then-stays_in_order : goal.returns-then-stays_in_order
 returns-then-stays_in_order c =
-    let relative : is_relative (class_of c.args.self.now c.in-Some.parent) ≡ true = ap is_relative (sym c.class.ensures.value) ∙ sym c.is_relative.ensures ∙ c.if-not-is_relative.false in
-    rw c.in-Some.is (same_new c.args.self.now c.args.view c.in-Some.parent c.args.link c.same_orders.result relative (c.stays_in_order.ensures c.if-stays_in_order.true) c.same_orders.ensures)
+    rw c.in-Some.is (λ relative. c.stays_in_order.ensures c.if-stays_in_order.true)
+
+pub returns-then-not-is_relative : goal.returns-then-not-is_relative
+returns-then-not-is_relative c =
+    let other : is_relative (class_of c.args.self.now c.in-Some.parent) ≡ false = ap is_relative (sym c.class.ensures.value) ∙ sym c.is_relative.ensures ∙ c.if-not-is_relative.true in
+    rw c.in-Some.is (λ relative. absurd (let both = sym other ∙ relative in cc))
 
 pub order-requires : goal.order-requires
 order-requires c =

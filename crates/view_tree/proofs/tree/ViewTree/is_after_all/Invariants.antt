@@ -1,0 +1,15 @@
+use Rattle.view_model.specs.Forest.{count_of}
+use Rattle.view_tree.specs.Rows.{children_of_first, part_from, rest_from}
+use Rattle.view_tree.specs.groups.Staying.{AreBefore}
+use Rattle.view_tree.proofs.forest.Walks.{Walk}
+use Rattle.view_tree.proofs.tree.ViewTree.is_after_all.Given as goal
+
+abbrev pub invariant-loop-next : goal.invariant-loop-next
+invariant-loop-next l = record {
+  walk : Walk l.self.tree (children_of_first (part_from l.parent l.self.tree)) l.next;
+  before : AreBefore l.id l.kid.number l.kid.kids.now l.kid.order.now (rest_from l.next l.self.tree)
+      → AreBefore l.id l.kid.number l.kid.kids.now l.kid.order.now (children_of_first (part_from l.parent l.self.tree));
+}
+
+abbrev pub decreases-loop-next : goal.decreases-loop-next
+decreases-loop-next l = count_of (rest_from l.next l.self.tree)
