@@ -46,7 +46,7 @@ add v2 View 10 10
 add v2 TextView wrap wrap
 id v3 @1
 id v4 @2
-rule v4 right_of @1
+rule v3 right_of @2
 rule v3 parent_top yes
 text v4 a text
 ink v4 #ff000000
