@@ -36,7 +36,7 @@ TEXT = re.compile(r'"(\\.|[^"\\\n])*"')
 # the end of a line of a clause at which a record begins
 RECORD = re.compile(r"\brecord( [^{}]*)? \{$")
 # traits of libraries, which calls of their methods use without the name
-TRAITS = {"ByteOrder", "Digest"}
+TRAITS = {"ByteOrder", "Digest", "Shelf", "Sink", "Source"}
 
 
 def below_top(path):

@@ -5,10 +5,10 @@ ghost use Rattle.tool_io.specs.Fetched.{CountsFetch};
 
 use crate::faults::count_fault;
 use crate::shelf::{Found, Shelf, ShelfFault};
+use std::fs;
 use std::io::{Error, ErrorKind, Read};
 use std::marker::Model;
 use std::rt::Files;
-use std::{fs, io};
 
 /// A shelf of the files of the current folder, by their names there. A call fails for what is there
 /// and cannot be read, such as a folder. Contracts do not see its bytes.
@@ -111,75 +111,5 @@ fn fault_of(error: &Error) -> ShelfFault
     match error.kind() {
         ErrorKind::OutOfMemory => ShelfFault::NoMemory,
         _ => ShelfFault::Failed,
-    }
-}
-
-#[cfg(test)]
-mod tests {
-    use super::*;
-    use std::test::Fail;
-
-    /// A reader of zeros without end, which fails at its third read, and counts the bytes.
-    #[derive(Drop)]
-    struct Zeros {
-        given: usize,
-        reads: u8,
-    }
-
-    impl Read for Zeros {
-        fn read(&mut self, buf: &mut [u8]) -> io::Result<usize> {
-            self.reads = self.reads.saturating_add(1);
-            if self.reads == 3 {
-                return Err(io::Error::from(io::ErrorKind::TimedOut));
-            }
-            let count = buf.len().min(1000);
-            self.given = self.given.saturating_add(count);
-            Ok(count)
-        }
-    }
-
-    #[test]
-    fn fetches_a_file_of_the_folder(rt: HostRuntime) -> Result<(), Fail> {
-        let name = "fetched_by_a_test_of_tool_io";
-        fs::write(&rt, name, b"layout")?;
-        let mut shelf = FolderShelf::new(&rt);
-        let mut into = Vec::new(rt.alloc());
-        let long = shelf.fetch(name, &mut into, 5);
-        let whole = shelf.fetch(name, &mut into, 6);
-        fs::remove_file(&rt, name)?;
-        assert_eq!(rt; (long, whole), (Ok(Found::Long), Ok(Found::Whole)));
-        assert_eq!(rt; into.as_slice(), b"layout".as_slice());
-        Ok(())
-    }
-
-    #[test]
-    fn a_missing_file_is_no_failure_and_a_folder_is_one(rt: HostRuntime) {
-        let mut shelf = FolderShelf::new(&rt);
-        let mut into = Vec::new(rt.alloc());
-        let missing = shelf.fetch("no_such_file", &mut into, 6);
-        let folder = shelf.fetch(".", &mut into, 6);
-        assert_eq!(rt;
-            (missing, folder),
-            (Ok(Found::Missing), Err(ShelfFault::Failed))
-        );
-        assert_eq!(rt; shelf.faults, 1);
-    }
-
-    #[test]
-    fn a_read_that_fails_ends_the_fetch(rt: HostRuntime) {
-        let mut into = Vec::new(rt.alloc());
-        let zeros = Zeros { given: 0, reads: 0 };
-        assert_eq!(rt;
-            fetch_bytes(zeros, &mut into, 5000),
-            Err(ShelfFault::Failed)
-        );
-    }
-
-    #[test]
-    fn the_limit_and_one_byte_are_read(rt: HostRuntime) {
-        let mut into = Vec::new(rt.alloc());
-        let mut zeros = Zeros { given: 0, reads: 0 };
-        assert_eq!(rt; fetch_bytes(&mut zeros, &mut into, 12), Ok(Found::Long));
-        assert_eq!(rt; zeros.given, 13);
     }
 }

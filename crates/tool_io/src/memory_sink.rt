@@ -83,15 +83,3 @@ impl Sink for MemorySink {
         Ok(count)
     }
 }
-
-#[cfg(test)]
-mod tests {
-    use super::*;
-
-    #[test]
-    fn keeps_a_piece(rt: HostRuntime) {
-        let mut sink = MemorySink::new(rt.alloc(), 4, Vec::new(rt.alloc()));
-        assert_eq!(rt; sink.write(b"again"), Ok(4));
-        assert_eq!(rt; sink.gone(), b"agai".as_slice());
-    }
-}

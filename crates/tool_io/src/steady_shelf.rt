@@ -68,23 +68,3 @@ impl Shelf for SteadyShelf {
         Ok(Found::Missing)
     }
 }
-
-#[cfg(test)]
-mod tests {
-    use super::*;
-    use std::test::Fail;
-
-    #[test]
-    fn fetches_a_file(rt: HostRuntime) -> Result<(), Fail> {
-        let mut files = Vec::new(rt.alloc());
-        files.push((
-            String::from_str(rt.alloc(), "main")?,
-            b"layout".to_vec(rt.alloc())?,
-        ))?;
-        let mut into = Vec::new(rt.alloc());
-        let result = SteadyShelf::new(files).fetch("main", &mut into, 6);
-        assert_eq!(rt; result, Ok(Found::Whole));
-        assert_eq!(rt; into.as_slice(), b"layout".as_slice());
-        Ok(())
-    }
-}

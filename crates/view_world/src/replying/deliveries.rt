@@ -3,6 +3,7 @@
 
 ghost use Rattle.std.specs.Fmt.{decimal, signed_decimal};
 ghost use Rattle.text_lines.specs.BufferedText.{Sends};
+ghost use Rattle.text_lines.specs.Joined.{◌⧺◌};
 ghost use Rattle.view_world.specs.replying.Deliveries.{action_text, done_text, entries_text, entry_text, event_text, place_text, point_text, pointer_text, points_text, said_text, reported_text};
 ghost use Rattle.view_world.specs.replying.Responses.{deliveries_text};
 
@@ -105,6 +106,15 @@ fn put_said<K: Sink>(text: &mut TextBuffer, sink: &mut K, yes: bool)
     }
 }
 
+/// What an answered delivery prints after the word of its kind: the event and the answer.
+fn put_answered<K: Sink>(text: &mut TextBuffer, sink: &mut K, entry: &Entry)
+    ensures { Sends (K.state sink.old) (K.state sink.new) text.old text.new
+        (event_text entry.now.event ⧺ said_text entry.now.yes) }
+{
+    put_event(text, sink, &entry.event);
+    put_said(text, sink, entry.yes);
+}
+
 /// What an entry prints after the name of its view.
 fn put_reported<K: Sink>(text: &mut TextBuffer, sink: &mut K, entry: &Entry)
     ensures { Sends (K.state sink.old) (K.state sink.new) text.old text.new (reported_text entry.now.kind entry.now) }
@@ -112,13 +122,11 @@ fn put_reported<K: Sink>(text: &mut TextBuffer, sink: &mut K, entry: &Entry)
     match entry.kind {
         Kind::Ask => {
             text.put(sink, b" ask ");
-            put_event(text, sink, &entry.event);
-            put_said(text, sink, entry.yes);
+            put_answered(text, sink, entry);
         }
         Kind::Touch => {
             text.put(sink, b" touch ");
-            put_event(text, sink, &entry.event);
-            put_said(text, sink, entry.yes);
+            put_answered(text, sink, entry);
         }
         Kind::Click => text.put(sink, b" click\n"),
         Kind::Scroll => {

@@ -26,7 +26,6 @@ pub fn put_added<K: Sink>(text: &mut TextBuffer, sink: &mut K, number: u64)
 }
 
 /// The reply to a line that adds the views of a file. `ignored` counts the attributes that are not known.
-#[tactic(auto, using(text_lines::proofs::Sending::sends_both), unfolding(crate::specs::replying::Replies::inflated_text))]
 pub fn put_inflated<K: Sink>(
     text: &mut TextBuffer,
     sink: &mut K,
