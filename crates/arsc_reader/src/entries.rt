@@ -162,7 +162,6 @@ fn push_entry(
 }
 
 /// Adds all entries of a type.
-#[tactic(auto, using(axml_chunks::proofs::Runs::upto_none, axml_chunks::proofs::Runs::upto_more))]
 pub(crate) fn push_entries(
     entries: &mut Vec<Entry>,
     bytes: &[u8],

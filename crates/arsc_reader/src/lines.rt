@@ -1,5 +1,5 @@
 //! The line of a resource that is asked for.
-#![tactic(auto, using(text_lines::proofs::Sending::sends_both))]
+#![tactic(auto)]
 
 ghost use Rattle.std.specs.Prelude.{◌≤◌, codes, length};
 ghost use Rattle.axml_reader.specs.Dump.{escaped};
