@@ -57,10 +57,23 @@ pub fn order(alloc: Global, kids: &[Link]) -> Result<Orders, OrderFault>
     ensures acyclic_down { IfOk result (λ orders. IsAcyclic (leads Vertical kids.now)) }
     ensures fault { IfErr result (λ fault. IsFaultOf kids.now fault) }
 {
-    let Ok(lasts) = last_places(alloc, kids) else {
-        return Err(OrderFault::NoMemory);
-    };
-    let across = match sorted_on(alloc, Axis::Horizontal, kids, &lasts) {
+    match last_places(alloc, kids) {
+        Ok(lasts) => order_by(alloc, kids, &lasts),
+        Err(_) => Err(OrderFault::NoMemory),
+    }
+}
+
+/// The same, by the last child with each id.
+fn order_by(alloc: Global, kids: &[Link], lasts: &IndexMap<u32, u32>) -> Result<Orders, OrderFault>
+    requires few { length kids.now ≤ MAX_VIEWS }
+    requires table { (id : ℕ) → place_in nat_eq lasts.now id ≡ last_with_id kids.now id }
+    ensures across { IfOk result (λ orders. IsOrder (leads Horizontal kids.now) (length kids.now) orders.across.items) }
+    ensures down { IfOk result (λ orders. IsOrder (leads Vertical kids.now) (length kids.now) orders.down.items) }
+    ensures acyclic_across { IfOk result (λ orders. IsAcyclic (leads Horizontal kids.now)) }
+    ensures acyclic_down { IfOk result (λ orders. IsAcyclic (leads Vertical kids.now)) }
+    ensures fault { IfErr result (λ fault. IsFaultOf kids.now fault) }
+{
+    let across = match sorted_on(alloc, Axis::Horizontal, kids, lasts) {
         Ok(Sorting::Order(across)) => across,
         Ok(Sorting::Cycle(members)) => {
             return Err(OrderFault::Cycle {
@@ -70,7 +83,7 @@ pub fn order(alloc: Global, kids: &[Link]) -> Result<Orders, OrderFault>
         }
         Err(_) => return Err(OrderFault::NoMemory),
     };
-    match sorted_on(alloc, Axis::Vertical, kids, &lasts) {
+    match sorted_on(alloc, Axis::Vertical, kids, lasts) {
         Ok(Sorting::Order(down)) => Ok(Orders { across, down }),
         Ok(Sorting::Cycle(members)) => Err(OrderFault::Cycle {
             down: true,
@@ -105,11 +118,20 @@ fn sorted_by_names(alloc: Global, axis: Axis, kids: &[Link]) -> Result<Sorting, 
     ensures { IfOk result (λ sorting. IsSorting axis kids.now sorting) }
 {
     let naming = Naming::new(alloc, axis, kids)?;
-    let order = longest_order(alloc, kids, &naming)?;
+    sorted_with(alloc, kids, &naming)
+}
+
+/// The same, by which children name which ids.
+fn sorted_with(alloc: Global, kids: &[Link], naming: &Naming) -> Result<Sorting, AllocError>
+    requires few { length kids.now ≤ MAX_VIEWS }
+    requires naming { IsNaming kids.now naming.now }
+    ensures { IfOk result (λ sorting. IsSorting naming.now.axis kids.now sorting) }
+{
+    let order = longest_order(alloc, kids, naming)?;
     if order.len() == kids.len() {
         return Ok(Sorting::Order(order));
     }
-    let members = members(alloc, kids, &naming)?;
+    let members = members(alloc, kids, naming)?;
     Ok(Sorting::Cycle(members))
 }
 

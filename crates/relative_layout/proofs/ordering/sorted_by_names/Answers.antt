@@ -1,22 +1,4 @@
-use Rattle.std.proofs.Common.{◌≡◌, ◌≢◌, length, rules}
-use Rattle.relative_layout.proofs.orders.OrderLaws.{IsCycle-left, IsOrder-whole, acyclic}
-use Rattle.view_model.specs.SiblingRules.{leads}
 use Rattle.relative_layout.proofs.ordering.sorted_by_names.Goals as goal
 
-pub returns-then-len-kids : goal.returns-then-len-kids
-returns-then-len-kids c =
-    let kids = c.args.kids.now in
-    let order = c.in_ok-order.order.items in
-    let whole : length order ≡ length kids = search rules in
-    let longest = rw c.in_ok-naming.ensures.axis at c.in_ok-order.ensures in
-    let is = IsOrder-whole (leads c.args.axis kids) (length kids) order whole longest in
-    (is, acyclic c.args.axis kids order is)
-
 pub returns : goal.returns
-returns c =
-    let kids = c.args.kids.now in
-    let order = c.in_ok-order.order.items in
-    let short : length order ≢ length kids = search rules in
-    let longest = rw c.in_ok-naming.ensures.axis at c.in_ok-order.ensures in
-    let members = rw c.in_ok-naming.ensures.axis at c.in_ok-members.ensures in
-    IsCycle-left c.args.axis kids order c.in_ok-members.members.items short longest members
+returns c = rw c.in_ok-naming.ensures.axis at c.sorted_with.ensures
