@@ -1,5 +1,6 @@
 -- Laws of lines that are read, and worked lines.
 pub mod ActionLaws
+pub mod BoundLaws
 pub mod ChangeExamples
 pub mod CommandExamples
 pub mod CommandLaws

@@ -1,12 +1,20 @@
-use Rattle.std.proofs.Common.{w32, FitsSigned, arith}
-use Rattle.std.proofs.lemmas.Int.{ints, to_z-of_z}
+use Rattle.std.proofs.Common.{ℤ, pos, w32, to_z, of_z, arith}
+use Rattle.std.proofs.lemmas.Int.{ints}
+use Rattle.script_lines.specs.words.Numbers.{IsWithin}
+use Rattle.script_lines.proofs.readings.BoundLaws.{kept_within}
 use Rattle.script_lines.proofs.reading.pixels.part.Goals as goal
 
+kept_point : (n : ℤ) → IsWithin (pos 0) (pos 4095) n → IsWithin (pos 0) (pos 4095) (to_z w32 (of_z w32 n))
+kept_point n within = kept_within (pos 0) (pos 4095) n (omega (arith, ints)) (omega (arith, ints)) (omega (arith, ints)) (omega (arith, ints)) within
+
+kept_length : (n : ℤ) → IsWithin (pos 1) (pos 4096) n → IsWithin (pos 1) (pos 4096) (to_z w32 (of_z w32 n))
+kept_length n within = kept_within (pos 1) (pos 4096) n (omega (arith, ints)) (omega (arith, ints)) (omega (arith, ints)) (omega (arith, ints)) within
+
+pub is_small-requires-clause-width : goal.is_small-requires-clause-width
+is_small-requires-clause-width c = kept_length c.in_ok-w.w c.in_ok-w.ensures.bounds
+
+pub is_small-requires-clause-height : goal.is_small-requires-clause-height
+is_small-requires-clause-height c = kept_length c.in_ok-h.h c.in_ok-h.ensures.bounds
+
 pub returns-clause-bounds : goal.returns-clause-bounds
-returns-clause-bounds c =
-    let x : FitsSigned w32 c.in_ok-x.x = omega (arith, ints, c.in_ok-x.ensures.bounds) in
-    let y : FitsSigned w32 c.in_ok-y.y = omega (arith, ints, c.in_ok-y.ensures.bounds) in
-    let w : FitsSigned w32 c.in_ok-w.w = omega (arith, ints, c.in_ok-w.ensures.bounds) in
-    let h : FitsSigned w32 c.in_ok-h.h = omega (arith, ints, c.in_ok-h.ensures.bounds) in
-    let small = c.is_small.ensures.small c.if-not-is_small.false in
-    simp to_z-of_z (c.in_ok-x.ensures.bounds, c.in_ok-y.ensures.bounds, c.in_ok-w.ensures.bounds, c.in_ok-h.ensures.bounds, simp to_z-of_z at small)
+returns-clause-bounds c = (kept_point c.in_ok-x.x c.in_ok-x.ensures.bounds, kept_point c.in_ok-y.y c.in_ok-y.ensures.bounds, kept_length c.in_ok-w.w c.in_ok-w.ensures.bounds, kept_length c.in_ok-h.h c.in_ok-h.ensures.bounds, c.is_small.ensures.small c.if-not-is_small.false)
