@@ -1,0 +1,6 @@
+use Rattle.text_lines.proofs.Sending.{◌⨾◌}
+use Rattle.axml_reader.proofs.dump.put_start_line.Goals as goal
+
+pub returns : goal.returns
+returns g c =
+    c.put.ensures ⨾ c.put_number_field.ensures ⨾ c.put_name_field.ensures ⨾ c.put_name_field-2.ensures ⨾ c.put_number_field-2.ensures ⨾ c.put-2.ensures
