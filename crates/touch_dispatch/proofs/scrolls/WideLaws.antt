@@ -18,5 +18,8 @@ plus a b x y fa fb ea eb = grind (arith, ints, to_z-of_z)
 pub minus_plus : (a b d x y : ℤ) → SFits w32 a → SFits w32 b → SFits w32 d → x ≡ a -ℤ b → y ≡ d → to_z w64 (of_z w64 (x +ℤ y)) ≡ a -ℤ b +ℤ d
 minus_plus a b d x y fa fb fd ea eb = grind (arith, ints, to_z-of_z)
 
+pub minus_plus-fits : (a b d x y : ℤ) → SFits w32 a → SFits w32 b → SFits w32 d → x ≡ a -ℤ b → y ≡ d → SFits w64 (x +ℤ y)
+minus_plus-fits a b d x y fa fb fd ea eb = grind (arith, ints)
+
 pub between_is : (a b d x y z : ℤ) → a ≡ x → b ≡ y → d ≡ z → is_between a b d ≡ is_between x y z
 between_is a b d x y z e1 e2 e3 = rw (e1, e2, e3) refl

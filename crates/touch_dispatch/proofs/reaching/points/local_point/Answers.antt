@@ -1,16 +1,22 @@
-use Rattle.std.proofs.Common.{◌≡◌, arith, rules, ap, ◌∙◌}
-use Rattle.std.proofs.lemmas.Int.{ints, to_z-of_z}
+use Rattle.std.proofs.Common.{◌≡◌, rules, ap, ◌∙◌}
+use Rattle.std.proofs.lemmas.Int.{to_z-of_z}
 use Rattle.std.specs.Prelude.{◌+ℤ◌, ◌-ℤ◌}
 use mir.Syntax.{w32}
 use mir.Val.{SFits, of_z, to_z}
-use Rattle.touch_dispatch.proofs.scrolls.WideLaws.{minus, minus_plus, wide}
+use Rattle.touch_dispatch.proofs.scrolls.WideLaws.{minus, minus_plus, minus_plus-fits, wide}
 use Rattle.geom_core.specs.Limits.{clamp_coordinate}
 use Rattle.touch_event.specs.declared.event.Point.{Point}
 use Rattle.touch_dispatch.specs.reaching.Points.{corner_x, corner_y, local_point}
 use Rattle.touch_dispatch.proofs.reaching.points.local_point.Goals as goal
 
 pub overflow_add-y : goal.overflow_add-y
-overflow_add-y c = grind (arith, ints, to_z-of_z)
+overflow_add-y c =
+    let fy : SFits w32 c.args.point.y = search rules in
+    let fo = c.ranges.offset in
+    let fcy : SFits w32 c.corner_y.result = search rules in
+    minus_plus-fits c.args.point.y c.corner_y.result c.args.offset _ _ fy fcy fo
+    (minus c.args.point.y c.corner_y.result _ _ fy fcy (wide c.args.point.y c.from-3.result fy c.from-3.ensures) (wide c.corner_y.result c.from-4.result fcy c.from-4.ensures))
+    (wide c.args.offset c.from-5.result fo c.from-5.ensures)
 
 pub returns : goal.returns
 unfolding local_point
