@@ -3,7 +3,9 @@
 use std::fs;
 use std::io::{self, Read, Write};
 use std::test::Fail;
-use tool_io::{Failed, FolderShelf, Found, Shelf, ShelfFault, Sink, Source, StdinSource, StdoutSink};
+use tool_io::{
+    Failed, FolderShelf, Found, Shelf, ShelfFault, Sink, Source, StdinSource, StdoutSink,
+};
 
 /// A reader that fails at its second read.
 #[derive(Drop)]
