@@ -14,10 +14,28 @@ loop-sprout-init c = record {
   sowing = sowing_start _ _ _ _ c.requires.live refl c.requires.follow c.requires.fits;
 }
 
+pub overflow_sub-above : goal.overflow_sub-above
+overflow_sub-above c =
+    let sowing = rw c.in-Some.ensures.items at c.loop-sprout.invariant.sowing in
+    let d = (ready _ _ _ _ _ _ _ c.loop-sprout.invariant.sound.kept sowing).deep in
+    omega arith
+
+pub bounds-path-depth : goal.bounds-path-depth
+bounds-path-depth c =
+    let sowing = rw c.in-Some.ensures.items at c.loop-sprout.invariant.sowing in
+    let s = (ready _ _ _ _ _ _ _ c.loop-sprout.invariant.sound.kept sowing).shallow in
+    omega arith
+
 pub plant-key-requires-clause-taken : goal.plant-key-requires-clause-taken
 plant-key-requires-clause-taken c =
     let sowing = rw c.in-Some.ensures.items at c.loop-sprout.invariant.sowing in
     (ready _ _ _ _ _ _ _ c.loop-sprout.invariant.sound.kept sowing).taken
+
+pub overflow_sub-path : goal.overflow_sub-path
+overflow_sub-path c =
+    let sowing = rw c.in-Some.ensures.items at c.loop-sprout.invariant.sowing in
+    let d = (ready _ _ _ _ _ _ _ c.loop-sprout.invariant.sound.kept sowing).deep in
+    omega arith
 
 pub bounds-path-depth-in-Some : goal.bounds-path-depth-in-Some
 bounds-path-depth-in-Some c =
