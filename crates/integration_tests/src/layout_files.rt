@@ -130,13 +130,3 @@ fn a_document_that_is_cut_short_has_its_fault(rt: HostRuntime) -> Result<(), Fai
     }
     Ok(())
 }
-
-#[test]
-fn nothing_is_printed_after_a_failed_write(rt: HostRuntime) -> Result<(), Fail> {
-    let alloc = rt.alloc();
-    let doc = read(alloc, &NARROW)?;
-    let mut sink = MemorySink::new(alloc, 5, Vec::from_slice(alloc, &[3])?);
-    assert!(rt; print(&doc, &mut sink).is_err());
-    assert_eq!(rt; sink.gone(), b"pool utf8 ".as_slice());
-    Ok(())
-}
