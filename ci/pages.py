@@ -1,8 +1,11 @@
-"""The blocks of README.md and docs/, each of which is run, so that no page says what the program does not do.
+"""The blocks of README.md, docs/ and ci/worked/, each of which is run, so that no page says what the program does not do.
 
 A block is between two lines of three backticks, the first of which names its form:
 
     script, then answer      a script, and what `./vindaesk run` writes over it
+    stack, then answer       a script for a stack of windows, and what `./vindaesk stack` writes over it
+    questions                after the answer of a script: lines `SIDE V`, each with what `./vindaesk focus SIDE V` writes
+                             after that answer; the status is 1 where that is refused, and else the script's
     command, then answer     shell commands at the top of the repository, and what they write
     hex, then answer         the bytes of a layout file, and what `dump` writes of it; what follows a # is a remark
     table ID .., then answer the same of a resource table, and what `lookup` writes of these ids
@@ -51,8 +54,18 @@ def text(lines):
     return "".join(line + "\n" for line in lines).encode()
 
 
-def script(lines, answer, status):
-    return difference(answer, status, *run([PROGRAM, "run"], text(lines), TOP))
+def script(words, lines, answer, status):
+    return difference(answer, status, *run([PROGRAM, *words], text(lines), TOP))
+
+
+def questions(lines, answer, status, asked):
+    for question in asked:
+        words, _, reply = (part.strip() for part in question.partition(ARROW))
+        ended = 1 if ": refused " in reply else status
+        why = script(["focus", *words.split(" ")], lines, answer + text([reply]), ended)
+        if why:
+            return "'%s': %s" % (words, why)
+    return ""
 
 
 def command(lines, answer, status):
@@ -123,7 +136,7 @@ def dialogue(lines, status):
     return ""
 
 
-FORMS = {"script": script, "command": command, "hex": layout_file}
+FORMS = {"script": partial(script, ["run"]), "stack": partial(script, ["stack"]), "command": command, "hex": layout_file}
 
 
 def status_of(words):
@@ -136,10 +149,13 @@ def checks_of(page):
     with open(os.path.join(TOP, page), encoding="utf-8") as file:
         found = [*blocks(file.read().splitlines()), (0, ["end"], [])]
     is_answered = False
+    asked = None
     for (number, words, lines), (_, next_words, next_lines) in zip(found, found[1:]):
         form = words[0] if words else "without a name"
         if is_answered:
             is_answered = False
+        elif form == "questions" and asked:
+            yield page, number, partial(questions, *asked, lines)
         elif form == "dialogue":
             yield page, number, partial(dialogue, lines, status_of(words))
         elif form == "source" and len(words) == 2:
@@ -151,12 +167,15 @@ def checks_of(page):
             yield page, number, partial(same_file, lines, words[1])
         elif form in FORMS and next_words[:1] == ["answer"]:
             is_answered = True
-            yield page, number, partial(FORMS[form], lines, text(next_lines), status_of(next_words))
+            given = (lines, text(next_lines), status_of(next_words))
+            asked = given if form == "script" else None
+            yield page, number, partial(FORMS[form], *given)
         elif form != "drawing" and (form, lines) != ("gate", [".ci/run"]):
             yield page, number, partial("a block '{}', as it is here, has no form that can be run".format, form)
 
 
 def checks():
-    for path in [os.path.join(TOP, "README.md"), *sorted(glob.glob(os.path.join(TOP, "docs", "*.md")))]:
-        for page, number, check in checks_of(os.path.relpath(path, TOP)):
-            yield "%s:%d" % (page, number), check
+    for place in ("README.md", "docs/*.md", "ci/worked/*.md"):
+        for path in sorted(glob.glob(os.path.join(TOP, place))):
+            for page, number, check in checks_of(os.path.relpath(path, TOP)):
+                yield "%s:%d" % (page, number), check

@@ -161,7 +161,7 @@ def checks():
     yield "words: the patterns themselves", example
     for name in sorted(os.listdir(os.path.join(TOP, "crates"))):
         yield "words of crates/" + name, partial(problem, list(below("crates/" + name, tuple(MARKS))))
-    yield "words of the pages", partial(problem, ["README.md", "CHANGELOG.md", *below("docs", ".md")])
+    yield "words of the pages", partial(problem, ["README.md", "CHANGELOG.md", *below("docs", ".md"), *below("ci", ".md")])
     yield "words of the launcher and the gate", partial(problem, ["vindaesk", ".ci/run"])
     for folder in ("tools", "tools/vindaesk", "ci", "bench"):
         yield "words of %s/" % folder, partial(problem, list(scripts(folder)))

@@ -1,5 +1,5 @@
-//! Tests that cross libraries: whole scripts and files through `tool` over objects in memory, and the vectors of formats.
-//! They are in one crate above all others, because a crate with tests is proved twice.
+//! Tests that cross libraries: calls of `tool` over objects in memory that fail, work that is counted, and the vectors
+//! of formats. They are in one crate above all others, because a crate with tests is proved twice.
 #![tactic(auto)]
 
 #[cfg(test)]

@@ -1,0 +1,41 @@
+"""What is as long as it may be, and what is longer by one: a script, a layout file, and the table of resources."""
+import os
+import tempfile
+
+from running import PROGRAM, difference, run
+
+MAX_SCRIPT, MAX_FILE, MAX_RESOURCES = 1 << 24, 1 << 20, 4096
+
+
+def over(words, given, files):
+    """What a call writes in a folder that has these files, and the status."""
+    with tempfile.TemporaryDirectory() as folder:
+        for name, contents in files.items():
+            with open(os.path.join(folder, name), "wb") as file:
+                file.write(contents)
+        return run([PROGRAM, *words], given, folder)
+
+
+def takes_the_longest_script():
+    """Lines without a word write nothing."""
+    why = difference(b"", 0, *over(["run"], b"\n" * MAX_SCRIPT, {}))
+    return why or difference(b"", 7, *over(["run"], b"\n" * (MAX_SCRIPT + 1), {}))
+
+
+def refuses_a_longer_file():
+    """A file of zeros."""
+    found = over(["dump", "a.xml"], b"", {"a.xml": bytes(MAX_FILE + 1)})
+    return difference(b"file: refused 40 LongFile\n", 1, *found)
+
+
+def refuses_more_resources():
+    """A new id is one too many, and an id that is there gets another value."""
+    ids = [*range(1, MAX_RESOURCES + 1), MAX_RESOURCES + 1, 1]
+    lines = ["res @%x dimen 1 px" % number for number in ids[:-2]] + ["res @%x text a" % number for number in ids[-2:]]
+    script = "".join(line + "\n" for line in lines).encode()
+    return difference(b"line %d: refused 15 Full\n" % (MAX_RESOURCES + 1), 1, *over(["run"], script, {}))
+
+
+def checks():
+    for check in (takes_the_longest_script, refuses_a_longer_file, refuses_more_resources):
+        yield "limits: " + check.__name__.replace("_", " "), check
