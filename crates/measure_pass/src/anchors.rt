@@ -1,11 +1,11 @@
 //! The anchors of a child of a relative layout: the siblings to which it is tied, found by their ids.
 ghost use Rattle.std.specs.Prelude.{◌≡◌, ℕ, IfSome};
 ghost use Rattle.measure_pass.specs.Measured.{kids_from};
-ghost use Rattle.measure_pass.specs.Replacing.{AreReplaced, IsReplaced, instead_of};
+ghost use Rattle.measure_pass.specs.Replacing.{AreReplaced, IsAnchorBy, IsReplaced, MaySearch, instead_of};
 ghost use Rattle.measure_pass.specs.Siblings.{IsKidAt, edge_on, first_span, kept_spans, kids_in};
 ghost use Rattle.view_model.specs.declared.kinds.Class.TheVariants.{RelativeLayout};
 ghost use Rattle.view_model.specs.Facts.{is_shown, layout_facts};
-ghost use Rattle.view_model.specs.RelativeCourse.{anchor_by, anchor_with, anchors_by, child_at, links_of};
+ghost use Rattle.view_model.specs.RelativeCourse.{anchor_with, anchors_by, child_at, links_of};
 ghost use Rattle.view_model.specs.RelativeLayout.{span_or_none};
 ghost use Rattle.view_model.specs.SiblingRules.{anchor_of, named_sibling};
 ghost use Rattle.view_tree.specs.Rows.{head_view, part_from, siblings_from};
@@ -92,14 +92,9 @@ fn anchor_of(
     kid: Key,
     last: &mut Option<Replacement>,
 ) -> Option<Anchor>
-    requires live { IsLive tree.now search.view }
-    requires siblings { class_of tree.now search.view ≡ RelativeLayout }
-    requires kid { IsLive tree.now kid }
+    requires search { MaySearch tree.now search kid }
     requires last { IfSome last.old (IsReplaced tree.now.tree search) }
-    ensures anchor { (place : ℕ)
-        → part_from kid tree.now.tree ≡ siblings_from place (kids_from search.view tree.now.tree)
-        → result ≡ anchor_by search.rtl search.axis (kids_in (kids_from search.view tree.now.tree))
-        (kept_spans search.axis (held_of tree.now) (kids_from search.view tree.now.tree)) search.tie place }
+    ensures anchor { IsAnchorBy tree.now search kid result }
     ensures last { IfSome last.new (IsReplaced tree.now.tree search) }
 {
     let id = search
@@ -119,14 +114,9 @@ fn named_anchor(
     kid: Key,
     last: &mut Option<Replacement>,
 ) -> Option<Anchor>
-    requires live { IsLive tree.now search.view }
-    requires siblings { class_of tree.now search.view ≡ RelativeLayout }
-    requires kid { IsLive tree.now kid }
+    requires search { MaySearch tree.now search kid }
     requires last { IfSome last.old (IsReplaced tree.now.tree search) }
-    ensures anchor { (place : ℕ)
-        → part_from kid tree.now.tree ≡ siblings_from place (kids_from search.view tree.now.tree)
-        → result ≡ anchor_by search.rtl search.axis (kids_in (kids_from search.view tree.now.tree))
-        (kept_spans search.axis (held_of tree.now) (kids_from search.view tree.now.tree)) search.tie place }
+    ensures anchor { IsAnchorBy tree.now search kid result }
     ensures last { IfSome last.new (IsReplaced tree.now.tree search) }
 {
     match anchor_key(tree, search, kid, last) {
@@ -177,9 +167,7 @@ fn anchor_key(
     kid: Key,
     last: &mut Option<Replacement>,
 ) -> Option<Key>
-    requires live { IsLive tree.now search.view }
-    requires siblings { class_of tree.now search.view ≡ RelativeLayout }
-    requires kid { IsLive tree.now kid }
+    requires search { MaySearch tree.now search kid }
     requires last { IfSome last.old (IsReplaced tree.now.tree search) }
     ensures key { (place : ℕ)
         → part_from kid tree.now.tree ≡ siblings_from place (kids_from search.view tree.now.tree)
@@ -207,9 +195,7 @@ fn replacement_of(
     gone: Key,
     last: &mut Option<Replacement>,
 ) -> Option<Key>
-    requires live { IsLive tree.now search.view }
-    requires siblings { class_of tree.now search.view ≡ RelativeLayout }
-    requires gone { IsLive tree.now gone }
+    requires search { MaySearch tree.now search gone }
     requires last { IfSome last.old (IsReplaced tree.now.tree search) }
     ensures replaced { IsReplaced tree.now.tree search (record { gone = gone; by = result }) }
     ensures last { IfSome last.new (IsReplaced tree.now.tree search) }
@@ -226,9 +212,7 @@ fn replacement_of(
 
 /// The same by a walk over the gone siblings.
 fn past_gone(tree: &ViewTree, search: Search, gone: Key) -> Option<Key>
-    requires live { IsLive tree.now search.view }
-    requires siblings { class_of tree.now search.view ≡ RelativeLayout }
-    requires gone { IsLive tree.now gone }
+    requires search { MaySearch tree.now search gone }
     ensures key { (place : ℕ)
         → part_from gone tree.now.tree ≡ siblings_from place (kids_from search.view tree.now.tree)
         → IsKidAt tree.now.tree (kids_from search.view tree.now.tree)
@@ -252,9 +236,7 @@ fn past_gone(tree: &ViewTree, search: Search, gone: Key) -> Option<Key>
 
 /// The sibling that a child's own rule names: the last child with the id, if it is not the child itself.
 fn named_sibling(tree: &ViewTree, search: Search, kid: Key) -> Option<Key>
-    requires live { IsLive tree.now search.view }
-    requires siblings { class_of tree.now search.view ≡ RelativeLayout }
-    requires kid { IsLive tree.now kid }
+    requires search { MaySearch tree.now search kid }
     ensures key { (place : ℕ)
         → part_from kid tree.now.tree ≡ siblings_from place (kids_from search.view tree.now.tree)
         → IsKidAt tree.now.tree (kids_from search.view tree.now.tree)

@@ -26,7 +26,7 @@ returns-then-is_shown-clause-key c = λ place part.
     let named = named_sibling c.args.search.rtl c.args.search.axis c.args.search.tie (links_of kids) in
     let live = rw c.in-Some.is at c.named_sibling.ensures.live in
     let w = walk_start tree list kids c.args.search.rtl c.args.search.axis c.args.search.tie c.args.kid place (length kids) refl part in
-    walk_found tree list shown named (anchor_of c.args.search.rtl c.args.search.axis c.args.search.tie (links_of kids) shown place) c.args.kid (length kids) c.in-Some.named w (some_kids tree list c.args.kid place c.requires.kid part)
+    walk_found tree list shown named (anchor_of c.args.search.rtl c.args.search.axis c.args.search.tie (links_of kids) shown place) c.args.kid (length kids) c.in-Some.named w (some_kids tree list c.args.kid place c.requires.search.kid part)
     (rw c.in-Some.is at (c.named_sibling.ensures.key w.here w.part))
     (λ at same. ap is_shown (facts_at tree list c.in-Some.named at live same) ∙ ap is_shown (sym c.facts.ensures.value) ∙ sym c.is_shown.ensures ∙ c.if-is_shown.true)
 
@@ -39,7 +39,7 @@ returns-clause-key c = λ place part.
     let named = named_sibling c.args.search.rtl c.args.search.axis c.args.search.tie (links_of kids) in
     let live = rw c.in-Some.is at c.named_sibling.ensures.live in
     let w = walk_start tree list kids c.args.search.rtl c.args.search.axis c.args.search.tie c.args.kid place (length kids) refl part in
-    let past = walk_on tree list shown named (anchor_of c.args.search.rtl c.args.search.axis c.args.search.tie (links_of kids) shown place) c.args.kid (length kids) c.in-Some.named w (some_kids tree list c.args.kid place c.requires.kid part)
+    let past = walk_on tree list shown named (anchor_of c.args.search.rtl c.args.search.axis c.args.search.tie (links_of kids) shown place) c.args.kid (length kids) c.in-Some.named w (some_kids tree list c.args.kid place c.requires.search.kid part)
     (rw c.in-Some.is at (c.named_sibling.ensures.key w.here w.part))
     (λ at same. ap is_shown (facts_at tree list c.in-Some.named at live same) ∙ ap is_shown (sym c.facts.ensures.value) ∙ sym c.is_shown.ensures ∙ c.if-is_shown.false) in
     subst (λ anchor. IsKidAt tree list anchor c.replacement_of.result) past.same (c.replacement_of.ensures.replaced.0 past.here past.part)

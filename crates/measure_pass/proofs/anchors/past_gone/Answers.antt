@@ -13,7 +13,7 @@ loop-left-init c =
     let tree = c.args.tree.now.tree in
     let list = children_of_first (part_from c.args.search.view tree) in
     record {
-      live = c.requires.gone;
+      live = c.requires.search.kid;
       walk = λ place part. walk_past tree list c.args.search c.args.gone place c.saturating_sub-left.result (c.saturating_sub-left.ensures ∙ ap (λ n. n - 1) c.turns.ensures.value) part;
     }
 
