@@ -103,26 +103,6 @@ pub fn fire(tree: &mut ViewTree, hooks: &mut Hooks, view: u64) -> ArrayVec<Key, 
         → (cache_of tree.new key ≡ cache_of tree.old key) × IsOffPaths result.items tree.old.tree key }
     ensures hooks { hooks.new ≡ disarmed view hooks.old }
 {
-    let requesters = make_all(tree, hooks, view);
-    hooks.disarm(view);
-    requesters
-}
-
-/// Makes the edits of the hook of a view, in order; returns the views whose layout they have requested.
-fn make_all(tree: &mut ViewTree, hooks: &Hooks, view: u64) -> ArrayVec<Key, MAX_EDITS>
-    ensures plain { plain_of tree.new ≡ edited_by (edits_of (hook_of hooks.now view)) (plain_of tree.old) }
-    ensures geometry { geometry_of tree.new ≡ geometry_of tree.old }
-    ensures shape { SameShape tree.old tree.new }
-    ensures bounds { (key : ℕ) → (state_of tree.new key).bounds ≡ (state_of tree.old key).bounds }
-    ensures in_pass { (root : ℕ)
-        → InPass [] root (held_of tree.old) tree.old.tree
-        → InPass result.items root (held_of tree.new) tree.new.tree }
-    ensures live { (key : ℕ) → among key result.items ≡ true → IsLive tree.new key }
-    ensures counts { tree.new.counts ≡ tree.old.counts }
-    ensures caches { (key : ℕ)
-        → IsUnedited tree.old.tree (edits_of (hook_of hooks.now view)) key
-        → (cache_of tree.new key ≡ cache_of tree.old key) × IsOffPaths result.items tree.old.tree key }
-{
     let mut requesters = ArrayVec::new();
     let mut k = 0;
     while let Some(edit) = hooks.edit(view, k) {
@@ -130,6 +110,7 @@ fn make_all(tree: &mut ViewTree, hooks: &Hooks, view: u64) -> ArrayVec<Key, MAX_
         note(&mut requesters, requester);
         k += 1;
     }
+    hooks.disarm(view);
     requesters
 }
 

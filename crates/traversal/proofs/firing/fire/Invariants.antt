@@ -7,7 +7,7 @@ use Rattle.view_tree.specs.Views.{IsLive, cache_of, geometry_of, held_of, plain_
 use Rattle.traversal.specs.Changing.{SameShape}
 use Rattle.traversal.specs.Frames.{edited_by, edits_of}
 use Rattle.traversal.specs.Growing.{IsOffPaths, IsUnedited}
-use Rattle.traversal.proofs.firing.make_all.Given as goal
+use Rattle.traversal.proofs.firing.fire.Given as goal
 
 abbrev pub invariant-loop-edit : goal.invariant-loop-edit
 invariant-loop-edit l = record {

@@ -10,7 +10,7 @@ use Rattle.traversal.proofs.ShapeLaws.{count_of_key-same}
 use Rattle.traversal.specs.Frames.{edited_by, edits_of}
 use Rattle.traversal.proofs.EditLaws.{next_edit, none_left, shape_then}
 use Rattle.traversal.proofs.Unedited.{some_off, unedited_next, unedited_same}
-use Rattle.traversal.proofs.firing.make_all.Goals as goal
+use Rattle.traversal.proofs.firing.fire.Goals as goal
 
 pub loop-edit-preserved : goal.loop-edit-preserved
 loop-edit-preserved c =
