@@ -81,6 +81,23 @@ grown_kid tree kid old new live shown g =
     Grown-first (λ place other. other ≡ specs_of (old x.row.key).state) (LastAt old (Branch x.row x.kids Nothing)) old new x.row x.kids (λ specs is. (shown, is)) g in
     rw x.is all
 
+last_own : (held : ℕ → Held) (row : Row) (kids : Forest Row) (place : ℕ) (specs : Specs) → LastAt held (Branch row kids Nothing) place specs → specs ≡ specs_of (held row.key).state
+last_own held row kids zero specs at = at.1
+last_own held row kids (suc place) specs at = absurd at
+
+-- and the other way round
+pub grown_own : (tree : Forest Row) (view : ℕ) (old new : ℕ → Held) → 0 < count_of_key view tree
+    → Grown (LastAt old (first_tree (part_from view tree))) old new (first_tree (part_from view tree))
+    → Grown (λ place other. other ≡ specs_of (old view).state) old new (first_tree (part_from view tree))
+grown_own tree view old new live g =
+    let x = located view tree live in
+    let g : Grown (LastAt old (Branch x.row x.kids Nothing)) old new (Branch x.row x.kids Nothing) = rw x.is at g in
+    let ok : ℕ → ℕ → Specs → Type 0 = λ key place other. other ≡ specs_of (old key).state in
+    let own : Grown (ok x.row.key) old new (Branch x.row x.kids Nothing) =
+    Grown-mono (LastAt old (Branch x.row x.kids Nothing)) (ok x.row.key) old new (Branch x.row x.kids Nothing) (last_own old x.row x.kids) g in
+    let all : Grown (ok view) old new (Branch x.row x.kids Nothing) = subst (λ key. Grown (ok key) old new (Branch x.row x.kids Nothing)) x.key_is own in
+    rw x.is all
+
 -- the first view of a list and the others
 pub grown_joined : (start end : ℕ → Held) (list : Forest Row) → Grown (LastAt start (first_tree list)) start end (first_tree list)
     → Grown (LastAt start (later_siblings list)) start end (later_siblings list) → Grown (LastAt start list) start end list

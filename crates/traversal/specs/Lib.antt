@@ -4,6 +4,7 @@ pub mod Following
 pub mod Frames
 pub mod Growing
 pub mod Counting
+pub mod Laying
 pub mod Narrow
 pub mod Placing
 pub mod Reporting

@@ -6,7 +6,7 @@ ghost use Rattle.geom_core.specs.declared.geometry.Rect.{Rect};
 ghost use Rattle.seen_parts.specs.Frames.{IsCanvas};
 ghost use Rattle.seen_parts.specs.Meeting.{Follows, as_seen};
 ghost use Rattle.kept_views.specs.Kept.{owed};
-ghost use Rattle.kept_views.specs.Laying.{Fit, IsPut, IsQuiet, IsQuietAll, IsQuietBack, differ, moved_to, same_place};
+ghost use Rattle.kept_views.specs.Laying.{Fit, IsPut, IsQuiet, IsQuietAll, IsQuietBack, moved_to, same_place};
 ghost use Rattle.kept_views.specs.Passes.{settled, settled_at};
 ghost use Rattle.measure_pass.specs.Caches.{Grown};
 ghost use Rattle.measure_pass.specs.Measured.{IsFit, Keeps};
@@ -24,9 +24,8 @@ ghost use Rattle.view_tree.specs.Rows.{part_from};
 ghost use Rattle.scroll_offsets.specs.Bringing.{range_at};
 ghost use Rattle.view_tree.specs.Views.{IsLive, IsTree, KeepsOthers, KeepsOutside, SameTree, class_of, facts_of, held_of, offset_of, specs_of, state_of};
 ghost use Rattle.traversal.specs.Counting.{IsMeasuringCounted};
-ghost use Rattle.traversal.specs.Following.{GrowsWithin, KeepsSightIn};
-ghost use Rattle.traversal.specs.Growing.{LastAt};
-ghost use Rattle.traversal.specs.Narrow.{AreNarrow, IsNarrow, IsNarrowFor, IsStretch};
+ghost use Rattle.traversal.specs.Laying.{AreFitToLay, HasLaid, stage_of};
+ghost use Rattle.traversal.specs.Narrow.{IsNarrow, IsNarrowFor, IsStretch};
 ghost use Rattle.traversal.specs.Placing.{LaidKids, PlacesAs, Unmarked, lays_over};
 ghost use Rattle.traversal.specs.Resting.{IsAtPlace};
 ghost use Rattle.traversal.specs.Subtrees.{children_at, spot_at, subtree_at};
@@ -67,21 +66,9 @@ pub fn lay(
     requires fit { IsFit tree.old view }
     requires narrow { IsNarrow rect }
     requires near { IfSome canvas.now (IsCanvas (2 ^ 37)) }
-    ensures grew { LiesIn context.old.damage.rect context.new.damage.rect }
-    ensures sight { KeepsSightIn canvas.now context.new.damage.rect (held_of tree.old) (held_of tree.new)
+    ensures done { HasLaid canvas.now (stage_of tree.old context.old) (stage_of tree.new context.new)
         (subtree_at tree.old view) }
-    ensures within { GrowsWithin canvas.now context.old.damage.rect context.new.damage.rect
-        (held_of tree.old) (held_of tree.new) (subtree_at tree.old view) }
-    ensures same { SameTree tree.old tree.new }
     ensures put { IsPut (held_of tree.old) (held_of tree.new) view (part_from view tree.old.tree) rect }
-    ensures others { KeepsOutside (held_of tree.old) (held_of tree.new) (subtree_at tree.old view) }
-    ensures measured { context.new.work.measured
-        ≤ context.old.work.measured + owed (held_of tree.old) (subtree_at tree.old view) }
-    ensures laid { tree.new.counts.laid ≤ tree.old.counts.laid
-        + differ (held_of tree.old) (held_of tree.new) (subtree_at tree.old view) }
-    ensures counted { IsMeasuringCounted tree.old tree.new context.old.work context.new.work }
-    ensures caches { Grown (λ place other. other ≡ specs_of (state_of tree.old view)) (held_of tree.old)
-        (held_of tree.new) (subtree_at tree.old view) }
 {
     lay_open(tree, view, rect, canvas, context);
     settle(tree, view);
@@ -100,22 +87,10 @@ pub fn lay_open(
     requires fit { IsFit tree.old view }
     requires narrow { IsNarrow rect }
     requires near { IfSome canvas.now (IsCanvas (2 ^ 37)) }
-    ensures grew { LiesIn context.old.damage.rect context.new.damage.rect }
-    ensures sight { KeepsSightIn canvas.now context.new.damage.rect (held_of tree.old) (held_of tree.new)
+    ensures done { HasLaid canvas.now (stage_of tree.old context.old) (stage_of tree.new context.new)
         (subtree_at tree.old view) }
-    ensures within { GrowsWithin canvas.now context.old.damage.rect context.new.damage.rect
-        (held_of tree.old) (held_of tree.new) (subtree_at tree.old view) }
-    ensures same { SameTree tree.old tree.new }
     ensures put { IsPut (held_of tree.old) (settled_at view (held_of tree.new)) view
         (part_from view tree.old.tree) rect }
-    ensures others { KeepsOutside (held_of tree.old) (held_of tree.new) (subtree_at tree.old view) }
-    ensures measured { context.new.work.measured
-        ≤ context.old.work.measured + owed (held_of tree.old) (subtree_at tree.old view) }
-    ensures laid { tree.new.counts.laid ≤ tree.old.counts.laid
-        + differ (held_of tree.old) (held_of tree.new) (subtree_at tree.old view) }
-    ensures counted { IsMeasuringCounted tree.old tree.new context.old.work context.new.work }
-    ensures caches { Grown (λ place other. other ≡ specs_of (state_of tree.old view)) (held_of tree.old)
-        (held_of tree.new) (subtree_at tree.old view) }
     ensures still { IsAtPlace (state_of tree.old view) rect
         → (tree.new ≡ tree.old) × (context.new.work ≡ context.old.work) }
 {
@@ -319,27 +294,11 @@ pub fn settle(tree: &mut ViewTree, view: Key)
 #[cycle(lay)]
 #[inline(always)]
 fn lay_kids(tree: &mut ViewTree, view: Key, inside: &Inside, context: &mut LayoutContext)
-    requires live { IsLive tree.old view }
-    requires fit { Fit (held_of tree.old) (children_at tree.old view) }
-    requires narrow { class_of tree.old view ≡ RelativeLayout
-        → AreNarrow (held_of tree.old) (children_at tree.old view) }
-    requires near { IfSome inside.now.canvas (IsCanvas (2 ^ 37)) }
-    ensures grew { LiesIn context.old.damage.rect context.new.damage.rect }
-    ensures sight { KeepsSightIn inside.now.canvas context.new.damage.rect (held_of tree.old) (held_of tree.new)
+    requires fit { AreFitToLay tree.old view inside.now.canvas }
+    ensures done { HasLaid inside.now.canvas (stage_of tree.old context.old) (stage_of tree.new context.new)
         (children_at tree.old view) }
-    ensures within { GrowsWithin inside.now.canvas context.old.damage.rect context.new.damage.rect
-        (held_of tree.old) (held_of tree.new) (children_at tree.old view) }
-    ensures same { SameTree tree.old tree.new }
     ensures quiet { IsQuietAll (held_of tree.new) (spot_at tree.old view inside.now.size)
         (held_of tree.old) (children_at tree.old view) }
-    ensures others { KeepsOutside (held_of tree.old) (held_of tree.new) (children_at tree.old view) }
-    ensures measured { context.new.work.measured
-        ≤ context.old.work.measured + owed (held_of tree.old) (children_at tree.old view) }
-    ensures laid { tree.new.counts.laid ≤ tree.old.counts.laid
-        + differ (held_of tree.old) (held_of tree.new) (children_at tree.old view) }
-    ensures counted { IsMeasuringCounted tree.old tree.new context.old.work context.new.work }
-    ensures caches { Grown (LastAt (held_of tree.old) (children_at tree.old view))
-        (held_of tree.old) (held_of tree.new) (children_at tree.old view) }
 {
     if tree.first(view).is_none() {
         return;
@@ -361,28 +320,12 @@ fn lay_kids(tree: &mut ViewTree, view: Key, inside: &Inside, context: &mut Layou
 #[cycle(lay)]
 #[inline(never)]
 fn lay_over(tree: &mut ViewTree, view: Key, inside: &Inside, context: &mut LayoutContext)
-    requires live { IsLive tree.old view }
+    requires fit { AreFitToLay tree.old view inside.now.canvas }
     requires class { lays_over (class_of tree.old view) ≡ true }
-    requires fit { Fit (held_of tree.old) (children_at tree.old view) }
-    requires narrow { class_of tree.old view ≡ RelativeLayout
-        → AreNarrow (held_of tree.old) (children_at tree.old view) }
-    requires near { IfSome inside.now.canvas (IsCanvas (2 ^ 37)) }
-    ensures grew { LiesIn context.old.damage.rect context.new.damage.rect }
-    ensures sight { KeepsSightIn inside.now.canvas context.new.damage.rect (held_of tree.old) (held_of tree.new)
+    ensures done { HasLaid inside.now.canvas (stage_of tree.old context.old) (stage_of tree.new context.new)
         (children_at tree.old view) }
-    ensures within { GrowsWithin inside.now.canvas context.old.damage.rect context.new.damage.rect
-        (held_of tree.old) (held_of tree.new) (children_at tree.old view) }
-    ensures same { SameTree tree.old tree.new }
     ensures quiet { IsQuiet (held_of tree.new) (spot_at tree.old view inside.now.size) []
         (held_of tree.old) (children_at tree.old view) }
-    ensures others { KeepsOutside (held_of tree.old) (held_of tree.new) (children_at tree.old view) }
-    ensures measured { context.new.work.measured
-        ≤ context.old.work.measured + owed (held_of tree.old) (children_at tree.old view) }
-    ensures laid { tree.new.counts.laid ≤ tree.old.counts.laid
-        + differ (held_of tree.old) (held_of tree.new) (children_at tree.old view) }
-    ensures counted { IsMeasuringCounted tree.old tree.new context.old.work context.new.work }
-    ensures caches { Grown (LastAt (held_of tree.old) (children_at tree.old view))
-        (held_of tree.old) (held_of tree.new) (children_at tree.old view) }
 {
     let mut placer = Placer::over(tree, view, inside.size);
     lay_forwards(tree, view, &mut placer, inside, context);
@@ -392,28 +335,12 @@ fn lay_over(tree: &mut ViewTree, view: Key, inside: &Inside, context: &mut Layou
 #[cycle(lay)]
 #[inline(never)]
 fn lay_in_line(tree: &mut ViewTree, view: Key, inside: &Inside, context: &mut LayoutContext)
-    requires live { IsLive tree.old view }
+    requires fit { AreFitToLay tree.old view inside.now.canvas }
     requires class { class_of tree.old view ≡ LinearLayout }
-    requires fit { Fit (held_of tree.old) (children_at tree.old view) }
-    requires narrow { class_of tree.old view ≡ RelativeLayout
-        → AreNarrow (held_of tree.old) (children_at tree.old view) }
-    requires near { IfSome inside.now.canvas (IsCanvas (2 ^ 37)) }
-    ensures grew { LiesIn context.old.damage.rect context.new.damage.rect }
-    ensures sight { KeepsSightIn inside.now.canvas context.new.damage.rect (held_of tree.old) (held_of tree.new)
+    ensures done { HasLaid inside.now.canvas (stage_of tree.old context.old) (stage_of tree.new context.new)
         (children_at tree.old view) }
-    ensures within { GrowsWithin inside.now.canvas context.old.damage.rect context.new.damage.rect
-        (held_of tree.old) (held_of tree.new) (children_at tree.old view) }
-    ensures same { SameTree tree.old tree.new }
     ensures quiet { IsQuiet (held_of tree.new) (spot_at tree.old view inside.now.size) []
         (held_of tree.old) (children_at tree.old view) }
-    ensures others { KeepsOutside (held_of tree.old) (held_of tree.new) (children_at tree.old view) }
-    ensures measured { context.new.work.measured
-        ≤ context.old.work.measured + owed (held_of tree.old) (children_at tree.old view) }
-    ensures laid { tree.new.counts.laid ≤ tree.old.counts.laid
-        + differ (held_of tree.old) (held_of tree.new) (children_at tree.old view) }
-    ensures counted { IsMeasuringCounted tree.old tree.new context.old.work context.new.work }
-    ensures caches { Grown (LastAt (held_of tree.old) (children_at tree.old view))
-        (held_of tree.old) (held_of tree.new) (children_at tree.old view) }
 {
     let mut placer = Placer::in_line(tree, view, inside.size);
     lay_forwards(tree, view, &mut placer, inside, context);
@@ -423,28 +350,12 @@ fn lay_in_line(tree: &mut ViewTree, view: Key, inside: &Inside, context: &mut La
 #[cycle(lay)]
 #[inline(never)]
 fn lay_between(tree: &mut ViewTree, view: Key, inside: &Inside, context: &mut LayoutContext)
-    requires live { IsLive tree.old view }
+    requires fit { AreFitToLay tree.old view inside.now.canvas }
     requires class { class_of tree.old view ≡ RelativeLayout }
-    requires fit { Fit (held_of tree.old) (children_at tree.old view) }
-    requires narrow { class_of tree.old view ≡ RelativeLayout
-        → AreNarrow (held_of tree.old) (children_at tree.old view) }
-    requires near { IfSome inside.now.canvas (IsCanvas (2 ^ 37)) }
-    ensures grew { LiesIn context.old.damage.rect context.new.damage.rect }
-    ensures sight { KeepsSightIn inside.now.canvas context.new.damage.rect (held_of tree.old) (held_of tree.new)
+    ensures done { HasLaid inside.now.canvas (stage_of tree.old context.old) (stage_of tree.new context.new)
         (children_at tree.old view) }
-    ensures within { GrowsWithin inside.now.canvas context.old.damage.rect context.new.damage.rect
-        (held_of tree.old) (held_of tree.new) (children_at tree.old view) }
-    ensures same { SameTree tree.old tree.new }
     ensures quiet { IsQuiet (held_of tree.new) (spot_at tree.old view inside.now.size) []
         (held_of tree.old) (children_at tree.old view) }
-    ensures others { KeepsOutside (held_of tree.old) (held_of tree.new) (children_at tree.old view) }
-    ensures measured { context.new.work.measured
-        ≤ context.old.work.measured + owed (held_of tree.old) (children_at tree.old view) }
-    ensures laid { tree.new.counts.laid ≤ tree.old.counts.laid
-        + differ (held_of tree.old) (held_of tree.new) (children_at tree.old view) }
-    ensures counted { IsMeasuringCounted tree.old tree.new context.old.work context.new.work }
-    ensures caches { Grown (LastAt (held_of tree.old) (children_at tree.old view))
-        (held_of tree.old) (held_of tree.new) (children_at tree.old view) }
 {
     let mut placer = Placer::Between;
     lay_forwards(tree, view, &mut placer, inside, context);
@@ -460,28 +371,12 @@ fn lay_forwards(
     inside: &Inside,
     context: &mut LayoutContext,
 )
-    requires live { IsLive tree.old view }
+    requires fit { AreFitToLay tree.old view inside.now.canvas }
     requires places { PlacesAs placer.old (spot_at tree.old view inside.now.size) [] }
-    requires fit { Fit (held_of tree.old) (children_at tree.old view) }
-    requires narrow { class_of tree.old view ≡ RelativeLayout
-        → AreNarrow (held_of tree.old) (children_at tree.old view) }
-    requires near { IfSome inside.now.canvas (IsCanvas (2 ^ 37)) }
-    ensures grew { LiesIn context.old.damage.rect context.new.damage.rect }
-    ensures sight { KeepsSightIn inside.now.canvas context.new.damage.rect (held_of tree.old) (held_of tree.new)
+    ensures done { HasLaid inside.now.canvas (stage_of tree.old context.old) (stage_of tree.new context.new)
         (children_at tree.old view) }
-    ensures within { GrowsWithin inside.now.canvas context.old.damage.rect context.new.damage.rect
-        (held_of tree.old) (held_of tree.new) (children_at tree.old view) }
-    ensures same { SameTree tree.old tree.new }
     ensures quiet { IsQuiet (held_of tree.new) (spot_at tree.old view inside.now.size) []
         (held_of tree.old) (children_at tree.old view) }
-    ensures others { KeepsOutside (held_of tree.old) (held_of tree.new) (children_at tree.old view) }
-    ensures measured { context.new.work.measured
-        ≤ context.old.work.measured + owed (held_of tree.old) (children_at tree.old view) }
-    ensures laid { tree.new.counts.laid ≤ tree.old.counts.laid
-        + differ (held_of tree.old) (held_of tree.new) (children_at tree.old view) }
-    ensures counted { IsMeasuringCounted tree.old tree.new context.old.work context.new.work }
-    ensures caches { Grown (LastAt (held_of tree.old) (children_at tree.old view))
-        (held_of tree.old) (held_of tree.new) (children_at tree.old view) }
 {
     let _in_range = context.work.measured;
     let mut next = tree.first(view);
@@ -495,28 +390,12 @@ fn lay_forwards(
 #[cycle(lay)]
 #[inline(never)]
 fn lay_backwards(tree: &mut ViewTree, view: Key, inside: &Inside, context: &mut LayoutContext)
-    requires live { IsLive tree.old view }
+    requires fit { AreFitToLay tree.old view inside.now.canvas }
     requires class { class_of tree.old view ≡ LinearLayout }
-    requires fit { Fit (held_of tree.old) (children_at tree.old view) }
-    requires narrow { class_of tree.old view ≡ RelativeLayout
-        → AreNarrow (held_of tree.old) (children_at tree.old view) }
-    requires near { IfSome inside.now.canvas (IsCanvas (2 ^ 37)) }
-    ensures grew { LiesIn context.old.damage.rect context.new.damage.rect }
-    ensures sight { KeepsSightIn inside.now.canvas context.new.damage.rect (held_of tree.old) (held_of tree.new)
+    ensures done { HasLaid inside.now.canvas (stage_of tree.old context.old) (stage_of tree.new context.new)
         (children_at tree.old view) }
-    ensures within { GrowsWithin inside.now.canvas context.old.damage.rect context.new.damage.rect
-        (held_of tree.old) (held_of tree.new) (children_at tree.old view) }
-    ensures same { SameTree tree.old tree.new }
     ensures quiet { IsQuietBack (held_of tree.new) (spot_at tree.old view inside.now.size)
         (held_of tree.old) (children_at tree.old view) }
-    ensures others { KeepsOutside (held_of tree.old) (held_of tree.new) (children_at tree.old view) }
-    ensures measured { context.new.work.measured
-        ≤ context.old.work.measured + owed (held_of tree.old) (children_at tree.old view) }
-    ensures laid { tree.new.counts.laid ≤ tree.old.counts.laid
-        + differ (held_of tree.old) (held_of tree.new) (children_at tree.old view) }
-    ensures counted { IsMeasuringCounted tree.old tree.new context.old.work context.new.work }
-    ensures caches { Grown (LastAt (held_of tree.old) (children_at tree.old view))
-        (held_of tree.old) (held_of tree.new) (children_at tree.old view) }
 {
     let _in_range = context.work.measured;
     let mut placer = Placer::in_line(tree, view, inside.size);
@@ -542,25 +421,13 @@ fn lay_kid(
     requires narrow { is_shown (facts_of tree.old kid) ≡ true
         → IsNarrowFor placer.old (sides_of (state_of tree.old kid).edges) }
     requires near { IfSome canvas.now (IsCanvas (2 ^ 37)) }
-    ensures grew { LiesIn context.old.damage.rect context.new.damage.rect }
-    ensures sight { KeepsSightIn canvas.now context.new.damage.rect (held_of tree.old) (held_of tree.new)
+    ensures done { HasLaid canvas.now (stage_of tree.old context.old) (stage_of tree.new context.new)
         (subtree_at tree.old kid) }
-    ensures within { GrowsWithin canvas.now context.old.damage.rect context.new.damage.rect
-        (held_of tree.old) (held_of tree.new) (subtree_at tree.old kid) }
-    ensures same { SameTree tree.old tree.new }
     ensures quiet { (spot : Spot) (before : List Measured)
         → PlacesAs placer.old spot before
         → length before + count_of (subtree_at tree.old kid) ≤ MAX_VIEWS
         → LaidKids placer.new spot before (held_of tree.old) (held_of tree.new)
         (subtree_at tree.old kid) }
-    ensures others { KeepsOutside (held_of tree.old) (held_of tree.new) (subtree_at tree.old kid) }
-    ensures measured { context.new.work.measured
-        ≤ context.old.work.measured + owed (held_of tree.old) (subtree_at tree.old kid) }
-    ensures laid { tree.new.counts.laid ≤ tree.old.counts.laid
-        + differ (held_of tree.old) (held_of tree.new) (subtree_at tree.old kid) }
-    ensures counted { IsMeasuringCounted tree.old tree.new context.old.work context.new.work }
-    ensures caches { Grown (LastAt (held_of tree.old) (subtree_at tree.old kid)) (held_of tree.old)
-        (held_of tree.new) (subtree_at tree.old kid) }
 {
     let _in_range = context.work.measured;
     let facts = tree.facts(kid);

@@ -5,9 +5,9 @@ use Rattle.view_model.specs.Forest.{count_of}
 use Rattle.view_tree.specs.Rows.{first_tree, children_of_first, part_from, rest_from}
 use Rattle.view_tree.specs.Views.{SameTree, held_of}
 use Rattle.traversal.specs.Counting.{IsMeasuringCounted}
+use Rattle.traversal.specs.Laying.{stage_of}
 use Rattle.traversal.proofs.BackWalk.{BackWalk, before}
 use Rattle.traversal.proofs.FollowedViews.{CoverWalks, Walks}
-use Rattle.traversal.proofs.LaidStages.{stage_of}
 use Rattle.traversal.proofs.LaidWalk.{LaidWalk}
 use Rattle.traversal.proofs.laying.lay.+lay.Given as goal
 
@@ -53,12 +53,10 @@ abbrev pub decreases-lay_forwards-loop-next : goal.decreases-lay_forwards-loop-n
 decreases-lay_forwards-loop-next l = count_of (rest_from l.next l.tree.tree)
 
 abbrev pub invariant-lay_backwards-loop-next : goal.invariant-lay_backwards-loop-next
-invariant-lay_backwards-loop-next l = let tree = l.fn.tree.tree in record {
-  same : SameTree l.fn.tree l.tree;
-  counted : IsMeasuringCounted l.fn.tree l.tree l.fn.context.work l.context.work;
-  walked : BackWalk tree (children_of_first (part_from l.view tree)) l.placer (spot_of (part_from l.view tree) (held_of l.fn.tree l.view) l.inside.size) l.inside.canvas
-      (stage_of l.fn.tree l.fn.context.damage.rect l.fn.context.work) l.next (stage_of l.tree l.context.damage.rect l.context.work);
-}
+invariant-lay_backwards-loop-next l =
+    let tree = l.fn.tree.tree in
+    let spot = spot_of (part_from l.view tree) (held_of l.fn.tree l.view) l.inside.size in
+    BackWalk tree (children_of_first (part_from l.view tree)) l.placer spot l.inside.canvas (stage_of l.fn.tree l.fn.context) l.next (stage_of l.tree l.context)
 
 abbrev pub decreases-lay_backwards-loop-next : goal.decreases-lay_backwards-loop-next
 decreases-lay_backwards-loop-next l = before l.next (children_of_first (part_from l.view l.tree.tree)) l.tree.tree

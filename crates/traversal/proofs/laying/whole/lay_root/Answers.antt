@@ -23,6 +23,7 @@ use Rattle.view_tree.specs.Views.{plain_rows, IsTree, Views, held_of, plain_of, 
 use Rattle.view_tree.proofs.values.GeometryLaws.{laid_along}
 use Rattle.view_tree.proofs.values.KeptLaws.{is_tree-same}
 use Rattle.traversal.proofs.CountedLaws.{counted_then}
+use Rattle.traversal.proofs.GrownLaid.{grown_own}
 use Rattle.traversal.proofs.LaidAt.{brought_settled, settled_bounds, settled_measured, settled_specs}
 use Rattle.traversal.proofs.LaidWhole.{at_narrow, calls_whole, laid_whole, owed_none, ready_whole, root_alone, root_from, root_live, root_sized}
 use Rattle.traversal.proofs.SightLaws.{sight_whole, within_whole}
@@ -64,7 +65,7 @@ returns-clause-sight c =
     sight_whole c.args.window c.window_canvas.result c.lay_open.new.context.damage.rect (held_of c.args.tree.now) (held_of c.measure-size.new.tree) (held_of c.lay_open.new.tree) c.args.tree.now.tree
     (first_tree (part_from c.args.root c.measure-size.new.tree.tree)) c.window_canvas.ensures.value
     (ap (λ tree. first_tree (part_from c.args.root tree)) m.same.tree ∙ root_alone c.args.tree.now.tree c.args.root c.requires.root c.facts.ensures.is_tree.root)
-    (λ key here. (m.keeps.bounds key, m.keeps.offsets key)) c.lay_open.ensures.sight
+    (λ key here. (m.keeps.bounds key, m.keeps.offsets key)) c.lay_open.ensures.done.sight
 
 pub returns-clause-within : goal.returns-clause-within
 returns-clause-within c =
@@ -72,14 +73,14 @@ returns-clause-within c =
     within_whole c.args.window c.window_canvas.result c.args.damage.now.rect c.lay_open.new.context.damage.rect (held_of c.args.tree.now) (held_of c.measure-size.new.tree) (held_of c.lay_open.new.tree) c.args.tree.now.tree
     (first_tree (part_from c.args.root c.measure-size.new.tree.tree)) c.window_canvas.ensures.value
     (ap (λ tree. first_tree (part_from c.args.root tree)) m.same.tree ∙ root_alone c.args.tree.now.tree c.args.root c.requires.root c.facts.ensures.is_tree.root)
-    (λ key here. (m.keeps.bounds key, m.keeps.offsets key)) c.lay_open.ensures.within
+    (λ key here. (m.keeps.bounds key, m.keeps.offsets key)) c.lay_open.ensures.done.within
 
 pub returns-clause-geometry : goal.returns-clause-geometry
 returns-clause-geometry c =
     let m = c.measure-size.ensures in
     let old = c.args.tree.now.tree in
     let is = c.facts.ensures.is_tree in
-    let tree : c.lay_open.new.tree.tree ≡ old = c.lay_open.ensures.same.tree ∙ m.same.tree in
+    let tree : c.lay_open.new.tree.tree ≡ old = c.lay_open.ensures.done.same.tree ∙ m.same.tree in
     let laid = rw m.same.tree at c.lay_open.ensures.put.lies in
     let pair = ap (λ (p : Spec × Spec). let specs : Specs = record { across = p.0; down = p.1 } in specs) c.specs_in.ensures in
     let under = m.measured.last ∙ pair ∙ ap (λ (facts : FactsValue). root_specs c.args.window facts) c.facts.ensures.value in
@@ -95,9 +96,9 @@ returns-clause-plain c =
     let m = c.measure-size.ensures in
     let old = c.args.tree.now.tree in
     let is = c.facts.ensures.is_tree in
-    let tree : c.lay_open.new.tree.tree ≡ old = c.lay_open.ensures.same.tree ∙ m.same.tree in
+    let tree : c.lay_open.new.tree.tree ≡ old = c.lay_open.ensures.done.same.tree ∙ m.same.tree in
     let new = held_of c.lay_open.new.tree in
-    let next = c.lay_open.ensures.same.next ∙ m.same.next in
+    let next = c.lay_open.ensures.done.same.next ∙ m.same.next in
     let is_new : IsTree c.lay_open.new.tree = is_tree-same c.args.tree.now c.lay_open.new.tree is tree next in
     let brought : Brought (held_of c.measure-size.new.tree) (settled_at c.args.root new) (first_tree (part_from c.args.root old)) = rw m.same.tree at c.lay_open.ensures.put.offsets in
     let brought : Brought (held_of c.measure-size.new.tree) (settled_at c.args.root new) old = rw (root_alone old c.args.root c.requires.root is.root) at brought in
@@ -135,7 +136,7 @@ returns-clause-measured c =
     let from_root = root_from old c.args.root c.requires.root is.root in
     let none : owed (held_of c.args.tree.now) (first_tree (part_from c.args.root old)) ≡ 0 = rw all (owed_none (held_of c.args.tree.now) old c.requires.consistent.reached) in
     let cost = m.costs.owing in
-    let lay : c.lay_open.new.context.work.measured ≤ c.measure-size.new.work.measured + owed (held_of c.measure-size.new.tree) (first_tree (part_from c.args.root old)) = rw m.same.tree at c.lay_open.ensures.measured in
+    let lay : c.lay_open.new.context.work.measured ≤ c.measure-size.new.work.measured + owed (held_of c.measure-size.new.tree) (first_tree (part_from c.args.root old)) = (rw m.same.tree at c.lay_open.ensures.done).measures in
     let pair = ap (λ (p : Spec × Spec). let specs : Specs = record { across = p.0; down = p.1 } in specs) c.specs_in.ensures in
     let under = pair ∙ ap (λ (facts : FactsValue). root_specs c.args.window facts) c.facts.ensures.value in
     let calls = calls_whole old c.args.root (held_of c.args.tree.now) c.args.window _ c.requires.root is.root (rw from_root c.requires.shown) under in
@@ -155,7 +156,7 @@ returns-clause-idle c = λ known.
     let work = ap (λ (work : Work). work.measured) (m.idle (inl (current-is (state_of c.args.tree.now c.args.root) _ now))).0 in
     let none : owed (held_of c.args.tree.now) (first_tree (part_from c.args.root old)) ≡ 0 = rw all (owed_none (held_of c.args.tree.now) old c.requires.consistent.reached) in
     let none' : owed (held_of c.measure-size.new.tree) (first_tree (part_from c.args.root old)) ≡ 0 = ap (λ (views : Views). owed (held_of views) (first_tree (part_from c.args.root old))) still ∙ none in
-    let lay : c.lay_open.new.context.work.measured ≤ c.measure-size.new.work.measured + owed (held_of c.measure-size.new.tree) (first_tree (part_from c.args.root old)) = rw m.same.tree at c.lay_open.ensures.measured in
+    let lay : c.lay_open.new.context.work.measured ≤ c.measure-size.new.work.measured + owed (held_of c.measure-size.new.tree) (first_tree (part_from c.args.root old)) = (rw m.same.tree at c.lay_open.ensures.done).measures in
     omega arith
 
 pub returns-clause-laid : goal.returns-clause-laid
@@ -165,7 +166,7 @@ returns-clause-laid c =
     let all = root_alone old c.args.root c.requires.root c.facts.ensures.is_tree.root in
     let mid = held_of c.measure-size.new.tree in
     let new = held_of c.lay_open.new.tree in
-    let lay : c.lay_open.new.tree.counts.laid ≤ c.measure-size.new.tree.counts.laid + differ mid new (first_tree (part_from c.args.root old)) = rw m.same.tree at c.lay_open.ensures.laid in
+    let lay : c.lay_open.new.tree.counts.laid ≤ c.measure-size.new.tree.counts.laid + differ mid new (first_tree (part_from c.args.root old)) = (rw m.same.tree at c.lay_open.ensures.done).moves in
     let lay : c.lay_open.new.tree.counts.laid ≤ c.measure-size.new.tree.counts.laid + differ mid new old = rw all at lay in
     let same : differ mid new old ≡ differ (held_of c.args.tree.now) new old = differ-along (held_of c.args.tree.now) mid new new old (λ key here. m.keeps.bounds key) (λ key here. refl) in
     let had = m.counted.laid in
@@ -174,7 +175,7 @@ returns-clause-laid c =
 pub returns-clause-counted : goal.returns-clause-counted
 returns-clause-counted c =
     let m = c.measure-size.ensures.counted in
-    counted_then (record { by = m.by; work = m.work; tree = m.tree; painted = m.painted }) c.lay_open.ensures.counted
+    counted_then (record { by = m.by; work = m.work; tree = m.tree; painted = m.painted }) c.lay_open.ensures.done.counted
 
 pub returns-clause-lies : goal.returns-clause-lies
 returns-clause-lies c =
@@ -226,7 +227,7 @@ returns-clause-caches c =
     let ok : Specs → ℕ → Specs → Type 0 = λ specs place other. other ≡ specs in
     let asked = root_specs c.args.window (head_view old).facts in
     let one = subst (λ (specs : Specs). Grown (ok specs) before mid list) specs m.caches in
-    let laid : Grown (ok (specs_of (mid root).state)) mid after list = rw m.same.tree at c.lay_open.ensures.caches in
+    let laid = grown_own old root mid after (root_live old root c.requires.root) (rw m.same.tree at c.lay_open.ensures.done).caches in
     let two = subst (λ (specs : Specs). Grown (ok specs) mid after list) (m.measured.last ∙ specs) laid in
     let all : Grown (ok asked) before after list = Grown-trans (ok asked) before mid after list one two in
     rw (root_alone old root c.requires.root c.facts.ensures.is_tree.root) at all
