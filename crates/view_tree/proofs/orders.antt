@@ -7,6 +7,8 @@ pub mod GroupLaws
 pub mod GroupReads
 pub mod HighestLaws
 pub mod IdPlaces
+pub mod LastLaws
+pub mod LatestLaws
 pub mod ListLaws
 pub mod OnlyLayouts
 pub mod PlaceLaws

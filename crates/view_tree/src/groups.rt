@@ -1,34 +1,42 @@
 //! What is kept of the children of relative layouts, by the numbers of these: `places` changes an order, `kids` gathers
-//! the children of a sapling's layouts, `highest` has the highest ids that rules name, and `ordered` a child in an order.
+//! the children of a sapling's layouts, `highest` has the highest ids that rules name, `latest` the last children with an
+//! id, and `ordered` a child in an order.
 ghost use Rattle.std.specs.Prelude.{◌≡◌, ◌≢◌, ◌≤◌, ◌<◌, ◌+◌, ◌^◌, ℕ, length, true, None, Some, IfSome, OnOk, option_map, if◌then◌else◌, nat_eq};
 ghost use Rattle.indexmap.specs.IndexMap.{get as held_at, spare};
 ghost use Rattle.view_model.specs.Refusals.{IsRefusedExactlyFor};
 ghost use Rattle.view_model.specs.Classes.{is_relative};
 ghost use Rattle.view_tree.specs.tree.Grafting.{noted};
-ghost use Rattle.view_tree.specs.groups.Ordering.{HasKidRoom, IsRuled, IsRuledAt, IsTaken, IsTakenAt, group_at, no_group, orders_in, place_in, plain_group, plain_orders, with_kid};
+ghost use Rattle.view_tree.specs.groups.Ordering.{HasIdRoom, HasKidRoom, IsRuled, IsRuledAt, IsTaken, IsTakenAt, group_at, no_group, orders_in, place_in, plain_group, plain_orders, with_kid};
 
 pub mod highest;
 pub mod kids;
+pub mod latest;
 pub mod ordered;
 pub mod places;
 
 use crate::fault::AttachFault;
 use crate::groups::highest::{higher, highest_in};
-use crate::groups::places::{add_place, remove_place};
+use crate::groups::latest::{note_kid, reserve_id};
+use crate::groups::places::{add_place, is_straight, remove_place};
 use indexmap::IndexMap;
 use relative_layout::Orders;
 use std::alloc::{AllocError, Global};
-use view_model::{Class, Rules};
+use view_model::{Class, Link};
 
 /// What is kept of the children of a relative layout: the orders in which they are measured, as places among the
 /// children, and the children's numbers in list order. This list turns the places of the orders into views without a
 /// walk, and is part of the kept orders; no other view has a list of its children. The rules of no child name an id above
-/// `highest`.
+/// `highest`. If `latest` is `complete`, no child with an id that is not 0 has a number above that of the id in it. An
+/// order that `straight_across` or `straight_down` marks is the list.
 #[derive(Drop)]
 pub struct Group {
     pub orders: Orders,
     pub kids: Vec<u64>,
     pub highest: u32,
+    pub latest: IndexMap<u32, u64>,
+    pub complete: bool,
+    pub straight_across: bool,
+    pub straight_down: bool,
 }
 
 /// Takes the memory for one more child.
@@ -177,6 +185,10 @@ fn empty_group(alloc: Global) -> Group
         },
         kids: Vec::new(alloc),
         highest: 0,
+        latest: IndexMap::new(alloc),
+        complete: true,
+        straight_across: true,
+        straight_down: true,
     }
 }
 
@@ -219,17 +231,44 @@ pub fn leave_group(groups: &mut IndexMap<u64, Group>, parent: Option<u64>, numbe
     groups.swap_remove(&number);
 }
 
+/// Takes the memory for the id that a child of the relative layout of a number gets.
+pub fn make_id_room(
+    groups: &mut IndexMap<u64, Group>,
+    number: Option<u64>,
+    id: u32,
+) -> Result<(), AttachFault>
+    ensures refused { IsRefusedExactlyFor None result }
+    ensures same { orders_in groups.new.entries ≡ orders_in groups.old.entries }
+    ensures groups { (k : ℕ) → group_at groups.new k ≡ group_at groups.old k }
+    ensures room { OnOk result ((k : ℕ) → number ≡ Some k → IfSome (held_at nat_eq groups.new k) (HasIdRoom id)) }
+{
+    let Some(number) = number else {
+        return Ok(());
+    };
+    let Some(group) = groups.get_mut(&number) else {
+        return Ok(());
+    };
+    match reserve_id(&mut group.latest, id) {
+        Ok(()) => Ok(()),
+        Err(_) => Err(AttachFault::NoMemory),
+    }
+}
+
 /// Records that a child of the relative layout of a number has other rules, for which these are the orders; if none are
-/// given, those that are kept stay.
+/// given, those that are kept stay. There is room for the child's id.
 pub fn set_orders(
     groups: &mut IndexMap<u64, Group>,
     number: Option<u64>,
     orders: Option<Orders>,
-    rules: &Rules,
+    kid: u64,
+    link: &Link,
 )
+    requires { (k : ℕ)
+        → number ≡ Some k
+        → IfSome (held_at nat_eq groups.old k) (HasIdRoom link.now.id) }
     ensures own { (k : ℕ)
         → number ≡ Some k
-        → IsRuledAt (option_map plain_orders orders) rules.now (group_at groups.old k) (group_at groups.new k) }
+        → IsRuledAt (option_map plain_orders orders) kid link.now (group_at groups.old k) (group_at groups.new k) }
     ensures others { (k : ℕ) → number ≢ Some k → group_at groups.new k ≡ group_at groups.old k }
     ensures unused { (k : ℕ) → group_at groups.old k ≡ None → group_at groups.new k ≡ None }
 {
@@ -237,16 +276,26 @@ pub fn set_orders(
         return;
     };
     if let Some(group) = groups.get_mut(&number) {
-        rule_kid(group, orders, rules);
+        rule_kid(group, orders, kid, link);
     }
 }
 
 /// The same in the group.
-fn rule_kid(group: &mut Group, orders: Option<Orders>, rules: &Rules)
-    ensures { IsRuled (option_map plain_orders orders) rules.now (plain_group group.old) (plain_group group.new) }
+fn rule_kid(group: &mut Group, orders: Option<Orders>, kid: u64, link: &Link)
+    requires { HasIdRoom link.now.id group.old }
+    ensures { IsRuled (option_map plain_orders orders) kid link.now (plain_group group.old) (plain_group group.new) }
 {
-    group.highest = higher(group.highest, highest_in(rules));
+    group.highest = higher(group.highest, highest_in(&link.rules));
+    group.complete = note_kid(
+        &mut group.latest,
+        group.complete,
+        group.kids.len(),
+        link.id,
+        kid,
+    );
     if let Some(orders) = orders {
+        group.straight_across = is_straight(&orders.across);
+        group.straight_down = is_straight(&orders.down);
         group.orders = orders;
     }
 }

@@ -16,6 +16,7 @@ use Rattle.view_model.specs.Refusals.{PlainRefusal, plain_refusal}
 use Rattle.view_model.specs.declared.fault.Fault.{Fault}
 use Rattle.view_model.specs.declared.fault.Fault.TheVariants as fault
 use Rattle.view_tree.specs.declared.groups.Group.{Group}
+use Rattle.view_tree.specs.groups.Latest.{AreRising}
 use Rattle.view_tree.specs.Faults.{IsRefusedOrCyclic}
 use Rattle.view_tree.specs.tree.Grafting.{AreEntries, HasAdded, IsFollowing, IsGroupOrCycle, IsMadeUnless, IsOwnFor, IsParentEntry, following, cycle_of, links_following, links_then, numbers_following, numbers_then, parent_cycle, sprout_link}
 use Rattle.view_tree.specs.Rows.{Row, children_of_first, count_of_key, head_view, later_siblings, part_from, views_of}
@@ -23,7 +24,8 @@ use Rattle.view_tree.specs.Views.{IsLive, IsTree, Views, class_of, number_of}
 use Rattle.view_tree.proofs.forest.KeyLaws.{located}
 use Rattle.view_tree.proofs.grafts.SownSprouts.{live_earlier}
 use Rattle.view_tree.proofs.orders.CycleLaws.{views-count}
-use Rattle.view_tree.proofs.orders.RowLaws.{child_there, count_within, few_numbers, within_children}
+use Rattle.view_tree.proofs.orders.LatestLaws.{rising_on, rising_with}
+use Rattle.view_tree.proofs.orders.RowLaws.{child_there, count_within, few_numbers, numbers_earlier, within_children}
 
 -- one more child is gathered
 pub each_step : {X : Type 0} (f : PlainView → X) (own : X) (tree : Forest Row) (key : ℕ) (xs : List X) → 0 < count_of_key key tree → own ≡ f (head_view (part_from key tree))
@@ -67,6 +69,10 @@ all_on : (most first : ℕ) (numbers : List ℕ) → first < most → AllBelow m
 all_on most first numbers less all zero small = less
 all_on most first numbers less all (suc p) small = all p (omega arith)
 
+low_on : (first : ℕ) (numbers : List ℕ) → ((p : ℕ) → p < length numbers → first < slice_index numbers p) → (p : ℕ) → p < length (first ∷ numbers) → first ≤ slice_index (first ∷ numbers) p
+low_on first numbers later zero small = omega arith
+low_on first numbers later (suc p) small = let up = later p (omega arith) in omega arith
+
 pub following-near : (most depth number : ℕ) (sprouts : List Sprout) → number + length sprouts ≤ most → (p : ℕ) → p < length (numbers_following depth number sprouts)
     → slice_index (numbers_following depth number sprouts) p < most
 following-near most depth number sprouts le = near sprouts number le
@@ -83,7 +89,32 @@ following-near most depth number sprouts le = near sprouts number le
           ]
         ]
 
+-- their numbers rise
+pub following-rising : (depth number : ℕ) (sprouts : List Sprout) → AreRising (numbers_following depth number sprouts)
+following-rising depth number sprouts = (rises sprouts number).1
+  where
+    rises : (sprouts : List Sprout) (number : ℕ)
+        → ((p : ℕ) → p < length (numbers_following depth number sprouts) → number ≤ slice_index (numbers_following depth number sprouts) p) × AreRising (numbers_following depth number sprouts)
+    rises [] number = (λ p small. absurd (omega arith), λ p q lower small. absurd (omega arith))
+    rises (sprout ∷ more) number =
+        let rest = rises more (suc number) in
+        let later : (p : ℕ) → p < length (numbers_following depth (suc number) more) → number < slice_index (numbers_following depth (suc number) more) p =
+        λ p small. let up = rest.0 p small in omega arith in
+        elim (cases_Bool (nat_lt depth sprout.depth)) [
+          | inr past ↦ rw past (λ p small. absurd (omega arith), λ p q lower small. absurd (omega arith))
+          | inl inner ↦ elim (cases_Bool (sprout.depth == suc depth)) [
+            | inl is ↦ rw (inner, is) (low_on number (numbers_following depth (suc number) more) later, rising_on number (numbers_following depth (suc number) more) later rest.1)
+            | inr isnt ↦ rw (inner, isnt) (λ p small. let up = later p small in omega arith, rest.1)
+          ]
+        ]
+
 -- the children of a parent with one more
+pub rising_then : (views : Views) (parent : ℕ) → IsTree views → IsLive views parent → AreRising (numbers_in (views_of (children_of_first (part_from parent views.tree))))
+    → AreRising (numbers_then views parent)
+rising_then views parent is live rising =
+    rising_with (numbers_in (views_of (children_of_first (part_from parent views.tree)))) views.next
+    (numbers_earlier views.next views.tree is.earlier (children_of_first (part_from parent views.tree)) (within_children views parent live)) rising
+
 pub few_then : (views : Views) (parent : ℕ) → IsTree views → IsLive views parent → length (numbers_in (views_of (children_of_first (part_from parent views.tree)))) ≤ count_of views.tree
 few_then views parent is live =
     let f = located parent views.tree live in

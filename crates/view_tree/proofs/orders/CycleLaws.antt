@@ -21,6 +21,7 @@ use Rattle.view_model.specs.PlainTree.{PlainView}
 use Rattle.view_model.specs.Refusals.{PlainRefusal, plain_refusal}
 use Rattle.view_tree.specs.groups.Cycles.{AreNewOrders, HasNoCycle, IsCycleReported, IsFree, links_below, view_member}
 use Rattle.view_tree.specs.Faults.{IsRefusedOrCyclic}
+use Rattle.view_tree.specs.groups.Latest.{AreRising}
 use Rattle.view_tree.specs.node.Nodes.{PlainNode, RepresentsPart, RepresentsTree}
 use Rattle.view_model.specs.Classes.{is_relative}
 use Rattle.view_model.specs.Cycles.{cycle_below, first_cycle, link_of, links_in, numbers_in}
@@ -32,6 +33,7 @@ use Rattle.view_tree.proofs.forest.KeyLaws.{Agree, Within, from_within, here, in
 use Rattle.view_tree.proofs.forest.PlainLaws.{agree_live}
 use Rattle.view_tree.proofs.orders.FirstCycles.{HaveCyclesAt, first_at, reported_is}
 use Rattle.view_tree.proofs.orders.HighestLaws.{above_changed, named_more}
+use Rattle.view_tree.proofs.orders.LatestLaws.{reached_changed}
 use Rattle.view_tree.proofs.orders.ListLaws.{IsAmong, among_or_not, among_times, edited_nowhere, each-changed_below, every_by, length-each, times_in}
 use Rattle.view_tree.proofs.orders.RowLaws.{at_within, count_within, each-plain, every_within, few_numbers, group_number-own, numbered_at, numbers-plain, orders_or, times-plain}
 use Rattle.view_tree.proofs.orders.TreeLaws.{Groups, HasParent, Owes, grouped-edited, kept_along}
@@ -166,13 +168,18 @@ not_parent views key parent is found same =
 
 kept-ruled : (number : ℕ) (link : Link) (change : PlainView → PlainView) (list : Forest PlainView) (old new : Option PlainGroup) (orders : Option PlainOrders)
     → ((view : PlainView) → (change view).number ≡ view.number) → ((view : PlainView) → link_of (change view) ≡ link) → AreOrders (links_in (changed number change list)) (unwrap_or orders (orders_or old))
-    → IsRuledAt orders link.rules old new → IsKeptOf list old → IsKeptOf (changed number change list) new
+    → IsRuledAt orders number link old new → IsKeptOf list old → IsKeptOf (changed number change list) new
 kept-ruled number link change list None new orders same reads are ruled kept = absurd kept
 kept-ruled number link change list (Some old) None orders same reads are ruled kept = absurd ruled
 kept-ruled number link change list (Some old) (Some new) orders same reads are ruled kept = record {
   numbers = ruled.kids ∙ kept.numbers ∙ sym (numbers-changed number change list same);
   orders = subst (AreOrders (links_in (changed number change list))) (sym ruled.sorted) are;
   highest = above_changed number new.highest link change list reads ruled.own (named_more (links_in list) old.highest new.highest kept.highest ruled.others);
+  rising = subst AreRising (sym (numbers-changed number change list same)) kept.rising;
+  latest = λ e.
+      let both = ruled.noted e in
+      reached_changed number link change list old.latest new.latest same reads both.1 (kept.latest both.0);
+  marked = ruled.marked kept.marked;
 }
 
 once : (views : Views) (key : ℕ) → IsTree views → times_in (number_of views key) (plain_of views) ≤ 1
@@ -280,7 +287,7 @@ module _ (at now : Groups) (views new : Views) (key : ℕ) (link : Link) (change
 
   module _ (parent : ℕ) (orders : Option PlainOrders) (above : IsLive views parent) (found : FoundChild (held_of views) views.tree (number_of views key) (Some parent))
       (are : AreOrders (links_below views parent (number_of views key) link) (unwrap_or orders (orders_or (at (number_of views parent)))))
-      (own : IsRuledAt orders link.rules (at (number_of views parent)) (now (number_of views parent))) (others : (k : ℕ) → number_of views parent ≢ k → now k ≡ at k)
+      (own : IsRuledAt orders (number_of views key) link (at (number_of views parent)) (now (number_of views parent))) (others : (k : ℕ) → number_of views parent ≢ k → now k ≡ at k)
       (has : EveryBranch (λ (view : PlainView) (kids : Forest PlainView). HasParent (number_of views key) (Some (number_of views parent)) view kids) (plain_of views)) where
     owes : EveryBranch (λ (view : PlainView) (kids : Forest PlainView). Owes at now (number_of views key) (λ view kids siblings. Branch (change view) kids siblings) view kids) (plain_of views)
     owes = every_within (λ (view : PlainView) (kids : Forest PlainView). Owes at now (number_of views key) (λ view kids siblings. Branch (change view) kids siblings) view kids) (held_of views) views.tree
@@ -291,7 +298,7 @@ module _ (at now : Groups) (views new : Views) (key : ℕ) (link : Link) (change
                 kept-ruled (number_of views key) link change (plain_rows (held_of views) kids) (at row.view.number) (now row.view.number) orders same reads
                 (subst (λ k. AreOrders (links_in (changed (number_of views key) change (plain_rows (held_of views) kids))) (unwrap_or orders (orders_or (at k)))) (sym is_parent)
                 (subst (λ links. AreOrders links (unwrap_or orders (orders_or (at (number_of views parent))))) (sym (links_then views key link change is reads parent row kids siblings within part)) are))
-                (subst (λ k. IsRuledAt orders link.rules (at k) (now k)) (sym is_parent) own) (kept relative)
+                (subst (λ k. IsRuledAt orders (number_of views key) link (at k) (now k)) (sym is_parent) own) (kept relative)
             | inr is_other ↦
                 let away : IsAmong (number_of views key) (plain_rows (held_of views) kids) → ⊥ =
                 λ among. is_other (sym (some_is (at_within (HasParent (number_of views key) (Some (number_of views parent))) (held_of views) row kids siblings within has relative among))) in
@@ -321,7 +328,7 @@ pub grouped-ruled : (at now : Groups) (views new : Views) (key : ℕ) (link : Li
     → ((parent : ℕ) → above ≡ Some parent → FoundChild (held_of views) views.tree (number_of views key) (Some parent))
     → EveryBranch (λ (view : PlainView) (kids : Forest PlainView). HasParent (number_of views key) (group_number views above) view kids) (plain_of views)
     → AreNewOrders views key link above (Ok orders)
-    → ((k : ℕ) → group_number views above ≡ Some k → IsRuledAt (option_map plain_orders orders) link.rules (at k) (now k))
+    → ((k : ℕ) → group_number views above ≡ Some k → IsRuledAt (option_map plain_orders orders) (number_of views key) link (at k) (now k))
     → ((k : ℕ) → group_number views above ≢ Some k → now k ≡ at k) → IsGrouped now (plain_of new)
 grouped-ruled at now views new key link change is live class same reads plain grouped kept None None up found has reported own others =
     grouped-alone at now views new key link change is live class same reads plain grouped (λ k. others k (λ e. cc)) has

@@ -80,7 +80,7 @@ only_holder views id held named is one small keys =
     }
 
 -- the last place that passes, or none does
-last_cases : (passes : ℕ → Bool) (count : ℕ) → ((last_below passes count ≡ None) × ((place : ℕ) → place < count → passes place ≡ false))
+pub last_cases : (passes : ℕ → Bool) (count : ℕ) → ((last_below passes count ≡ None) × ((place : ℕ) → place < count → passes place ≡ false))
     ⊎ ((place : ℕ) × (place < count) × (passes place ≡ true) × (last_below passes count ≡ Some place))
 last_cases passes zero = inl (refl, λ place small. absurd (omega arith))
 last_cases passes (suc count) = elim (cases_Bool (passes count)) [
@@ -98,7 +98,7 @@ last_cases passes (suc count) = elim (cases_Bool (passes count)) [
 ]
 
 -- a child among others has a place, and the view at a place is among them
-kid_place : (held : ℕ → Held) (number : ℕ) (list : Forest Row) → IsAmong number (plain_rows held list)
+pub kid_place : (held : ℕ → Held) (number : ℕ) (list : Forest Row) → IsAmong number (plain_rows held list)
     → (place : ℕ) × (place < length (links_read (views_of list))) × ((head_view (siblings_from place list)).number ≡ number)
 kid_place held number Nothing none = absurd none
 kid_place held number (Branch row kids siblings) (inl is) = (0, omega arith, is)

@@ -7,7 +7,7 @@ use Rattle.std.specs.List.{remove}
 use Rattle.std.proofs.lemmas.List.{get_or_push, get_or_append_left}
 use Rattle.std.proofs.lemmas.List.Edits.{length-remove, get_or-remove_below, get_or-remove_above}
 use Rattle.view_model.specs.Orders.{IsOrder}
-use Rattle.view_tree.specs.groups.Places.{StaysWithin, passing}
+use Rattle.view_tree.specs.groups.Places.{IsStraight, StaysWithin, passing}
 
 -- the two cases of a place that stays
 pub passes : (i j : ℕ) → ((j < i) × (passing i j ≡ j)) ⊎ ((i ≤ j) × (passing i j ≡ j + 1))
@@ -100,6 +100,18 @@ mid_misses r n p i old o hp e q h same =
     let here : get_or old (passing p q) 0 ≡ get_or old p 0 = sym (place_passing old p q hp) ∙ same ∙ sym e in
     let within = passing_within p q (length (remove old p)) (omega arith) h in
     passing_misses p q (o.anchors.once (passing p q) p (omega arith) hp here)
+
+-- an order that has each place as its own, without one of them
+pub straight_removed : (at gone : ℕ) (old mid new : List ℕ) → at < length old → get_or old at 0 ≡ gone → IsStraight old → mid ≡ remove old at → length new ≡ length mid
+    → (((q : ℕ) → q < length mid → get_or mid q 0 ≢ gone) → (q : ℕ) → q < length mid → passing gone (get_or new q 0) ≡ get_or mid q 0) → IsStraight new
+straight_removed at gone old mid new there is straight made same low q small =
+    let own : at ≡ gone = sym (straight at there) ∙ is in
+    let size = length-remove old at there in
+    let all = ap length made in
+    let read : (k : ℕ) → k < length mid → get_or mid k 0 ≡ passing at k =
+    λ k h. ap (λ xs. get_or xs k 0) made ∙ place_passing old at k there ∙ straight (passing at k) (let within = passing_within at k (length mid) (omega arith) h in omega arith) in
+    let moved = low (λ k h e. passing_misses at k (sym (read k h) ∙ e ∙ sym own)) q (omega arith) in
+    passing_injective at (get_or new q 0) q (ap (λ g. passing g (get_or new q 0)) own ∙ moved ∙ read q (omega arith))
 
 -- an order with one more place, to which no place leads, and which leads to none
 pub IsOrder-add : (r s : ℕ → ℕ → Bool) (n : ℕ) (old : List ℕ) → ((a b : ℕ) → s a b ≡ true → (a < n) × (r a b ≡ true)) → IsOrder r n old → IsOrder s (n + 1) (old ++ n ∷ [])

@@ -1,6 +1,6 @@
 -- What is kept of relative layouts, in a tree of keyed views.
 use Rattle.std.proofs.Common.{◌≡◌, ◌≢◌, ℕ, zero, suc, ◌<◌, ◌≤◌, true, Bool, List, [], ◌∷◌, length, get_or, Option, Some, None, refl, sym, ◌∙◌, ap, subst, arith, inl, inr}
-use Rattle.std.proofs.lemmas.Bool.{cases_Bool, eq-eqb, eqb-true}
+use Rattle.std.proofs.lemmas.Bool.{cases_Bool, cases_lt, eq-eqb, eqb-true}
 use Rattle.std.specs.Prelude.{MatchOption, slice_get, ◌==◌, ◌^◌, IfSome, option_map, nat_eq, replicate}
 use Rattle.std.specs.Map.{lookup}
 use Rattle.std.specs.Option.{unwrap_or}
@@ -155,6 +155,16 @@ group_number-own views parent e = rw e
 number_row : (row : Row) (kids siblings : Forest Row) {tree : Forest Row} → Within (Branch row kids siblings) tree → 0 < count_of_number row.view.number tree
 number_row row kids siblings within = let own = number_self row kids siblings in let less = number-within row.view.number within in omega arith
 
+-- the numbers of views in a list are below the next one
+pub numbers_earlier : (next : ℕ) (tree : Forest Row) → ((number : ℕ) → next ≤ number → count_of_number number tree ≡ 0) → (list : Forest Row) → Within list tree
+    → (p : ℕ) → p < length (numbers_in (views_of list)) → get_or (numbers_in (views_of list)) p 0 < next
+numbers_earlier next tree none Nothing within p small = absurd (omega arith)
+numbers_earlier next tree none (Branch row kids siblings) within zero small = elim (cases_lt row.view.number next) [
+  | inl lt ↦ lt
+  | inr le ↦ absurd (let there = number_row row kids siblings within in let zero = none row.view.number le in omega arith)
+]
+numbers_earlier next tree none (Branch row kids siblings) within (suc p) small = numbers_earlier next tree none siblings (Within-later_siblings within) p (omega arith)
+
 -- a view was added
 no_order : (r : ℕ → ℕ → Bool) → IsOrder r 0 []
 no_order r = record {
@@ -166,18 +176,34 @@ no_order r = record {
 
 grouped_single : (groups : Groups) (view : PlainView) → (is_relative view.class ≡ true → groups view.number ≡ Some no_group) → IsGrouped groups (single view)
 grouped_single groups view own = (
-  λ relative. subst (IsKeptOf Nothing) (sym (own relative)) (record { numbers = refl; orders = record { across = no_order _; down = no_order _ }; highest = λ place small. absurd (omega arith) }),
+  λ relative. subst (IsKeptOf Nothing) (sym (own relative)) (record {
+    numbers = refl;
+    orders = record { across = no_order _; down = no_order _ };
+    highest = λ place small. absurd (omega arith);
+    rising = λ p q lower small. absurd (omega arith);
+    latest = λ e p small named. absurd (omega arith);
+    marked = record { across = λ e p small. absurd (omega arith); down = λ e p small. absurd (omega arith) };
+  }),
   tt,
   tt,
 )
 
-kept-with : (kids : Forest PlainView) (view : PlainView) (group : Option PlainGroup) → view.facts.id ≡ 0 → view.facts.rules.values ≡ replicate 21 0 → IsKeptOf kids group
+kept-with : (kids : Forest PlainView) (view : PlainView) (group : Option PlainGroup) → view.facts.id ≡ 0 → view.facts.rules.values ≡ replicate 21 0
+    → ((p : ℕ) → p < length (numbers_in kids) → get_or (numbers_in kids) p 0 < view.number) → IsKeptOf kids group
     → IsKeptOf (joined kids (single view)) (option_map (with_kid view.number) group)
-kept-with kids view None id rules kept = absurd kept
-kept-with kids view (Some group) id rules kept = group-with kids view group id rules kept
+kept-with kids view None id rules later kept = absurd kept
+kept-with kids view (Some group) id rules later kept = group-with kids view group id rules later kept
 
 module _ (old new : Views) (view : PlainView) (at now : Groups) (is : IsTree old) (number : view.number ≡ old.next)
     (id : view.facts.id ≡ 0) (rules : view.facts.rules.values ≡ replicate 21 0) (own : is_relative view.class ≡ true → now view.number ≡ Some no_group) where
+  later : (kids : Forest Row) → Within kids old.tree → (p : ℕ) → p < length (numbers_in (plain_rows (held_of old) kids)) → get_or (numbers_in (plain_rows (held_of old) kids)) p 0 < view.number
+  later kids within p small =
+      let numbers = numbers-plain (held_of old) kids in
+      let size = ap length numbers in
+      let here = ap (λ (n : List ℕ). get_or n p 0) numbers in
+      let early = numbers_earlier old.next old.tree is.earlier kids within p (omega arith) in
+      omega arith
+
   vacant : times_in view.number (plain_of old) ≡ 0
   vacant = times-plain (held_of old) view.number old.tree ∙ is.earlier view.number (omega arith)
 
@@ -200,7 +226,7 @@ module _ (old new : Views) (view : PlainView) (at now : Groups) (is : IsTree old
         let fresh : row.view.number ≢ view.number = λ e. let one = number_row row kids siblings within in let none = times-plain (held_of old) view.number old.tree in
         let zero = vacant in absurd (let there : 0 < count_of_number view.number old.tree = subst (λ n. 0 < count_of_number n old.tree) e one in omega arith) in
         subst (IsKeptOf (joined (plain_rows (held_of old) kids) (single view))) (sym (reported row.view.number mine fresh))
-        (kept-with (plain_rows (held_of old) kids) view (at row.view.number) id rules (kept relative)))
+        (kept-with (plain_rows (held_of old) kids) view (at row.view.number) id rules (later kids (Within-children_of_first within)) (kept relative)))
 
     pub grouped-child : plain_of new ≡ grown_at (Some (number_of old parent)) (single view) (plain_of old) → IsGrouped now (plain_of new)
     grouped-child plain = subst (IsGrouped now) (sym plain)

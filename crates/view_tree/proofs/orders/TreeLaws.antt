@@ -19,10 +19,12 @@ use Rattle.view_model.specs.Classes.{is_relative}
 use Rattle.view_model.specs.Cycles.{link_of, links_in, numbers_in}
 use Rattle.view_tree.specs.groups.Ordering.{AreOrders, IsGroupOf, IsGrouped, IsGroupedAt, IsKeptOf, IsTakenAt, IsWithoutKid, PlainGroup, place_in, with_kid}
 use Rattle.view_tree.specs.groups.Highest.{IsAboveNamed, IsAboveRules}
+use Rattle.view_tree.specs.groups.Latest.{AreReached, AreRising, IsReachedIn}
 use Rattle.view_tree.specs.groups.Places.{IsLowered, StaysWithin, passing}
 use Rattle.view_tree.proofs.forest.ForestLaws.{every_branch-joined}
+use Rattle.view_tree.proofs.orders.LatestLaws.{reached_with, rising_remove, rising_with, straight_with}
 use Rattle.view_tree.proofs.orders.ListLaws.{IsAmong, among_or_not, each-changed, each-grown, each-joined, each-pruned, each-pruned_below, edited_nowhere, every_below, every_both, every_by, length-each, place_past, place_within, times_in}
-use Rattle.view_tree.proofs.orders.PlaceLaws.{IsOrder-add, passes, passing_injective}
+use Rattle.view_tree.proofs.orders.PlaceLaws.{IsOrder-add, passes, passing_injective, place_passing}
 
 -- a group is that of other children too, if these are tied alike
 pub kept_along : (old new : Forest PlainView) (group : Option PlainGroup) → links_in new ≡ links_in old → numbers_in new ≡ numbers_in old → IsKeptOf old group → IsKeptOf new group
@@ -31,6 +33,9 @@ kept_along old new (Some group) links numbers kept = record {
   numbers = kept.numbers ∙ sym numbers;
   orders = subst (λ (links : List Link). AreOrders links group.orders) (sym links) kept.orders;
   highest = subst (IsAboveNamed group.highest) (sym links) kept.highest;
+  rising = subst AreRising (sym numbers) kept.rising;
+  latest = λ e. subst (λ (links : List Link). AreReached group.latest links (numbers_in new)) (sym links) (subst (AreReached group.latest (links_in old)) (sym numbers) (kept.latest e));
+  marked = kept.marked;
 }
 
 abbrev pub Groups : Type 0
@@ -94,6 +99,17 @@ above-remove highest links i h above place small =
     subst (λ (link : Link). IsAboveRules highest link.rules) (sym (at_passing links i place h))
     (above (passing i place) (elim (passes i place) [ inl w ↦ let same = w.1 in omega arith | inr w ↦ let same = w.1 in omega arith ]))
 
+-- what a table has for the ids of those that stay
+reached-remove : (latest : List (ℕ × ℕ)) (links : List Link) (kids : List ℕ) (i : ℕ) → i < length links → i < length kids → AreReached latest links kids
+    → AreReached latest (remove links i) (remove kids i)
+reached-remove latest links kids i h inside reached p small named =
+    let size = length-remove links i h in
+    let here = at_passing links i p h in
+    let there : passing i p < length links = elim (passes i p) [ inl w ↦ let same = w.1 in omega arith | inr w ↦ let same = w.1 in omega arith ] in
+    subst (λ n. IsReachedIn latest (get_or (remove links i) p no_link).id n) (sym (place_passing kids i p inside))
+    (subst (λ (l : Link). IsReachedIn latest l.id (get_or kids (passing i p) 0)) (sym here)
+    (reached (passing i p) there (λ zero. named (ap (λ (l : Link). l.id) here ∙ zero))))
+
 -- an order of the children, lowered, is one of those that stay
 order-lowered : (axis : Axis) (links : List Link) (place : ℕ) (old new : List ℕ) → place < length links → IsOrder (leads axis links) (length links) old → IsLowered place old new
     → IsOrder (leads axis (remove links place)) (length (remove links place)) new
@@ -108,6 +124,10 @@ group-without number kids old new among taken is =
     let same : place_in number old.kids ≡ place = ap (place_in number) is.numbers in
     let small : place < length (links_in kids) = (let within = place_within number kids among in let size = length-each link_of kids in omega arith) in
     let links : links_in (pruned number kids) ≡ remove (links_in kids) place = each-pruned link_of number kids among in
+    let numbers : numbers_in (pruned number kids) ≡ remove (numbers_in kids) place = each-pruned (λ (view : PlainView). view.number) number kids among in
+    let inside : place < length (numbers_in kids) = place_within number kids among in
+    let each = length-each link_of kids in
+    let all : length old.kids ≡ length (numbers_in kids) = ap length is.numbers in
     record {
       numbers = taken.kids ∙ ap (λ (list : List ℕ). remove list (place_in number list)) is.numbers ∙ sym (each-pruned (λ (view : PlainView). view.number) number kids among);
       orders = subst (λ (links : List Link). AreOrders links new.orders) (sym links) (record {
@@ -118,6 +138,11 @@ group-without number kids old new among taken is =
       });
       highest = subst (λ highest. IsAboveNamed highest (links_in (pruned number kids))) (sym taken.highest)
           (subst (IsAboveNamed old.highest) (sym links) (above-remove old.highest (links_in kids) place small is.highest));
+      rising = subst AreRising (sym numbers) (rising_remove (numbers_in kids) place inside is.rising);
+      latest = λ e. subst (λ latest. AreReached latest (links_in (pruned number kids)) (numbers_in (pruned number kids))) (sym taken.latest)
+          (subst (λ (links : List Link). AreReached old.latest links (numbers_in (pruned number kids))) (sym links)
+          (subst (AreReached old.latest (remove (links_in kids) place)) (sym numbers) (reached-remove old.latest (links_in kids) (numbers_in kids) place small inside (is.latest (sym taken.complete ∙ e)))));
+      marked = taken.marked (let kept = is.orders.across.size in omega arith) (let kept = is.orders.down.size in omega arith) is.marked;
     }
 
 -- the group of a view one of whose children is removed, or none
@@ -250,10 +275,12 @@ above-with highest links link rules above place small =
           absurd (let none = names_none axis link.rules id rules in cc)
     ]
 
-pub group-with : (kids : Forest PlainView) (view : PlainView) (group : PlainGroup) → view.facts.id ≡ 0 → view.facts.rules.values ≡ replicate 21 0 → IsGroupOf kids group
+pub group-with : (kids : Forest PlainView) (view : PlainView) (group : PlainGroup) → view.facts.id ≡ 0 → view.facts.rules.values ≡ replicate 21 0
+    → ((p : ℕ) → p < length (numbers_in kids) → get_or (numbers_in kids) p 0 < view.number) → IsGroupOf kids group
     → IsGroupOf (joined kids (single view)) (with_kid view.number group)
-group-with kids view group id rules is =
+group-with kids view group id rules later is =
     let links : links_in (joined kids (single view)) ≡ links_in kids ++ link_of view ∷ [] = each-joined link_of kids (single view) in
+    let numbers : numbers_in (joined kids (single view)) ≡ numbers_in kids ++ view.number ∷ [] = each-joined (λ (view : PlainView). view.number) kids (single view) in
     let size : length group.kids ≡ length (links_in kids) = ap length is.numbers ∙ sym (length-each link_of kids) in
     record {
       numbers = ap (λ list. list ++ view.number ∷ []) is.numbers ∙ sym (each-joined (λ (view : PlainView). view.number) kids (single view));
@@ -262,6 +289,14 @@ group-with kids view group id rules is =
         down = rw size (order-with Vertical (links_in kids) (link_of view) id rules group.orders.down is.orders.down);
       });
       highest = subst (IsAboveNamed group.highest) (sym links) (above-with group.highest (links_in kids) (link_of view) rules is.highest);
+      rising = subst AreRising (sym numbers) (rising_with (numbers_in kids) view.number later is.rising);
+      latest = λ e. subst (λ (links : List Link). AreReached group.latest links (numbers_in (joined kids (single view)))) (sym links)
+          (subst (AreReached group.latest (links_in kids ++ link_of view ∷ [])) (sym numbers)
+          (reached_with group.latest (links_in kids) (link_of view) (numbers_in kids) view.number (sym (length-each link_of kids)) id (is.latest e)));
+      marked = record {
+        across = λ e. straight_with group.orders.across (length group.kids) (is.orders.across.size ∙ sym size) (is.marked.across e);
+        down = λ e. straight_with group.orders.down (length group.kids) (is.orders.down.size ∙ sym size) (is.marked.down e);
+      };
     }
 
 -- what a change of the view of a number leaves of it

@@ -1,15 +1,15 @@
 -- The orders in which relative layouts measure their children, and what is kept of these beside the tree.
-use Rattle.std.specs.Prelude.{ℕ, suc, ◌≡◌, ◌<◌, ◌≤◌, ◌==◌, ◌++◌, Bool, true, false, List, [], ◌∷◌, length, map, if◌then◌else◌, Option, Some, None, nat_eq, option_map}
+use Rattle.std.specs.Prelude.{ℕ, suc, ◌≡◌, ◌≢◌, ◌<◌, ◌≤◌, ◌==◌, ◌-◌, ◌++◌, Bool, true, false, List, [], ◌∷◌, length, map, if◌then◌else◌, Option, Some, None, nat_eq, option_map, slice_get}
 use Rattle.std.specs.List.{remove}
+use Rattle.std.specs.Map.{lookup}
 use Rattle.std.specs.Option.{unwrap_or}
 use Rattle.std.specs.Vec.{vec_capacity, vec_len}
 use Rattle.std.specs.declared.hash.BuildHasherDefault.{BuildHasherDefault}
 use Rattle.std.specs.declared.hash.FoldHasher.{FoldHasher}
-use Rattle.indexmap.specs.IndexMap.{IndexMap, get}
+use Rattle.indexmap.specs.IndexMap.{IndexMap, get, spare}
 use Rattle.relative_layout.specs.declared.ordering.Orders.{Orders}
 use Rattle.view_model.specs.Classes.{is_relative}
 use Rattle.view_model.specs.Cycles.{each, link_of, links_in, numbers_in}
-use Rattle.view_model.specs.declared.facts.Rules.{Rules}
 use Rattle.view_model.specs.declared.relative.Axis.TheVariants.{Horizontal, Vertical}
 use Rattle.view_model.specs.declared.relative.Link.{Link}
 use Rattle.view_model.specs.Forest.{Forest, EveryBranch}
@@ -18,7 +18,8 @@ use Rattle.view_model.specs.PlainTree.{PlainView}
 use Rattle.view_model.specs.SiblingRules.{leads}
 use Rattle.view_tree.specs.declared.groups.Group.{Group}
 use Rattle.view_tree.specs.groups.Highest.{IsAboveNamed, IsAboveRules}
-use Rattle.view_tree.specs.groups.Places.{IsLowered}
+use Rattle.view_tree.specs.groups.Latest.{AreReached, AreRising, HasNoted}
+use Rattle.view_tree.specs.groups.Places.{IsLowered, IsStraight}
 use Rattle.view_tree.specs.Rows.{Row, count_where}
 
 -- the places of children, for each axis
@@ -44,18 +45,31 @@ pub record AreOrders (links : List Link) (orders : PlainOrders) : Type 0 where
   pub across : IsOrder (leads Horizontal links) (length links) orders.across
   pub down : IsOrder (leads Vertical links) (length links) orders.down
 
--- what is kept of the children of a relative layout: their orders, their numbers in list order, and an id that no rules
--- of theirs exceed
+-- what is kept of the children of a relative layout: their orders, their numbers in list order, an id that no rules of
+-- theirs exceed, for each id a number that those of the children with the id do not exceed, if the table has all ids,
+-- and for each axis whether each place of the order is known to be its own
 pub record PlainGroup : Type 0 where
   pub orders : PlainOrders
   pub kids : List ℕ
   pub highest : ℕ
+  pub latest : List (ℕ × ℕ)
+  pub complete : Bool
+  pub straight_across : Bool
+  pub straight_down : Bool
 
 abbrev pub plain_group : Group → PlainGroup
-plain_group group = record { orders = plain_orders group.orders; kids = group.kids.items; highest = group.highest }
+plain_group group = record {
+  orders = plain_orders group.orders;
+  kids = group.kids.items;
+  highest = group.highest;
+  latest = group.latest.entries;
+  complete = group.complete;
+  straight_across = group.straight_across;
+  straight_down = group.straight_down;
+}
 
 abbrev pub no_group : PlainGroup
-no_group = record { orders = no_orders; kids = []; highest = 0 }
+no_group = record { orders = no_orders; kids = []; highest = 0; latest = []; complete = true; straight_across = true; straight_down = true }
 
 -- what a table of groups has under a number
 abbrev pub group_at : IndexMap ℕ Group (BuildHasherDefault FoldHasher) → ℕ → Option PlainGroup
@@ -77,20 +91,41 @@ with_kid kid group = record {
   orders = record { across = group.orders.across ++ length group.kids ∷ []; down = group.orders.down ++ length group.kids ∷ [] };
   kids = group.kids ++ kid ∷ [];
   highest = group.highest;
+  latest = group.latest;
+  complete = group.complete;
+  straight_across = group.straight_across;
+  straight_down = group.straight_down;
 }
 
--- how other rules of one child change a group, for which these are the orders, or those of before
-pub record IsRuled (orders : Option PlainOrders) (rules : Rules) (old new : PlainGroup) : Type 0 where
+-- the orders that are marked have each place as its own
+pub record HasRightMarks (group : PlainGroup) : Type 0 where
+  pub across : group.straight_across ≡ true → IsStraight group.orders.across
+  pub down : group.straight_down ≡ true → IsStraight group.orders.down
+
+-- the number that a group has for an id, or that of its last child if it does not have those of all ids
+pub record IsLatestIn (id : ℕ) (group : PlainGroup) (latest : Option ℕ) : Type 0 where
+  pub noted : group.complete ≡ true → latest ≡ lookup (nat_eq id) group.latest
+  pub last : group.complete ≡ false → latest ≡ slice_get group.kids (length group.kids - 1)
+
+-- there is room for an id; 0 takes none
+abbrev pub HasIdRoom : ℕ → Group → Type 0
+HasIdRoom id group = id ≢ 0 → 0 < spare group.latest
+
+-- how another id and other rules of the child of a number change a group, for which these are the orders, or those of
+-- before
+pub record IsRuled (orders : Option PlainOrders) (number : ℕ) (link : Link) (old new : PlainGroup) : Type 0 where
   pub sorted : new.orders ≡ unwrap_or orders old.orders
   pub kids : new.kids ≡ old.kids
   pub others : old.highest ≤ new.highest
-  pub own : IsAboveRules new.highest rules
+  pub own : IsAboveRules new.highest link.rules
+  pub noted : new.complete ≡ true → (old.complete ≡ true) × HasNoted link.id number old.latest new.latest
+  pub marked : HasRightMarks old → HasRightMarks new
 
 -- the same of what a table has under a number
-abbrev pub IsRuledAt : Option PlainOrders → Rules → Option PlainGroup → Option PlainGroup → Type 0
-IsRuledAt orders rules None new = new ≡ None
-IsRuledAt orders rules (Some old) None = ⊥
-IsRuledAt orders rules (Some old) (Some new) = IsRuled orders rules old new
+abbrev pub IsRuledAt : Option PlainOrders → ℕ → Link → Option PlainGroup → Option PlainGroup → Type 0
+IsRuledAt orders number link None new = new ≡ None
+IsRuledAt orders number link (Some old) None = ⊥
+IsRuledAt orders number link (Some old) (Some new) = IsRuled orders number link old new
 
 -- where a number is in a list, or the length if it is not
 abbrev pub place_in : ℕ → List ℕ → ℕ
@@ -103,6 +138,9 @@ pub record IsWithoutKid (kid : ℕ) (old new : PlainGroup) : Type 0 where
   pub across : IsLowered (place_in kid old.kids) old.orders.across new.orders.across
   pub down : IsLowered (place_in kid old.kids) old.orders.down new.orders.down
   pub highest : new.highest ≡ old.highest
+  pub latest : new.latest ≡ old.latest
+  pub complete : new.complete ≡ old.complete
+  pub marked : length old.orders.across ≡ length old.kids → length old.orders.down ≡ length old.kids → HasRightMarks old → HasRightMarks new
 
 -- how the removal of a view changes a group: it loses the child, if the view was one
 abbrev pub IsTaken : ℕ → PlainGroup → PlainGroup → Type 0
@@ -121,6 +159,9 @@ pub record IsGroupFor (links : List Link) (kids : List ℕ) (group : PlainGroup)
   pub numbers : group.kids ≡ kids
   pub orders : AreOrders links group.orders
   pub highest : IsAboveNamed group.highest links
+  pub rising : AreRising kids
+  pub latest : group.complete ≡ true → AreReached group.latest links kids
+  pub marked : HasRightMarks group
 
 abbrev pub IsKeptFor : List Link → List ℕ → Option PlainGroup → Type 0
 IsKeptFor links kids None = ⊥

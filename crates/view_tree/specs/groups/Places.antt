@@ -1,5 +1,5 @@
 -- Orders of places when one is removed.
-use Rattle.std.specs.Prelude.{◌≡◌, ℕ, ◌<◌, ◌+◌, nat_lt, Bool, true, if◌then◌else◌, List}
+use Rattle.std.specs.Prelude.{◌≡◌, ℕ, ◌<◌, ◌+◌, nat_lt, Bool, true, if◌then◌else◌, List, length, slice_index}
 use Rattle.view_model.specs.Orders.{IsOrder}
 
 -- where a place that stays was, before this one was removed
@@ -14,3 +14,7 @@ StaysWithin gone old new = (a b : ℕ) → new a b ≡ true → old (passing gon
 abbrev pub IsLowered : ℕ → List ℕ → List ℕ → Type 0
 IsLowered gone old new =
     (before after : ℕ → ℕ → Bool) (count : ℕ) → gone < count + 1 → IsOrder before (count + 1) old → StaysWithin gone before after → IsOrder after count new
+
+-- each place of an order is its own
+abbrev pub IsStraight : List ℕ → Type 0
+IsStraight order = (p : ℕ) → p < length order → slice_index order p ≡ p

@@ -1,8 +1,9 @@
 -- What keeps the orders of a relative layout right when a child gets another id or other rules.
-use Rattle.std.specs.Prelude.{◌≡◌, ◌⊎◌, ℕ, ◌<◌, ◌-◌, false, List, length, slice_index}
+use Rattle.std.specs.Prelude.{◌≡◌, ◌⊎◌, ℕ, ◌<◌, ◌-◌, Bool, true, false, List, length, slice_index}
 use Rattle.view_model.specs.Forest.{Forest, Nothing, Branch}
 use Rattle.view_model.specs.SiblingRules.{names}
 use Rattle.view_model.specs.declared.relative.Axis.TheVariants.{Horizontal, Vertical}
+use Rattle.view_tree.specs.groups.Places.{IsStraight}
 use Rattle.view_tree.specs.Rows.{Row}
 
 -- the last place of an order is that of a number
@@ -22,6 +23,18 @@ pub record IsBefore (first second : ℕ) (numbers order : List ℕ) : Type 0 whe
   pub less : early < late
   pub before : IsInOwnPlace first numbers order early
   pub after : IsInOwnPlace second numbers order late
+
+-- each place of an order is its own, and the child of a number has one, and a higher number than another
+pub record IsPast (low number : ℕ) (straight : Bool) (numbers order : List ℕ) : Type 0 where
+  pub place : ℕ
+  pub less : low < number
+  pub marked : straight ≡ true
+  pub after : IsInOwnPlace number numbers order place
+
+-- a list of numbers is that of children, and an order that is marked has each place as its own
+pub record IsMarkedOrder (straight : Bool) (numbers order kids : List ℕ) : Type 0 where
+  pub own : numbers ≡ kids
+  pub marked : straight ≡ true → IsStraight order
 
 -- each view of a list that has this id comes before that of a number
 abbrev pub AreBefore : ℕ → ℕ → List ℕ → List ℕ → Forest Row → Type 0

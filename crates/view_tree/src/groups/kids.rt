@@ -3,11 +3,14 @@ ghost use Rattle.std.specs.Prelude.{◌≡◌, ◌<◌, ◌≤◌, ◌+◌, ◌+
 ghost use Rattle.view_model.specs.Cycles.{member_from};
 ghost use Rattle.view_model.specs.declared.limits.TheConstants.{MAX_VIEWS};
 ghost use Rattle.view_tree.specs.groups.Cycles.{IsReportedFrom};
+ghost use Rattle.view_tree.specs.groups.Latest.{AreRising};
 ghost use Rattle.view_tree.specs.tree.Grafting.{IsGroupOrCycle};
 
 use crate::fault::AttachFault;
 use crate::groups::Group;
 use crate::groups::highest::highest_named;
+use crate::groups::latest::latest_of;
+use crate::groups::places::is_straight;
 use relative_layout::{OrderFault, order};
 use std::alloc::{AllocError, Global};
 use view_model::refusals::CYCLE;
@@ -47,15 +50,23 @@ impl Kids {
 pub fn group_of(alloc: Global, kids: Kids, next: u64) -> Result<Group, AttachFault>
     requires few { length kids.links.items ≤ MAX_VIEWS }
     requires alike { length kids.numbers.items ≡ length kids.links.items }
+    requires rising { AreRising kids.numbers.items }
     requires near { (p : ℕ) → p < length kids.numbers.items → slice_index kids.numbers.items p < next + MAX_VIEWS }
     ensures { IsGroupOrCycle (member_from next) kids.links.items kids.numbers.items result }
 {
     match order(alloc, &kids.links) {
-        Ok(orders) => Ok(Group {
-            orders,
-            highest: highest_named(&kids.links),
-            kids: kids.numbers,
-        }),
+        Ok(orders) => match latest_of(alloc, &kids.links, &kids.numbers) {
+            Ok(latest) => Ok(Group {
+                straight_across: is_straight(&orders.across),
+                straight_down: is_straight(&orders.down),
+                orders,
+                highest: highest_named(&kids.links),
+                latest,
+                complete: true,
+                kids: kids.numbers,
+            }),
+            Err(_) => Err(AttachFault::NoMemory),
+        },
         Err(OrderFault::NoMemory) => Err(AttachFault::NoMemory),
         Err(OrderFault::Cycle { down, members }) => {
             Err(reported(alloc, next, &kids.numbers, down, &members))

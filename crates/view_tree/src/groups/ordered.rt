@@ -1,12 +1,14 @@
 //! Children of a relative layout that have the same place in an order as in the list of children. If all of them name
 //! only siblings before them, the order is the list, and so are most orders.
 ghost use Rattle.std.specs.Prelude.{◌≡◌, ◌<◌, ℕ, IfSome, length, slice_index, true};
-ghost use Rattle.view_tree.specs.groups.Staying.{IsBefore, IsInOwnPlace, IsLastIn};
+ghost use Rattle.view_tree.specs.groups.Staying.{IsBefore, IsInOwnPlace, IsLastIn, IsPast};
 
-/// A child in an order: the order, as places among the children, the children's numbers in list order, and the child's.
+/// A child in an order: the order, as places among the children, whether each place of it is its own, the children's
+/// numbers in list order, and the child's.
 #[derive(Drop)]
 pub struct OrderedKid<'a> {
     pub order: &'a [u32],
+    pub straight: bool,
     pub kids: &'a [u64],
     pub number: u64,
 }
@@ -36,6 +38,22 @@ impl OrderedKid<'_> {
             return false;
         };
         first < second
+    }
+
+    /// Whether a quick look shows that each place of the order is its own, and that the child has a number above this one.
+    pub fn is_past(&self, number: u64) -> bool
+        ensures { result ≡ true → IsPast number self.now.number self.now.straight self.now.kids.now self.now.order.now }
+    {
+        if !self.straight {
+            return false;
+        }
+        if self.number <= number {
+            return false;
+        }
+        match place_in_both(self.order, self.kids, self.number) {
+            None => false,
+            Some(_) => true,
+        }
     }
 }
 

@@ -1,12 +1,13 @@
 //! The order of a relative layout's children on one axis, when a child is added or removed. Neither takes memory.
-ghost use Rattle.std.specs.Prelude.{◌≡◌, ◌≢◌, ℕ, ◌<◌, ◌++◌, ◌∷◌, [], length, slice_index};
+ghost use Rattle.std.specs.Prelude.{◌≡◌, ◌≢◌, ℕ, ◌<◌, ◌++◌, ◌∷◌, [], length, slice_index, true};
 ghost use Rattle.std.specs.Vec.{vec_capacity, vec_len};
-ghost use Rattle.view_tree.specs.groups.Places.{IsLowered, passing};
+ghost use Rattle.view_tree.specs.groups.Places.{IsLowered, IsStraight, passing};
 
 /// Takes the place of a removed child out of an order, and lowers the greater places: those that stay are in an order
 /// by every relation that they had before.
 pub fn remove_place(order: &mut Vec<u32>, gone: usize)
-    ensures { IsLowered gone order.old.items order.new.items }
+    ensures lowered { IsLowered gone order.old.items order.new.items }
+    ensures straight { IsStraight order.old.items → gone < length order.old.items → IsStraight order.new.items }
 {
     let at = place_of(order, gone);
     if at < order.len() {
@@ -54,4 +55,16 @@ pub fn add_place(order: &mut Vec<u32>, place: u32)
     ensures items { order.new.items ≡ order.old.items ++ place ∷ [] }
 {
     order.push_reserved(place);
+}
+
+/// Whether each place of an order is its own.
+pub fn is_straight(order: &[u32]) -> bool
+    ensures { result ≡ true → IsStraight order.now }
+{
+    for (p, place) in order.iter().enumerate() {
+        if *place as usize != p {
+            return false;
+        }
+    }
+    true
 }

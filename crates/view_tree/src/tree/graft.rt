@@ -11,7 +11,8 @@ ghost use Rattle.view_model.specs.Refusals.{RefusesExactlyFor};
 ghost use Rattle.view_tree.specs.Faults.{IsRefusedOrCyclic};
 ghost use Rattle.view_tree.specs.tree.Grafted.{Grafted};
 ghost use Rattle.view_tree.specs.tree.Grafting.{AreGrafted, IsGroupOrCycle, IsMadeUnless, IsParentEntry, entries_cycle, links_then, numbers_then, parent_cycle};
-ghost use Rattle.view_tree.specs.Views.{IsLive, group_number, number_of, orders_under, plain_of};
+ghost use Rattle.view_model.specs.Classes.{is_relative};
+ghost use Rattle.view_tree.specs.Views.{IsLive, class_of, group_number, number_of, orders_under, plain_of};
 
 use super::attach::growth;
 use super::bed::Bed;
@@ -119,6 +120,7 @@ impl ViewTree {
     /// What is kept of a relative layout once a view with this link is added after its children.
     fn group_then(&self, parent: Key, link: Link) -> Result<Group, AttachFault>
         requires live { IsLive self.now parent }
+        requires relative { is_relative (class_of self.now parent) ≡ true }
         requires few { count_of self.now.tree < MAX_VIEWS }
         requires numbers { self.now.next < NUMBERS_END }
         ensures { IsGroupOrCycle (member_from self.now.next) (links_then self.now parent link)

@@ -11,7 +11,7 @@ ghost use Rattle.view_tree.specs.Views.{IsLive, class_of, group_number, held_of,
 
 use super::{Key, ViewTree};
 use crate::fault::AttachFault;
-use crate::groups::set_orders;
+use crate::groups::{make_id_room, set_orders};
 use crate::table::ids::rename;
 use relative_layout::{OrderFault, Orders, order};
 use std::alloc::{AllocError, Global};
@@ -20,8 +20,8 @@ use view_model::{Detail, Link, Member, Refusal, Rules};
 
 impl ViewTree {
     /// Sets the id and the rules of a view, unless its parent is a relative layout whose children then name one another
-    /// in a circle. It takes time only for these children. It may need memory, for an id that no view had and for the
-    /// orders of the children.
+    /// in a circle. It takes time only for these children. It may need memory, for an id that no view or no child of the
+    /// layout had and for the orders of the children.
     pub fn set_rules(&mut self, view: Key, id: u32, rules: Rules) -> Result<(), AttachFault>
         requires { IsLive self.old view }
         ensures tree { OnOk result (self.new.tree
@@ -40,13 +40,16 @@ impl ViewTree {
     {
         let above = self.parent(view);
         let group = self.group_number(above);
-        let orders = match self.new_orders(above, view, Link { id, rules }) {
+        let number = self.number(view);
+        let link = Link { id, rules };
+        let orders = match self.new_orders(above, view, link) {
             Ok(orders) => orders,
             Err(fault) => return Err(fault),
         };
+        make_id_room(&mut self.groups, group, id)?;
         let before = self.nodes[view].facts.id;
         rename(&mut self.ids, view, before, id)?;
-        set_orders(&mut self.groups, group, orders, &rules);
+        set_orders(&mut self.groups, group, orders, number, &link);
         let node = &mut self.nodes[view];
         node.facts.id = id;
         node.facts.rules = rules;

@@ -1,14 +1,14 @@
 //! Kept orders that stay right when a child of a relative layout gets another id or other rules.
-ghost use Rattle.std.specs.Prelude.{◌≡◌, ◌<◌, ℕ, ◌⊎◌, false, length, slice_index, true};
+ghost use Rattle.std.specs.Prelude.{◌≡◌, ◌≢◌, ◌<◌, ℕ, ◌⊎◌, false, length, slice_index, true};
 ghost use Rattle.view_model.specs.Classes.{is_relative};
-ghost use Rattle.view_model.specs.Cycles.{links_in};
+ghost use Rattle.view_model.specs.Cycles.{links_in, numbers_in};
 ghost use Rattle.view_model.specs.SiblingRules.{names};
 ghost use Rattle.view_model.specs.declared.relative.Axis.TheVariants.{Horizontal, Vertical};
 ghost use Rattle.view_tree.specs.groups.Cycles.{links_below};
 ghost use Rattle.view_tree.specs.groups.Ordering.{AreOrders};
 ghost use Rattle.view_tree.specs.Rows.{children_of_first, part_from, views_of};
 ghost use Rattle.view_tree.specs.groups.Highest.{IsAboveNamed};
-ghost use Rattle.view_tree.specs.groups.Staying.{AreBefore, IsBefore, IsLastIn, MayName, MayNameAll, NamesNone};
+ghost use Rattle.view_tree.specs.groups.Staying.{AreBefore, IsBefore, IsLastIn, IsMarkedOrder, MayName, MayNameAll, NamesNone};
 ghost use Rattle.view_tree.specs.Views.{IsLive, class_of, number_of, orders_of, view_at};
 
 use super::{Key, ViewTree};
@@ -80,6 +80,9 @@ impl ViewTree {
     /// sibling that it newly names comes before it.
     fn follows(&self, parent: Key, kid: &OrderedKid, before: [u32; 8], ids: [u32; 8]) -> bool
         requires live { IsLive self.now parent }
+        requires relative { is_relative (class_of self.now parent) ≡ true }
+        requires kid { IsMarkedOrder kid.now.straight kid.now.kids.now kid.now.order.now
+            (numbers_in (views_of (children_of_first (part_from parent self.now.tree)))) }
         requires inside { (p : ℕ)
             → p < length kid.now.order.now
             → slice_index kid.now.order.now p < length kid.now.kids.now }
@@ -100,7 +103,10 @@ impl ViewTree {
 
     /// Whether a child may name an id in place of that of before where it is in an order; 0 names nothing.
     fn may_name(&self, parent: Key, kid: &OrderedKid, before: u32, id: u32) -> bool
-        requires { IsLive self.now parent }
+        requires live { IsLive self.now parent }
+        requires relative { is_relative (class_of self.now parent) ≡ true }
+        requires kid { IsMarkedOrder kid.now.straight kid.now.kids.now kid.now.order.now
+            (numbers_in (views_of (children_of_first (part_from parent self.now.tree)))) }
         ensures { result ≡ true → MayName before id kid.now.number kid.now.kids.now kid.now.order.now
             (children_of_first (part_from parent self.now.tree)) }
     {
@@ -117,8 +123,31 @@ impl ViewTree {
         }
     }
 
-    /// Whether a child comes after all children with an id.
+    /// Whether a child comes after all children with an id: without a walk if none has it, or if each place of the order
+    /// is its own and the child has a number above that of the last one with the id.
     fn is_after_all(&self, parent: Key, kid: &OrderedKid, id: u32) -> bool
+        requires live { IsLive self.now parent }
+        requires relative { is_relative (class_of self.now parent) ≡ true }
+        requires kid { IsMarkedOrder kid.now.straight kid.now.kids.now kid.now.order.now
+            (numbers_in (views_of (children_of_first (part_from parent self.now.tree)))) }
+        requires named { id ≢ 0 }
+        ensures { result ≡ true → AreBefore id kid.now.number kid.now.kids.now kid.now.order.now
+            (children_of_first (part_from parent self.now.tree)) }
+    {
+        match self.latest_number(parent, id) {
+            None => true,
+            Some(number) => {
+                if kid.is_past(number) {
+                    true
+                } else {
+                    self.is_after_each(parent, kid, id)
+                }
+            }
+        }
+    }
+
+    /// The same by a walk over the children.
+    fn is_after_each(&self, parent: Key, kid: &OrderedKid, id: u32) -> bool
         requires { IsLive self.now parent }
         ensures { result ≡ true → AreBefore id kid.now.number kid.now.kids.now kid.now.order.now
             (children_of_first (part_from parent self.now.tree)) }
@@ -149,11 +178,13 @@ impl ViewTree {
 /// The child of a number in the order across.
 fn ordered_across(group: &Group, number: u64) -> OrderedKid<'_>
     ensures order { result.order.now ≡ group.now.orders.across.items }
+    ensures straight { result.straight ≡ group.now.straight_across }
     ensures kids { result.kids.now ≡ group.now.kids.items }
     ensures number { result.number ≡ number }
 {
     OrderedKid {
         order: &group.orders.across,
+        straight: group.straight_across,
         kids: &group.kids,
         number,
     }
@@ -162,11 +193,13 @@ fn ordered_across(group: &Group, number: u64) -> OrderedKid<'_>
 /// The child of a number in the order down.
 fn ordered_down(group: &Group, number: u64) -> OrderedKid<'_>
     ensures order { result.order.now ≡ group.now.orders.down.items }
+    ensures straight { result.straight ≡ group.now.straight_down }
     ensures kids { result.kids.now ≡ group.now.kids.items }
     ensures number { result.number ≡ number }
 {
     OrderedKid {
         order: &group.orders.down,
+        straight: group.straight_down,
         kids: &group.kids,
         number,
     }

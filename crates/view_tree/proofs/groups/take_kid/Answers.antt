@@ -9,9 +9,15 @@ returns-then-place-len c =
     let at : c.place_of_kid-place.result ≡ place_in c.args.kid c.args.group.now.kids.items = c.place_of_kid-place.ensures ∙ ap (place_in c.args.kid) c.deref.ensures.value in (
       λ found. record {
         kids = c.remove.ensures.items ∙ ap (remove c.args.group.now.kids.items) at;
-        across = subst (λ place. IsLowered place c.args.group.now.orders.across.items c.remove_place.new.order.items) at c.remove_place.ensures;
-        down = subst (λ place. IsLowered place c.args.group.now.orders.down.items c.remove_place-then-place-len.new.order.items) at c.remove_place-then-place-len.ensures;
+        across = subst (λ place. IsLowered place c.args.group.now.orders.across.items c.remove_place.new.order.items) at c.remove_place.ensures.lowered;
+        down = subst (λ place. IsLowered place c.args.group.now.orders.down.items c.remove_place-then-place-len.new.order.items) at c.remove_place-then-place-len.ensures.lowered;
         highest = refl;
+        latest = refl;
+        complete = refl;
+        marked = λ across down marked. record {
+          across = λ e. c.remove_place.ensures.straight (marked.across e) (omega arith);
+          down = λ e. c.remove_place-then-place-len.ensures.straight (marked.down e) (omega arith);
+        };
       },
       λ out. absurd (let small = c.if-place-len.true in let size = c.len.ensures in let full = c.deref.ensures.len in let same = ap length c.deref.ensures.value in omega arith),
     )

@@ -7,18 +7,25 @@ use Rattle.view_model.specs.declared.relative.Link.{Link}
 use Rattle.view_tree.specs.groups.Cycles.{IsFree, IsReportedFrom}
 use Rattle.view_tree.specs.groups.Highest.{IsAboveNamed}
 use Rattle.view_tree.specs.groups.Ordering.{AreOrders, plain_orders}
+use Rattle.view_tree.specs.groups.Places.{IsStraight}
 use Rattle.view_tree.proofs.orders.CycleLists.{none_of, reported_is}
 use Rattle.view_tree.proofs.groups.kids.group_of.Goals as goal
 
-pub returns-in-Ok : goal.returns-in-Ok
-returns-in-Ok c =
+pub returns-in-Ok-latest_of : goal.returns-in-Ok-latest_of
+returns-in-Ok-latest_of c =
     let e = c.in-Ok.ensures in (
       none_of (member_from c.args.next) c.args.kids.links.items c.args.kids.numbers.items
           (subst IsFree c.deref.ensures.value (record { across = e.acyclic_across; down = e.acyclic_down })),
       record {
         numbers = refl;
         orders = subst (λ (links : List Link). AreOrders links (plain_orders c.in-Ok.orders)) c.deref.ensures.value (record { across = e.across; down = e.down });
-        highest = subst (IsAboveNamed c.highest_named.result) c.deref-in-Ok.ensures.value c.highest_named.ensures;
+        highest = subst (IsAboveNamed c.highest_named.result) c.deref-in-Ok-latest_of-3.ensures.value c.highest_named.ensures;
+        rising = c.requires.rising;
+        latest = λ _. rw (c.deref-in-Ok.ensures.value, c.deref-in-Ok-2.ensures.value) at c.in-Ok-latest_of.ensures;
+        marked = record {
+          across = λ e. subst IsStraight c.deref-in-Ok-latest_of.ensures.value (c.is_straight.ensures e);
+          down = λ e. subst IsStraight c.deref-in-Ok-latest_of-2.ensures.value (c.is_straight-in-Ok-latest_of.ensures e);
+        };
       },
     )
 

@@ -1,10 +1,12 @@
-use Rattle.std.proofs.Common.{◌∙◌, ◌∷◌, [], ap, arith, length, length-append}
+use Rattle.std.proofs.Common.{◌∙◌, ◌∷◌, [], ap, arith, length, length-append, refl, subst, sym}
 use Rattle.std.specs.Prelude.{List, ℕ, slice_index}
 use Rattle.view_model.specs.Cycles.{link_of, links_in, numbers_in}
+use Rattle.view_tree.specs.groups.Latest.{AreRising}
 use Rattle.view_tree.specs.Rows.{children_of_first, part_from, views_of}
-use Rattle.view_tree.specs.Views.{Views}
-use Rattle.view_tree.proofs.grafts.EntryLaws.{few_then, near_then}
+use Rattle.view_tree.specs.Views.{Views, number_of}
+use Rattle.view_tree.proofs.grafts.EntryLaws.{few_then, near_then, rising_then}
 use Rattle.view_tree.proofs.nodes.NodeReads.{is_tree}
+use Rattle.view_tree.proofs.orders.GroupReads.{rising_there}
 use Rattle.view_tree.proofs.orders.ListLaws.{length-each}
 use Rattle.view_tree.proofs.tree.ViewTree.group_then.Goals as goal
 
@@ -35,3 +37,10 @@ group_of-requires-clause-near c = λ p small.
     let near = near_then v c.args.parent (is_tree c.self.inside v c.self.invariant.planted c.self.view_is) c.requires.live p (omega arith) in
     let same = ap (λ (numbers : List ℕ). slice_index numbers p) c.in-Ok.ensures.numbers in
     omega arith
+
+pub group_of-requires-clause-rising : goal.group_of-requires-clause-rising
+group_of-requires-clause-rising c =
+    let v = c.args.self.now in
+    subst AreRising (sym c.in-Ok.ensures.numbers)
+    (rising_then v c.args.parent (is_tree c.self.inside v c.self.invariant.planted c.self.view_is) c.requires.live
+    (rising_there c.self.inside v c.args.parent (number_of v c.args.parent) c.self.invariant c.self.view_is c.requires.live c.requires.relative refl))

@@ -17,5 +17,5 @@ returns-in-Some c = λ yes.
     let views = c.args.self.now in
     let kid = c.args.kid.now in
     inr (inr (before_only views c.in-Some.only c.args.id kid.number kid.kids.now kid.order.now (children_of_first (part_from c.args.parent views.tree))
-    (is_tree c.self.inside views c.self.invariant.planted c.self.view_is) c.in-Some.ensures (within_children views c.args.parent c.requires)
+    (is_tree c.self.inside views c.self.invariant.planted c.self.view_is) c.in-Some.ensures (within_children views c.args.parent c.requires.live)
     (subst (λ n. IsBefore n kid.number kid.kids.now kid.order.now) c.number.ensures.value (c.is_after.ensures yes))))

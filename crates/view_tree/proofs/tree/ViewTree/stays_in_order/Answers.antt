@@ -8,9 +8,10 @@ use Rattle.view_tree.specs.groups.Cycles.{links_below}
 use Rattle.view_tree.specs.groups.Ordering.{AreOrders, plain_orders}
 use Rattle.view_tree.specs.Rows.{children_of_first, part_from, views_of}
 use Rattle.view_tree.specs.groups.Staying.{IsLastIn, MayNameAll, NamesNone}
+use Rattle.view_tree.specs.groups.Places.{IsStraight}
 use Rattle.view_tree.specs.Views.{number_of}
 use Rattle.view_tree.proofs.nodes.NodeReads.{is_tree}
-use Rattle.view_tree.proofs.orders.GroupReads.{highest_found, numbers_found, orders_found, orders_value}
+use Rattle.view_tree.proofs.orders.GroupReads.{highest_found, marked_found, numbers_found, orders_found, orders_value}
 use Rattle.view_tree.proofs.orders.ListLaws.{length-each}
 use Rattle.view_tree.proofs.orders.StayLaws.{all_stay}
 use Rattle.view_tree.proofs.tree.ViewTree.stays_in_order.Goals as goal
@@ -42,6 +43,30 @@ follows-requires-2-clause-inside c = λ p small.
     let size = length-each link_of (views_of (children_of_first (part_from c.args.parent views.tree))) in
     let inside = sorted.down.inside p (rw c.ordered_down-down.ensures.order at small) in
     rw (c.ordered_down-down.ensures.order, c.ordered_down-down.ensures.kids) (omega arith)
+
+pub follows-requires-clause-kid : goal.follows-requires-clause-kid
+follows-requires-clause-kid c =
+    let views = c.args.self.now in
+    let found = sym c.get.ensures.value ∙ ap option_copied c.in-Some.is in
+    let numbers = numbers_found c.self.inside views c.args.parent c.number.result c.self.invariant c.self.view_is c.requires.above c.requires.relative c.number.ensures.value c.in-Some.group.now found in
+    let marked = marked_found c.self.inside views c.args.parent c.number.result c.self.invariant c.self.view_is c.requires.above c.requires.relative c.number.ensures.value c.in-Some.group.now found in
+    let kid = c.ordered_across-across.ensures in
+    record {
+      own = kid.kids ∙ numbers;
+      marked = λ e. subst IsStraight (sym kid.order) (marked.across (sym kid.straight ∙ e));
+    }
+
+pub follows-requires-2-clause-kid : goal.follows-requires-2-clause-kid
+follows-requires-2-clause-kid c =
+    let views = c.args.self.now in
+    let found = sym c.get.ensures.value ∙ ap option_copied c.in-Some.is in
+    let numbers = numbers_found c.self.inside views c.args.parent c.number.result c.self.invariant c.self.view_is c.requires.above c.requires.relative c.number.ensures.value c.in-Some.group.now found in
+    let marked = marked_found c.self.inside views c.args.parent c.number.result c.self.invariant c.self.view_is c.requires.above c.requires.relative c.number.ensures.value c.in-Some.group.now found in
+    let kid = c.ordered_down-down.ensures in
+    record {
+      own = kid.kids ∙ numbers;
+      marked = λ e. subst IsStraight (sym kid.order) (marked.down (sym kid.straight ∙ e));
+    }
 
 pub returns : goal.returns
 returns c = λ yes.

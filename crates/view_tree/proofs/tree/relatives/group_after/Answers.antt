@@ -1,10 +1,11 @@
-use Rattle.std.proofs.Common.{◌≡◌, ap, arith, length, subst, suc}
+use Rattle.std.proofs.Common.{◌≡◌, ap, arith, length, subst, suc, sym}
 use Rattle.std.specs.Prelude.{List, ℕ, slice_index, ◌+◌}
 use Rattle.view_model.specs.Cycles.{member_from}
 use Rattle.view_model.specs.declared.limits.TheConstants.{MAX_VIEWS}
 use Rattle.view_model.specs.declared.relative.Link.{Link}
+use Rattle.view_tree.specs.groups.Latest.{AreRising}
 use Rattle.view_tree.specs.tree.Grafting.{IsGroupOrCycle, links_following, numbers_following, sprout_link}
-use Rattle.view_tree.proofs.grafts.EntryLaws.{following-alike, following-few, following-near}
+use Rattle.view_tree.proofs.grafts.EntryLaws.{following-alike, following-few, following-near, following-rising}
 use Rattle.view_tree.proofs.tree.relatives.group_after.Goals as goal
 
 pub group_of-requires-clause-few : goal.group_of-requires-clause-few
@@ -36,3 +37,6 @@ returns-in-Ok c =
     subst (λ n. IsGroupOrCycle (member_from c.args.next) (links_following c.args.depth n c.args.sprouts.now) (numbers_following c.args.depth n c.args.sprouts.now) c.group_of.result) step
     (subst (λ (numbers : List ℕ). IsGroupOrCycle (member_from c.args.next) (links_following c.args.depth (c.args.number + 1) c.args.sprouts.now) numbers c.group_of.result) c.in-Ok.ensures.numbers
     (subst (λ (links : List Link). IsGroupOrCycle (member_from c.args.next) links c.in-Ok.kids.numbers.items c.group_of.result) c.in-Ok.ensures.links c.group_of.ensures))
+
+pub group_of-requires-clause-rising : goal.group_of-requires-clause-rising
+group_of-requires-clause-rising c = subst AreRising (sym c.in-Ok.ensures.numbers) (following-rising c.args.depth (c.args.number + 1) c.args.sprouts.now)
