@@ -4,3 +4,4 @@ pub mod Counting
 pub mod Resting
 pub mod Seen
 pub mod Watched
+pub mod Works

@@ -15,7 +15,7 @@ ghost use Rattle.view_model.specs.Resources.{definition_refusal_of};
 ghost use Rattle.view_world.specs.world.World.{World as PlainWorld};
 ghost use Rattle.view_tree.specs.Views.{plain_of};
 ghost use Rattle.view_world.specs.world.AfterLine.{Reports};
-ghost use Rattle.view_world.specs.world.Carried.{AreAtHand, CountsShelf, IsDone, MayWantMemory, WritesReply, faults_after_line, fetches_after};
+ghost use Rattle.view_world.specs.world.Carried.{AreAtHand, AsksShelf, IsDone, MayWantMemory, WritesReply, faults_after_line};
 ghost use Rattle.view_world.specs.screen.Changed.{CarriesOut, Inflates, LeavesViews, Pictured};
 ghost use Rattle.view_world.specs.frames.Counting.{RisesWithin, paint_bound};
 ghost use Rattle.view_world.specs.editing.Inflating.{asked_file, asked_for, inflation_of};
@@ -26,6 +26,7 @@ ghost use Rattle.view_world.specs.world.Step.{Done, after_edit, defined, dpi_rep
 ghost use Rattle.view_world.specs.screen.KeyedScreen.{new_screen, window_of, world_of};
 ghost use Rattle.view_world.specs.world.Marks.{has_settled};
 ghost use Rattle.view_world.specs.frames.Resting.{IsFrameDone, IsIdle, IsShown, KeepsEdit, KeepsLine};
+ghost use Rattle.view_world.specs.frames.Works.{WorksOn};
 
 mod grow;
 mod hook;
@@ -156,25 +157,11 @@ impl Screen {
             → AreAtHand files (F.files shelf.old) (asked_file (world_of self.old) (plain_command command.now))
             → step files (world_of self.old) (plain_command command.now) ≡ Done world []
             → sink.new ≡ sink.old }
-        ensures files_stay { F.files shelf.new ≡ F.files shelf.old }
-        ensures unasked { asked_file (world_of self.old) (plain_command command.now) ≡ None → shelf.new ≡ shelf.old }
-        ensures shelf_failed { CountsShelf (F.faults shelf.old) (F.faults shelf.new) result }
-        ensures asked { result ≡ Err StepFault.Shelf
-            → asked_file (world_of self.old) (plain_command command.now) ≢ None }
-        ensures fetched { F.fetches shelf.new
-            ≡ fetches_after (asked_file (world_of self.old) (plain_command command.now)) (F.fetches shelf.old) }
+        ensures shelf { AsksShelf F.files F.fetches F.faults
+            (asked_file (world_of self.old) (plain_command command.now)) result shelf.old shelf.new }
         ensures memory { result ≡ Err StepFault.NoMemory → MayWantMemory (plain_command command.now) }
         ensures numbers { self.new.views.next ≤ self.old.views.next + MAX_VIEWS }
-        ensures work { plain_command command.now ≢ Frame → work.new ≡ work.old }
-        ensures idle { IsDone result ⊎ (work.new ≡ work.old) }
-        ensures still { plain_command command.now ≡ Frame → IsShown self.old → work.new ≡ work.old }
-        ensures framed { plain_command command.now ≡ Frame
-            → IsDone result
-            → IsFrameDone self.old self.new work.old work.new }
-        ensures keeps { plain_command command.now ≢ Frame
-            → IsDone result
-            → KeepsLine (plain_command command.now) self.old self.new }
-        ensures painted { RisesWithin (paint_bound (world_of self.old)) work.old.painted work.new.painted }
+        ensures works { WorksOn self.old self.new (plain_command command.now) result work.old work.new }
         ensures sink_failed { (K.state sink.new).faults ≡ faults_after_line result (K.state sink.old).faults }
     {
         match inflation_of(command) {
@@ -228,16 +215,7 @@ impl Screen {
             → sink.new ≡ sink.old }
         ensures memory { result ≡ Err StepFault.NoMemory → MayWantMemory (plain_command command.now) }
         ensures numbers { self.new.views.next ≤ self.old.views.next + 1 }
-        ensures work { plain_command command.now ≢ Frame → work.new ≡ work.old }
-        ensures idle { IsDone result ⊎ (work.new ≡ work.old) }
-        ensures still { plain_command command.now ≡ Frame → IsShown self.old → work.new ≡ work.old }
-        ensures framed { plain_command command.now ≡ Frame
-            → IsDone result
-            → IsFrameDone self.old self.new work.old work.new }
-        ensures keeps { plain_command command.now ≢ Frame
-            → IsDone result
-            → KeepsLine (plain_command command.now) self.old self.new }
-        ensures painted { RisesWithin (paint_bound (world_of self.old)) work.old.painted work.new.painted }
+        ensures works { WorksOn self.old self.new (plain_command command.now) result work.old work.new }
         ensures sink_failed { (K.state sink.new).faults ≡ faults_after_line result (K.state sink.old).faults }
         ensures no_shelf { result ≢ Err StepFault.Shelf }
     {
@@ -261,13 +239,8 @@ impl Screen {
             (K.state sink.old) (K.state sink.new) result }
         ensures unchanged { IsDone result ⊎ ((self.new ≡ self.old) × (sink.new ≡ sink.old)) }
         ensures reports { IsDone result → Reports self.new (K.state sink.old) (K.state sink.new) result }
-        ensures files_stay { F.files shelf.new ≡ F.files shelf.old }
-        ensures unasked { asked_for (plain_of self.old.views) (Some (name.now, into)) ≡ None → shelf.new ≡ shelf.old }
-        ensures shelf_failed { CountsShelf (F.faults shelf.old) (F.faults shelf.new) result }
-        ensures asked { result ≡ Err StepFault.Shelf
-            → asked_for (plain_of self.old.views) (Some (name.now, into)) ≢ None }
-        ensures fetched { F.fetches shelf.new
-            ≡ fetches_after (asked_for (plain_of self.old.views) (Some (name.now, into))) (F.fetches shelf.old) }
+        ensures shelf { AsksShelf F.files F.fetches F.faults
+            (asked_for (plain_of self.old.views) (Some (name.now, into))) result shelf.old shelf.new }
         ensures numbers { self.new.views.next ≤ self.old.views.next + MAX_VIEWS }
         ensures keeps { IsDone result → KeepsLine (Inflate name.now into) self.old self.new }
         ensures sink_failed { (K.state sink.new).faults ≡ faults_after_line result (K.state sink.old).faults }
@@ -315,13 +288,8 @@ impl Screen {
         ensures reported { IfOk result
             (λ response. IsReportable self.new.views self.new.surface self.new.reported self.new.saved response) }
         ensures unchanged { OnErr result (self.new ≡ self.old) }
-        ensures files_stay { F.files shelf.new ≡ F.files shelf.old }
-        ensures unasked { asked_for (plain_of self.old.views) (Some (name.now, into)) ≡ None → shelf.new ≡ shelf.old }
-        ensures shelf_failed { CountsShelf (F.faults shelf.old) (F.faults shelf.new) result }
-        ensures asked { result ≡ Err StepFault.Shelf
-            → asked_for (plain_of self.old.views) (Some (name.now, into)) ≢ None }
-        ensures fetched { F.fetches shelf.new
-            ≡ fetches_after (asked_for (plain_of self.old.views) (Some (name.now, into))) (F.fetches shelf.old) }
+        ensures shelf { AsksShelf F.files F.fetches F.faults
+            (asked_for (plain_of self.old.views) (Some (name.now, into))) result shelf.old shelf.new }
         ensures numbers { self.new.views.next ≤ self.old.views.next + MAX_VIEWS }
         ensures keeps { OnOk result (KeepsLine (Inflate name.now into) self.old self.new) }
         ensures no_sink { result ≢ Err StepFault.Sink }

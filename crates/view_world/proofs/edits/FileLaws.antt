@@ -1,12 +1,12 @@
 -- Files at hand: what is asked for, and that a command that asks for none does the same with any.
-use Rattle.std.proofs.Common.{◌≡◌, ◌≢◌, ℕ, List, [], refl, subst, arith}
+use Rattle.std.proofs.Common.{◌≡◌, ◌≢◌, ℕ, List, [], refl, ap, sym, subst, arith}
 use Rattle.std.specs.Prelude.{Option, None, Some, Result, Ok, Err}
 use Rattle.script_lines.specs.commands.PlainCommands.{PlainCommand}
 use Rattle.script_lines.specs.commands.PlainCommands as command
 use Rattle.script_lines.specs.declared.words.naming.Name.{Name}
 use Rattle.tool_io.specs.Fetched.{Files}
 use Rattle.view_world.specs.world.World.{World}
-use Rattle.view_world.specs.world.Carried.{CountsShelf}
+use Rattle.view_world.specs.world.Carried.{AsksShelf, CountsShelf}
 use Rattle.view_world.specs.editing.Inflating.{inflation_of}
 use Rattle.view_world.specs.world.Step.{inflation, step}
 use Rattle.view_world.specs.declared.fault.StepFault.{StepFault}
@@ -68,3 +68,34 @@ counts_nothing before (Err (fault.Refused refusal)) never = refl
 counts_nothing before (Err fault.NoMemory) never = omega arith
 counts_nothing before (Err fault.Sink) never = refl
 counts_nothing before (Err fault.Shelf) never = absurd (never refl)
+
+-- and one that asks for no file leaves the shelf
+pub asks_none : {S A : Type 0} (files : S → Option Files) (fetches : S → Option ℕ) (faults : S → ℕ) (result : Result A StepFault) (shelf : S) → result ≢ Err fault.Shelf
+    → AsksShelf files fetches faults None result shelf shelf
+asks_none files fetches faults result shelf never = record {
+  files_stay = refl;
+  unasked = λ none. refl;
+  fetched = refl;
+  shelf_failed = counts_nothing (faults shelf) result never;
+  asked = λ failed. absurd (never failed);
+}
+
+counts_fault : (A B : Type 0) (before now : ℕ) (line_fault : StepFault) → CountsShelf {A = A} before now (Err line_fault) → CountsShelf {A = B} before now (Err line_fault)
+counts_fault A B before now (fault.Refused refusal) counts = counts
+counts_fault A B before now fault.NoMemory counts = counts
+counts_fault A B before now fault.Sink counts = counts
+counts_fault A B before now fault.Shelf counts = counts
+
+pub counts_failed : (A : Type 0) {B : Type 0} (before now : ℕ) (line_fault : StepFault) (result : Result B StepFault) → result ≡ Err line_fault → CountsShelf {A = A} before now (Err line_fault) → CountsShelf before now result
+counts_failed A {B = B} before now line_fault result e counts = subst (λ (r : Result B StepFault). CountsShelf before now r) (sym e) (counts_fault A B before now line_fault counts)
+
+-- a line that fails as a step of it has asked the shelf as that step
+pub asks_failed : {S A B : Type 0} (files : S → Option Files) (fetches : S → Option ℕ) (faults : S → ℕ) (name : Option (List ℕ)) (line_fault : StepFault) (result : Result B StepFault) (old new : S)
+    → result ≡ Err line_fault → AsksShelf {A = A} files fetches faults name (Err line_fault) old new → AsksShelf files fetches faults name result old new
+asks_failed {A = A} files fetches faults name line_fault result old new e asks = record {
+  files_stay = asks.files_stay;
+  unasked = asks.unasked;
+  fetched = asks.fetched;
+  shelf_failed = counts_failed A (faults old) (faults new) line_fault result e asks.shelf_failed;
+  asked = λ failed. let same : line_fault ≡ fault.Shelf = cc (e, failed) in asks.asked (ap Err same);
+}

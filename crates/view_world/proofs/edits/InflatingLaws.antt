@@ -1,5 +1,5 @@
 -- How the views of a file are added to the world.
-use Rattle.std.proofs.Common.{◌≡◌, ◌≢◌, ◌-◌, ℕ, List, [], refl, sym, ap, ◌∙◌, inl, inr}
+use Rattle.std.proofs.Common.{◌≡◌, ◌≢◌, ◌-◌, ℕ, List, [], refl, sym, ap, subst, ◌∙◌, inl, inr}
 use Rattle.text_lines.specs.Joined.{◌⧺◌}
 use Rattle.std.specs.Prelude.{Option, None, Some, Result, Ok, Err}
 use Rattle.std.specs.Option.{option_map}
@@ -17,7 +17,7 @@ use Rattle.view_model.specs.Resources.{Entries}
 use Rattle.view_world.specs.world.World.{World}
 use Rattle.view_tree.specs.Views.{Views, number_of, plain_of}
 use Rattle.tool_io.specs.SinkState.{SinkState}
-use Rattle.view_world.specs.world.Carried.{AreAtHand, CountsShelf, IsDone, WritesReply}
+use Rattle.view_world.specs.world.Carried.{AreAtHand, AsksShelf, CountsShelf, IsDone, WritesReply}
 use Rattle.view_world.specs.screen.Changed.{CarriesOut, Inflates, IsPlace}
 use Rattle.view_world.specs.editing.Inflating.{asked_for, bytes_in, place_in, views_in, views_of}
 use Rattle.view_world.specs.screen.KeyedScreen.{KeyedScreen, world_of}
@@ -80,12 +80,22 @@ writes_fault reply new before after fault.Sink result e changed = absurd changed
 writes_fault reply new before after fault.Shelf result e changed = rw e tt
 
 -- printing it does not ask a shelf
-pub reported_counts : (before now : ℕ) (result : Result (Unit {0}) StepFault) → IsDone result → now ≡ before → CountsShelf before now result
+reported_counts : (before now : ℕ) (result : Result (Unit {0}) StepFault) → IsDone result → now ≡ before → CountsShelf before now result
 reported_counts before now (Ok _) done same = same
 reported_counts before now (Err (fault.Refused refusal)) done same = absurd done
 reported_counts before now (Err fault.NoMemory) done same = absurd done
 reported_counts before now (Err fault.Sink) done same = same
 reported_counts before now (Err fault.Shelf) done same = absurd done
+
+pub asks_reported : {S A : Type 0} (files : S → Option Files) (fetches : S → Option ℕ) (faults : S → ℕ) (name : Option (List ℕ)) (value : A) (result : Result (Unit {0}) StepFault) (old new : S)
+    → IsDone result → AsksShelf files fetches faults name (Ok value) old new → AsksShelf files fetches faults name result old new
+asks_reported files fetches faults name value result old new done asks = record {
+  files_stay = asks.files_stay;
+  unasked = asks.unasked;
+  fetched = asks.fetched;
+  shelf_failed = reported_counts (faults old) (faults new) result done asks.shelf_failed;
+  asked = λ failed. absurd (subst (λ (r : Result (Unit {0}) StepFault). IsDone r) failed done);
+}
 
 -- a line that inflates a file always prints something
 grafted_recalls : (world after : World) (place : Option ℕ) (plan : Plan) (reason : Option PlainRefusal) → grafted world place plan reason ≢ Done after []

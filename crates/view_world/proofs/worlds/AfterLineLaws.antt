@@ -4,15 +4,17 @@ use Rattle.std.specs.Prelude.{◌⊎◌, Option, None, Some, Result, Ok, Err}
 use Rattle.geom_core.specs.declared.geometry.Rect.{Rect}
 use Rattle.script_lines.specs.declared.words.naming.Name.{Name}
 use Rattle.tool_io.specs.Counts.{one_more}
+use Rattle.tool_io.specs.Fetched.{Files}
 use Rattle.tool_io.specs.SinkState.{SinkState}
 use Rattle.view_model.specs.Forest.{Forest}
 use Rattle.view_model.specs.PlainTree.{PlainView}
 use Rattle.view_tree.specs.Views.{Views}
+use Rattle.view_world.proofs.edits.FileLaws.{asks_none}
 use Rattle.view_world.specs.declared.fault.StepFault.{StepFault}
 use Rattle.view_world.specs.declared.fault.StepFault.TheVariants as fault
 use Rattle.view_world.specs.declared.replying.response.Response.{Response}
 use Rattle.view_world.specs.world.AfterLine.{IsAsBefore, Reports}
-use Rattle.view_world.specs.world.Carried.{IsDone, WritesReply, fetches_after}
+use Rattle.view_world.specs.world.Carried.{AsksShelf, CountsShelf, IsDone, WritesReply, fetches_after}
 use Rattle.view_world.specs.screen.Changed.{CarriesOut, Gives, IsPlace}
 use Rattle.view_world.specs.editing.Inflating.{asked_at, asked_for, place_in}
 use Rattle.view_world.specs.screen.KeyedScreen.{KeyedScreen, world_of}
@@ -71,22 +73,33 @@ reported old new before after result response there same written = record {
 }
 
 -- a tree that has a place asks for its file, and no other does
-asks_placed : (tree : Forest PlainView) (name : List ℕ) (into : Option Name) (place : Option ℕ) → place_in tree into ≡ Ok place → asked_for tree (Some (name, into)) ≡ Some name
-asks_placed tree name into place e = ap (asked_at name) e
+file_placed : (tree : Forest PlainView) (name : List ℕ) (into : Option Name) (place : Option ℕ) → place_in tree into ≡ Ok place → asked_for tree (Some (name, into)) ≡ Some name
+file_placed tree name into place e = ap (asked_at name) e
 
-asks_unplaced : (views : Views) (tree : Forest PlainView) (name : List ℕ) (into : Option Name) (line_fault : StepFault) → Gives (IsPlace views) (place_in tree into) (Err line_fault)
+file_unplaced : (views : Views) (tree : Forest PlainView) (name : List ℕ) (into : Option Name) (line_fault : StepFault) → Gives (IsPlace views) (place_in tree into) (Err line_fault)
     → line_fault ≢ fault.NoMemory → line_fault ≢ fault.Shelf → asked_for tree (Some (name, into)) ≡ None
-asks_unplaced views tree name into (fault.Refused refusal) gives memory shelf = ap (asked_at name) gives
-asks_unplaced views tree name into fault.NoMemory gives memory shelf = absurd (memory refl)
-asks_unplaced views tree name into fault.Sink gives memory shelf = absurd gives
-asks_unplaced views tree name into fault.Shelf gives memory shelf = absurd (shelf refl)
+file_unplaced views tree name into (fault.Refused refusal) gives memory shelf = ap (asked_at name) gives
+file_unplaced views tree name into fault.NoMemory gives memory shelf = absurd (memory refl)
+file_unplaced views tree name into fault.Sink gives memory shelf = absurd gives
+file_unplaced views tree name into fault.Shelf gives memory shelf = absurd (shelf refl)
 
 -- and so its file is fetched once, or nothing is
-pub fetches_placed : (tree : Forest PlainView) (name : List ℕ) (into : Option Name) (place before after : Option ℕ) → place_in tree into ≡ Ok place → after ≡ one_more before
-    → after ≡ fetches_after (asked_for tree (Some (name, into))) before
-fetches_placed tree name into place before after e once = subst (λ (asked : Option (List ℕ)). after ≡ fetches_after asked before) (sym (asks_placed tree name into place e)) once
+pub asks_placed : {S A : Type 0} (files : S → Option Files) (fetches : S → Option ℕ) (faults : S → ℕ) (tree : Forest PlainView) (name : List ℕ) (into : Option Name) (place : Option ℕ) (result : Result A StepFault) (old new : S)
+    → place_in tree into ≡ Ok place → files new ≡ files old → CountsShelf (faults old) (faults new) result → fetches new ≡ one_more (fetches old)
+    → AsksShelf files fetches faults (asked_for tree (Some (name, into))) result old new
+asks_placed files fetches faults tree name into place result old new e stay counts once =
+    let is = file_placed tree name into place e in
+    record {
+      files_stay = stay;
+      unasked = λ none. absurd (cc (is, none));
+      fetched = subst (λ (file : Option (List ℕ)). fetches new ≡ fetches_after file (fetches old)) (sym is) once;
+      shelf_failed = counts;
+      asked = λ failed none. absurd (cc (is, none));
+    }
 
-pub fetches_unplaced : (views : Views) (tree : Forest PlainView) (name : List ℕ) (into : Option Name) (line_fault : StepFault) (before : Option ℕ) → Gives (IsPlace views) (place_in tree into) (Err line_fault)
-    → line_fault ≢ fault.NoMemory → line_fault ≢ fault.Shelf → before ≡ fetches_after (asked_for tree (Some (name, into))) before
-fetches_unplaced views tree name into line_fault before gives memory shelf =
-    subst (λ (asked : Option (List ℕ)). before ≡ fetches_after asked before) (sym (asks_unplaced views tree name into line_fault gives memory shelf)) refl
+pub asks_unplaced : {S A : Type 0} (files : S → Option Files) (fetches : S → Option ℕ) (faults : S → ℕ) (views : Views) (tree : Forest PlainView) (name : List ℕ) (into : Option Name) (line_fault : StepFault)
+    (result : Result A StepFault) (shelf : S) → result ≡ Err line_fault → Gives (IsPlace views) (place_in tree into) (Err line_fault) → line_fault ≢ fault.NoMemory → line_fault ≢ fault.Shelf
+    → AsksShelf files fetches faults (asked_for tree (Some (name, into))) result shelf shelf
+asks_unplaced files fetches faults views tree name into line_fault result shelf e gives no_memory no_shelf =
+    subst (λ (file : Option (List ℕ)). AsksShelf files fetches faults file result shelf shelf) (sym (file_unplaced views tree name into line_fault gives no_memory no_shelf))
+    (asks_none files fetches faults result shelf (λ failed. no_shelf (cc (e, failed))))

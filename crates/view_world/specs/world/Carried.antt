@@ -1,5 +1,5 @@
 -- How a command was carried out.
-use Rattle.std.specs.Prelude.{◌≡◌, ◌≤◌, ◌⊎◌, true, ℕ, List, Option, Some, None, Result, Ok, Err}
+use Rattle.std.specs.Prelude.{◌≡◌, ◌≢◌, ◌≤◌, ◌⊎◌, true, ℕ, List, Option, Some, None, Result, Ok, Err}
 use Rattle.std.specs.Io.KnownBytes.{Appends}
 use Rattle.script_lines.specs.commands.PlainCommands.{PlainCommand}
 use Rattle.script_lines.specs.commands.PlainCommands as command
@@ -82,3 +82,12 @@ CountsShelf before now (Err fault.Shelf) = now ≡ raised before
 abbrev pub fetches_after : Option (List ℕ) → Option ℕ → Option ℕ
 fetches_after None fetches = fetches
 fetches_after (Some name) fetches = one_more fetches
+
+-- What a line does to a shelf, if it asks for this file or for none. The shelf is asked once for a file, and otherwise
+-- it stays; its files stay, and a fetch that failed was one that was asked for.
+pub record AsksShelf {S A : Type 0} (files : S → Option Files) (fetches : S → Option ℕ) (faults : S → ℕ) (name : Option (List ℕ)) (result : Result A StepFault) (old new : S) : Type 0 where
+  pub files_stay : files new ≡ files old
+  pub unasked : name ≡ None → new ≡ old
+  pub fetched : fetches new ≡ fetches_after name (fetches old)
+  pub shelf_failed : CountsShelf (faults old) (faults new) result
+  pub asked : result ≡ Err fault.Shelf → name ≢ None

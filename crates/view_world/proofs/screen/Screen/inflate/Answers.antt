@@ -1,14 +1,18 @@
-use Rattle.std.proofs.Common.{◌≡◌, [], List, ℕ, ap, sym, subst, ◌∙◌}
+use Rattle.std.proofs.Common.{◌≡◌, ◌≢◌, [], List, ℕ, ap, sym, subst, ◌∙◌}
 use Rattle.std.specs.Prelude.{Ok, Err, Some}
+use Rattle.std.specs.declared.alloc.Global.{Global}
+use Rattle.std.specs.declared.vec.Vec.{Vec}
+use Rattle.std.proofs.lemmas.Result.{err_from_is_err_and}
+use Rattle.view_world.specs.declared.fault.StepFault.TheVariants.{Shelf}
 use Rattle.view_tree.specs.Views.{plain_of}
-use Rattle.view_world.specs.world.Carried.{AreAtHand, fetches_after}
+use Rattle.view_world.specs.world.Carried.{AreAtHand, AsksShelf}
 use Rattle.view_world.specs.screen.Changed.{IsPlace}
 use Rattle.view_world.specs.editing.Inflating.{asked_for, views_in, views_of}
 use Rattle.view_world.specs.screen.KeyedScreen.{KeyedScreen, world_of}
 use Rattle.view_world.specs.world.Step.{graft_reason, grafted, inflation}
 use Rattle.view_world.specs.screen.Sound.{keyed}
-use Rattle.view_world.proofs.worlds.AfterLineLaws.{fetches_placed, fetches_unplaced}
-use Rattle.view_world.proofs.edits.FileLaws.{counts_nothing}
+use Rattle.view_world.proofs.worlds.AfterLineLaws.{asks_placed, asks_unplaced}
+use Rattle.view_world.proofs.edits.FileLaws.{counts_failed, counts_nothing}
 use Rattle.view_world.proofs.edits.InflatingLaws.{inflated_as, inflates_as, reported_where_asked, views_of-bytes}
 use Rattle.view_world.proofs.states.SeedOffsets.{grown_unscrolled}
 use Rattle.view_world.proofs.edits.InflatingLaws.{place_number}
@@ -44,9 +48,6 @@ returns-clause-changed g c files at =
     let grown = λ (w : KeyedScreen). grafted (world_of w) place.0 views.0 (graft_reason (plain_of w.views) place.0 w.views.next views.0.seeds) in
     inflates_as (replies c.args.self.now) c.graft.new.self c.graft.result (rw (subst (λ (w : KeyedScreen). replies w ≡ grown w) c.self.view_is reply) changed)
 
-pub returns-clause-shelf_failed : goal.returns-clause-shelf_failed
-returns-clause-shelf_failed g c = rw c.in_ok-bytes.ensures.shelf_failed (counts_nothing _ c.graft.result c.graft.ensures.no_shelf)
-
 pub returns-clause-keeps : goal.returns-clause-keeps
 returns-clause-keeps g c =
     let old : KeyedScreen = keyed c.self.inside in
@@ -57,33 +58,41 @@ returns-clause-keeps g c =
     let now = subst (λ (w : KeyedScreen). asked_views (world_of w) (Inflate name c.args.into) ≡ listed (option_map (number_of w.views) c.in_ok-place.place)) c.self.view_is asked in
     subst (λ (numbers : List ℕ). OnOk c.graft.result (KeepsBut Asks numbers [] [] c.args.self.now c.graft.new.self)) (sym now) c.graft.ensures.keeps
 
-pub returns-in_err-place-clause-fetched : goal.returns-in_err-place-clause-fetched
-returns-in_err-place-clause-fetched g c =
-    let now = g.F.Shelf.fetches c.args.shelf.now in
-    subst (λ (w : KeyedScreen). now ≡ fetches_after (asked_for (plain_of w.views) (Some (c.args.name.now, c.args.into))) now) c.self.view_is
-    (fetches_unplaced c.self.inside.tree (plain_of c.self.inside.tree) c.args.name.now c.args.into c.in_err-place.field-0.0 now c.in_err-place.ensures.place
-    (λ e. c.in_err-place.ensures.no_memory (ap Err e)) (λ e. c.in_err-place.ensures.no_shelf (ap Err e)))
+pub returns-in_err-place-clause-shelf : goal.returns-in_err-place-clause-shelf
+returns-in_err-place-clause-shelf g c =
+    let p = err_from_is_err_and c.from_residual.result c.from_residual.ensures.1 in
+    let e : c.from_residual.result ≡ Err c.in_err-place.field-0.0 = cc (p.1, p.2) in
+    subst (λ (w : KeyedScreen). AsksShelf g.F.Shelf.files g.F.Shelf.fetches g.F.Shelf.faults (asked_for (plain_of w.views) (Some (c.args.name.now, c.args.into))) c.from_residual.result c.args.shelf.now c.args.shelf.now) c.self.view_is
+    (asks_unplaced g.F.Shelf.files g.F.Shelf.fetches g.F.Shelf.faults c.self.inside.tree (plain_of c.self.inside.tree) c.args.name.now c.args.into c.in_err-place.field-0.0 c.from_residual.result c.args.shelf.now e
+    c.in_err-place.ensures.place (λ e. c.in_err-place.ensures.no_memory (ap Err e)) (λ e. c.in_err-place.ensures.no_shelf (ap Err e)))
 
-pub returns-in_err-bytes-clause-fetched : goal.returns-in_err-bytes-clause-fetched
-returns-in_err-bytes-clause-fetched g c =
+pub returns-in_err-bytes-clause-shelf : goal.returns-in_err-bytes-clause-shelf
+returns-in_err-bytes-clause-shelf g c =
     let place = c.in_ok-place.ensures.place in
-    let now = g.F.Shelf.fetches c.args.shelf.now in
-    let after = g.F.Shelf.fetches c.fetch.new.shelf in
-    subst (λ (w : KeyedScreen). after ≡ fetches_after (asked_for (plain_of w.views) (Some (c.args.name.now, c.args.into))) now) c.self.view_is
-    (fetches_placed (plain_of c.self.inside.tree) c.args.name.now c.args.into place.0 now after place.1 c.in_err-bytes.ensures.fetched)
+    let said = c.in_err-bytes.ensures in
+    let result = c.from_residual-in_err-bytes.result in
+    let p = err_from_is_err_and result c.from_residual-in_err-bytes.ensures.1 in
+    let e : result ≡ Err c.in_err-bytes.field-0.0 = cc (p.1, p.2) in
+    let counts = counts_failed (Vec ℕ Global) (g.F.Shelf.faults c.args.shelf.now) (g.F.Shelf.faults c.fetch.new.shelf) c.in_err-bytes.field-0.0 result e said.shelf_failed in
+    subst (λ (w : KeyedScreen). AsksShelf g.F.Shelf.files g.F.Shelf.fetches g.F.Shelf.faults (asked_for (plain_of w.views) (Some (c.args.name.now, c.args.into))) result c.args.shelf.now c.fetch.new.shelf) c.self.view_is
+    (asks_placed g.F.Shelf.files g.F.Shelf.fetches g.F.Shelf.faults (plain_of c.self.inside.tree) c.args.name.now c.args.into place.0 result c.args.shelf.now c.fetch.new.shelf place.1 said.files_stay counts said.fetched)
 
-pub returns-in_err-grown-clause-fetched : goal.returns-in_err-grown-clause-fetched
-returns-in_err-grown-clause-fetched g c =
+pub returns-in_err-grown-clause-shelf : goal.returns-in_err-grown-clause-shelf
+returns-in_err-grown-clause-shelf g c =
     let place = c.in_ok-place.ensures.place in
-    let now = g.F.Shelf.fetches c.args.shelf.now in
-    let after = g.F.Shelf.fetches c.fetch.new.shelf in
-    subst (λ (w : KeyedScreen). after ≡ fetches_after (asked_for (plain_of w.views) (Some (c.args.name.now, c.args.into))) now) c.self.view_is
-    (fetches_placed (plain_of c.self.inside.tree) c.args.name.now c.args.into place.0 now after place.1 c.in_ok-bytes.ensures.fetched)
+    let said = c.in_ok-bytes.ensures in
+    let result = c.from_residual-in_err-grown.result in
+    let p = err_from_is_err_and result c.from_residual-in_err-grown.ensures.1 in
+    let e : result ≡ Err c.in_err-grown.field-0.0 = cc (p.1, p.2) in
+    let never : result ≢ Err Shelf = λ failed. let same : c.in_err-grown.field-0.0 ≡ Shelf = cc (e, failed) in c.in_err-grown.ensures.no_shelf (ap Err same) in
+    subst (λ (w : KeyedScreen). AsksShelf g.F.Shelf.files g.F.Shelf.fetches g.F.Shelf.faults (asked_for (plain_of w.views) (Some (c.args.name.now, c.args.into))) result c.args.shelf.now c.fetch.new.shelf) c.self.view_is
+    (asks_placed g.F.Shelf.files g.F.Shelf.fetches g.F.Shelf.faults (plain_of c.self.inside.tree) c.args.name.now c.args.into place.0 result c.args.shelf.now c.fetch.new.shelf place.1 said.files_stay
+    (rw said.shelf_failed (counts_nothing _ result never)) said.fetched)
 
-pub returns-clause-fetched : goal.returns-clause-fetched
-returns-clause-fetched g c =
+pub returns-clause-shelf : goal.returns-clause-shelf
+returns-clause-shelf g c =
     let place = c.in_ok-place.ensures.place in
-    let now = g.F.Shelf.fetches c.args.shelf.now in
-    let after = g.F.Shelf.fetches c.fetch.new.shelf in
-    subst (λ (w : KeyedScreen). after ≡ fetches_after (asked_for (plain_of w.views) (Some (c.args.name.now, c.args.into))) now) c.self.view_is
-    (fetches_placed (plain_of c.self.inside.tree) c.args.name.now c.args.into place.0 now after place.1 c.in_ok-bytes.ensures.fetched)
+    let said = c.in_ok-bytes.ensures in
+    subst (λ (w : KeyedScreen). AsksShelf g.F.Shelf.files g.F.Shelf.fetches g.F.Shelf.faults (asked_for (plain_of w.views) (Some (c.args.name.now, c.args.into))) c.graft.result c.args.shelf.now c.fetch.new.shelf) c.self.view_is
+    (asks_placed g.F.Shelf.files g.F.Shelf.fetches g.F.Shelf.faults (plain_of c.self.inside.tree) c.args.name.now c.args.into place.0 c.graft.result c.args.shelf.now c.fetch.new.shelf place.1 said.files_stay
+    (rw said.shelf_failed (counts_nothing _ c.graft.result c.graft.ensures.no_shelf)) said.fetched)

@@ -31,11 +31,11 @@ invariant_of-self g c =
     (unchanged_all c.line-outcome.result c.self.inside.screen c.line-outcome.new.self c.args.sink.now c.line-outcome.new.sink c.line-outcome.ensures.unchanged)
     (λ is. c.marks_after-self-inside.ensures.done is
     ∙ marks_are line c.effect_of-effect.result c.self.inside.marks c.self.inside.screen c.line-outcome.new.self c.has_settled-settled.result c.has_scrolled-scrolled.result c.effect_of-effect.ensures c.has_settled-settled.ensures
-    c.has_scrolled-scrolled.ensures (λ ne. c.line-outcome.ensures.keeps ne is))
-    c.marks_after-self-inside.ensures.stays (λ ne is. c.line-outcome.ensures.keeps ne is) (λ e is. c.line-outcome.ensures.framed e is) c.self.invariant
+    c.has_scrolled-scrolled.ensures (λ ne. c.line-outcome.ensures.works.keeps ne is))
+    c.marks_after-self-inside.ensures.stays (λ ne is. c.line-outcome.ensures.works.keeps ne is) (λ e is. c.line-outcome.ensures.works.framed e is) c.self.invariant
 
 pub returns-clause-still : goal.returns-clause-still
-returns-clause-still g c frame idle = c.line-outcome.ensures.still frame (c.self.invariant.idle (ap (λ (w : KeyedWorld). w.marks.idle) c.self.view_is ∙ idle))
+returns-clause-still g c frame idle = c.line-outcome.ensures.works.still frame (c.self.invariant.idle (ap (λ (w : KeyedWorld). w.marks.idle) c.self.view_is ∙ idle))
 
 pub returns-clause-unchanged : goal.returns-clause-unchanged
 returns-clause-unchanged g c =
@@ -54,7 +54,7 @@ returns-clause-reports g c done = c.line-outcome.ensures.reports done
 pub returns-clause-fetched : goal.returns-clause-fetched
 returns-clause-fetched g c =
     subst (λ (w : KeyedWorld). g.F.Shelf.fetches c.line-outcome.new.shelf ≡ fetches_after (asked_file (world_of w) (plain_command c.args.command.now)) (g.F.Shelf.fetches c.args.shelf.now)) c.self.view_is
-    c.line-outcome.ensures.fetched
+    c.line-outcome.ensures.shelf.fetched
 
 pub returns-clause-marks : goal.returns-clause-marks
 returns-clause-marks g c is =
@@ -62,34 +62,34 @@ returns-clause-marks g c is =
     subst (λ (w : KeyedWorld). c.marks_after-self-inside.result ≡ marks_after (world_of w) line (world_on c.line-outcome.new.self) w.marks) c.self.view_is
     (c.marks_after-self-inside.ensures.done is
     ∙ marks_are line c.effect_of-effect.result c.self.inside.marks c.self.inside.screen c.line-outcome.new.self c.has_settled-settled.result c.has_scrolled-scrolled.result c.effect_of-effect.ensures c.has_settled-settled.ensures
-    c.has_scrolled-scrolled.ensures (λ ne. c.line-outcome.ensures.keeps ne is))
+    c.has_scrolled-scrolled.ensures (λ ne. c.line-outcome.ensures.works.keeps ne is))
 
 pub returns-clause-measured : goal.returns-clause-measured
 returns-clause-measured g c frame is =
     subst (λ (w : KeyedWorld). c.line-outcome.new.work.measured ≤ c.args.work.now.measured + measure_bound (world_of w) w.marks) c.self.view_is
-    (bounded c.self.inside.marks c.self.inside.screen c.line-outcome.new.self c.args.work.now c.line-outcome.new.work c.self.invariant.rest (c.line-outcome.ensures.framed frame is))
+    (bounded c.self.inside.marks c.self.inside.screen c.line-outcome.new.self c.args.work.now c.line-outcome.new.work c.self.invariant.rest (c.line-outcome.ensures.works.framed frame is))
 
 pub returns-clause-leaves : goal.returns-clause-leaves
 returns-clause-leaves g c ne =
     let line = plain_command c.args.command.now in
     subst (λ (w : KeyedWorld). LeavesUnasked (world_of w) line w.screen.views c.line-outcome.new.self.views) c.self.view_is
     (leaves_all line c.line-outcome.result c.self.inside.screen c.line-outcome.new.self
-    (unchanged_all c.line-outcome.result c.self.inside.screen c.line-outcome.new.self c.args.sink.now c.line-outcome.new.sink c.line-outcome.ensures.unchanged) (λ is. c.line-outcome.ensures.keeps ne is))
+    (unchanged_all c.line-outcome.result c.self.inside.screen c.line-outcome.new.self c.args.sink.now c.line-outcome.new.sink c.line-outcome.ensures.unchanged) (λ is. c.line-outcome.ensures.works.keeps ne is))
 
 pub returns-clause-measures : goal.returns-clause-measures
 returns-clause-measures g c ne =
     let line = plain_command c.args.command.now in
     subst (λ (w : KeyedWorld). c.line-outcome.new.self.views.counts.measures ≡ w.screen.views.counts.measures) c.self.view_is
     (measures_same line c.line-outcome.result c.self.inside.screen c.line-outcome.new.self
-    (unchanged_all c.line-outcome.result c.self.inside.screen c.line-outcome.new.self c.args.sink.now c.line-outcome.new.sink c.line-outcome.ensures.unchanged) (λ is. c.line-outcome.ensures.keeps ne is))
+    (unchanged_all c.line-outcome.result c.self.inside.screen c.line-outcome.new.self c.args.sink.now c.line-outcome.new.sink c.line-outcome.ensures.unchanged) (λ is. c.line-outcome.ensures.works.keeps ne is))
 
 pub returns-clause-counted : goal.returns-clause-counted
 returns-clause-counted g c frame is =
-    subst (λ (w : KeyedWorld). CountsMeasures w.screen.views.counts c.line-outcome.new.self.views.counts c.args.work.now c.line-outcome.new.work) c.self.view_is (c.line-outcome.ensures.framed frame is).counted
+    subst (λ (w : KeyedWorld). CountsMeasures w.screen.views.counts c.line-outcome.new.self.views.counts c.args.work.now c.line-outcome.new.work) c.self.view_is (c.line-outcome.ensures.works.framed frame is).counted
 
 pub returns-clause-laid : goal.returns-clause-laid
 returns-clause-laid g c frame is =
-    subst (λ (w : KeyedWorld). (window : Size) → window_of w.screen ≡ Some window → LaysOut w.screen c.line-outcome.new.self window) c.self.view_is (c.line-outcome.ensures.framed frame is).laid
+    subst (λ (w : KeyedWorld). (window : Size) → window_of w.screen ≡ Some window → LaysOut w.screen c.line-outcome.new.self window) c.self.view_is (c.line-outcome.ensures.works.framed frame is).laid
 
 pub returns-clause-carried : goal.returns-clause-carried
 returns-clause-carried g c =
@@ -106,7 +106,7 @@ returns-clause-silent g c =
 
 pub returns-clause-unasked : goal.returns-clause-unasked
 returns-clause-unasked g c =
-    subst (λ (w : KeyedWorld). asked_file (world_of w) (plain_command c.args.command.now) ≡ None → c.line-outcome.new.shelf ≡ c.args.shelf.now) c.self.view_is c.line-outcome.ensures.unasked
+    subst (λ (w : KeyedWorld). asked_file (world_of w) (plain_command c.args.command.now) ≡ None → c.line-outcome.new.shelf ≡ c.args.shelf.now) c.self.view_is c.line-outcome.ensures.shelf.unasked
 
 pub returns-clause-watched : goal.returns-clause-watched
 returns-clause-watched g c is box has =
@@ -117,11 +117,11 @@ returns-clause-watched g c is box has =
     let marks : new.marks ≡ marks_after (world_of old) line (world_of new) old.marks =
     c.marks_after-self-inside.ensures.done is
     ∙ marks_are line c.effect_of-effect.result c.self.inside.marks c.self.inside.screen c.line-outcome.new.self c.has_settled-settled.result c.has_scrolled-scrolled.result c.effect_of-effect.ensures c.has_settled-settled.ensures
-    c.has_scrolled-scrolled.ensures (λ ne. ens.keeps ne is) in
-    let shown = shows_after line old.screen new.screen c.args.work.now c.line-outcome.new.work (λ ne. ens.keeps ne is) (λ e. (ens.framed e is).paints) in
+    c.has_scrolled-scrolled.ensures (λ ne. ens.works.keeps ne is) in
+    let shown = shows_after line old.screen new.screen c.args.work.now c.line-outcome.new.work (λ ne. ens.works.keeps ne is) (λ e. (ens.works.framed e is).paints) in
     let held : HasBox old box = subst (λ (w : KeyedWorld). HasBox w box) (sym c.self.view_is) has in
     let kept : HasBox new (box_after (world_of old) line (world_of new) old.marks.based box) = λ based.
-    box_kept line old.marks old.screen new.screen box (λ ne. ens.keeps ne is) (λ e settled. ((ens.framed e is).shows settled).clean) c.self.invariant.based held (subst (λ (m : Marks). m.based ≡ true) marks based) in
+    box_kept line old.marks old.screen new.screen box (λ ne. ens.works.keeps ne is) (λ e settled. ((ens.works.framed e is).shows settled).clean) c.self.invariant.based held (subst (λ (m : Marks). m.based ≡ true) marks based) in
     subst (λ (w : KeyedWorld). IsWatched new (watched_after (watched_in w box) line (world_of new))) c.self.view_is (watched_line line old new box marks shown kept)
 
 pub returns-clause-worth : goal.returns-clause-worth
@@ -137,13 +137,13 @@ returns-clause-worth g c is box has =
           let carried = subst (λ (line : PlainCommand). WritesReply (step [] (world_of old) line) (world_on c.line-outcome.new.self) (g.K.Sink.state c.args.sink.now) (g.K.Sink.state c.line-outcome.new.sink) c.line-outcome.result) e
           (ens.carried [] (inr (ap (asked_file (world_of old)) e))) in
           let reply = done_reply (step [] (world_of old) Frame) (world_on c.line-outcome.new.self) (g.K.Sink.state c.args.sink.now) (g.K.Sink.state c.line-outcome.new.sink) c.line-outcome.result carried is in
-          let framed = ens.framed e is in
+          let framed = ens.works.framed e is in
           subst (λ (line : PlainCommand). IsWorth (costs_of (watched_in old box) line) before after) (sym e)
           (worth_frame old.screen c.line-outcome.new.self old.marks box before after (after_framed old.screen c.line-outcome.new.self reply.0 reply.1) framed c.self.invariant.based
-          (λ idle. ens.still e (c.self.invariant.idle idle)) held ens.painted (bounded old.marks old.screen c.line-outcome.new.self before after c.self.invariant.rest framed))
-      | inr ne ↦ worth_other (watched_in old box) line before after ne (ens.work ne)
+          (λ idle. ens.works.still e (c.self.invariant.idle idle)) held ens.works.painted (bounded old.marks old.screen c.line-outcome.new.self before after c.self.invariant.rest framed))
+      | inr ne ↦ worth_other (watched_in old box) line before after ne (ens.works.work ne)
     ])
 
 pub returns-clause-filled : goal.returns-clause-filled
 returns-clause-filled g c frame is =
-    subst (λ (w : KeyedWorld). FillsAlike w.screen.surface.filled c.line-outcome.new.self.surface.filled c.args.work.now.painted c.line-outcome.new.work.painted) c.self.view_is (c.line-outcome.ensures.framed frame is).paints.filled
+    subst (λ (w : KeyedWorld). FillsAlike w.screen.surface.filled c.line-outcome.new.self.surface.filled c.args.work.now.painted c.line-outcome.new.work.painted) c.self.view_is (c.line-outcome.ensures.works.framed frame is).paints.filled
