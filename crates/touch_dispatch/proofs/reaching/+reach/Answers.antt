@@ -1,29 +1,31 @@
-use Rattle.std.proofs.Common.{◌≡◌, ◌<◌, ℕ, None, Some, refl, sym, ◌∙◌, ap, subst, arith}
-use Rattle.touch_dispatch.specs.declared.reaching.taker.Taker.TheVariants.{Sent}
+use Rattle.std.proofs.Common.{◌≡◌, ◌<◌, ℕ, Bool, true, false, List, None, Some, refl, sym, ◌∙◌, ap, subst, arith}
+use Rattle.touch_dispatch.specs.declared.reaching.taker.Taker.{Taker}
+use Rattle.touch_dispatch.specs.declared.reaching.taker.Taker.TheVariants.{NoChild, Sent}
 use Rattle.view_model.specs.Classes.{is_group}
 use Rattle.view_model.specs.declared.facts.Facts.{Facts}
 use Rattle.view_model.specs.PlainTree.{PlainView}
 use Rattle.view_tree.specs.Rows.{previous_key}
 use Rattle.touch_dispatch.proofs.scrolls.FitLaws.{kid_moved, kids_grow, out_fits_at}
-use Rattle.touch_dispatch.proofs.steps.GrowLaws.{answer_fits, ask_fits, asked_many, later_fits, offer_fits, try_fits}
+use Rattle.touch_dispatch.proofs.steps.GrowLaws.{answer_fits, ask_fits, asked_many, later_fits, many-settled, offer_fits, try_fits}
 use Rattle.touch_dispatch.proofs.steps.KeepLaws.{group_asked, kept_ended, kept_on, kept_settled, kept_still, may_still}
 use Rattle.touch_dispatch.proofs.gestures.ParentLaws.{may_target}
-use Rattle.touch_dispatch.proofs.steps.ReachSteps.{WalkTo, answered_own, answered_same, asked_begun, from_kid, group_chain, none_by, not_taken, out_same, out_step, put_named, taken_no, taken_up, taken_yes, try_child_same, try_earlier, try_sent, try_no, walk_begin, walk_on, answered_targets, some_by}
+use Rattle.touch_dispatch.proofs.steps.ReachSteps.{WalkTo, answered_own, answered_same, asked_begun, from_kid, group_chain, none_by, not_taken, out_same, part_for_same, out_step, put_named, taken_no, taken_up, taken_yes, try_child_same, try_earlier, try_sent, try_no, walk_begin, walk_on, answered_targets, some_by}
 use Rattle.touch_dispatch.proofs.steps.SceneLaws.{fewer_kid, kid_found, reach_at, reach_group, reach_own, same_own}
 use Rattle.touch_dispatch.proofs.steps.TargetLaws.{TargetStep, target_step, walk_there}
 use Rattle.touch_dispatch.proofs.steps.TryLaws.{gets_part, sends_to, kept_put, may_put, names_child, names_still, reads_child, target_read, tried_read}
 use Rattle.touch_dispatch.proofs.steps.TryWalk.{TryWalk}
-use Rattle.touch_dispatch.specs.reaching.Delivery.{own_targets}
-use Rattle.touch_dispatch.specs.Dispatch.{Tried, ended, part_for, tried_ids}
-use Rattle.touch_dispatch.specs.handling.Handling.{Reached, many}
+use Rattle.touch_dispatch.specs.reaching.Delivery.{delivered_own, delivered_targets, own_targets}
+use Rattle.touch_dispatch.specs.Dispatch.{EventChild, Scene, Tried, ended, hand_to, is_offered, is_sent, offered, part_for, settled, tried_ids, try_children}
+use Rattle.touch_dispatch.specs.handling.Handling.{Progress, Reached, many}
 use Rattle.touch_dispatch.specs.gesture.Kept.{gesture_of, is_open}
 use Rattle.touch_dispatch.specs.reaching.TreeEvents.{IsKidAt, child_at, kids_of, offsets_in, own_of, progress_of, scene_of, target_of}
 use Rattle.touch_dispatch.specs.declared.handling.receiver.Receiver.{Receiver}
 use Rattle.touch_event.specs.PointerSets.{has_id}
+use Rattle.touch_event.specs.declared.event.Event.{Event}
 use Rattle.touch_event.specs.declared.event.TheConstants.{MAX_POINTERS}
-use Rattle.touch_targets.specs.Captures.{first_child, is_target, targets_from}
+use Rattle.touch_targets.specs.Captures.{Target, first_child, first_ids, from_child, is_target, targets_from}
 use Rattle.touch_dispatch.proofs.reaching.+reach.Goals as goal
-use Rattle.touch_dispatch.proofs.reaching.+reach.Goals.{targets::deliver_to-else-not-intercepted-via-else-not-intercepted, targets::deliver_to-else-not-intercepted-via-then-not-intercepted+else-not-put_part}
+use Rattle.touch_dispatch.proofs.reaching.+reach.Goals.{children::offer-then-intercepted-via-then-intercepted, children::offer-then-intercepted-via-else-intercepted+then-not-is_offered, targets::deliver_to-else-not-intercepted-via-else-not-intercepted, targets::deliver_to-else-not-intercepted-via-then-not-intercepted+else-not-put_part}
 
 pub reach-returns-then-is_group-clause-reached : goal.reach-returns-then-is_group-clause-reached
 reach-returns-then-is_group-clause-reached t c =
@@ -132,11 +134,68 @@ group::reach_group-returns-clause-kept t c =
     kept_on (kept_on (kept_on a.kept c.offer-taker.ensures.kept) c.answer-yes.ensures.kept)
     (kept_ended c.receiver_at-own.result.number c.facts.result.now.split c.args.delivery.now.event.now c.ask-intercepted.result c.answer-yes.ensures.kept.caught c.end.ensures.opened c.end.ensures.ended)
 
+pub reach-returns-then-is_group-clause-kept : goal.reach-returns-then-is_group-clause-kept
+reach-returns-then-is_group-clause-kept t c = c.reach_group.ensures.kept
+
+pub reach-returns-else-is_group-clause-kept : goal.reach-returns-else-is_group-clause-kept
+reach-returns-else-is_group-clause-kept t c = c.handle_at.ensures.kept
+
+-- the children are tried if the group does not take the event away and a pointer comes down
+offered_not : (scene : Scene) (own : PlainView) (kids : List EventChild) (event : Event) (intercepted : Bool) (progress : Progress) → is_offered event.action own.facts.split ≡ false
+    → offered scene own kids event intercepted progress ≡ record { taker = NoChild; progress = progress }
+offered_not scene own kids event true progress e = refl
+offered_not scene own kids event false progress e = rw e refl
+
+offered_yes : (scene : Scene) (own : PlainView) (kids : List EventChild) (event : Event) (intercepted : Bool) (progress : Progress) → intercepted ≡ false → is_offered event.action own.facts.split ≡ true
+    → offered scene own kids event intercepted progress ≡ settled own.number event (try_children scene own event kids progress)
+offered_yes scene own kids event intercepted progress e1 e2 = rw (e1, e2) refl
+
+pub children::offer-returns-then-intercepted-clause-offered : goal.children::offer-returns-then-intercepted-clause-offered
+children::offer-returns-then-intercepted-clause-offered t c =
+    let d = c.args.delivery.now in
+    let views = c.args.tree.now in
+    elim c.then-intercepted.branch [
+      | children::offer-then-intercepted-via-then-intercepted w ↦ rw w.if-intercepted.true refl
+      | children::offer-then-intercepted-via-else-intercepted+then-not-is_offered w ↦
+          offered_not (scene_of views d.limits.now.slop) (own_of views d.view) (kids_of views d.limits.now.slop d.view) d.event.now c.args.intercepted _
+          (ap (λ (f : Facts). is_offered d.event.now.action f.split) (sym w.facts.ensures.value) ∙ sym w.is_offered.ensures ∙ w.if-not-is_offered.true)
+    ]
+
+pub children::offer-returns-then-intercepted-clause-kept : goal.children::offer-returns-then-intercepted-clause-kept
+children::offer-returns-then-intercepted-clause-kept t c = kept_still c.requires.may.caught
+
+pub children::offer-try_children-taker-requires : goal.children::offer-try_children-taker-requires
+children::offer-try_children-taker-requires t c =
+    let d = c.args.delivery.now in
+    let views = c.args.tree.now in
+    let slop = d.limits.now.slop in
+    let own = own_of views d.view in
+    let start = progress_of views c.args.gesture.now c.args.log.now in
+    let tried = try_children (scene_of views slop) own d.event.now (kids_of views slop d.view) start in
+    let k = ap (λ (t : Tried). many t.progress)
+    (offered_yes (scene_of views slop) own (kids_of views slop d.view) d.event.now c.args.intercepted start c.if-intercepted.false
+    (ap (λ (f : Facts). is_offered d.event.now.action f.split) (sym c.facts.ensures.value) ∙ sym c.is_offered.ensures ∙ c.if-not-is_offered.false)) in
+    let m = many-settled own.number d.event.now tried.taker tried.progress in
+    let all = c.requires.fits in
+    (omega (arith, c.decreases), (c.requires.may, omega (arith, k, m, all)))
+
 pub children::offer-settle-requires-clause-may : goal.children::offer-settle-requires-clause-may
 children::offer-settle-requires-clause-may t c = λ child there.
     let may = may_still c.requires.may c.try_children-taker.ensures.kept in
     rw c.number.ensures.value
     (may_target c.try_children-taker.new.tree c.args.delivery.now.limits.now.slop c.try_children-taker.new.gesture c.args.delivery.now.view child may.tree may.live may.caught (rw c.number.ensures.value at there))
+
+pub children::offer-returns-clause-offered : goal.children::offer-returns-clause-offered
+children::offer-returns-clause-offered t c =
+    let d = c.args.delivery.now in
+    let views = c.args.tree.now in
+    let slop = d.limits.now.slop in
+    let tried : Tried = record { taker = c.try_children-taker.result; progress = progress_of c.try_children-taker.new.tree c.try_children-taker.new.gesture c.try_children-taker.new.log } in
+    offered_yes (scene_of views slop) (own_of views d.view) (kids_of views slop d.view) d.event.now c.args.intercepted _ c.if-intercepted.false
+    (ap (λ (f : Facts). is_offered d.event.now.action f.split) (sym c.facts.ensures.value) ∙ sym c.is_offered.ensures ∙ c.if-not-is_offered.false)
+    ∙ ap (settled (own_of views d.view).number d.event.now) c.try_children-taker.ensures.tried
+    ∙ ap (λ n. settled n d.event.now tried) (sym (c.number.ensures.value ∙ ap (λ (v : PlainView). v.number) (same_own views c.try_children-taker.new.tree d.view c.try_children-taker.ensures.kept.scrolls)))
+    ∙ c.settle.ensures.settled (offsets_in c.try_children-taker.new.tree) c.try_children-taker.new.log.entries.items
 
 pub children::offer-returns-clause-kept : goal.children::offer-returns-clause-kept
 children::offer-returns-clause-kept t c =
@@ -195,6 +254,18 @@ children::try_children-returns-then-is_taken-clause-tried t c =
     (from_kid views slop d.view c.in-Some.kid d.event.now _ _ tried kid.live walk.rest
     (try_child_same views c.loop-next.tree slop d.view c.in-Some.kid d.event.now (progress_of c.loop-next.tree c.loop-next.gesture c.loop-next.log) i.kept.scrolls ∙ c.try_child-taker.ensures.tried))
 
+pub children::try_children-returns-then-is_taken-clause-kept : goal.children::try_children-returns-then-is_taken-clause-kept
+children::try_children-returns-then-is_taken-clause-kept t c = kept_on c.loop-next.invariant.kept c.try_child-taker.ensures.kept
+
+pub children::try_children-returns-clause-tried : goal.children::try_children-returns-clause-tried
+children::try_children-returns-clause-tried t c =
+    let d = c.args.delivery.now in
+    let walk : TryWalk c.args.tree.now d.limits.now.slop d.view d.event.now None _ _ = rw c.in_default.is at c.loop-next.invariant.walked in
+    walk.rest
+
+pub children::try_children-returns-clause-kept : goal.children::try_children-returns-clause-kept
+children::try_children-returns-clause-kept t c = c.loop-next.invariant.kept
+
 pub children::try_children-loop-next-smaller : goal.children::try_children-loop-next-smaller
 children::try_children-loop-next-smaller t c =
     rw (c.try_child-taker.ensures.kept.scrolls.same.tree, c.loop-next.invariant.kept.scrolls.same.tree, c.in-Some.is) (walked t c).1
@@ -210,6 +281,12 @@ children::try_child-returns-then-not-is_tried-clause-tried t c =
     let reads = reads_child (names_child c.requires.may c.requires.kid c.number-group.ensures.value c.number-child.ensures.value) c.facts-own.ensures.value c.facts.ensures.value c.state-rect.ensures.value in
     try_no (scene_of views slop) (own_of views d.view) d.event.now (child_at views slop c.args.kid) (progress_of views c.args.gesture.now c.args.log.now)
     (tried_read slop reads ∙ sym c.is_tried.ensures ∙ c.if-not-is_tried.true)
+
+pub children::try_child-returns-then-not-is_tried-clause-kept : goal.children::try_child-returns-then-not-is_tried-clause-kept
+children::try_child-returns-then-not-is_tried-clause-kept t c = kept_still c.requires.may.caught
+
+pub children::try_child-put-requires-clause-ids : goal.children::try_child-put-requires-clause-ids
+children::try_child-put-requires-clause-ids t c = c.id_bit.ensures.some
 
 pub children::try_child-put-requires-clause-may : goal.children::try_child-put-requires-clause-may
 children::try_child-put-requires-clause-may t c = may_put (names_child c.requires.may c.requires.kid c.number-group.ensures.value c.number-child.ensures.value)
@@ -258,6 +335,12 @@ children::try_child-returns-then-not-reach-clause-tried t c =
     try_sent (scene_of views slop) own d.event.now (child_at views slop c.args.kid) _ c.tried_event-part.result reached gets (sym (reach_at views slop c.args.kid c.tried_event-part.result _ c.requires.kid.live) ∙ c.reach.ensures.reached)
     ∙ taken_no own d.event.now (own_of views c.args.kid).number reached c.if-not-reach.true
 
+pub children::try_child-returns-then-not-reach-clause-kept : goal.children::try_child-returns-then-not-reach-clause-kept
+children::try_child-returns-then-not-reach-clause-kept t c = c.reach.ensures.kept
+
+pub children::try_child-put-requires-2-clause-ids : goal.children::try_child-put-requires-2-clause-ids
+children::try_child-put-requires-2-clause-ids t c = c.tried_ids.ensures.some
+
 pub children::try_child-put-requires-2-clause-may : goal.children::try_child-put-requires-2-clause-may
 children::try_child-put-requires-2-clause-may t c =
     may_put (names_still (names_child c.requires.may c.requires.kid c.number-group.ensures.value c.number-child.ensures.value) c.reach.ensures.kept)
@@ -284,6 +367,42 @@ children::try_child-returns-clause-kept t c =
     let names = names_still (names_child c.requires.may c.requires.kid c.number-group.ensures.value c.number-child.ensures.value) c.reach.ensures.kept in
     kept_on c.reach.ensures.kept (kept_put (has_id c.tried_ids.result) names c.put-2.ensures.opened c.put-2.ensures.gesture)
 
+pub group::answer-handle_at-requires-clause-fits : goal.group::answer-handle_at-requires-clause-fits
+group::answer-handle_at-requires-clause-fits t c =
+    let s = c.args.shared.now in
+    let d = s.delivery.now in
+    let views = c.args.tree.now in
+    let slop = d.limits.now.slop in
+    let own = own_of views d.view in
+    let targets = (gesture_of c.args.gesture.now).targets in
+    let start = progress_of views c.args.gesture.now c.args.log.now in
+    let k = ap (λ (r : Reached). many r.progress)
+    (answered_own (scene_of views slop) own (kids_of views slop d.view) d.event.now s.intercepted s.taker start (delivered_own views d start)
+    (none_by c.newest.result c.is_none.result (targets own.number) c.is_none.ensures c.if-is_none.true (c.newest.ensures.child ∙ ap (λ n. first_child (targets n)) c.number.ensures.value)) refl) in
+    let all = c.requires.fits in
+    omega (arith, k, all)
+
+pub group::answer-deliver-requires : goal.group::answer-deliver-requires
+group::answer-deliver-requires t c =
+    let s = c.args.shared.now in
+    let d = s.delivery.now in
+    let views = c.args.tree.now in
+    let slop = d.limits.now.slop in
+    let own = own_of views d.view in
+    let targets = (gesture_of c.args.gesture.now).targets in
+    let start = progress_of views c.args.gesture.now c.args.log.now in
+    let k = ap (λ (r : Reached). many r.progress)
+    (answered_targets (scene_of views slop) own (kids_of views slop d.view) d.event.now s.intercepted s.taker start (delivered_targets views s (targets own.number) false start)
+    (some_by c.newest.result c.is_none.result (targets own.number) c.is_none.ensures c.if-is_none.false (c.newest.ensures.child ∙ ap (λ n. first_child (targets n)) c.number.ensures.value)) refl) in
+    let all = c.requires.fits in
+    (omega (arith, c.decreases), (c.requires.may, omega (arith, k, all)))
+
+pub group::answer-returns-then-is_none-clause-kept : goal.group::answer-returns-then-is_none-clause-kept
+group::answer-returns-then-is_none-clause-kept t c = c.handle_at.ensures.kept
+
+pub group::answer-returns-clause-kept : goal.group::answer-returns-clause-kept
+group::answer-returns-clause-kept t c = c.deliver.ensures.kept
+
 pub group::answer-returns-then-is_none-clause-answered : goal.group::answer-returns-then-is_none-clause-answered
 group::answer-returns-then-is_none-clause-answered t c =
     let s = c.args.shared.now in
@@ -305,6 +424,27 @@ group::answer-returns-clause-answered t c =
     (some_by c.newest.result c.is_none.result (targets (own_of c.args.tree.now d.view).number) c.is_none.ensures c.if-is_none.false
     (c.newest.ensures.child ∙ ap (λ n. first_child (targets n)) c.number.ensures.value))
     c.deliver.ensures.delivered
+
+pub targets::deliver-loop-next-init : goal.targets::deliver-loop-next-init
+targets::deliver-loop-next-init t c =
+    let view = c.args.shared.now.delivery.now.view in
+    let targets = (gesture_of c.args.gesture.now).targets in
+    let number = (own_of c.args.tree.now view).number in
+    let whole : targets_from c.newest-next.result (targets number) ≡ targets number =
+    subst (λ n. targets_from c.newest-next.result (targets n) ≡ targets n) c.number-group.ensures.value c.newest-next.ensures.part in
+    record {
+      kept = kept_still c.requires.may.caught;
+      group = c.number-group.ensures.value;
+      same = refl;
+      next = c.newest-next.ensures.child ∙ ap (λ n. first_child (targets n)) c.number-group.ensures.value ∙ ap first_child (sym whole);
+      rest = ap (λ ts. delivered_targets c.args.tree.now c.args.shared.now ts false (progress_of c.args.tree.now c.args.gesture.now c.args.log.now)) whole;
+    }
+
+pub targets::deliver-returns-clause-delivered : goal.targets::deliver-returns-clause-delivered
+targets::deliver-returns-clause-delivered t c = sym (rw c.in_default.is at c.loop-next.invariant.rest)
+
+pub targets::deliver-returns-clause-kept : goal.targets::deliver-returns-clause-kept
+targets::deliver-returns-clause-kept t c = c.loop-next.invariant.kept
 
 pub targets::deliver-deliver_to-said-requires : goal.targets::deliver-deliver_to-said-requires
 targets::deliver-deliver_to-said-requires t c =
@@ -364,6 +504,38 @@ targets::deliver-loop-next-preserved t c =
           (ap (λ (v : PlainView). (gesture_of c.loop-next.gesture).targets v.number) (same_own old c.loop-next.tree d.view i.kept.scrolls) ∙ i.same) step.there step.part c.either-yes.ensures c.deliver_to-said.ensures.delivered
           ∙ rw c.in-Some.is at i.rest;
     }
+
+-- a target that gets nothing
+kept_back : (scene : Scene) (own : PlainView) (kids : List EventChild) (event : Event) (intercepted : Bool) (taker : Taker) (target : Target) (progress : Progress) → is_sent taker target.child ≡ false
+    → part_for (scene.rects target.child) (progress.offsets own.number) event intercepted target.ids ≡ None → hand_to scene own kids event intercepted taker target progress ≡ record { yes = false; progress = progress }
+kept_back scene own kids event intercepted taker target progress other none = rw (other, none) refl
+
+pub targets::deliver_to-returns-then-is_sent-clause-delivered : goal.targets::deliver_to-returns-then-is_sent-clause-delivered
+targets::deliver_to-returns-then-is_sent-clause-delivered t c = rw (sym c.is_sent.ensures ∙ c.if-is_sent.true) refl
+
+pub targets::deliver_to-returns-then-is_sent-clause-kept : goal.targets::deliver_to-returns-then-is_sent-clause-kept
+targets::deliver_to-returns-then-is_sent-clause-kept t c = kept_still c.requires.may.caught
+
+pub targets::deliver_to-returns-in_default-clause-kept : goal.targets::deliver_to-returns-in_default-clause-kept
+targets::deliver_to-returns-in_default-clause-kept t c = kept_still c.requires.may.caught
+
+pub targets::deliver_to-returns-then-not-put_part-clause-delivered : goal.targets::deliver_to-returns-then-not-put_part-clause-delivered
+targets::deliver_to-returns-then-not-put_part-clause-delivered t c =
+    let s = c.args.shared.now in
+    let d = s.delivery.now in
+    let views = c.args.tree.now in
+    let slop = d.limits.now.slop in
+    let targets = own_targets views c.args.gesture.now d.view in
+    kept_back (scene_of views slop) (own_of views d.view) (kids_of views slop d.view) d.event.now s.intercepted s.taker (target_of c.args.child targets) _ (sym c.is_sent.ensures ∙ c.if-is_sent.false)
+    (part_for_same views slop d.view c.in-Some.kid c.args.child (first_ids (from_child c.args.child targets)) (has_id c.ids-ids.result) d.event.now s.intercepted c.facts-own.result.now c.state-rect.result
+    c.requires.may.tree c.requires.may.live c.in-Some.ensures.live c.facts-own.ensures.value c.state-rect.ensures.value c.in-Some.ensures.number (c.ids-ids.ensures _ c.requires.target)
+    ∙ rw c.if-not-intercepted.true (sym (rw c.if-not-put_part.true at c.put_part.ensures.value)))
+
+pub targets::deliver_to-returns-then-not-put_part-clause-kept : goal.targets::deliver_to-returns-then-not-put_part-clause-kept
+targets::deliver_to-returns-then-not-put_part-clause-kept t c = kept_still c.requires.may.caught
+
+pub targets::deliver_to-returns-clause-kept : goal.targets::deliver_to-returns-clause-kept
+targets::deliver_to-returns-clause-kept t c = c.reach.ensures.kept
 
 pub targets::deliver_to-returns-in_default-clause-delivered : goal.targets::deliver_to-returns-in_default-clause-delivered
 targets::deliver_to-returns-in_default-clause-delivered t c =
