@@ -10,7 +10,7 @@ ghost use Rattle.stack_worlds.specs.StackCarried.{IsGivenSound, IsOwnSound, IsRe
 ghost use Rattle.stack_worlds.specs.WindowLines.{WorksBy, next_at, worlds_after};
 ghost use Rattle.script_lines.specs.commands.PlainCommands.{Frame};
 ghost use Rattle.view_model.specs.declared.limits.TheConstants.{MAX_VIEWS};
-ghost use Rattle.view_world.specs.world.Carried.{AreAtHand, CountsShelf, IsDone, faults_after_line, fetches_after};
+ghost use Rattle.view_world.specs.world.Carried.{AreAtHand, AsksShelf, CountsShelf, IsDone, faults_after_line, fetches_after};
 ghost use Rattle.view_world.specs.world.KeyedWorld.{KeyedWorld, world_of};
 ghost use Rattle.window_stack.specs.PlainPanes.{is_open};
 ghost use Rattle.window_stack.specs.StackLines.{In, IsLineInBounds, plain_line, text_length_in};
@@ -134,12 +134,8 @@ impl Stack {
             → AreAtHand files (F.files shelf.old) (asked_by (stack_of self.old) (plain_line line.entry))
             → stack_step files (stack_of self.old) (plain_line line.entry) ≡ Done stack []
             → sink.new ≡ sink.old }
-        ensures files_stay { F.files shelf.new ≡ F.files shelf.old }
-        ensures unasked { asked_by (stack_of self.old) (plain_line line.entry) ≡ None → shelf.new ≡ shelf.old }
-        ensures fetched { F.fetches shelf.new
-            ≡ fetches_after (asked_by (stack_of self.old) (plain_line line.entry)) (F.fetches shelf.old) }
-        ensures shelf_failed { CountsShelf (F.faults shelf.old) (F.faults shelf.new) result }
-        ensures asked { result ≡ Err StepFault.Shelf → asked_by (stack_of self.old) (plain_line line.entry) ≢ None }
+        ensures shelf { AsksShelf F.files F.fetches F.faults
+            (asked_by (stack_of self.old) (plain_line line.entry)) result shelf.old shelf.new }
         ensures memory { result ≡ Err StepFault.NoMemory → LineWants (stack_of self.old) (plain_line line.entry) }
         ensures works { WorksBy (way_of (stack_of self.old) (plain_line line.entry)) self.old
             self.new result work.old work.new }
@@ -172,12 +168,8 @@ impl Stack {
             → AreAtHand files (F.files shelf.old) (asked_on (stack_of self.old) (plain_given given.entry))
             → by_way files (stack_of self.old) (plain_given given.entry) ≡ Done stack []
             → sink.new ≡ sink.old }
-        ensures files_stay { F.files shelf.new ≡ F.files shelf.old }
-        ensures unasked { asked_on (stack_of self.old) (plain_given given.entry) ≡ None → shelf.new ≡ shelf.old }
-        ensures fetched { F.fetches shelf.new
-            ≡ fetches_after (asked_on (stack_of self.old) (plain_given given.entry)) (F.fetches shelf.old) }
-        ensures shelf_failed { CountsShelf (F.faults shelf.old) (F.faults shelf.new) result }
-        ensures asked { result ≡ Err StepFault.Shelf → asked_on (stack_of self.old) (plain_given given.entry) ≢ None }
+        ensures shelf { AsksShelf F.files F.fetches F.faults
+            (asked_on (stack_of self.old) (plain_given given.entry)) result shelf.old shelf.new }
         ensures memory { result ≡ Err StepFault.NoMemory → WayWants (stack_of self.old) (plain_given given.entry) }
         ensures works { WorksBy (plain_given given.entry) self.old self.new result work.old work.new }
         ensures sink_failed { (K.state sink.new).faults ≡ faults_after_line result (K.state sink.old).faults }

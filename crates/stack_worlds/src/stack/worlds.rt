@@ -1,16 +1,16 @@
 //! The worlds of the windows of a stack, each in the place of its window.
 
-ghost use Rattle.std.specs.Prelude.{◌≡◌, ◌≢◌, ◌⊎◌, ◌<◌, ◌≤◌, ◌^◌, [], true, Err, IfSome, None, Ok, OnErr, Option, Some, slice_set};
-ghost use Rattle.std.specs.Option.{is_some, option_map};
+ghost use Rattle.std.specs.Prelude.{◌≡◌, ◌⊎◌, ◌<◌, ◌≤◌, ◌^◌, [], true, Err, None, Ok, OnErr, Option, Some, slice_set};
+ghost use Rattle.std.specs.Option.{option_map};
 ghost use Rattle.script_lines.specs.reading.Commands.{IsInBounds};
 ghost use Rattle.script_lines.specs.commands.PlainCommands.{plain_command, text_length};
 ghost use Rattle.tool_io.specs.Fetched.{Files};
-ghost use Rattle.view_model.specs.declared.limits.TheConstants.{NUMBERS_END};
 ghost use Rattle.stack_worlds.specs.KeptStack.{HaveNumbers, kept_world, keyed_at, stack_of};
-ghost use Rattle.stack_worlds.specs.PlainStack.{is_none_down, size_in, sizes_of};
-ghost use Rattle.view_world.specs.world.Carried.{AreAtHand, CountsShelf, IsDone, MayWantMemory, WritesReply, faults_after_line, fetches_after};
+ghost use Rattle.stack_worlds.specs.PlainStack.{asked_on, is_none_down, size_in, sizes_of};
+ghost use Rattle.view_world.specs.world.Carried.{AreAtHand, AsksShelf, IsDone, MayWantMemory, WritesReply, faults_after_line};
 ghost use Rattle.view_world.specs.editing.Inflating.{asked_file};
 ghost use Rattle.view_world.specs.world.KeyedWorld.{KeyedWorld, new_world, world_of};
+ghost use Rattle.stack_worlds.specs.StackCarried.{plain_given};
 ghost use Rattle.stack_worlds.specs.WindowLines.{WorksIn};
 ghost use Rattle.view_world.specs.world.Step.{Done, step};
 ghost use Rattle.view_world.specs.world.World.{World as PlainWorld};
@@ -20,7 +20,6 @@ ghost use Rattle.window_stack.specs.declared.lines.TheConstants.{MAX_PANE};
 use crate::stack::Stack;
 use crate::stack::way::Given;
 use geom_core::Size;
-use script_lines::Command;
 use std::alloc::{AllocError, Global};
 use tool_io::{Shelf, Sink};
 use view_model::Work;
@@ -40,62 +39,6 @@ pub fn open_in(
     let world = Box::new(alloc, World::new(alloc))?;
     worlds[usize::from(k)] = Some(world);
     Ok(())
-}
-
-/// Carries out a command in the world of a place, if there is one.
-pub fn line_at<K: Sink, F: Shelf>(
-    place: &mut Option<Box<World>>,
-    command: Command<'_>,
-    shelf: &mut F,
-    sink: &mut K,
-    work: &mut Work,
-) -> Result<(), StepFault>
-    requires numbers { IfSome (kept_world place.old) (λ world. world.screen.views.next < NUMBERS_END) }
-    requires bounds { IsInBounds (plain_command command) }
-    requires short { text_length (plain_command command) < 2 ^ 31 }
-    ensures carried { (files : Files) (world : KeyedWorld)
-        → kept_world place.old ≡ Some world
-        → AreAtHand files (F.files shelf.old) (asked_file (world_of world) (plain_command command.entry))
-        → (after : KeyedWorld)
-        × (kept_world place.new ≡ Some after)
-        × WritesReply (step files (world_of world) (plain_command command.entry)) (world_of after)
-        (K.state sink.old) (K.state sink.new) result }
-    ensures works { (world : KeyedWorld)
-        → kept_world place.old ≡ Some world
-        → (after : KeyedWorld)
-        × (kept_world place.new ≡ Some after)
-        × WorksIn world after (plain_command command.entry) result work.old work.new }
-    ensures silent { (files : Files) (world : KeyedWorld) (plain : PlainWorld)
-        → kept_world place.old ≡ Some world
-        → AreAtHand files (F.files shelf.old) (asked_file (world_of world) (plain_command command.entry))
-        → step files (world_of world) (plain_command command.entry) ≡ Done plain []
-        → sink.new ≡ sink.old }
-    ensures there { is_some (kept_world place.new) ≡ is_some (kept_world place.old) }
-    ensures unchanged { IsDone result ⊎ ((kept_world place.new ≡ kept_world place.old) × (sink.new ≡ sink.old)) }
-    ensures files_stay { F.files shelf.new ≡ F.files shelf.old }
-    ensures unasked { (world : KeyedWorld)
-        → kept_world place.old ≡ Some world
-        → asked_file (world_of world) (plain_command command.entry) ≡ None
-        → shelf.new ≡ shelf.old }
-    ensures fetched { (world : KeyedWorld)
-        → kept_world place.old ≡ Some world
-        → F.fetches shelf.new
-        ≡ fetches_after (asked_file (world_of world) (plain_command command.entry)) (F.fetches shelf.old) }
-    ensures shelf_failed { CountsShelf (F.faults shelf.old) (F.faults shelf.new) result }
-    ensures asked { (world : KeyedWorld)
-        → kept_world place.old ≡ Some world
-        → result ≡ Err StepFault.Shelf
-        → asked_file (world_of world) (plain_command command.entry) ≢ None }
-    ensures memory { result ≡ Err StepFault.NoMemory → MayWantMemory (plain_command command.entry) }
-    ensures sink_failed { (K.state sink.new).faults ≡ faults_after_line result (K.state sink.old).faults }
-{
-    match place {
-        None => Ok(()),
-        Some(world) => {
-            let alloc = *Box::allocator(world);
-            world.line(alloc, command, shelf, sink, work)
-        }
-    }
 }
 
 impl Stack {
@@ -132,30 +75,16 @@ impl Stack {
         ensures there { is_open self.old.panes given.entry.k ≡ true
             → (world : KeyedWorld) × (keyed_at self.old given.entry.k ≡ Some world) }
         ensures unchanged { IsDone result ⊎ ((self.new ≡ self.old) × (sink.new ≡ sink.old)) }
-        ensures files_stay { F.files shelf.new ≡ F.files shelf.old }
-        ensures unasked { (world : KeyedWorld)
-            → keyed_at self.old given.entry.k ≡ Some world
-            → asked_file (world_of world) (plain_command given.entry.command) ≡ None
-            → shelf.new ≡ shelf.old }
-        ensures fetched { (world : KeyedWorld)
-            → keyed_at self.old given.entry.k ≡ Some world
-            → F.fetches shelf.new
-            ≡ fetches_after (asked_file (world_of world) (plain_command given.entry.command)) (F.fetches shelf.old) }
-        ensures shelf_failed { CountsShelf (F.faults shelf.old) (F.faults shelf.new) result }
-        ensures asked { (world : KeyedWorld)
-            → keyed_at self.old given.entry.k ≡ Some world
-            → result ≡ Err StepFault.Shelf
-            → asked_file (world_of world) (plain_command given.entry.command) ≢ None }
+        ensures shelf { AsksShelf F.files F.fetches F.faults
+            (asked_on (stack_of self.old) (plain_given given.entry)) result shelf.old shelf.new }
         ensures memory { result ≡ Err StepFault.NoMemory → MayWantMemory (plain_command given.entry.command) }
         ensures sink_failed { (K.state sink.new).faults ≡ faults_after_line result (K.state sink.old).faults }
     {
-        line_at(
-            &mut self.worlds[usize::from(given.k)],
-            given.command,
-            shelf,
-            sink,
-            work,
-        )
+        let Some(world) = &mut self.worlds[usize::from(given.k)] else {
+            return Ok(());
+        };
+        let alloc = *Box::allocator(world);
+        world.line(alloc, given.command, shelf, sink, work)
     }
 
     /// The world of a window, if it is open.

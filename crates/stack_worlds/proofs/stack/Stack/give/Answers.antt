@@ -1,9 +1,9 @@
-use Rattle.std.proofs.Common.{◌≡◌, ◌∙◌, ap, sym, subst, true, ℕ, List}
-use Rattle.std.specs.Prelude.{IfSome, Option}
+use Rattle.std.proofs.Common.{◌≡◌, ◌∙◌, sym, subst, true}
+use Rattle.std.specs.Prelude.{IfSome}
 use Rattle.script_lines.specs.commands.PlainCommands.{plain_command}
 use Rattle.stack_worlds.proofs.GivenLaws.{asked_there, given_done, held_after, silent_there}
 use Rattle.stack_worlds.proofs.stack.Stack.give.Goals as goal
-use Rattle.view_world.specs.world.Carried.{AreAtHand, fetches_after}
+use Rattle.view_world.specs.world.Carried.{AreAtHand}
 use Rattle.window_stack.specs.PlainPanes.{PlainPanes, is_open}
 
 pub hold_after-requires-clause-held : goal.hold_after-requires-clause-held
@@ -57,17 +57,3 @@ returns-then-not-is_done-clause-silent g c files stack hand done =
     let at = c.world_line-outcome.ensures.there c.requires.sound.window.there in
     let plain = silent_there files old c.args.given.holder k said at.0 stack at.1 done in
     c.world_line-outcome.ensures.silent files at.0 plain.0 at.1 (subst (AreAtHand files (g.F.Shelf.files c.args.shelf.now)) (asked_there old k said at.0 at.1) hand) plain.1
-
-pub returns-then-not-is_done-clause-fetched : goal.returns-then-not-is_done-clause-fetched
-returns-then-not-is_done-clause-fetched g c =
-    let said = plain_command c.args.given.command in
-    let at = c.world_line-outcome.ensures.there c.requires.sound.window.there in
-    c.world_line-outcome.ensures.fetched at.0 at.1
-    ∙ ap (λ (name : Option (List ℕ)). fetches_after name (g.F.Shelf.fetches c.args.shelf.now)) (sym (asked_there c.args.self.now c.args.given.k said at.0 at.1))
-
-pub returns-clause-fetched : goal.returns-clause-fetched
-returns-clause-fetched g c =
-    let said = plain_command c.args.given.command in
-    let at = c.world_line-outcome.ensures.there c.requires.sound.window.there in
-    c.world_line-outcome.ensures.fetched at.0 at.1
-    ∙ ap (λ (name : Option (List ℕ)). fetches_after name (g.F.Shelf.fetches c.args.shelf.now)) (sym (asked_there c.args.self.now c.args.given.k said at.0 at.1))
