@@ -142,7 +142,7 @@ impl Stack {
         ensures sink_failed { (K.state sink.new).faults ≡ faults_after_line result (K.state sink.old).faults }
     {
         match self.way(line) {
-            Way::Given(given) => self.give(given, shelf, sink, work),
+            Way::Given(given) => self.give(alloc, given, shelf, sink, work),
             Way::Missed => written(put(sink, b"nobody\n")),
             Way::Refused(number) => Err(StepFault::Refused(Refusal::plain(number))),
             Way::Own(own) => self.change(alloc, own, sink),
@@ -152,6 +152,7 @@ impl Stack {
     /// Carries out a command in the world of an open window, and sees who has the gesture then.
     fn give<K: Sink, F: Shelf>(
         &mut self,
+        alloc: Global,
         given: Given<'_>,
         shelf: &mut F,
         sink: &mut K,
@@ -176,7 +177,7 @@ impl Stack {
     {
         let holder = given.holder;
         let k = given.k;
-        let outcome = self.world_line(given, shelf, sink, work);
+        let outcome = self.world_line(alloc, given, shelf, sink, work);
         if !is_done(&outcome) {
             return outcome;
         }

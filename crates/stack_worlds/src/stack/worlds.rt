@@ -45,6 +45,7 @@ impl Stack {
     /// Carries out a command in the world of an open window.
     pub(super) fn world_line<K: Sink, F: Shelf>(
         &mut self,
+        alloc: Global,
         given: Given<'_>,
         shelf: &mut F,
         sink: &mut K,
@@ -83,7 +84,6 @@ impl Stack {
         let Some(world) = &mut self.worlds[usize::from(given.k)] else {
             return Ok(());
         };
-        let alloc = *Box::allocator(world);
         world.line(alloc, given.command, shelf, sink, work)
     }
 
