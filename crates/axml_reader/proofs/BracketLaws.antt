@@ -98,6 +98,20 @@ by_name same opened a b word t true v e =
 by_name same opened a b word t false v e =
     absurd (not_none t (sym (rw (closes_top same opened a b, v) refl) ∙ e))
 
+-- a pair inside, and then the end of the outer one
+paired_later : (same : ℕ → ℕ → Bool) (opened : List ℕ) (a x : ℕ) (word : List Token) (t : Stack) (one : SplitsAtClose same (opened ++ a ∷ []) x word t) → SplitsAtClose same opened a one.rest t
+    → SplitsAtClose same opened a (Opens x ∷ word) t
+paired_later same opened a x word t one two =
+    record {
+      inner = Opens x ∷ (one.inner ++ Closes one.last ∷ two.inner);
+      last = two.last;
+      rest = two.rest;
+      word_is = ap (λ (w : List Token). Opens x ∷ w) (one.word_is ∙ ap (λ (w : List Token). one.inner ++ Closes one.last ∷ w) two.word_is ∙ sym (append_assoc one.inner (Closes one.last ∷ two.inner) (Closes two.last ∷ two.rest)));
+      balanced = Paired x one.last one.matches one.balanced two.balanced;
+      matches = two.matches;
+      goes_on = two.goes_on;
+    }
+
 closes_later : (n : ℕ) (same : ℕ → ℕ → Bool) (opened : List ℕ) (a : ℕ) (word : List Token) (t : Stack) → length word ≤ n
     → brackets same (within opened a) word ≡ Some t → length t.opened ≤ length opened → SplitsAtClose same opened a word t
 closes_later n same opened a [] t le e low =
@@ -114,15 +128,7 @@ closes_later (suc n) same opened a (Opens x ∷ word) t le e low =
     let on : brackets same (within opened a) one.rest ≡ Some t = ap (λ (s : Stack). brackets same s one.rest) (sym below) ∙ one.goes_on in
     let shorter : length one.rest ≤ n = omega (arith, le, ap (λ (w : List Token). length w) one.word_is, length-append one.inner (Closes one.last ∷ one.rest)) in
     let two = closes_later n same opened a one.rest t shorter on low in
-    record {
-      inner = Opens x ∷ (one.inner ++ Closes one.last ∷ two.inner);
-      last = two.last;
-      rest = two.rest;
-      word_is = ap (λ (w : List Token). Opens x ∷ w) (one.word_is ∙ ap (λ (w : List Token). one.inner ++ Closes one.last ∷ w) two.word_is ∙ sym (append_assoc one.inner (Closes one.last ∷ two.inner) (Closes two.last ∷ two.rest)));
-      balanced = Paired x one.last one.matches one.balanced two.balanced;
-      matches = two.matches;
-      goes_on = two.goes_on;
-    }
+    paired_later same opened a x word t one two
 
 plain_left : (same : ℕ → ℕ → Bool) (word : List Token) (t : Stack) → brackets same (nothing_open true) word ≡ Some t → IsPlain word
 plain_left same [] t e = tt

@@ -1,0 +1,5 @@
+use Rattle.text_lines.proofs.Sending.{◌⨾◌}
+use Rattle.axml_reader.proofs.dump.put_control_escape.Goals as goal
+
+pub returns : goal.returns
+returns g c = c.put.ensures ⨾ c.hex.ensures
