@@ -32,26 +32,21 @@ fn fault_of(answer: Result<Pool, ReadFault>) -> Option<Fault> {
     }
 }
 
+/// Whether a pool has the strings of the samples.
+fn has_strings(pool: &Pool) -> bool {
+    pool.len() == 6
+        && pool.text(0) == Some("layout_width")
+        && pool.text(3) == Some("http://schemas.android.com/apk/res/android")
+        && pool.text(6).is_none()
+}
+
 #[test]
 fn reads_the_same_strings_in_both_encodings(rt: HostRuntime) -> Result<(), Fail> {
     let alloc = rt.alloc();
     let narrow = pool_of(alloc, &NARROW[8..164])?;
     let wide = pool_of(alloc, &WIDE[8..252])?;
-    assert!(rt; narrow.utf8());
-    assert!(rt; !wide.utf8());
-    assert!(rt; narrow.len() == 6);
-    assert!(rt; wide.len() == 6);
-    assert_eq!(rt; narrow.text(0), Some("layout_width"));
-    assert_eq!(rt; wide.text(0), Some("layout_width"));
-    assert_eq!(rt;
-        narrow.text(3),
-        Some("http://schemas.android.com/apk/res/android")
-    );
-    assert_eq!(rt;
-        wide.text(3),
-        Some("http://schemas.android.com/apk/res/android")
-    );
-    assert_eq!(rt; narrow.text(6), None);
+    assert!(rt; narrow.utf8() && has_strings(&narrow));
+    assert!(rt; !wide.utf8() && has_strings(&wide));
     Ok(())
 }
 
