@@ -1,5 +1,5 @@
 -- What was counted in a run, and in a load: in any case what the first lines cost.
-use Rattle.std.proofs.Common.{◌≡◌, ℕ, ◌≤◌, length, List, [], ◌∷◌, ◌++◌, append_assoc, refl, ap, sym, subst, arith, ◌∙◌}
+use Rattle.std.proofs.Common.{◌≡◌, ℕ, ◌≤◌, length, List, [], ◌∷◌, ◌++◌, append_assoc, refl, sym, subst, arith, ◌∙◌}
 use Rattle.std.specs.Prelude.{Bool, true, false, Option, Result, Ok, Err}
 use Rattle.std.proofs.lemmas.List.{append-nil}
 use Rattle.load_maker.specs.Load.{load}
@@ -19,6 +19,7 @@ use Rattle.whole_tool.specs.Transcript.{carried_lines, max_script}
 use Rattle.whole_tool.specs.Works.{Trace, Works, WorksPartFrom}
 use Rattle.whole_tool.specs.WorksWith.{WorksWithFrom}
 use Rattle.whole_tool.proofs.LongScriptLaws.{carried_front, carried_short}
+use Rattle.whole_tool.proofs.RunLaws.{parts_further}
 use Rattle.whole_tool.proofs.SumLaws.{worth_none}
 use Rattle.whole_tool.proofs.ToolLaws.{not_ended}
 use Rattle.view_world.specs.frames.Watched.{IsWorth}
@@ -32,7 +33,7 @@ pub works_whole : (start : Carried) (files : Files) (first last : Trace) (lines 
 works_whole start files first last lines w = record { done = lines; left = []; all = append-nil lines; worth = w.worth }
 
 pub works_further : (start : Carried) (files : Files) (old new : Work) (lines more all : List Line) → lines ++ more ≡ all → WorksPartFrom start files old new lines → WorksPartFrom start files old new all
-works_further start files old new lines more all e w = record { done = w.done; left = w.left ++ more; all = sym (append_assoc w.done w.left more) ∙ ap (λ (l : List Line). l ++ more) w.all ∙ e; worth = w.worth }
+works_further start files old new lines more all e w = record { done = w.done; left = w.left ++ more; all = parts_further w.done w.left lines more all w.all e; worth = w.worth }
 
 -- those of a run that has stopped
 pub works_stopped : (start : Carried) (files : Files) (first last : Trace) (lines : List Line) (stop : Stop) → StopsIn start files first last lines stop → WorksPartFrom start files first.work last.work lines

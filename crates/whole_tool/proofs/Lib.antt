@@ -5,6 +5,7 @@ mod LoadLaws
 mod LookupLaws
 pub mod LongScriptLaws
 pub mod DumpLaws
+mod EndLaws
 pub mod NameLaws
 mod RefusalExamples
 pub mod RunLaws

@@ -102,39 +102,18 @@ prefix_lines start files first now lines more all e part =
     let text = after_from-text start files lines more in
     subst (AppendsPrefix first now) (sym text.1 ∙ ap (λ (l : List Line). (after_from start files l).text) e) (prefix_of_first first now (after_from start files lines).text text.0 part)
 
+-- some lines at the front of others are at the front of these and more
+pub parts_further : (done left lines more all : List Line) → done ++ left ≡ lines → lines ++ more ≡ all → done ++ (left ++ more) ≡ all
+parts_further done left lines more all front further = sym (append_assoc done left more) ∙ ap (λ (l : List Line). l ++ more) front ∙ further
+
 -- a run that stopped in some lines stopped in these and more
 pub stops_further : (start : Carried) (files : Files) (first now : Trace) (lines more all : List Line) (stop : Stop) → lines ++ more ≡ all → StopsIn start files first now lines stop → StopsIn start files first now all stop
-stops_further start files first now lines more all stop.Sink e stops = record {
-  done = stops.done;
-  line = stops.line;
-  left = stops.left ++ more;
-  all = sym (append_assoc stops.done (stops.line ∷ stops.left) more) ∙ ap (λ (l : List Line). l ++ more) stops.all ∙ e;
-  between = stops.between;
-  gone = stops.gone;
-  part = stops.part;
-  worth = stops.worth;
-  fetched = stops.fetched;
-}
-stops_further start files first now lines more all stop.Shelf e stops = record {
-  done = stops.done;
-  line = stops.line;
-  left = stops.left ++ more;
-  all = sym (append_assoc stops.done (stops.line ∷ stops.left) more) ∙ ap (λ (l : List Line). l ++ more) stops.all ∙ e;
-  asks = stops.asks;
-  gone = stops.gone;
-  worth = stops.worth;
-  fetched = stops.fetched;
-}
-stops_further start files first now lines more all stop.NoMemory e stops = record {
-  done = stops.done;
-  line = stops.line;
-  left = stops.left ++ more;
-  all = sym (append_assoc stops.done (stops.line ∷ stops.left) more) ∙ ap (λ (l : List Line). l ++ more) stops.all ∙ e;
-  wants = stops.wants;
-  gone = stops.gone;
-  worth = stops.worth;
-  fetched = stops.fetched;
-}
+stops_further start files first now lines more all stop.Sink e s =
+    record { done = s.done; line = s.line; left = s.left ++ more; all = parts_further s.done (s.line ∷ s.left) lines more all s.all e; between = s.between; gone = s.gone; part = s.part; worth = s.worth; fetched = s.fetched }
+stops_further start files first now lines more all stop.Shelf e s =
+    record { done = s.done; line = s.line; left = s.left ++ more; all = parts_further s.done (s.line ∷ s.left) lines more all s.all e; asks = s.asks; gone = s.gone; worth = s.worth; fetched = s.fetched }
+stops_further start files first now lines more all stop.NoMemory e s =
+    record { done = s.done; line = s.line; left = s.left ++ more; all = parts_further s.done (s.line ∷ s.left) lines more all s.all e; wants = s.wants; gone = s.gone; worth = s.worth; fetched = s.fetched }
 
 -- how often the shelf was asked
 

@@ -108,6 +108,14 @@ taken_on start shelf before mid new first last now old run left n given buffer t
   following = subst (λ (k : ℕ). HasReadUpTo start shelf first now run (t.bytes ++ take k buffer)) all following;
 }
 
+-- what a run has taken of a source that is at its end
+pub record HasTakenAll (start : Carried) (shelf : Option Files) (before after : Option (List ℕ)) (first now : Trace) (run : Run) : Type 0 where
+  pub bytes : List ℕ
+  pub consumed : Consumes before after bytes
+  pub ended : IsAtEnd after
+  pub fits : length bytes ≤ max_script
+  pub following : HasReadUpTo start shelf first now run bytes
+
 -- the run got to the end of its script, and stopped in the last line
 pub ends_last : (start : Carried) (files : Files) (first last : Trace) (old new : Option (List ℕ)) (script taken : List ℕ) (stop : Stop) → old ≡ Some script → Consumes old new taken → IsAtEnd new → length taken ≤ max_script
     → StopsIn start files first last (lines_of taken) stop → StopsIn start files first last (carried_lines script) stop

@@ -1,19 +1,16 @@
 //! Which view gets the focus next, after a script.
 
-ghost use Rattle.std.specs.Prelude.{◌≡◌, ◌≢◌, ◌==◌, ℕ, ◌+◌, ◌≤◌, ◌-◌, ◌^◌, ◌⊎◌, List, [], ◌∷◌, IfErr, IfSome, Option, Some, if◌then◌else◌, length, min};
-ghost use Rattle.std.specs.Io.KnownBytes.{Consumes, IsAtEnd};
+ghost use Rattle.std.specs.Prelude.{◌≡◌, ℕ, ◌≤◌, ◌-◌, ◌^◌, List, [], IfErr, IfSome, Option, Some, min};
 ghost use Rattle.std.specs.Option.{option_map};
 ghost use Rattle.text_lines.specs.BufferedText.{Sends};
 ghost use Rattle.text_lines.specs.Delivered.{Delivered};
-ghost use Rattle.tool_io.specs.Counts.{raised};
 ghost use Rattle.tool_io.specs.Fetched.{Files};
 ghost use Rattle.whole_tool.specs.Carried.{Alone, world_in};
 ghost use Rattle.whole_tool.specs.Carrier.{carried_of, next_of};
 ghost use Rattle.whole_tool.specs.Focus.{AsksFrom, AsksWith, IsNamed, answer_of, answer_text, found_text, refused_question};
+ghost use Rattle.whole_tool.specs.Outside.{EndsWith, outside};
 ghost use Rattle.whole_tool.specs.Run.{HasReadUpTo};
 ghost use Rattle.whole_tool.specs.Script.{CountsEnd, ends_counted, reads_counted};
-ghost use Rattle.whole_tool.specs.Tool.{IsComplete, IsOneOf};
-ghost use Rattle.whole_tool.specs.Transcript.{max_script};
 ghost use Rattle.whole_tool.specs.Works.{Trace, trace};
 ghost use Rattle.view_tree.specs.Views.{IsLive, number_of};
 ghost use Rattle.view_world.specs.world.KeyedWorld.{world_of};
@@ -56,22 +53,12 @@ impl Question {
             → S.left source.old ≡ Some script
             → AsksWith files script self (S.left source.new) (trace (K.state sink.old) work.old (F.fetches shelf.old))
             (trace (K.state sink.new) work.new (F.fetches shelf.new)) result }
-        ensures known { IsOneOf result (0 ∷ 1 ∷ 3 ∷ 4 ∷ 5 ∷ 6 ∷ 7 ∷ []) }
-        ensures whole { result ≢ 3 → result ≢ 4 → result ≢ 6 → result ≢ 7 → IsComplete result ⊎ (result ≡ 5) }
-        ensures read_to_end { IsComplete result → IsAtEnd (S.left source.new) }
-        ensures taken { (taken : List ℕ)
-            × Consumes (S.left source.old) (S.left source.new) taken
-            × (length taken ≤ max_script + 1) }
-        ensures source_failed { S.faults source.new
-            ≡ (if result == 3 then raised (S.faults source.old) else S.faults source.old) }
-        ensures sink_failed { (K.state sink.new).faults
-            ≡ (if result == 4 then raised (K.state sink.old).faults else (K.state sink.old).faults) }
-        ensures shelf_failed { result ≢ 5
-            → F.faults shelf.new ≡ (if result == 6 then raised (F.faults shelf.old) else F.faults shelf.old) }
-        ensures shelf_later { F.faults shelf.old ≤ F.faults shelf.new }
-        ensures files_stay { F.files shelf.new ≡ F.files shelf.old }
-        ensures painted { work.old.painted ≤ work.new.painted }
-        ensures measured { min work.old.measured (2 ^ 64 - 1) ≤ work.new.measured }
+        ensures ended { EndsWith
+            (outside (S.left source.old) (S.faults source.old) (K.state sink.old)
+            (F.faults shelf.old) (F.files shelf.old) work.old)
+            (outside (S.left source.new) (S.faults source.new) (K.state sink.new)
+            (F.faults shelf.new) (F.files shelf.new) work.new)
+            result }
     {
         let mut run = Run::new(alloc, Carrier::alone(alloc));
         status(self.ask(&mut run, source, shelf, sink, work))

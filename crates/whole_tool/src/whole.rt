@@ -12,6 +12,7 @@ ghost use Rattle.whole_tool.specs.Dump.{dump_page, refuses_file};
 ghost use Rattle.whole_tool.specs.Focus.{AsksWith, IsFocusOf, focus_page, refuses_focus};
 ghost use Rattle.whole_tool.specs.Gen.{gen_page};
 ghost use Rattle.whole_tool.specs.Lookup.{lookup_page, refuses_table};
+ghost use Rattle.whole_tool.specs.Outside.{EndsWith, outside};
 ghost use Rattle.whole_tool.specs.Run.{StopsAtFetch, StopsBefore};
 ghost use Rattle.whole_tool.specs.StackPage.{IsPageIsolated};
 ghost use Rattle.whole_tool.specs.Tally.{costs_of_script, costs_of_stack};
@@ -338,22 +339,12 @@ fn run<S: Source, K: Sink, F: Shelf>(
         → S.left source.old ≡ Some script
         → WorksWith files script (S.left source.new) (trace (K.state sink.old) work.old (F.fetches shelf.old))
         (trace (K.state sink.new) work.new (F.fetches shelf.new)) result }
-    ensures known { IsOneOf result (0 ∷ 1 ∷ 3 ∷ 4 ∷ 5 ∷ 6 ∷ 7 ∷ []) }
-    ensures whole { result ≢ 3 → result ≢ 4 → result ≢ 6 → result ≢ 7 → IsComplete result ⊎ (result ≡ 5) }
-    ensures read_to_end { IsComplete result → IsAtEnd (S.left source.new) }
-    ensures taken { (taken : List ℕ)
-        × Consumes (S.left source.old) (S.left source.new) taken
-        × (length taken ≤ max_script + 1) }
-    ensures source_failed { S.faults source.new
-        ≡ (if result == 3 then raised (S.faults source.old) else S.faults source.old) }
-    ensures sink_failed { (K.state sink.new).faults
-        ≡ (if result == 4 then raised (K.state sink.old).faults else (K.state sink.old).faults) }
-    ensures shelf_failed { result ≢ 5
-        → F.faults shelf.new ≡ (if result == 6 then raised (F.faults shelf.old) else F.faults shelf.old) }
-    ensures shelf_later { F.faults shelf.old ≤ F.faults shelf.new }
-    ensures files_stay { F.files shelf.new ≡ F.files shelf.old }
-    ensures painted { work.old.painted ≤ work.new.painted }
-    ensures measured { min work.old.measured (2 ^ 64 - 1) ≤ work.new.measured }
+    ensures ended { EndsWith
+        (outside (S.left source.old) (S.faults source.old) (K.state sink.old)
+        (F.faults shelf.old) (F.files shelf.old) work.old)
+        (outside (S.left source.new) (S.faults source.new) (K.state sink.new)
+        (F.faults shelf.new) (F.files shelf.new) work.new)
+        result }
 {
     let mut run = crate::run::Run::new(alloc, Carrier::alone(alloc));
     status(run_to_end(&mut run, source, shelf, sink, work))
@@ -378,22 +369,12 @@ fn stack<S: Source, K: Sink, F: Shelf>(
         → WorksWithFrom (Stacked empty_stack) files script (S.left source.new)
         (trace (K.state sink.old) work.old (F.fetches shelf.old))
         (trace (K.state sink.new) work.new (F.fetches shelf.new)) result }
-    ensures known { IsOneOf result (0 ∷ 1 ∷ 3 ∷ 4 ∷ 5 ∷ 6 ∷ 7 ∷ []) }
-    ensures whole { result ≢ 3 → result ≢ 4 → result ≢ 6 → result ≢ 7 → IsComplete result ⊎ (result ≡ 5) }
-    ensures read_to_end { IsComplete result → IsAtEnd (S.left source.new) }
-    ensures taken { (taken : List ℕ)
-        × Consumes (S.left source.old) (S.left source.new) taken
-        × (length taken ≤ max_script + 1) }
-    ensures source_failed { S.faults source.new
-        ≡ (if result == 3 then raised (S.faults source.old) else S.faults source.old) }
-    ensures sink_failed { (K.state sink.new).faults
-        ≡ (if result == 4 then raised (K.state sink.old).faults else (K.state sink.old).faults) }
-    ensures shelf_failed { result ≢ 5
-        → F.faults shelf.new ≡ (if result == 6 then raised (F.faults shelf.old) else F.faults shelf.old) }
-    ensures shelf_later { F.faults shelf.old ≤ F.faults shelf.new }
-    ensures files_stay { F.files shelf.new ≡ F.files shelf.old }
-    ensures painted { work.old.painted ≤ work.new.painted }
-    ensures measured { min work.old.measured (2 ^ 64 - 1) ≤ work.new.measured }
+    ensures ended { EndsWith
+        (outside (S.left source.old) (S.faults source.old) (K.state sink.old)
+        (F.faults shelf.old) (F.files shelf.old) work.old)
+        (outside (S.left source.new) (S.faults source.new) (K.state sink.new)
+        (F.faults shelf.new) (F.files shelf.new) work.new)
+        result }
 {
     let mut run = crate::run::Run::new(alloc, Carrier::stacked());
     status(run_to_end(&mut run, source, shelf, sink, work))

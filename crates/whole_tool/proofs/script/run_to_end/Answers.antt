@@ -1,4 +1,4 @@
-use Rattle.std.proofs.Common.{◌≡◌, ◌≤◌, ◌+◌, ◌++◌, ◌∙◌, ℕ, List, [], length, take, refl, ap, arith, sym, subst, length-append, length-take}
+use Rattle.std.proofs.Common.{◌≡◌, ◌+◌, ◌++◌, ◌∙◌, ℕ, List, [], length, take, refl, ap, arith, sym, subst, length-append, length-take}
 use Rattle.std.specs.Prelude.{Err}
 use Rattle.std.proofs.lemmas.List.{take-take}
 use Rattle.std.proofs.lemmas.Result.{err_from_is_err_and}
@@ -7,9 +7,11 @@ use Rattle.whole_tool.specs.declared.script.End.TheVariants as end
 use Rattle.whole_tool.specs.Carrier.{carried_of}
 use Rattle.whole_tool.specs.Run.{StopsIn}
 use Rattle.whole_tool.specs.Works.{Works, trace}
-use Rattle.whole_tool.specs.Transcript.{after_from, max_script}
+use Rattle.whole_tool.specs.Transcript.{after_from}
 use Rattle.whole_tool.proofs.RunLaws.{works_of}
-use Rattle.whole_tool.proofs.ScriptLaws.{Consumes-nil, Consumes-Consumes, Consumes-Keeps, ends_last, ends_long, ends_source, ends_stopped, ends_well, piece_short, taken_by_end, taken_on}
+use Rattle.whole_tool.proofs.ScriptLaws.{HasTakenAll, Consumes-nil, Consumes-Consumes, Consumes-Keeps, ends_last, ends_long, ends_source, ends_stopped, ends_well, piece_short, taken_by_end, taken_on}
+use Rattle.whole_tool.proofs.script.run_to_end.Given.{Over}
+use Rattle.whole_tool.proofs.script.run_to_end.Goals.{After-finish}
 use Rattle.whole_tool.proofs.script.run_to_end.Goals as goal
 
 pub loop-n-init : goal.loop-n-init
@@ -118,68 +120,61 @@ loop-n-preserved g c =
 
 -- the end of the script
 
+all_taken : (g : Over) (c : After-finish g) → HasTakenAll (carried_of c.args.run.now.runner.carrier) (g.F.Shelf.files c.piece.new.shelf) (g.S.Source.left c.args.source.now) (g.S.Source.left c.read.new.self)
+    (trace (g.K.Sink.state c.args.sink.now) c.args.work.now (g.F.Shelf.fetches c.args.shelf.now)) (trace (g.K.Sink.state c.piece.new.sink) c.piece.new.work (g.F.Shelf.fetches c.piece.new.shelf)) c.piece.new.self
+all_taken g c =
+    let start = carried_of c.args.run.now.runner.carrier in
+    let first = trace (g.K.Sink.state c.args.sink.now) c.args.work.now (g.F.Shelf.fetches c.args.shelf.now) in
+    let last = trace (g.K.Sink.state c.piece.new.sink) c.piece.new.work (g.F.Shelf.fetches c.piece.new.shelf) in
+    let so_far = c.loop-n.invariant.taken in
+    let buffer = c.read.new.buf in
+    let all : c.min.result ≡ c.in-Ok.n = omega (arith, c.min.ensures, c.if-n-left.false) in
+    let short = piece_short so_far.bytes buffer c.loop-n.left c.min.result so_far.count (omega (arith, c.min.ensures)) in
+    let read = c.in_ok-piece.ensures.done start first so_far.bytes short so_far.following in
+    let t = taken_on start (g.F.Shelf.files c.loop-n.shelf) (g.S.Source.left c.args.source.now) _ (g.S.Source.left c.read.new.self) first _ last _ c.piece.new.self c.loop-n.left c.in-Ok.n c.min.result buffer so_far c.in-Ok.ensures.bytes.0
+    (omega (arith, c.in-Ok.ensures.bound)) (omega (arith, c.if-n-left.false)) all read in
+    record {
+      bytes = t.bytes;
+      consumed = t.consumed;
+      ended = c.in-Ok.ensures.bytes.1 (omega (arith, c.if-n-eq0.true)) (omega (arith, c.read.auto.buf, length-take c.min-room.result c.loop-n.buffer, c.min-room.ensures, c.min-room.array_long));
+      fits = omega (arith, t.count);
+      following = rw c.piece.ensures.files_stay t.following;
+    }
+
 pub returns-in_err-finish-clause-runs : goal.returns-in_err-finish-clause-runs
 returns-in_err-finish-clause-runs g c =
     let p = err_from_is_err_and c.from_residual-in_err-finish.result c.from_residual-in_err-finish.ensures.1 in
     let e : c.from_residual-in_err-finish.result ≡ Err (end.Stopped c.in_err-finish.field-0.0) = cc (p.1, p.2) in
     let start = carried_of c.args.run.now.runner.carrier in
     let first = trace (g.K.Sink.state c.args.sink.now) c.args.work.now (g.F.Shelf.fetches c.args.shelf.now) in
-    let last = trace (g.K.Sink.state c.piece.new.sink) c.piece.new.work (g.F.Shelf.fetches c.piece.new.shelf) in
-    let so_far = c.loop-n.invariant.taken in
-    let buffer = c.read.new.buf in
-    let all : c.min.result ≡ c.in-Ok.n = omega (arith, c.min.ensures, c.if-n-left.false) in
-    let short = piece_short so_far.bytes buffer c.loop-n.left c.min.result so_far.count (omega (arith, c.min.ensures)) in
-    let read = c.in_ok-piece.ensures.done start first so_far.bytes short so_far.following in
-    let t = taken_on start (g.F.Shelf.files c.loop-n.shelf) (g.S.Source.left c.args.source.now) _ (g.S.Source.left c.read.new.self) first _ last _ c.piece.new.self c.loop-n.left c.in-Ok.n c.min.result buffer so_far c.in-Ok.ensures.bytes.0
-    (omega (arith, c.in-Ok.ensures.bound)) (omega (arith, c.if-n-left.false)) all read in
-    let ended = c.in-Ok.ensures.bytes.1 (omega (arith, c.if-n-eq0.true)) (omega (arith, c.read.auto.buf, length-take c.min-room.result c.loop-n.buffer, c.min-room.ensures, c.min-room.array_long)) in
-    let fits : length t.bytes ≤ max_script = omega (arith, t.count) in
+    let t = all_taken g (goal.at.returns-in_err-finish-clause-runs g c).After-finish in
     rw e (record {
-      runs = λ files script at_hand reported. ends_last _ files _ _ _ _ script t.bytes c.in_err-finish.field-0.0 reported t.consumed ended fits
-          (c.in_err-finish.ensures.stopped start files first t.bytes (c.piece.ensures.files_stay ∙ c.loop-n.invariant.files ∙ at_hand) (omega (arith, fits)) (rw c.piece.ensures.files_stay t.following));
+      runs = λ files script at_hand reported. ends_last _ files _ _ _ _ script t.bytes c.in_err-finish.field-0.0 reported t.consumed t.ended t.fits
+          (c.in_err-finish.ensures.stopped start files first t.bytes (c.piece.ensures.files_stay ∙ c.loop-n.invariant.files ∙ at_hand) (omega (arith, t.fits)) t.following);
       end = tt;
       taken = t.bytes;
       consumed = t.consumed;
-      most = omega (arith, fits);
+      most = omega (arith, t.fits);
     })
 
 pub returns-clause-runs : goal.returns-clause-runs
 returns-clause-runs g c =
     let start = carried_of c.args.run.now.runner.carrier in
     let first = trace (g.K.Sink.state c.args.sink.now) c.args.work.now (g.F.Shelf.fetches c.args.shelf.now) in
-    let last = trace (g.K.Sink.state c.piece.new.sink) c.piece.new.work (g.F.Shelf.fetches c.piece.new.shelf) in
-    let so_far = c.loop-n.invariant.taken in
-    let buffer = c.read.new.buf in
-    let all : c.min.result ≡ c.in-Ok.n = omega (arith, c.min.ensures, c.if-n-left.false) in
-    let short = piece_short so_far.bytes buffer c.loop-n.left c.min.result so_far.count (omega (arith, c.min.ensures)) in
-    let read = c.in_ok-piece.ensures.done start first so_far.bytes short so_far.following in
-    let t = taken_on start (g.F.Shelf.files c.loop-n.shelf) (g.S.Source.left c.args.source.now) _ (g.S.Source.left c.read.new.self) first _ last _ c.piece.new.self c.loop-n.left c.in-Ok.n c.min.result buffer so_far c.in-Ok.ensures.bytes.0
-    (omega (arith, c.in-Ok.ensures.bound)) (omega (arith, c.if-n-left.false)) all read in
-    let ended = c.in-Ok.ensures.bytes.1 (omega (arith, c.if-n-eq0.true)) (omega (arith, c.read.auto.buf, length-take c.min-room.result c.loop-n.buffer, c.min-room.ensures, c.min-room.array_long)) in
-    let fits : length t.bytes ≤ max_script = omega (arith, t.count) in
+    let t = all_taken g (goal.at.returns-clause-runs g c).After-finish in
     rw c.refused.ensures (record {
-      runs = λ files script at_hand reported. ends_well _ files _ _ _ _ script t.bytes c.finish.new.self.runner reported t.consumed ended fits
-          (c.in_ok-finish.ensures.done start files first t.bytes (c.piece.ensures.files_stay ∙ c.loop-n.invariant.files ∙ at_hand) (omega (arith, fits)) (rw c.piece.ensures.files_stay t.following));
-      end = ended;
+      runs = λ files script at_hand reported. ends_well _ files _ _ _ _ script t.bytes c.finish.new.self.runner reported t.consumed t.ended t.fits
+          (c.in_ok-finish.ensures.done start files first t.bytes (c.piece.ensures.files_stay ∙ c.loop-n.invariant.files ∙ at_hand) (omega (arith, t.fits)) t.following);
+      end = t.ended;
       taken = t.bytes;
       consumed = t.consumed;
-      most = omega (arith, fits);
+      most = omega (arith, t.fits);
     })
 
 pub returns-clause-world : goal.returns-clause-world
 returns-clause-world g c files script at_hand reported =
     let start = carried_of c.args.run.now.runner.carrier in
     let first = trace (g.K.Sink.state c.args.sink.now) c.args.work.now (g.F.Shelf.fetches c.args.shelf.now) in
-    let last = trace (g.K.Sink.state c.piece.new.sink) c.piece.new.work (g.F.Shelf.fetches c.piece.new.shelf) in
-    let so_far = c.loop-n.invariant.taken in
-    let buffer = c.read.new.buf in
-    let all : c.min.result ≡ c.in-Ok.n = omega (arith, c.min.ensures, c.if-n-left.false) in
-    let short = piece_short so_far.bytes buffer c.loop-n.left c.min.result so_far.count (omega (arith, c.min.ensures)) in
-    let read = c.in_ok-piece.ensures.done start first so_far.bytes short so_far.following in
-    let t = taken_on start (g.F.Shelf.files c.loop-n.shelf) (g.S.Source.left c.args.source.now) _ (g.S.Source.left c.read.new.self) first _ last _ c.piece.new.self c.loop-n.left c.in-Ok.n c.min.result buffer so_far c.in-Ok.ensures.bytes.0
-    (omega (arith, c.in-Ok.ensures.bound)) (omega (arith, c.if-n-left.false)) all read in
-    let ended = c.in-Ok.ensures.bytes.1 (omega (arith, c.if-n-eq0.true)) (omega (arith, c.read.auto.buf, length-take c.min-room.result c.loop-n.buffer, c.min-room.ensures, c.min-room.array_long)) in
-    let fits : length t.bytes ≤ max_script = omega (arith, t.count) in
-    let whole = taken_by_end _ _ script t.bytes reported t.consumed ended in
-    (c.in_ok-finish.ensures.done start files first t.bytes (c.piece.ensures.files_stay ∙ c.loop-n.invariant.files ∙ at_hand) (omega (arith, fits)) (rw c.piece.ensures.files_stay t.following)).carried
-    ∙ ap (λ (bytes : List ℕ). (after_from start files (lines_of bytes)).carried) whole
+    let t = all_taken g (goal.at.returns-clause-world g c).After-finish in
+    (c.in_ok-finish.ensures.done start files first t.bytes (c.piece.ensures.files_stay ∙ c.loop-n.invariant.files ∙ at_hand) (omega (arith, t.fits)) t.following).carried
+    ∙ ap (λ (bytes : List ℕ). (after_from start files (lines_of bytes)).carried) (taken_by_end _ _ script t.bytes reported t.consumed t.ended)

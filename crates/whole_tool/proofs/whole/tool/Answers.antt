@@ -33,10 +33,10 @@ returns-in-Some-Run-clause-long_only g c = λ script files run cut. ((c.run.ensu
 pub returns-in-Some-Run-clause-complete : goal.returns-in-Some-Run-clause-complete
 returns-in-Some-Run-clause-complete g c = λ script files run short no_read no_write no_fetch.
     let runs = c.run.ensures.runs files script run.shelf run.source in
-    c.run.ensures.whole
-    (λ e. no_read (let failed = rw e at c.run.ensures.source_failed in omega (arith, failed)))
-    (λ e. no_write (let failed = rw e at c.run.ensures.sink_failed in omega (arith, failed)))
-    (λ e. no_fetch (let failed = rw e at c.run.ensures.shelf_failed (λ five. omega (arith, five)) in omega (arith, failed)))
+    c.run.ensures.ended.whole
+    (λ e. no_read (let failed = rw e at c.run.ensures.ended.source_failed in omega (arith, failed)))
+    (λ e. no_write (let failed = rw e at c.run.ensures.ended.sink_failed in omega (arith, failed)))
+    (λ e. no_fetch (let failed = rw e at c.run.ensures.ended.shelf_failed (λ five. omega (arith, five)) in omega (arith, failed)))
     (λ e. (let long = (runs.long e).0 in omega (arith, short, long)))
 
 pub returns-in-None-clause-long : goal.returns-in-None-clause-long
@@ -72,10 +72,10 @@ returns-in-Some-Focus-clause-focus_worth g c = λ script files question run ende
 pub returns-in-Some-Focus-clause-focus_complete : goal.returns-in-Some-Focus-clause-focus_complete
 returns-in-Some-Focus-clause-focus_complete g c = λ script files question run short no_read no_write no_fetch.
     let asks = c.carry_out.ensures.asks files script run.shelf run.source in
-    c.carry_out.ensures.whole
-    (λ e. no_read (let failed = rw e at c.carry_out.ensures.source_failed in omega (arith, failed)))
-    (λ e. no_write (let failed = rw e at c.carry_out.ensures.sink_failed in omega (arith, failed)))
-    (λ e. no_fetch (let failed = rw e at c.carry_out.ensures.shelf_failed (λ five. omega (arith, five)) in omega (arith, failed)))
+    c.carry_out.ensures.ended.whole
+    (λ e. no_read (let failed = rw e at c.carry_out.ensures.ended.source_failed in omega (arith, failed)))
+    (λ e. no_write (let failed = rw e at c.carry_out.ensures.ended.sink_failed in omega (arith, failed)))
+    (λ e. no_fetch (let failed = rw e at c.carry_out.ensures.ended.shelf_failed (λ five. omega (arith, five)) in omega (arith, failed)))
     (λ e. (let long = (asks.long e).0 in omega (arith, short, long)))
 
 pub returns-in-Some-Stack-clause-stack : goal.returns-in-Some-Stack-clause-stack
@@ -101,10 +101,10 @@ returns-in-Some-Stack-clause-stack_isolated g c = λ script files k run. page_is
 pub returns-in-Some-Stack-clause-stack_complete : goal.returns-in-Some-Stack-clause-stack_complete
 returns-in-Some-Stack-clause-stack_complete g c = λ script files run short no_read no_write no_fetch.
     let runs = c.stack.ensures.runs files script run.shelf run.source in
-    c.stack.ensures.whole
-    (λ e. no_read (let failed = rw e at c.stack.ensures.source_failed in omega (arith, failed)))
-    (λ e. no_write (let failed = rw e at c.stack.ensures.sink_failed in omega (arith, failed)))
-    (λ e. no_fetch (let failed = rw e at c.stack.ensures.shelf_failed (λ five. omega (arith, five)) in omega (arith, failed)))
+    c.stack.ensures.ended.whole
+    (λ e. no_read (let failed = rw e at c.stack.ensures.ended.source_failed in omega (arith, failed)))
+    (λ e. no_write (let failed = rw e at c.stack.ensures.ended.sink_failed in omega (arith, failed)))
+    (λ e. no_fetch (let failed = rw e at c.stack.ensures.ended.shelf_failed (λ five. omega (arith, five)) in omega (arith, failed)))
     (λ e. (let long = (runs.long e).0 in omega (arith, short, long)))
 
 pub returns-in-Some-Run-clause-fetched : goal.returns-in-Some-Run-clause-fetched
