@@ -10,6 +10,7 @@ pub mod HookLaws
 pub mod LimitExamples
 pub mod OkLaws
 pub mod PartLaws
+pub mod ReadLaws
 pub mod ResourceExamples
 pub mod StateExamples
 pub mod StateLaws

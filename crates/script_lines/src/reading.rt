@@ -306,11 +306,28 @@ fn edit<'a>(head: &[u8], bytes: &'a [u8]) -> Result<Command<'a>, LineFault>
     })
 }
 
-/// The command of a line. Those that come most often are looked for first.
-#[tactic(auto, unfolding(crate::specs::reading::Commands::command_of), using(crate::proofs::readings::EditLaws::add_line, crate::proofs::readings::EditLaws::frame_line, crate::proofs::readings::EditLaws::restore_line))]
-fn read_line(bytes: &[u8]) -> Result<Command<'_>, LineFault>
+/// The command of a line. A fault of the grammar counts before a number outside its bounds, wherever the two are. A
+/// line that is passed over has no command. The text of a command is read as that command. A line that is read has the
+/// words of its command and no others, and each line that has them is read as that command. Those that come most often
+/// are looked for first.
+#[inline(always)]
+#[tactic(auto, unfolding(crate::specs::reading::Commands::command_of), using(crate::proofs::readings::EditLaws::add_line, crate::proofs::readings::EditLaws::frame_line, crate::proofs::readings::EditLaws::restore_line, crate::proofs::readings::ReadLaws::read_short, crate::proofs::readings::ReadLaws::read_written))]
+pub fn line(bytes: &[u8]) -> Result<Command<'_>, LineFault>
     ensures value { map_ok plain_command result ≡ command_of bytes.now }
     ensures bounds { IfOk result (λ command. IsInBounds (plain_command command)) }
+    ensures passed { is_passed_over bytes.now ≡ true → result ≡ Err LineFault.Syntax }
+    ensures short { IfOk result (λ command. text_length (plain_command command) ≤ length bytes.now) }
+    ensures spelled { (command : PlainCommand)
+        → IsInBounds command
+        → HasLine command
+        → bytes.now ≡ spelled command
+        → map_ok plain_command result ≡ Ok command }
+    ensures written { IfOk result (λ command. IsWritten (plain_command command) bytes.now) }
+    ensures given { (command : PlainCommand)
+        → IsInBounds command
+        → IsWritten command bytes.now
+        → IsTrue (is_utf8 bytes.now)
+        → map_ok plain_command result ≡ Ok command }
 {
     if !is_text(bytes) {
         return Err(LineFault::Syntax);
@@ -329,27 +346,4 @@ fn read_line(bytes: &[u8]) -> Result<Command<'_>, LineFault>
         return restore(rest);
     }
     read_rest(head, rest)
-}
-
-/// The command of a line. A fault of the grammar counts before a number outside its bounds, wherever the two are. A
-/// line that is passed over has no command. The text of a command is read as that command. A line that is read has the
-/// words of its command and no others, and each line that has them is read as that command.
-pub fn line(bytes: &[u8]) -> Result<Command<'_>, LineFault>
-    ensures value { map_ok plain_command result ≡ command_of bytes.now }
-    ensures bounds { IfOk result (λ command. IsInBounds (plain_command command)) }
-    ensures passed { is_passed_over bytes.now ≡ true → result ≡ Err LineFault.Syntax }
-    ensures short { IfOk result (λ command. text_length (plain_command command) ≤ length bytes.now) }
-    ensures spelled { (command : PlainCommand)
-        → IsInBounds command
-        → HasLine command
-        → bytes.now ≡ spelled command
-        → map_ok plain_command result ≡ Ok command }
-    ensures written { IfOk result (λ command. IsWritten (plain_command command) bytes.now) }
-    ensures given { (command : PlainCommand)
-        → IsInBounds command
-        → IsWritten command bytes.now
-        → IsTrue (is_utf8 bytes.now)
-        → map_ok plain_command result ≡ Ok command }
-{
-    read_line(bytes)
 }

@@ -1,26 +1,89 @@
-use Rattle.std.proofs.Common.{ap, ◌∙◌}
-use Rattle.script_lines.specs.reading.Commands.{command_of}
-use Rattle.script_lines.specs.commands.PlainCommands.{plain_command}
+use Rattle.std.proofs.Common.{arith}
+use Rattle.std.specs.Prelude.{Err}
 use Rattle.script_lines.specs.declared.fault.LineFault.TheVariants.{Syntax}
-use Rattle.script_lines.proofs.readings.CommandLaws.{map_ok-fault, passed_over}
-use Rattle.script_lines.proofs.written.ReadLines.{command_of-given}
-use Rattle.script_lines.proofs.spelled.SpelledCommands.{command_of-spelled}
-use Rattle.script_lines.proofs.readings.OkLaws.{from_plain}
-use Rattle.script_lines.proofs.readings.TextLengthLaws.{command_of-short}
-use Rattle.script_lines.proofs.written.WrittenCommands.{command_of-written}
+use Rattle.script_lines.specs.reading.Commands.{command_of}
+use Rattle.script_lines.proofs.readings.EditLaws.{add_line, frame_line, restore_line}
+use Rattle.script_lines.proofs.readings.ReadLaws.{read_given, read_passed, read_spelled}
 use Rattle.script_lines.proofs.reading.line.Goals as goal
 
-pub returns-clause-spelled : goal.returns-clause-spelled
-returns-clause-spelled c command bounds has text = c.read_line.ensures.value ∙ ap command_of text ∙ command_of-spelled command bounds has
+pub returns-then-not-is_text-clause-value : goal.returns-then-not-is_text-clause-value
+unfolding command_of
+returns-then-not-is_text-clause-value c = grind arith
+
+pub returns-then-not-is_text-clause-spelled : goal.returns-then-not-is_text-clause-spelled
+returns-then-not-is_text-clause-spelled c command bounds has text = read_spelled c.args.bytes.now (Err Syntax) (returns-then-not-is_text-clause-value c) command bounds has text
+
+pub returns-in_err-head-clause-value : goal.returns-in_err-head-clause-value
+unfolding command_of
+returns-in_err-head-clause-value c = grind arith
+
+pub returns-in_err-head-clause-spelled : goal.returns-in_err-head-clause-spelled
+returns-in_err-head-clause-spelled c command bounds has text = read_spelled c.args.bytes.now _ (returns-in_err-head-clause-value c) command bounds has text
+
+pub returns-in_err-head-clause-given : goal.returns-in_err-head-clause-given
+returns-in_err-head-clause-given c command bounds written utf8 = read_given c.args.bytes.now _ (returns-in_err-head-clause-value c) command bounds written utf8
+
+pub returns-then-begins_edit-clause-value : goal.returns-then-begins_edit-clause-value
+unfolding command_of
+returns-then-begins_edit-clause-value c = grind arith
+
+pub returns-then-begins_edit-clause-passed : goal.returns-then-begins_edit-clause-passed
+returns-then-begins_edit-clause-passed c passed = read_passed c.args.bytes.now _ (returns-then-begins_edit-clause-value c) passed
+
+pub returns-then-begins_edit-clause-spelled : goal.returns-then-begins_edit-clause-spelled
+returns-then-begins_edit-clause-spelled c command bounds has text = read_spelled c.args.bytes.now _ (returns-then-begins_edit-clause-value c) command bounds has text
+
+pub returns-then-begins_edit-clause-given : goal.returns-then-begins_edit-clause-given
+returns-then-begins_edit-clause-given c command bounds written utf8 = read_given c.args.bytes.now _ (returns-then-begins_edit-clause-value c) command bounds written utf8
+
+pub returns-then-is-clause-value : goal.returns-then-is-clause-value
+unfolding command_of
+returns-then-is-clause-value c = grind (arith, add_line)
+
+pub returns-then-is-clause-passed : goal.returns-then-is-clause-passed
+returns-then-is-clause-passed c passed = read_passed c.args.bytes.now _ (returns-then-is-clause-value c) passed
+
+pub returns-then-is-clause-spelled : goal.returns-then-is-clause-spelled
+returns-then-is-clause-spelled c command bounds has text = read_spelled c.args.bytes.now _ (returns-then-is-clause-value c) command bounds has text
+
+pub returns-then-is-clause-given : goal.returns-then-is-clause-given
+returns-then-is-clause-given c command bounds written utf8 = read_given c.args.bytes.now _ (returns-then-is-clause-value c) command bounds written utf8
+
+pub returns-then-is-2-clause-value : goal.returns-then-is-2-clause-value
+unfolding command_of
+returns-then-is-2-clause-value c = grind (arith, frame_line)
+
+pub returns-then-is-2-clause-passed : goal.returns-then-is-2-clause-passed
+returns-then-is-2-clause-passed c passed = read_passed c.args.bytes.now _ (returns-then-is-2-clause-value c) passed
+
+pub returns-then-is-2-clause-spelled : goal.returns-then-is-2-clause-spelled
+returns-then-is-2-clause-spelled c command bounds has text = read_spelled c.args.bytes.now _ (returns-then-is-2-clause-value c) command bounds has text
+
+pub returns-then-is-2-clause-given : goal.returns-then-is-2-clause-given
+returns-then-is-2-clause-given c command bounds written utf8 = read_given c.args.bytes.now _ (returns-then-is-2-clause-value c) command bounds written utf8
+
+pub returns-then-is-3-clause-value : goal.returns-then-is-3-clause-value
+unfolding command_of
+returns-then-is-3-clause-value c = grind (arith, restore_line)
+
+pub returns-then-is-3-clause-passed : goal.returns-then-is-3-clause-passed
+returns-then-is-3-clause-passed c passed = read_passed c.args.bytes.now _ (returns-then-is-3-clause-value c) passed
+
+pub returns-then-is-3-clause-spelled : goal.returns-then-is-3-clause-spelled
+returns-then-is-3-clause-spelled c command bounds has text = read_spelled c.args.bytes.now _ (returns-then-is-3-clause-value c) command bounds has text
+
+pub returns-then-is-3-clause-given : goal.returns-then-is-3-clause-given
+returns-then-is-3-clause-given c command bounds written utf8 = read_given c.args.bytes.now _ (returns-then-is-3-clause-value c) command bounds written utf8
+
+pub returns-clause-value : goal.returns-clause-value
+unfolding command_of
+returns-clause-value c = grind arith
 
 pub returns-clause-passed : goal.returns-clause-passed
-returns-clause-passed c passed = map_ok-fault plain_command c.read_line.result Syntax (c.read_line.ensures.value ∙ passed_over _ passed)
+returns-clause-passed c passed = read_passed c.args.bytes.now _ (returns-clause-value c) passed
 
-pub returns-clause-short : goal.returns-clause-short
-returns-clause-short c = from_plain plain_command _ c.read_line.result (command_of c.args.bytes.now) c.read_line.ensures.value (command_of-short c.args.bytes.now)
-
-pub returns-clause-written : goal.returns-clause-written
-returns-clause-written c = from_plain plain_command _ c.read_line.result (command_of c.args.bytes.now) c.read_line.ensures.value (command_of-written c.args.bytes.now)
+pub returns-clause-spelled : goal.returns-clause-spelled
+returns-clause-spelled c command bounds has text = read_spelled c.args.bytes.now _ (returns-clause-value c) command bounds has text
 
 pub returns-clause-given : goal.returns-clause-given
-returns-clause-given c command bounds written utf8 = c.read_line.ensures.value ∙ command_of-given command c.args.bytes.now utf8 bounds written
+returns-clause-given c command bounds written utf8 = read_given c.args.bytes.now _ (returns-clause-value c) command bounds written utf8
