@@ -31,6 +31,10 @@ pub struct Entry {
     pub offset: i32,
 }
 
+/// Entries for which memory is taken at once. The C library maps a part of this size (above 128 KiB) on its own: as it
+/// grows, its pages are moved and not copied, so those without entries take no memory.
+const LEAST_ROOM: usize = 512;
+
 /// The deliveries of events, the first one first.
 #[derive(Drop)]
 pub struct Log {
@@ -49,13 +53,13 @@ impl Log {
         }
     }
 
-    /// Takes the memory for this many more entries.
+    /// Takes the memory for this many more entries, and at least for `LEAST_ROOM`.
     pub fn reserve(&mut self, entries: usize) -> Result<(), AllocError>
         ensures same { self.new.entries.items ≡ self.old.entries.items }
         ensures room { OnOk result (length self.old.entries.items + entries ≤ room_of self.new) }
         ensures kept { OnErr result (room_of self.new ≡ room_of self.old) }
     {
-        self.entries.reserve(entries)
+        self.entries.reserve(entries.max(LEAST_ROOM))
     }
 
     pub fn entries(&self) -> &[Entry]
