@@ -26,6 +26,11 @@ abbrev pub IsFirst : Carrier → Type 0
 IsFirst (carrier.Alone world) = world ≡ new_world
 IsFirst (carrier.Stacked stack) = stack ≡ no_windows
 
+-- the lines are those of a stack
+abbrev pub IsStacked : Carrier → Type 0
+IsStacked (carrier.Alone world) = ⊥
+IsStacked (carrier.Stacked stack) = Unit {0}
+
 -- the greatest of the numbers that the next views of worlds get
 abbrev pub greatest_next : List (Option KeyedWorld) → ℕ
 greatest_next [] = 1

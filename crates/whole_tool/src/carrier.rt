@@ -8,7 +8,7 @@ ghost use Rattle.view_model.specs.Refusals.{plain_refusal};
 ghost use Rattle.view_model.specs.declared.limits.TheConstants.{MAX_VIEWS, NUMBERS_END};
 ghost use Rattle.view_model.specs.declared.work.Work.{Work};
 ghost use Rattle.whole_tool.specs.Carried.{Alone, Stacked, BytesWant, asked_by_bytes, fault_refusal, reply_to_bytes};
-ghost use Rattle.whole_tool.specs.Carrier.{IsFirst, WritesLine, carried_of, next_of};
+ghost use Rattle.whole_tool.specs.Carrier.{IsFirst, IsStacked, WritesLine, carried_of, next_of};
 ghost use Rattle.whole_tool.specs.Run.{HasTallied, IsShort, line_now};
 ghost use Rattle.whole_tool.specs.Tally.{Tally, after_bytes, with_cost};
 ghost use Rattle.whole_tool.specs.Transcript.{Asks, MayWant, asked_by_line, reply_to_line};
@@ -86,6 +86,47 @@ impl Carrier {
                 Ok(command) => world.carry(alloc, &command, shelf, sink, work),
                 Err(fault) => Err(StepFault::Refused(refusal_of(fault))),
             },
+            Carrier::Stacked(_) => self.stacked_line(alloc, bytes, shelf, sink, work),
+        }
+    }
+
+    /// The same of a stack. What it holds of a line is not cleared for a line of a world.
+    #[inline(never)]
+    fn stacked_line<K: Sink, F: Shelf>(
+        &mut self,
+        alloc: Global,
+        bytes: &[u8],
+        shelf: &mut F,
+        sink: &mut K,
+        work: &mut Work,
+    ) -> Result<(), StepFault>
+        requires stacked { IsStacked self.old }
+        requires numbered { next_of self.old < NUMBERS_END }
+        requires short { length bytes.now ≤ max_line }
+        ensures carried { (files : Files)
+            → F.files shelf.old ≡ Some files
+            → WritesLine (reply_to_bytes files (carried_of self.old) bytes.now) (carried_of self.new)
+            (K.state sink.old) (K.state sink.new) result }
+        ensures unchanged { IsDone result ⊎ ((self.new ≡ self.old) × (sink.new ≡ sink.old)) }
+        ensures tallied { (files : Files) (tally : Tally) (first : Work)
+            → F.files shelf.old ≡ Some files
+            → HasTallied first work.old self.old tally
+            → IsDone result
+            → HasTallied first work.new self.new (after_bytes files tally.costs tally.watched bytes.now) }
+        ensures idle { IsDone result ⊎ (work.new ≡ work.old) }
+        ensures memory { result ≡ Err StepFault.NoMemory → BytesWant (carried_of self.old) bytes.now }
+        ensures numbers { next_of self.new ≤ next_of self.old + MAX_VIEWS }
+        ensures sink_failed { (K.state sink.new).faults ≡ faults_after_line result (K.state sink.old).faults }
+        ensures files_stay { F.files shelf.new ≡ F.files shelf.old }
+        ensures shelf_failed { CountsShelf (F.faults shelf.old) (F.faults shelf.new) result }
+        ensures asked { result ≡ Err StepFault.Shelf → asked_by_bytes (carried_of self.old) bytes.now ≢ None }
+        ensures fetched { F.fetches shelf.new
+            ≡ fetches_after (asked_by_bytes (carried_of self.old) bytes.now) (F.fetches shelf.old) }
+        ensures painted { work.old.painted ≤ work.new.painted }
+        ensures measured { min work.old.measured (2 ^ 64 - 1) ≤ work.new.measured }
+    {
+        match self {
+            Carrier::Alone(_) => unreachable!(),
             Carrier::Stacked(stack) => match stack_line(bytes) {
                 Ok(line) => stack.line(alloc, line, shelf, sink, work),
                 Err(fault) => Err(StepFault::Refused(refusal_of(fault))),

@@ -2,21 +2,16 @@ use Rattle.std.proofs.Common.{◌≡◌, ap, arith, refl, sym, subst, ◌∙◌,
 use Rattle.std.specs.Prelude.{None}
 use Rattle.script_lines.specs.commands.PlainCommands.{plain_command}
 use Rattle.script_lines.specs.words.Words.{map_ok}
-use Rattle.stack_worlds.specs.KeptStack.{stack_of}
-use Rattle.stack_worlds.specs.PlainStack.{stack_step}
 use Rattle.view_world.specs.world.KeyedWorld.{world_of}
 use Rattle.view_world.specs.world.Step.{step}
-use Rattle.whole_tool.specs.Carried.{Alone, Stacked, BytesWant, Refused, asked_by_bytes, reply_to_bytes}
+use Rattle.whole_tool.specs.Carried.{Alone, BytesWant, Refused, asked_by_bytes, reply_to_bytes}
 use Rattle.whole_tool.specs.Carrier.{WritesLine, carried_of}
 use Rattle.whole_tool.specs.Run.{HasTallied}
 use Rattle.whole_tool.specs.declared.carrier.Carrier.{Carrier}
-use Rattle.whole_tool.proofs.CarrierLaws.{have_numbers, numbers_after, same_stack, same_world, writes_stack, writes_world}
-use Rattle.whole_tool.proofs.TallyLaws.{done_in_stack, done_reply, tallied_stack, tallied_world}
+use Rattle.whole_tool.proofs.CarrierLaws.{same_world, writes_world}
+use Rattle.whole_tool.proofs.TallyLaws.{done_reply, tallied_world}
 use Rattle.whole_tool.proofs.WorkLaws.{measured_later}
-use Rattle.window_stack.specs.StackLines.{plain_line}
 use Rattle.whole_tool.proofs.carrier.Carrier.line.Goals as goal
-
--- a world
 
 pub carry-requires-clause-numbers : goal.carry-requires-clause-numbers
 carry-requires-clause-numbers g c = rw c.in-Alone.is at c.requires.numbered
@@ -75,62 +70,6 @@ returns-in-Ok-clause-measured g c =
     measured_later (plain_command c.in-Ok.command) c.carry.result c.args.work.now c.carry.new.work c.carry.ensures.work c.carry.ensures.idle
     (λ frame done. let count = c.carry.ensures.counted frame done in (count.by, count.work))
 
--- a stack of windows
-
-pub line-requires-in-Ok-stack_line-clause-numbers : goal.line-requires-in-Ok-stack_line-clause-numbers
-line-requires-in-Ok-stack_line-clause-numbers g c = have_numbers c.in-Stacked.stack.worlds (rw c.in-Stacked.is at c.requires.numbered)
-
-pub line-requires-in-Ok-stack_line-clause-short : goal.line-requires-in-Ok-stack_line-clause-short
-line-requires-in-Ok-stack_line-clause-short g c =
-    let short = c.requires.short in
-    let text = rw c.in-Ok-stack_line.is at c.stack_line.ensures.short in
-    omega (arith, short, text)
-
-pub returns-in-Ok-stack_line-clause-carried : goal.returns-in-Ok-stack_line-clause-carried
-returns-in-Ok-stack_line-clause-carried g c files reported =
-    let read = sym c.stack_line.ensures.value ∙ ap (map_ok plain_line) c.in-Ok-stack_line.is in
-    let reply = stack_step files (stack_of c.in-Stacked.stack) (plain_line c.in-Ok-stack_line.line) in
-    let before = g.K.Sink.state c.args.sink.now in
-    let after = g.K.Sink.state c.line-in-Ok-stack_line.new.sink in
-    let made = Stacked (stack_of c.line-in-Ok-stack_line.new.self) in
-    subst (λ (k : Carrier). WritesLine (reply_to_bytes files (carried_of k) c.args.bytes.now) made before after c.line-in-Ok-stack_line.result) (sym c.in-Stacked.is)
-    (rw read (writes_stack reply (stack_of c.line-in-Ok-stack_line.new.self) before after c.line-in-Ok-stack_line.result (c.line-in-Ok-stack_line.ensures.carried files (inl reported))))
-
-pub returns-in-Err-stack_line-clause-carried : goal.returns-in-Err-stack_line-clause-carried
-returns-in-Err-stack_line-clause-carried g c files reported =
-    let read = sym c.stack_line.ensures.value ∙ ap (map_ok plain_line) c.in-Err-stack_line.is in
-    rw (c.in-Stacked.is, read) (ap Refused (sym c.refusal_of-in-Err-stack_line.ensures))
-
-pub returns-in-Ok-stack_line-clause-unchanged : goal.returns-in-Ok-stack_line-clause-unchanged
-returns-in-Ok-stack_line-clause-unchanged g c = same_stack c.line-in-Ok-stack_line.result c.args.self.now _ _ _ _ c.in-Stacked.is c.line-in-Ok-stack_line.ensures.unchanged
-
-pub returns-in-Ok-stack_line-clause-tallied : goal.returns-in-Ok-stack_line-clause-tallied
-returns-in-Ok-stack_line-clause-tallied g c files tally first reported reached done =
-    let line = plain_line c.in-Ok-stack_line.line in
-    let read = sym c.stack_line.ensures.value ∙ ap (map_ok plain_line) c.in-Ok-stack_line.is in
-    let before = g.K.Sink.state c.args.sink.now in
-    let after = g.K.Sink.state c.line-in-Ok-stack_line.new.sink in
-    let reply = done_in_stack (stack_step files (stack_of c.in-Stacked.stack) line) (stack_of c.line-in-Ok-stack_line.new.self) before after c.line-in-Ok-stack_line.result (c.line-in-Ok-stack_line.ensures.carried files (inl reported)) done in
-    let at = subst (λ (k : Carrier). HasTallied first c.args.work.now k tally) c.in-Stacked.is reached in
-    tallied_stack files first c.args.work.now c.line-in-Ok-stack_line.new.work c.in-Stacked.stack c.line-in-Ok-stack_line.new.self tally.costs tally.watched c.args.bytes.now reply.0 line c.line-in-Ok-stack_line.result read
-    at.watched at.worth reply.1 c.line-in-Ok-stack_line.ensures.works done
-
-pub returns-in-Ok-stack_line-clause-memory : goal.returns-in-Ok-stack_line-clause-memory
-returns-in-Ok-stack_line-clause-memory g c none =
-    let read = sym c.stack_line.ensures.value ∙ ap (map_ok plain_line) c.in-Ok-stack_line.is in
-    subst (λ (k : Carrier). BytesWant (carried_of k) c.args.bytes.now) (sym c.in-Stacked.is) (rw read (c.line-in-Ok-stack_line.ensures.memory none))
-
-pub returns-in-Ok-stack_line-clause-asked : goal.returns-in-Ok-stack_line-clause-asked
-returns-in-Ok-stack_line-clause-asked g c failed none =
-    let read = sym c.stack_line.ensures.value ∙ ap (map_ok plain_line) c.in-Ok-stack_line.is in
-    let nothing = subst (λ (k : Carrier). asked_by_bytes (carried_of k) c.args.bytes.now ≡ None) c.in-Stacked.is none in
-    c.line-in-Ok-stack_line.ensures.asked failed (rw read at nothing)
-
-pub returns-in-Ok-stack_line-clause-numbers : goal.returns-in-Ok-stack_line-clause-numbers
-returns-in-Ok-stack_line-clause-numbers g c = rw c.in-Stacked.is (numbers_after c.in-Stacked.stack.worlds c.line-in-Ok-stack_line.new.self.worlds c.line-in-Ok-stack_line.ensures.numbers)
-
--- how often the shelf was asked
-
 pub returns-in-Ok-clause-fetched : goal.returns-in-Ok-clause-fetched
 returns-in-Ok-clause-fetched g c =
     let read = sym c.line.ensures.value ∙ ap (map_ok plain_command) c.in-Ok.is in
@@ -140,13 +79,3 @@ pub returns-in-Err-clause-fetched : goal.returns-in-Err-clause-fetched
 returns-in-Err-clause-fetched g c =
     let read = sym c.line.ensures.value ∙ ap (map_ok plain_command) c.in-Err.is in
     rw (c.in-Alone.is, read) refl
-
-pub returns-in-Ok-stack_line-clause-fetched : goal.returns-in-Ok-stack_line-clause-fetched
-returns-in-Ok-stack_line-clause-fetched g c =
-    let read = sym c.stack_line.ensures.value ∙ ap (map_ok plain_line) c.in-Ok-stack_line.is in
-    rw (c.in-Stacked.is, read) c.line-in-Ok-stack_line.ensures.fetched
-
-pub returns-in-Err-stack_line-clause-fetched : goal.returns-in-Err-stack_line-clause-fetched
-returns-in-Err-stack_line-clause-fetched g c =
-    let read = sym c.stack_line.ensures.value ∙ ap (map_ok plain_line) c.in-Err-stack_line.is in
-    rw (c.in-Stacked.is, read) refl
